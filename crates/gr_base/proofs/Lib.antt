@@ -1,0 +1,7 @@
+pub mod GridLemmas
+pub mod ChipLemmas
+pub mod DesignLemmas
+pub mod TreeLemmas
+pub mod TreeEdges
+pub mod TreeGrowth
+pub mod TreeDistinct

@@ -1,0 +1,10 @@
+pub mod Limits
+pub mod Names
+pub mod Grid
+pub mod EdgeSets
+pub mod Trees
+pub mod Designs
+pub mod DesignStore
+pub mod Capacities
+pub mod Sums
+pub mod Plans
