@@ -1,0 +1,9 @@
+pub mod Calls
+pub mod Counts
+pub mod Host
+pub mod Memory
+pub mod Parts
+pub mod Places
+pub mod Slots
+pub mod Sure
+pub mod Texts
