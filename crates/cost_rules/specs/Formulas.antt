@@ -1,0 +1,29 @@
+use Rattle.std.specs.Prelude.{ℕ, ◌+◌, ◌-◌, ◌*◌, ◌^◌, ◌≤◌, min}
+use Rattle.cost_rules.specs.declared.site.Site.{Site}
+use Rattle.cost_rules.specs.declared.site.Formula.{Formula}
+use Rattle.cost_rules.specs.declared.site.Formula.TheVariants.{First, Steep, Flat}
+
+-- the site's numbers are within the limits of a design
+pub record IsInRange (site : Site) : Type 0 where
+  pub demand : site.demand ≤ 2 ^ 62
+  pub capacity : site.capacity ≤ 1000000
+  pub need : site.need ≤ 2000
+  pub marks : site.marks ≤ 1048576
+
+-- by how much the edge would be over its capacity with the net on it
+abbrev pub overflow_at : Site → ℕ
+overflow_at site = site.demand + site.need - site.capacity
+
+-- the greatest cost of an edge
+abbrev pub most_cost : ℕ
+most_cost = 1048576
+
+-- what the edge costs the net by each formula
+abbrev pub cost_at : Formula → Site → ℕ
+cost_at First site = min most_cost (1 + site.marks + 8 * overflow_at site)
+cost_at Steep site = min most_cost (1 + site.marks + (8 + site.marks) * overflow_at site)
+cost_at Flat site = min most_cost (1 + overflow_at site)
+
+-- the site with another demand
+abbrev pub at_demand : Site → ℕ → Site
+at_demand site demand = record { demand = demand; capacity = site.capacity; need = site.need; marks = site.marks }

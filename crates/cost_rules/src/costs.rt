@@ -1,0 +1,37 @@
+ghost use Rattle.std.specs.Prelude.{◌≡◌, ℕ, ◌≤◌, ◌↔◌, Bool, Option, IsTrue, IsSome, IfSome};
+ghost use Rattle.gr_base.specs.declared.grid.Edge.{Edge};
+ghost use Rattle.gr_base.specs.declared.grid.Shape.{Shape};
+ghost use Rattle.gr_base.specs.declared.grid.Way.{Way};
+ghost use Rattle.gr_base.specs.declared.grid.Way.TheVariants.{Up};
+ghost use Rattle.gr_base.specs.Grid.{has_edge};
+ghost use Rattle.cost_rules.specs.Prices.{layer_of, ArePrices};
+
+use gr_base::{Edge, Way};
+
+/// The costs of a grid's edges for one net.
+///
+/// Contracts see them as the grid's shape, the ways that each layer goes, and the price of each
+/// edge.
+pub trait Costs {
+    ghost grid: { Self → Shape };
+
+    ghost ways: { Self → ℕ → Way → Bool };
+
+    ghost price: { Self → Edge → Option ℕ };
+
+    /// Whether wires may run that way on a layer. Every layer goes up.
+    fn goes(&self, layer: u32, way: Way) -> bool
+        ensures ways { result ≡ ways self.now layer way }
+        ensures up { way ≡ Up → IsTrue result };
+
+    /// What an edge of the grid costs, from 1 to 1,048,576. None exactly where its layer doesn't
+    /// go its way.
+    fn cost(&self, e: Edge) -> Option<u64>
+        requires { IsTrue (has_edge (grid self.now) e) }
+        ensures price { result ≡ price self.now e }
+        ensures some { IsSome result ↔ IsTrue (ways self.now (layer_of (grid self.now) e) e.way) }
+        ensures least { IfSome result (λ cost. 1 ≤ cost) }
+        ensures most { IfSome result (λ cost. cost ≤ 1048576) };
+
+    ghost prices: { (costs : Self) → ArePrices (grid costs) (ways costs) (price costs) };
+}

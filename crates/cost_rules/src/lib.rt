@@ -1,0 +1,23 @@
+//! What a wire edge costs a net, when the rounds of rerouting stop, and the costs of a whole grid
+//! as planners see them.
+#![tactic(auto)]
+
+mod costs;
+mod formula;
+mod look;
+mod rule;
+mod rules;
+mod sight;
+mod site;
+#[cfg(test)]
+mod tests;
+mod watcher;
+
+pub use costs::Costs;
+pub use formula::{first_cost, flat_cost, steep_cost};
+pub use look::{goal, never, still};
+pub use rule::CostRule;
+pub use rules::Rules;
+pub use sight::{Going, Sight, Watch};
+pub use site::{Formula, Site};
+pub use watcher::Watcher;

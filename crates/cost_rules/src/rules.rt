@@ -1,0 +1,99 @@
+ghost use Rattle.std.specs.Prelude.{◌≡◌};
+ghost use Rattle.cost_rules.specs.declared.site.Formula.TheVariants.{First, Steep, Flat};
+ghost use Rattle.cost_rules.specs.declared.sight.Watch.TheVariants.{Never, Still, Goal};
+
+use crate::rule::CostRule;
+use crate::watcher::Watcher;
+
+/// The rule of each formula and the watcher of each watch.
+#[derive(Clone, Copy)]
+pub struct Rules {
+    first: CostRule,
+    steep: CostRule,
+    flat: CostRule,
+    never: Watcher,
+    still: Watcher,
+    goal: Watcher,
+    ghost is_first: { first.formula ≡ First },
+    ghost is_steep: { steep.formula ≡ Steep },
+    ghost is_flat: { flat.formula ≡ Flat },
+    ghost is_never: { never.watch ≡ Never },
+    ghost is_still: { still.watch ≡ Still },
+    ghost is_goal: { goal.watch ≡ Goal },
+}
+
+impl Rules {
+    /// The rules and watchers, in the order of the formulas and the watches.
+    pub fn new(
+        first: CostRule,
+        steep: CostRule,
+        flat: CostRule,
+        never: Watcher,
+        still: Watcher,
+        goal: Watcher,
+    ) -> Rules
+        requires first { first.formula ≡ First }
+        requires steep { steep.formula ≡ Steep }
+        requires flat { flat.formula ≡ Flat }
+        requires never { never.watch ≡ Never }
+        requires still { still.watch ≡ Still }
+        requires goal { goal.watch ≡ Goal }
+        ensures first { result.first ≡ first }
+        ensures steep { result.steep ≡ steep }
+        ensures flat { result.flat ≡ flat }
+        ensures never { result.never ≡ never }
+        ensures still { result.still ≡ still }
+        ensures goal { result.goal ≡ goal }
+    {
+        Rules {
+            first,
+            steep,
+            flat,
+            never,
+            still,
+            goal,
+        }
+    }
+
+    pub fn first(&self) -> &CostRule
+        ensures value { result.now ≡ self.now.first }
+        ensures formula { result.now.formula ≡ First }
+    {
+        &self.first
+    }
+
+    pub fn steep(&self) -> &CostRule
+        ensures value { result.now ≡ self.now.steep }
+        ensures formula { result.now.formula ≡ Steep }
+    {
+        &self.steep
+    }
+
+    pub fn flat(&self) -> &CostRule
+        ensures value { result.now ≡ self.now.flat }
+        ensures formula { result.now.formula ≡ Flat }
+    {
+        &self.flat
+    }
+
+    pub fn never(&self) -> &Watcher
+        ensures value { result.now ≡ self.now.never }
+        ensures watch { result.now.watch ≡ Never }
+    {
+        &self.never
+    }
+
+    pub fn still(&self) -> &Watcher
+        ensures value { result.now ≡ self.now.still }
+        ensures watch { result.now.watch ≡ Still }
+    {
+        &self.still
+    }
+
+    pub fn goal(&self) -> &Watcher
+        ensures value { result.now ≡ self.now.goal }
+        ensures watch { result.now.watch ≡ Goal }
+    {
+        &self.goal
+    }
+}
