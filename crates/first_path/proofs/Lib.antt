@@ -1,0 +1,5 @@
+pub mod WayLemmas
+pub mod WalkLemmas
+pub mod StampLemmas
+pub mod GrowthLemmas
+pub mod PlannedLemmas

@@ -1,0 +1,4 @@
+pub mod Ways
+pub mod Walks
+pub mod Stamps
+pub mod Growth
