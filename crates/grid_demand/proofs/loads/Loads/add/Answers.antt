@@ -1,0 +1,15 @@
+use Rattle.std.proofs.Common.{sym, ap, ◌∙◌}
+use Rattle.grid_demand.specs.LoadSums.{LoadsView}
+use Rattle.grid_demand.specs.LoadsStore.{seen}
+use Rattle.grid_demand.proofs.LoadLemmas.{added-whole}
+use Rattle.grid_demand.proofs.loads.Loads.add.Goals as goal
+
+pub invariant_of-self : goal.invariant_of-self
+invariant_of-self c =
+    added-whole c.args.capacity.now c.args.net c.args.tree.now (seen c.self.inside) c.gain.new.demands.items c.self.invariant c.gain.ensures.tree
+    (c.requires.tree ∙ sym (ap (λ (l : LoadsView). l.shape) c.self.view_is)) c.gain.ensures.demands
+
+pub returns-clause-whole : goal.returns-clause-whole
+returns-clause-whole c =
+    added-whole c.args.capacity.now c.args.net c.args.tree.now (seen c.self.inside) c.gain.new.demands.items c.self.invariant c.gain.ensures.tree
+    (c.requires.tree ∙ sym (ap (λ (l : LoadsView). l.shape) c.self.view_is)) c.gain.ensures.demands

@@ -1,0 +1,6 @@
+pub mod Tables
+pub mod CapacityStore
+pub mod WireParents
+pub mod LoadSums
+pub mod LoadsStore
+pub mod Operations

@@ -1,0 +1,170 @@
+ghost use Rattle.std.specs.Prelude.{◌≡◌, ℕ, ◌*◌, ◌≤◌, IfOk, IsTrue, map, slice_get, Some};
+ghost use Rattle.gr_base.specs.Designs.{DesignView, IsFrame, IsLayer};
+ghost use Rattle.gr_base.specs.Capacities.{stated, capacity, usable, need, widths_of};
+ghost use Rattle.gr_base.specs.Grid.{place_at, has_edge, is_wire};
+ghost use Rattle.gr_base.specs.Limits.{most_capacity, most_width};
+ghost use Rattle.gr_base.specs.Sums.{wires_from_cells};
+ghost use Rattle.grid_demand.specs.Tables.{capacity_of, capacity_at, usable_at, need_at, cell_layers, IsCapacity};
+
+use crate::wires::wire_number;
+use gr_base::{Design, Edge, Frame, Layer, Shape, Way};
+use std::alloc::{AllocError, Global};
+use std::marker::Model;
+
+/// The capacities of a design's wire edges, which edges are usable, and what nets need of them.
+///
+/// The tables are filled once, so that each look-up takes an index or two.
+#[derive(Debug, Drop)]
+pub struct Capacity {
+    shape: Shape,
+    layers: [Layer; 16],
+    cell_layers: Vec<u8>,
+    widths: Vec<u32>,
+    capacities: Vec<u32>,
+}
+
+impl Model for Capacity {
+    ghost use Rattle.grid_demand.specs.Tables.{CapacityView};
+
+    ghost Value = { CapacityView };
+
+    ghost use Rattle.grid_demand.specs.CapacityStore.{seen, Keeps};
+
+    ghost view = { seen };
+
+    ghost invariant = { Keeps };
+}
+
+impl Capacity {
+    /// The capacity of a design. The only error is want of memory.
+    pub fn of(alloc: Global, design: &Design) -> Result<Capacity, AllocError>
+        ensures { IfOk result (λ c. c ≡ capacity_of design.now) }
+    {
+        let frame = *design.frame();
+        Ok(Capacity {
+            shape: frame.shape,
+            layers: frame.layers,
+            cell_layers: layers_by_cell(alloc, frame.shape)?,
+            widths: widths_by_net(alloc, design)?,
+            capacities: capacities_by_wire(alloc, design)?,
+        })
+    }
+
+    /// The grid of the design.
+    pub fn shape(&self) -> Shape
+        ensures shape { result ≡ self.now.shape }
+        ensures tables { IsCapacity self.now }
+    {
+        self.shape
+    }
+
+    /// The capacity of a wire edge: that in its last adjustment, else what its layer states, the
+    /// horizontal capacity for East and the vertical one for North.
+    pub fn at(&self, e: Edge) -> u64
+        requires edge { IsTrue (has_edge self.now.shape e) }
+        requires wire { IsTrue (is_wire e) }
+        ensures value { result ≡ capacity_at self.now e }
+        ensures design { (d : DesignView) → self.now ≡ capacity_of d → result ≡ capacity d e }
+        ensures most { result ≤ most_capacity }
+    {
+        u64::from(self.capacities[wire_number(e)])
+    }
+
+    /// Whether wires may use an edge: a wire edge where its layer states a capacity for its way,
+    /// whatever its adjustments say, and every via edge.
+    pub fn usable(&self, e: Edge) -> bool
+        requires { IsTrue (has_edge self.now.shape e) }
+        ensures value { result ≡ usable_at self.now e }
+        ensures design { (d : DesignView) → self.now ≡ capacity_of d → result ≡ usable d e }
+    {
+        let layer = self.layer_of(e);
+        match e.way {
+            Way::East => layer.horizontal != 0,
+            Way::North => layer.vertical != 0,
+            Way::Up => true,
+        }
+    }
+
+    /// What a net takes of an edge, in units of width: nothing of a via edge, and of a wire edge
+    /// the greater of its own and the layer's width, and the layer's spacing. A net that the
+    /// design doesn't have is of width 0.
+    pub fn need(&self, net: u32, e: Edge) -> u64
+        requires { IsTrue (has_edge self.now.shape e) }
+        ensures value { result ≡ need_at self.now net e }
+        ensures design { (d : DesignView) → self.now ≡ capacity_of d → result ≡ need d net e }
+        ensures most { result ≤ 2 * most_width }
+    {
+        if e.way == Way::Up {
+            return 0;
+        }
+        let layer = self.layer_of(e);
+        let width = self.widths.get(net as usize).copied().unwrap_or(0);
+        u64::from(width.max(layer.width) + layer.spacing)
+    }
+
+    /// The layer of an edge's low end.
+    fn layer_of(&self, e: Edge) -> Layer
+        requires { IsTrue (has_edge self.now.shape e) }
+        ensures layer { slice_get self.now.layers (place_at self.now.shape e.low).layer ≡ Some result }
+        ensures in_range { IsLayer result }
+    {
+        self.layers[self.cell_layers[e.low as usize] as usize]
+    }
+
+    /// The capacities by the numbers of wire edges.
+    pub(crate) fn table(&self) -> &[u32]
+        ensures table { result.now ≡ self.now.capacities }
+        ensures tables { IsCapacity self.now }
+    {
+        &self.capacities
+    }
+}
+
+/// The layer of each cell.
+fn layers_by_cell(alloc: Global, shape: Shape) -> Result<Vec<u8>, AllocError>
+    ensures { IfOk result (λ layers. layers.items ≡ cell_layers shape) }
+{
+    let mut layers = Vec::with_capacity(alloc, shape.cells() as usize)?;
+    for cell in 0..shape.cells() {
+        layers.push(shape.place_of(cell).layer as u8)?;
+    }
+    Ok(layers)
+}
+
+/// The width of each net.
+fn widths_by_net(alloc: Global, design: &Design) -> Result<Vec<u32>, AllocError>
+    ensures { IfOk result (λ widths. widths.items ≡ widths_of design.now) }
+{
+    let mut widths = Vec::with_capacity(alloc, design.nets() as usize)?;
+    for net in 0..design.nets() {
+        widths.push(design.net(net).width)?;
+    }
+    Ok(widths)
+}
+
+/// What the layers state for the wire edges, by number.
+fn stated_by_wire(alloc: Global, frame: &Frame) -> Result<Vec<u32>, AllocError>
+    requires { IsFrame frame.now }
+    ensures { IfOk result (λ capacities. capacities.items ≡ map (stated frame.now) (wires_from_cells frame.now.shape)) }
+{
+    let shape = frame.shape;
+    let mut capacities = Vec::with_capacity(alloc, 2 * shape.cells() as usize)?;
+    for cell in 0..shape.cells() {
+        let layer = frame.layers[shape.place_of(cell).layer as usize];
+        capacities.push(layer.horizontal)?;
+        capacities.push(layer.vertical)?;
+    }
+    Ok(capacities)
+}
+
+/// The capacities of the wire edges, by number.
+fn capacities_by_wire(alloc: Global, design: &Design) -> Result<Vec<u32>, AllocError>
+    ensures { IfOk result (λ capacities. capacities.items ≡ map (capacity design.now) (wires_from_cells design.now.frame.shape)) }
+{
+    let mut capacities = stated_by_wire(alloc, design.frame())?;
+    for at in 0..design.adjustments() {
+        let adjustment = design.adjustment(at);
+        capacities[wire_number(adjustment.edge)] = adjustment.capacity;
+    }
+    Ok(capacities)
+}

@@ -1,0 +1,13 @@
+//! The capacity of a design's wire edges, and what the trees that are in take of it.
+#![tactic(auto)]
+
+mod capacity;
+mod loads;
+mod sums;
+#[cfg(test)]
+mod tests;
+mod wires;
+
+pub use capacity::Capacity;
+pub use loads::Loads;
+pub use sums::loads_are_sums;

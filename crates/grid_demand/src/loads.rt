@@ -1,0 +1,193 @@
+ghost use Rattle.std.specs.Prelude.{◌≡◌, ℕ, ◌+◌, ◌-◌, ◌*◌, ◌^◌, ◌<◌, ◌≤◌, length, map, fold, max, zip, sum_by, slice_index, IfOk, IsTrue};
+ghost use Rattle.gr_base.specs.Capacities.{capacity as capacity_in};
+ghost use Rattle.gr_base.specs.Designs.{DesignView};
+ghost use Rattle.gr_base.specs.Grid.{cells_of, has_edge, is_wire};
+ghost use Rattle.gr_base.specs.Sums.{wire_number as number_of, wires_from_cells, total_overflow, most_overflow};
+ghost use Rattle.gr_base.specs.Trees.{IsTree, edges_of};
+ghost use Rattle.grid_demand.specs.Tables.{capacity_of, capacity_at, need_at};
+ghost use Rattle.grid_demand.specs.LoadSums.{no_loads, demand_at, marks_at, share, added, taken, marked, mark_of, HasRoom, HasShare, AreLoads, most_marks};
+
+use crate::capacity::Capacity;
+use crate::wires::{wire_number, wire_to_parent};
+use gr_base::{Edge, RouteTree, Shape};
+use std::alloc::{AllocError, Global};
+use std::marker::Model;
+
+/// The most marks of an edge.
+const MOST_MARKS: u32 = 1_048_576;
+
+/// The demand for each wire edge of a grid, in units of width, and the marks of each: how often it
+/// was over its capacity when the loads were marked.
+#[derive(Debug, Drop)]
+pub struct Loads {
+    shape: Shape,
+    demands: Vec<u64>,
+    marks: Vec<u32>,
+}
+
+impl Model for Loads {
+    ghost use Rattle.grid_demand.specs.LoadSums.{LoadsView};
+
+    ghost Value = { LoadsView };
+
+    ghost use Rattle.grid_demand.specs.LoadsStore.{seen, Keeps};
+
+    ghost view = { seen };
+
+    ghost invariant = { Keeps };
+}
+
+impl Loads {
+    /// Loads without demand and marks. The only error is want of memory.
+    pub fn new(alloc: Global, capacity: &Capacity) -> Result<Loads, AllocError>
+        ensures { IfOk result (λ loads. loads ≡ no_loads capacity.now.shape) }
+    {
+        let shape = capacity.shape();
+        let wires = 2 * shape.cells() as usize;
+        Ok(Loads {
+            shape,
+            demands: vec![in alloc; 0; wires]?,
+            marks: vec![in alloc; 0; wires]?,
+        })
+    }
+
+    /// The demand for a wire edge.
+    pub fn demand(&self, e: Edge) -> u64
+        requires edge { IsTrue (has_edge self.now.shape e) }
+        requires wire { IsTrue (is_wire e) }
+        ensures demand { result ≡ demand_at self.now e }
+        ensures loads { AreLoads self.now }
+    {
+        self.demands[wire_number(e)]
+    }
+
+    /// The marks of a wire edge, at most 1,048,576.
+    pub fn marks(&self, e: Edge) -> u32
+        requires edge { IsTrue (has_edge self.now.shape e) }
+        requires wire { IsTrue (is_wire e) }
+        ensures marks { result ≡ marks_at self.now e }
+        ensures most { result ≤ most_marks }
+        ensures loads { AreLoads self.now }
+    {
+        self.marks[wire_number(e)]
+    }
+
+    /// Puts a net's tree in: each wire edge of the tree gains the net's need.
+    pub fn add(&mut self, capacity: &Capacity, net: u32, tree: &RouteTree)
+        requires capacity { capacity.now.shape ≡ self.old.shape }
+        requires tree { tree.now.shape ≡ self.old.shape }
+        requires room { HasRoom self.old tree.now }
+        ensures loads { self.new ≡ added capacity.now net tree.now self.old }
+        ensures whole { AreLoads self.new }
+    {
+        gain(&mut self.demands, capacity, net, tree);
+    }
+
+    /// Takes a net's tree out: each wire edge of the tree loses the net's need.
+    pub fn take(&mut self, capacity: &Capacity, net: u32, tree: &RouteTree)
+        requires capacity { capacity.now.shape ≡ self.old.shape }
+        requires tree { tree.now.shape ≡ self.old.shape }
+        requires share { HasShare capacity.now net tree.now self.old }
+        ensures loads { self.new ≡ taken capacity.now net tree.now self.old }
+        ensures whole { AreLoads self.new }
+    {
+        lose(&mut self.demands, capacity, net, tree);
+    }
+
+    /// Marks each wire edge whose demand is above its capacity. Marks stop at 1,048,576.
+    ///
+    /// After the history of congestion of McMurchie and Ebeling, "PathFinder", 1995.
+    pub fn mark(&mut self, capacity: &Capacity)
+        requires { capacity.now.shape ≡ self.old.shape }
+        ensures loads { self.new ≡ marked capacity.now self.old }
+        ensures whole { AreLoads self.new }
+    {
+        mark_over(&mut self.marks, &self.demands, capacity.table());
+    }
+
+    /// The sum of the overflow of all wire edges: of what demand is above capacity, or 0.
+    pub fn over_total(&self, capacity: &Capacity) -> u128
+        requires { capacity.now.shape ≡ self.now.shape }
+        ensures value { result ≡ total_overflow self.now.shape (demand_at self.now) (capacity_at capacity.now) }
+        ensures design { (d : DesignView) → capacity.now ≡ capacity_of d → result ≡ total_overflow self.now.shape (demand_at self.now) (capacity_in d) }
+    {
+        total_over(&self.demands, capacity.table())
+    }
+
+    /// The greatest overflow of a wire edge, or 0 where there is none.
+    pub fn over_max(&self, capacity: &Capacity) -> u64
+        requires { capacity.now.shape ≡ self.now.shape }
+        ensures value { result ≡ most_overflow self.now.shape (demand_at self.now) (capacity_at capacity.now) }
+        ensures design { (d : DesignView) → capacity.now ≡ capacity_of d → result ≡ most_overflow self.now.shape (demand_at self.now) (capacity_in d) }
+    {
+        most_over(&self.demands, capacity.table())
+    }
+}
+
+/// Adds a net's need to the demands of the wire edges of its tree.
+fn gain(demands: &mut Vec<u64>, capacity: &Capacity, net: u32, tree: &RouteTree)
+    requires long { length demands.old.items ≡ 2 * cells_of tree.now.shape }
+    requires shape { capacity.now.shape ≡ tree.now.shape }
+    requires room { (e : Edge) → IsTrue (edges_of tree.now e) → IsTrue (is_wire e) → slice_index demands.old.items (number_of e) ≤ 2 ^ 62 }
+    ensures demands { demands.new.items ≡ map (λ e. slice_index demands.old.items (number_of e) + share capacity.now net tree.now e) (wires_from_cells tree.now.shape) }
+    ensures tree { IsTree tree.now }
+{
+    for node in 0..tree.len() {
+        if let Some(e) = wire_to_parent(tree, node) {
+            demands[wire_number(e)] += capacity.need(net, e);
+        }
+    }
+}
+
+/// Takes a net's need from the demands of the wire edges of its tree.
+fn lose(demands: &mut Vec<u64>, capacity: &Capacity, net: u32, tree: &RouteTree)
+    requires long { length demands.old.items ≡ 2 * cells_of tree.now.shape }
+    requires shape { capacity.now.shape ≡ tree.now.shape }
+    requires share { (e : Edge) → IsTrue (edges_of tree.now e) → IsTrue (is_wire e) → need_at capacity.now net e ≤ slice_index demands.old.items (number_of e) }
+    ensures demands { demands.new.items ≡ map (λ e. slice_index demands.old.items (number_of e) - share capacity.now net tree.now e) (wires_from_cells tree.now.shape) }
+    ensures tree { IsTree tree.now }
+{
+    for node in 0..tree.len() {
+        if let Some(e) = wire_to_parent(tree, node) {
+            demands[wire_number(e)] -= capacity.need(net, e);
+        }
+    }
+}
+
+/// Adds a mark where the demand is above the capacity, up to the most marks.
+fn mark_over(marks: &mut Vec<u32>, demands: &[u64], capacities: &[u32])
+    requires demands { length demands.now ≡ length marks.old.items }
+    requires capacities { length capacities.now ≡ length marks.old.items }
+    ensures long { length marks.new.items ≡ length marks.old.items }
+    ensures each { (n : ℕ) → n < length marks.old.items → slice_index marks.new.items n ≡ mark_of (slice_index demands.now n) (slice_index capacities.now n) (slice_index marks.old.items n) }
+{
+    for at in 0..marks.len() {
+        if demands[at] > u64::from(capacities[at]) {
+            marks[at] = MOST_MARKS.min(marks[at].saturating_add(1));
+        }
+    }
+}
+
+/// The sum of what demands are above capacities.
+fn total_over(demands: &[u64], capacities: &[u32]) -> u128
+    requires { length demands.now < 2 ^ 32 }
+    ensures { result ≡ sum_by (λ (p : ℕ × ℕ). p.0 - p.1) (zip demands.now capacities.now) }
+{
+    demands
+        .iter()
+        .zip(capacities)
+        .map(|(demand, capacity)| u128::from(demand.saturating_sub(u64::from(*capacity))))
+        .sum()
+}
+
+/// The greatest of what demands are above capacities, or 0.
+fn most_over(demands: &[u64], capacities: &[u32]) -> u64
+    ensures { result ≡ fold (λ m (p : ℕ × ℕ). max m (p.0 - p.1)) 0 (zip demands.now capacities.now) }
+{
+    demands
+        .iter()
+        .zip(capacities)
+        .fold(0, |most, (demand, capacity)| {
+            most.max(demand.saturating_sub(u64::from(*capacity)))
+        })
+}
