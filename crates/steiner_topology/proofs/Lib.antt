@@ -1,0 +1,9 @@
+pub mod Order
+pub mod JoinLemmas
+pub mod TopologyLemmas
+pub mod MedianLemmas
+pub mod TreeLemmas
+pub mod PrimLemmas
+pub mod SpanningLemmas
+pub mod LawLemmas
+pub mod ThreeLemmas

@@ -1,0 +1,165 @@
+use Rattle.std.proofs.Common.{◌≡◌, ℕ, ◌<◌, ◌≤◌, ◌⊎◌, inl, inr, Bool, true, false, nat_lt, Option, Some, None, List, refl, sym, ap, ◌∙◌, arith}
+use Rattle.std.proofs.lemmas.Bool.{cases_order, cases_Bool, true≢false}
+use Rattle.std.proofs.lemmas.Bool.Decides.{nat_tests}
+use Rattle.steiner_topology.specs.declared.point.Join.{Join}
+use Rattle.steiner_topology.specs.Tile.{Tile}
+use Rattle.steiner_topology.specs.Joins.{pair, span, by_number, is_before, sooner}
+
+-- a comparison by number, and what it leaves to the rest
+by_less : (a b : ℕ) (rest : Bool) → a < b → by_number a b rest ≡ true
+by_less a b rest less = grind (arith, nat_tests)
+
+by_more : (a b : ℕ) (rest : Bool) → b < a → by_number a b rest ≡ false
+by_more a b rest more = grind (arith, nat_tests)
+
+by_same : (a b : ℕ) (rest : Bool) → a ≡ b → by_number a b rest ≡ rest
+by_same a b rest same = grind (arith, nat_tests)
+
+-- comparison by three numbers
+abbrev by_three : ℕ → ℕ → ℕ → ℕ → ℕ → ℕ → Bool
+by_three a b c x y z = by_number a x (by_number b y (nat_lt c z))
+
+-- what the test says in numbers
+yes_by : (a x : ℕ) (rest : Bool) → by_number a x rest ≡ true → (a < x) ⊎ ((a ≡ x) × (rest ≡ true))
+yes_by a x rest ok = elim (cases_order a x) [
+  | inl same ↦ inr (same, sym (by_same a x rest same) ∙ ok)
+  | inr (inl less) ↦ inl less
+  | inr (inr more) ↦ absurd (true≢false (sym ok ∙ by_more a x rest more))
+]
+
+no_by : (a x : ℕ) (rest : Bool) → by_number a x rest ≡ false → (x < a) ⊎ ((a ≡ x) × (rest ≡ false))
+no_by a x rest not_so = elim (cases_order a x) [
+  | inl same ↦ inr (same, sym (by_same a x rest same) ∙ not_so)
+  | inr (inl less) ↦ absurd (true≢false (sym (by_less a x rest less) ∙ not_so))
+  | inr (inr more) ↦ inl more
+]
+
+-- a test that is transitive by its last part is so by one number more
+trans_by : (a b c : ℕ) (p q r : Bool) → (p ≡ true → q ≡ true → r ≡ true) →
+    by_number a b p ≡ true → by_number b c q ≡ true → by_number a c r ≡ true
+trans_by a b c p q r step h k = elim (yes_by a b p h) [
+  | inl ab ↦ elim (yes_by b c q k) [
+    | inl bc ↦ by_less a c r (omega arith)
+    | inr bc ↦ let e = bc.0 in by_less a c r (omega arith)
+  ]
+  | inr ab ↦ let d = ab.0 in elim (yes_by b c q k) [
+    | inl bc ↦ by_less a c r (omega arith)
+    | inr bc ↦ let e = bc.0 in by_same a c r (omega arith) ∙ step ab.1 bc.1
+  ]
+]
+
+back_by : (a b c : ℕ) (p q r : Bool) → (p ≡ false → q ≡ false → r ≡ false) →
+    by_number a b p ≡ false → by_number b c q ≡ false → by_number a c r ≡ false
+back_by a b c p q r step h k = elim (no_by a b p h) [
+  | inl ab ↦ elim (no_by b c q k) [
+    | inl bc ↦ by_more a c r (omega arith)
+    | inr bc ↦ let e = bc.0 in by_more a c r (omega arith)
+  ]
+  | inr ab ↦ let d = ab.0 in elim (no_by b c q k) [
+    | inl bc ↦ by_more a c r (omega arith)
+    | inr bc ↦ let e = bc.0 in by_same a c r (omega arith) ∙ step ab.1 bc.1
+  ]
+]
+
+-- a test and its reverse
+asym_by : (a b : ℕ) (p q : Bool) → (p ≡ true → q ≡ false) → by_number a b p ≡ true → by_number b a q ≡ false
+asym_by a b p q step h = elim (yes_by a b p h) [
+  | inl ab ↦ by_more b a q ab
+  | inr ab ↦ by_same b a q (sym ab.0) ∙ step ab.1
+]
+
+same_by : (a b : ℕ) (p q : Bool) → by_number a b p ≡ false → by_number b a q ≡ false → (a ≡ b) × (p ≡ false) × (q ≡ false)
+same_by a b p q h k = elim (no_by a b p h) [
+  | inl ab ↦ elim (no_by b a q k) [ inl ba ↦ absurd (omega arith) | inr ba ↦ let e = ba.0 in absurd (omega arith) ]
+  | inr ab ↦ let d = ab.0 in elim (no_by b a q k) [ inl ba ↦ absurd (omega arith) | inr ba ↦ (ab.0, ab.1, ba.1) ]
+]
+
+pub before-trans : (tiles : List Tile) (p q r : Join) → is_before tiles p q ≡ true → is_before tiles q r ≡ true → is_before tiles p r ≡ true
+before-trans tiles p q r =
+    trans_by (span tiles p) (span tiles q) (span tiles r) (by_number p.point q.point (nat_lt p.parent q.parent)) (by_number q.point r.point (nat_lt q.parent r.parent)) (by_number p.point r.point (nat_lt p.parent r.parent))
+    (trans_by p.point q.point r.point (nat_lt p.parent q.parent) (nat_lt q.parent r.parent) (nat_lt p.parent r.parent)
+    (λ h k. grind (arith, nat_tests)))
+
+pub before-back : (tiles : List Tile) (p q r : Join) → is_before tiles p q ≡ false → is_before tiles q r ≡ false → is_before tiles p r ≡ false
+before-back tiles p q r =
+    back_by (span tiles p) (span tiles q) (span tiles r) (by_number p.point q.point (nat_lt p.parent q.parent)) (by_number q.point r.point (nat_lt q.parent r.parent)) (by_number p.point r.point (nat_lt p.parent r.parent))
+    (back_by p.point q.point r.point (nat_lt p.parent q.parent) (nat_lt q.parent r.parent) (nat_lt p.parent r.parent)
+    (λ h k. grind (arith, nat_tests)))
+
+pub before-asym : (tiles : List Tile) (p q : Join) → is_before tiles p q ≡ true → is_before tiles q p ≡ false
+before-asym tiles p q =
+    asym_by (span tiles p) (span tiles q) (by_number p.point q.point (nat_lt p.parent q.parent)) (by_number q.point p.point (nat_lt q.parent p.parent))
+    (asym_by p.point q.point (nat_lt p.parent q.parent) (nat_lt q.parent p.parent) (λ h. grind (arith, nat_tests)))
+
+-- pairs are equal where their numbers are
+pub same_pair : (p q : Join) → p.point ≡ q.point → p.parent ≡ q.parent → p ≡ q
+same_pair p q points parents =
+    let by_point : ℕ → Join = λ n. pair n p.parent in
+    let by_parent : ℕ → Join = λ n. pair q.point n in
+    ap by_point points ∙ ap by_parent parents
+
+pub before-same : (tiles : List Tile) (p q : Join) → is_before tiles p q ≡ false → is_before tiles q p ≡ false → p ≡ q
+before-same tiles p q h k =
+    let by_span = same_by (span tiles p) (span tiles q) (by_number p.point q.point (nat_lt p.parent q.parent)) (by_number q.point p.point (nat_lt q.parent p.parent)) h k in
+    let by_point = same_by p.point q.point (nat_lt p.parent q.parent) (nat_lt q.parent p.parent) by_span.1 by_span.2 in
+    let not_so = by_point.1 in
+    let back = by_point.2 in
+    same_pair p q by_point.0 (grind (arith, nat_tests))
+
+-- of two pairs the one that comes first
+pub sooner-first : (tiles : List Tile) (p q : Join) → is_before tiles q p ≡ true → sooner tiles (Some p) (Some q) ≡ Some q
+sooner-first tiles p q ok = rw ok refl
+
+pub sooner-kept : (tiles : List Tile) (p q : Join) → is_before tiles q p ≡ false → sooner tiles (Some p) (Some q) ≡ Some p
+sooner-kept tiles p q not_so = rw not_so refl
+
+pub sooner-none : (tiles : List Tile) (a : Option Join) → sooner tiles a None ≡ a
+sooner-none tiles None = refl
+sooner-none tiles (Some p) = refl
+
+pub sooner-comm : (tiles : List Tile) (a b : Option Join) → sooner tiles a b ≡ sooner tiles b a
+sooner-comm tiles None None = refl
+sooner-comm tiles None (Some q) = refl
+sooner-comm tiles (Some p) None = refl
+sooner-comm tiles (Some p) (Some q) = elim (cases_Bool (is_before tiles q p)) [
+  | inl ok ↦ sooner-first tiles p q ok ∙ sym (sooner-kept tiles q p (before-asym tiles q p ok))
+  | inr not_so ↦ sooner-kept tiles p q not_so ∙ elim (cases_Bool (is_before tiles p q)) [
+    | inl back ↦ sym (sooner-first tiles q p back)
+    | inr same ↦ ap (λ (x : Join). Some x) (before-same tiles p q same not_so) ∙ sym (sooner-kept tiles q p same)
+  ]
+]
+
+pub sooner-self : (tiles : List Tile) (a : Option Join) → sooner tiles a a ≡ a
+sooner-self tiles None = refl
+sooner-self tiles (Some p) = elim (cases_Bool (is_before tiles p p)) [
+  | inl ok ↦ sooner-first tiles p p ok
+  | inr not_so ↦ sooner-kept tiles p p not_so
+]
+
+pub sooner_assoc : (tiles : List Tile) (a b c : Option Join) →
+    sooner tiles (sooner tiles a b) c ≡ sooner tiles a (sooner tiles b c)
+sooner_assoc tiles None b c = refl
+sooner_assoc tiles (Some p) None c = refl
+sooner_assoc tiles (Some p) (Some q) None = sooner-none tiles (sooner tiles (Some p) (Some q))
+sooner_assoc tiles (Some p) (Some q) (Some r) = elim (cases_Bool (is_before tiles q p)) [
+  | inl qp ↦ elim (cases_Bool (is_before tiles r q)) [
+    | inl rq ↦
+        rw (sooner-first tiles p q qp, sooner-first tiles q r rq)
+        (sym (sooner-first tiles p r (before-trans tiles r q p rq qp)))
+    | inr rq ↦ rw (sooner-first tiles p q qp, sooner-kept tiles q r rq) (sym (sooner-first tiles p q qp))
+  ]
+  | inr qp ↦ elim (cases_Bool (is_before tiles r q)) [
+    | inl rq ↦ rw (sooner-kept tiles p q qp, sooner-first tiles q r rq) refl
+    | inr rq ↦
+        rw (sooner-kept tiles p q qp, sooner-kept tiles q r rq)
+        (sooner-kept tiles p r (before-back tiles r q p rq qp) ∙ sym (sooner-kept tiles p q qp))
+  ]
+]
+
+-- a pair that doesn't come before another isn't shorter
+pub before-span : (tiles : List Tile) (p q : Join) → is_before tiles p q ≡ false → span tiles q ≤ span tiles p
+before-span tiles p q later =
+    elim (no_by (span tiles p) (span tiles q) (by_number p.point q.point (nat_lt p.parent q.parent)) later) [
+      | inl less ↦ omega arith
+      | inr same ↦ let e = same.0 in omega arith
+    ]

@@ -1,0 +1,4 @@
+pub mod Tile
+pub mod Joins
+pub mod Topology
+pub mod Spanning

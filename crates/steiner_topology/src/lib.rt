@@ -1,0 +1,16 @@
+//! Topologies of nets: how the tiles of a net's pins hang together, with points of their own
+//! where branches can share a way.
+#![tactic(auto)]
+
+mod branch;
+mod build;
+mod point;
+mod prim;
+#[cfg(test)]
+mod tests;
+mod tile;
+mod tree;
+
+pub use build::topology;
+pub use point::{Join, Point, Tile};
+pub use tree::Topology;

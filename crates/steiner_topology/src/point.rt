@@ -1,0 +1,16 @@
+/// A tile: its column and its row.
+pub type Tile = (u32, u32);
+
+/// A point of a topology: its tile, and the number of its parent. Point 0 is its own parent.
+#[derive(Clone, Copy, Debug, PartialEq, Eq)]
+pub struct Point {
+    pub tile: Tile,
+    pub parent: u32,
+}
+
+/// A point that is joined to a tree, and the point of the tree that it is joined to.
+#[derive(Clone, Copy, Debug, PartialEq, Eq)]
+pub struct Join {
+    pub point: u32,
+    pub parent: u32,
+}
