@@ -1,0 +1,182 @@
+ghost use Rattle.std.specs.Prelude.{◌≡◌, ◌≢◌, ◌++◌, IfOk, if◌then◌else◌, nat_lt};
+ghost use Rattle.gr_base.specs.declared.grid.Cell.{Cell};
+ghost use Rattle.pattern_route.specs.Steps.{toward};
+ghost use Rattle.pattern_route.specs.Walks.{IsFlat, walk_cost, first_least, cheaper};
+ghost use Rattle.pattern_route.specs.Lines.{across, span_of, leaving, arriving, crossing, SpanFits, walk_by, walks_by, IsBetween, IsAtLine, IsCrossing};
+
+use crate::leg::{cost_along, one_toward, push_along, step_along};
+use crate::line::{Axis, Crossing, Line, Span, Sweep};
+use cost_rules::Costs;
+use gr_base::{Cell, Cells, Shape};
+use std::alloc::{AllocError, Global};
+
+impl Axis {
+    fn across(self) -> Axis
+        ensures { result ≡ across self }
+    {
+        match self {
+            Axis::Columns => Axis::Rows,
+            Axis::Rows => Axis::Columns,
+        }
+    }
+}
+
+impl Span {
+    pub(crate) fn new(axis: Axis, a: Cell, b: Cell) -> Span
+        ensures { result ≡ span_of axis a b }
+    {
+        match axis {
+            Axis::Columns => Span {
+                axis,
+                start: a.x,
+                end: b.x,
+                from: a.y,
+                to: b.y,
+            },
+            Axis::Rows => Span {
+                axis,
+                start: a.y,
+                end: b.y,
+                from: a.x,
+                to: b.x,
+            },
+        }
+    }
+
+    /// The line across the axis on which walks leave the first tile.
+    pub(crate) fn leaving(self) -> Line
+        ensures { result ≡ leaving self }
+    {
+        Line {
+            axis: self.axis.across(),
+            at: self.from,
+        }
+    }
+
+    /// The line of the axis that a walk crosses by.
+    pub(crate) fn crossing(self, at: u32) -> Line
+        ensures { result ≡ crossing self at }
+    {
+        Line {
+            axis: self.axis,
+            at,
+        }
+    }
+
+    /// The line across the axis on which walks arrive at the second tile.
+    pub(crate) fn arriving(self) -> Line
+        ensures { result ≡ arriving self }
+    {
+        Line {
+            axis: self.axis.across(),
+            at: self.to,
+        }
+    }
+}
+
+/// The sweep at the span's first line.
+fn start<C: Costs>(costs: &C, shape: Shape, span: Span) -> Sweep
+    requires grid { C.grid costs.now ≡ shape }
+    requires flat { IsFlat shape (C.price costs.now) }
+    requires fits { SpanFits shape span }
+    ensures sweep { IsAtLine shape (C.price costs.now) result }
+    ensures span { result.span ≡ span }
+    ensures at { result.at ≡ span.start }
+{
+    Sweep {
+        span,
+        at: span.start,
+        left: 0,
+        to_come: cost_along(costs, shape, span.arriving(), span.start, span.end),
+    }
+}
+
+/// The sweep at the next line.
+fn next<C: Costs>(costs: &C, shape: Shape, sweep: Sweep) -> Sweep
+    requires grid { C.grid costs.now ≡ shape }
+    requires flat { IsFlat shape (C.price costs.now) }
+    requires sweep { IsAtLine shape (C.price costs.now) sweep }
+    requires more { sweep.at ≢ sweep.span.end }
+    ensures sweep { IsAtLine shape (C.price costs.now) result }
+    ensures span { result.span ≡ sweep.span }
+    ensures at { result.at ≡ toward sweep.at sweep.span.end }
+{
+    let span = sweep.span;
+    let leave = step_along(costs, shape, span.leaving(), sweep.at, span.end);
+    let arrive = step_along(costs, shape, span.arriving(), sweep.at, span.end);
+    Sweep {
+        span,
+        at: one_toward(sweep.at, span.end),
+        left: sweep.left + leave,
+        to_come: sweep.to_come - arrive,
+    }
+}
+
+/// The crossing by the line that the sweep has come to.
+fn crossing_at<C: Costs>(costs: &C, shape: Shape, sweep: Sweep) -> Crossing
+    requires grid { C.grid costs.now ≡ shape }
+    requires flat { IsFlat shape (C.price costs.now) }
+    requires sweep { IsAtLine shape (C.price costs.now) sweep }
+    ensures crossing { IsCrossing shape (C.price costs.now) result }
+    ensures span { result.span ≡ sweep.span }
+    ensures at { result.at ≡ sweep.at }
+{
+    let span = sweep.span;
+    let across = cost_along(costs, shape, span.crossing(sweep.at), span.from, span.to);
+    Crossing {
+        span,
+        at: sweep.at,
+        cost: sweep.left + across + sweep.to_come,
+    }
+}
+
+/// Of two crossings the second where it costs less, else the first.
+pub(crate) fn cheaper_of(first: Crossing, second: Crossing) -> Crossing
+    ensures { result ≡ (if nat_lt second.cost first.cost then second else first) }
+{
+    if second.cost < first.cost {
+        second
+    } else {
+        first
+    }
+}
+
+/// The first crossing of least cost by a line of the span.
+pub(crate) fn least_crossing<C: Costs>(costs: &C, shape: Shape, span: Span) -> Crossing
+    requires grid { C.grid costs.now ≡ shape }
+    requires flat { IsFlat shape (C.price costs.now) }
+    requires fits { SpanFits shape span }
+    ensures crossing { IsCrossing shape (C.price costs.now) result }
+    ensures span { result.span ≡ span }
+    ensures least { let cost = walk_cost shape (C.price costs.now) in
+        walk_by shape span result.at ≡ first_least cost (walks_by shape span) }
+{
+    let mut sweep = start(costs, shape, span);
+    let mut best = crossing_at(costs, shape, sweep);
+    while sweep.at != span.end {
+        sweep = next(costs, shape, sweep);
+        best = cheaper_of(best, crossing_at(costs, shape, sweep));
+    }
+    best
+}
+
+/// The walk by a crossing.
+pub(crate) fn walk_of(alloc: Global, shape: Shape, crossing: Crossing) -> Result<Cells, AllocError>
+    requires fits { SpanFits shape crossing.span }
+    requires between { IsBetween crossing.span.start crossing.at crossing.span.end }
+    ensures { IfOk result (λ cells. cells ≡ walk_by shape crossing.span crossing.at) }
+{
+    let span = crossing.span;
+    let mut cells = Cells::new(alloc);
+    cells.push(span.leaving().cell(shape, span.start))?;
+    push_along(&mut cells, shape, span.leaving(), span.start, crossing.at)?;
+    push_along(
+        &mut cells,
+        shape,
+        span.crossing(crossing.at),
+        span.from,
+        span.to,
+    )?;
+    push_along(&mut cells, shape, span.arriving(), crossing.at, span.end)?;
+    Ok(cells)
+}
