@@ -1,0 +1,79 @@
+use Rattle.std.proofs.Common.{◌≡◌, ℕ, ◌+◌, ◌<◌, Bool, true, false, List, [], ◌++◌, length, Result, Ok, Err, refl, sym, ap, subst, ◌∙◌, arith, append_assoc}
+use Rattle.std.proofs.lemmas.List.Folds.{list_all-append}
+use Rattle.gr_text.specs.declared.tokens.TokenError.{TokenError}
+use Rattle.gr_text.specs.declared.tokens.TokenError.TheVariants.{Failed, TooLong, NoMemory}
+use Rattle.gr_text.specs.Tokens.{is_blank, Place, place_in, AtEnd, PastLimit}
+use Rattle.gr_text.specs.Streams.{Stream, place_of, ReadsLittleAhead}
+use Rattle.gr_text.specs.Steps.{IsNext, IsLast, Advances, Seeks, Skips, SkipsAll, SkipsTo, TakesOne, TakesToken, IsAtWord}
+use Rattle.gr_text.proofs.TokenLemmas.{place-blanks, place-past, place-end, place-is_end, place-number}
+
+pub skips-place : (number room : ℕ) (bytes : List ℕ) (new_room : ℕ) (new_bytes : List ℕ) → Skips room bytes new_room new_bytes →
+    place_in room number bytes ≡ place_in new_room number new_bytes
+skips-place number room bytes new_room new_bytes skips =
+    let P : ℕ → Type 0 = λ r. place_in r number bytes ≡ place_in new_room number new_bytes in
+    let Q : List ℕ → Type 0 = λ bs. place_in (length skips.blanks + new_room) number bs ≡ place_in new_room number new_bytes in
+    subst P (sym skips.room_is) (subst Q (sym skips.bytes_are) (place-blanks skips.blanks new_bytes new_room number skips.blank))
+
+-- a token behind blanks
+pub find-next : (before at after : Stream) (bytes new_bytes left : List ℕ) → Skips before.room bytes at.room new_bytes → IsAtWord before at →
+    TakesToken at.room at.number new_bytes (Ok tt) after left → IsNext (place_in before.room before.number bytes) after.word (place_of after left)
+find-next before at after bytes new_bytes left skips sought taken =
+    let same : at.number ≡ before.number = ap (λ (s : Stream). s.number) sought.is in
+    let place : place_in before.room before.number bytes ≡ place_in at.room at.number new_bytes =
+    skips-place before.number before.room bytes at.room new_bytes skips ∙ ap (λ n. place_in at.room n new_bytes) (sym same) in
+    let P : Place → Type 0 = λ p. IsNext p after.word (place_of after left) in
+    subst P (sym place) taken.0
+
+pub find-little : (before at after : Stream) (bytes new_bytes left : List ℕ) → Skips before.room bytes at.room new_bytes →
+    TakesToken at.room at.number new_bytes (Ok tt) after left → ReadsLittleAhead bytes after.word left
+find-little before at after bytes new_bytes left skips taken =
+    let ends = taken.1 in
+    record {
+      blanks = skips.blanks ++ ends.blanks;
+      ahead = ends.ahead;
+      is = skips.bytes_are ∙ ap (λ xs. skips.blanks ++ xs) ends.is ∙
+          sym (append_assoc skips.blanks ends.blanks (after.word ++ (ends.ahead ++ left)));
+      blank = list_all-append is_blank skips.blanks ends.blanks ∙ rw (skips.blank, ends.blank) refl;
+      little = ends.little;
+    }
+
+-- a token that no blank follows within the limit
+pub find-cut : (before at after : Stream) (bytes new_bytes left : List ℕ) (error : TokenError) (word : List ℕ) (place : Place) →
+    Skips before.room bytes at.room new_bytes → IsAtWord before at → TakesOne at (Err error) after →
+    TakesToken at.room at.number new_bytes (Err error) after left → Advances (place_in before.room before.number bytes) (Err error) word place
+find-cut before at after bytes new_bytes left Failed word place skips sought one taken = tt
+find-cut before at after bytes new_bytes left NoMemory word place skips sought one taken = tt
+find-cut before at after bytes new_bytes left (TooLong token) word place skips sought one taken =
+    let same : at.number ≡ before.number = ap (λ (s : Stream). s.number) sought.is in
+    let place_is : place_in before.room before.number bytes ≡ place_in at.room at.number new_bytes =
+    skips-place before.number before.room bytes at.room new_bytes skips ∙ ap (λ n. place_in at.room n new_bytes) (sym same) in
+    let P : Place → Type 0 = λ p. IsLast p PastLimit in (
+      subst P (sym place_is) taken,
+      one ∙ ap (λ n. n + 1) same ∙ ap (λ n. n + 1) (sym (place-number before.room before.number bytes)),
+    )
+
+-- blanks up to the text's end
+pub find-end : (before after : Stream) (bytes left : List ℕ) → SkipsAll before.room bytes (after.pending ++ left) →
+    after.number ≡ before.number →
+    IsLast (place_in before.room before.number bytes) AtEnd × (place_of after left ≡ place_in before.room before.number bytes)
+find-end before after bytes left all same =
+    let place_is : place_in before.room before.number bytes ≡ place_in all.most before.number [] =
+    skips-place before.number before.room bytes all.most [] all.skipped in
+    let P : Place → Type 0 = λ p. IsLast p AtEnd in (
+      subst P (sym place_is) (place-is_end all.most before.number),
+      ap (λ bs. place_in after.room after.number bs) all.none ∙ place-end after.room after.number ∙
+          ap (λ n. record { number = n; rest = []; ending = AtEnd }) same ∙ sym (place-end all.most before.number) ∙ sym place_is,
+    )
+
+-- blanks up to the limit
+pub find-past : (before after : Stream) (bytes new_bytes : List ℕ) (error : TokenError) (word : List ℕ) (place : Place) →
+    SkipsTo (Err error) before.room bytes after.room new_bytes → Seeks before (Err error) after →
+    Advances (place_in before.room before.number bytes) (Err error) word place
+find-past before after bytes new_bytes Failed word place skips sought = tt
+find-past before after bytes new_bytes NoMemory word place skips sought = tt
+find-past before after bytes new_bytes (TooLong token) word place skips sought =
+    let place_is = skips-place before.number before.room bytes 0 new_bytes skips.0 in
+    let P : Place → Type 0 = λ p. IsLast p PastLimit in (
+      subst P (sym place_is) (place-past [] new_bytes before.number refl skips.1),
+      sought ∙ ap (λ n. n + 1) (sym (place-number before.room before.number bytes)),
+    )

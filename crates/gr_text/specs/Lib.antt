@@ -1,0 +1,7 @@
+pub mod Devices
+pub mod Tokens
+pub mod Streams
+pub mod Steps
+pub mod Numbers
+pub mod Reading
+pub mod Reads

@@ -1,0 +1,28 @@
+use Rattle.std.specs.Prelude.{◌≡◌, ℕ, ◌≤◌, Result, Ok, Err}
+use Rattle.gr_io.specs.Counts.{Rose}
+use Rattle.gr_text.specs.declared.source.ReadError.{ReadError}
+use Rattle.gr_text.specs.declared.source.ReadError.TheVariants.{Fault, Failed, NoMemory}
+use Rattle.gr_text.specs.Tokens.{Place}
+use Rattle.gr_text.specs.Reading.{Read}
+
+-- the result is what the grammar says, seen as the grammar's values, and the place is the one behind it;
+-- a failed read and want of memory say nothing of the text
+abbrev pub Reads : {F A V : Type 0} → Read F A → (V → A) → Result V (ReadError F) → Place → Type 0
+Reads read view (Ok value) place = read ≡ Ok (view value, place)
+Reads read view (Err (Fault fault token)) place = read ≡ Err (fault, token)
+Reads read view (Err Failed) place = Unit {0}
+Reads read view (Err NoMemory) place = Unit {0}
+
+-- the shelf's count of faults rose where a read failed, and is as before where not
+abbrev pub Counts : {F V : Type 0} → Result V (ReadError F) → ℕ → ℕ → Type 0
+Counts (Ok value) before after = after ≡ before
+Counts (Err (Fault fault token)) before after = after ≡ before
+Counts (Err Failed) before after = (before ≤ after) × Rose before after
+Counts (Err NoMemory) before after = after ≡ before
+
+-- the result is what the grammar says of a whole text
+abbrev pub OfPlace : {F A V : Type 0} → Read F A → (V → A) → Result V (ReadError F) → Type 0
+OfPlace read view (Ok value) = (place : Place) × (read ≡ Ok (view value, place))
+OfPlace read view (Err (Fault fault token)) = read ≡ Err (fault, token)
+OfPlace read view (Err Failed) = Unit {0}
+OfPlace read view (Err NoMemory) = Unit {0}

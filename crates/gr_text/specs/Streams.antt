@@ -1,0 +1,65 @@
+use Rattle.std.specs.Prelude.{◌≡◌, ℕ, ◌-◌, ◌+◌, ◌^◌, ◌<◌, ◌≤◌, ◌⊎◌, true, not, Bool, nat_lt, List, [], ◌++◌, length, take, drop}
+use Rattle.std.specs.List.{list_all, position_or_len}
+use Rattle.gr_io.specs.declared.shelf.Slot.{Slot}
+use Rattle.gr_text.specs.Tokens.{Place, place_in, is_blank}
+
+-- a piece of a text: its bytes that are taken, and those ahead
+pub record Cursor : Type 0 where
+  pub taken : List ℕ
+  pub ahead : List ℕ
+
+-- the tokens of a slot's text: how many were given, the last of them, the bytes that were read and lie behind it,
+-- and how many more bytes may be used
+pub record Stream : Type 0 where
+  pub slot : Slot
+  pub number : ℕ
+  pub word : List ℕ
+  pub pending : List ℕ
+  pub room : ℕ
+  pub broken : Bool
+
+-- so many tokens are given that the rest can be numbered, each token but the last taking two bytes or more
+pub record Countable (number room : ℕ) : Type 0 where
+  pub all : number + number + room ≤ 2 ^ 64
+  pub more : 0 < room → number + number + room < 2 ^ 64
+
+-- what is true inside a stream: the token in hand lies in earlier pieces or in this one
+pub record Holds (carried taken : List ℕ) (from to number room : ℕ) : Type 0 where
+  pub ordered : from ≤ to
+  pub inside : to ≤ length taken
+  pub one_part : (carried ≡ []) ⊎ (from ≡ to)
+  pub countable : Countable number room
+
+-- where the stream stands among the tokens, given the bytes that are still unread
+abbrev pub place_of : Stream → List ℕ → Place
+place_of stream left = place_in stream.room stream.number (stream.pending ++ left)
+
+-- the stream past its next bytes
+abbrev pub passed : ℕ → Stream → Stream
+passed count stream = record stream { pending = drop count stream.pending; room = stream.room - count }
+
+-- the stream with its next bytes in the token in hand
+abbrev pub grown : ℕ → Stream → Stream
+grown count stream = record (passed count stream) { word = stream.word ++ take count stream.pending }
+
+-- the bytes that are read and may be used
+abbrev pub usable : Stream → List ℕ
+usable stream = take stream.room stream.pending
+
+-- the usable blanks were passed, and another byte follows them or not
+pub record SkipsAhead (before : Stream) (more : Bool) (after : Stream) : Type 0 where
+  pub is : after ≡ passed (position_or_len (λ byte. not (is_blank byte)) (usable before)) before
+  pub found : more ≡ nat_lt (position_or_len (λ byte. not (is_blank byte)) (usable before)) (length (usable before))
+
+-- the usable bytes up to a blank were added to the token in hand, and a blank follows or not
+pub record GrowsAhead (before : Stream) (closed : Bool) (after : Stream) : Type 0 where
+  pub is : after ≡ grown (position_or_len is_blank (usable before)) before
+  pub found : closed ≡ nat_lt (position_or_len is_blank (usable before)) (length (usable before))
+
+-- the bytes were blanks, the token and what was read behind its last byte, and this is at most one piece
+pub record ReadsLittleAhead (bytes word left : List ℕ) : Type 0 where
+  pub blanks : List ℕ
+  pub ahead : List ℕ
+  pub is : bytes ≡ blanks ++ (word ++ (ahead ++ left))
+  pub blank : list_all is_blank blanks ≡ true
+  pub little : length ahead ≤ 65536

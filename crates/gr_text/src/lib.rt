@@ -1,0 +1,21 @@
+//! Texts of tokens: reading them piece by piece from a shelf, the checks that every reader is made
+//! of, whole numbers, and texts to be written.
+#![tactic(auto)]
+
+mod numbers;
+mod piece;
+mod reader;
+mod reading;
+mod scan;
+mod source;
+#[cfg(test)]
+mod tests;
+mod text;
+mod tokens;
+
+pub use numbers::{whole, whole_of};
+pub use reader::TokenReader;
+pub use reading::{check, next_token, next_token_or_end, number, word};
+pub use source::{Ends, ReadError, TokenSource};
+pub use text::Text;
+pub use tokens::{Token, TokenError, Tokens};

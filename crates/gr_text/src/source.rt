@@ -1,0 +1,61 @@
+ghost use Rattle.std.specs.Prelude.{◌≡◌, ℕ, ◌-◌, ◌^◌, ◌<◌, Bool, false, List, IsTrue, IfOk, Ok};
+ghost use Rattle.gr_base.specs.Names.{is_token};
+ghost use Rattle.gr_text.specs.Devices.{Device};
+ghost use Rattle.gr_text.specs.Tokens.{Place};
+ghost use Rattle.gr_text.specs.Steps.{Advances, Counted};
+
+use crate::tokens::TokenError;
+
+/// The faults of a text that ends where a token is due, and of one that goes on past its limit.
+#[derive(Clone, Copy, Debug, PartialEq, Eq)]
+pub struct Ends<F> {
+    pub ended: F,
+    pub too_long: F,
+}
+
+/// Why a reader gave no value.
+#[derive(Clone, Copy, Debug, PartialEq, Eq)]
+pub enum ReadError<F> {
+    /// The text is at fault, at this token. Tokens count from 1.
+    Fault { fault: F, token: u64 },
+    Failed,
+    NoMemory,
+}
+
+/// A text's tokens, one after another.
+pub trait TokenSource {
+    /// Whether `place` tells the tokens. Where it is false it claims nothing.
+    ghost tells: { Bool };
+
+    /// How many reads have failed.
+    ghost faults: { Self → ℕ };
+
+    /// How many tokens were read, and those that are left.
+    ghost place: { Self → Place };
+
+    /// The token in hand.
+    ghost word: { Self → List ℕ };
+
+    /// The device that is read, which no call changes.
+    ghost device: { Self → Device };
+
+    /// The text was read to its end.
+    ghost ended: { Self → Type 0 };
+
+    /// Takes the next token into the hand, and says whether there was one.
+    fn advance(&mut self) -> Result<bool, TokenError>
+        ensures token { IsTrue tells → Advances (place self.old) result (word self.new) (place self.new) }
+        ensures faults { Counted result (faults self.old) (faults self.new) }
+        ensures device { device self.new ≡ device self.old }
+        ensures word { IfOk result (λ more. IsTrue more → IsTrue (is_token (word self.new))) }
+        ensures ended { result ≡ Ok false → IsTrue tells → ended self.new };
+
+    /// The token in hand.
+    fn word(&self) -> &[u8]
+        ensures { result.now ≡ word self.now };
+
+    /// The number of the token in hand. Tokens count from 1.
+    fn number(&self) -> u64
+        ensures number { IsTrue tells → result ≡ (place self.now).number }
+        ensures room { result < 2 ^ 64 - 1 };
+}

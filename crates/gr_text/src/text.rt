@@ -1,0 +1,56 @@
+ghost use Rattle.std.specs.Prelude.{◌≡◌, List, [], ◌++◌, OnOk, OnErr};
+ghost use Rattle.std.specs.Fmt.{signed_decimal};
+
+use itoa::Buffer;
+use std::alloc::{AllocError, Global};
+use std::marker::Model;
+
+/// A text that is put together piece by piece.
+#[derive(Debug, Drop)]
+pub struct Text {
+    written: Vec<u8>,
+}
+
+impl Model for Text {
+    ghost use Rattle.std.specs.Prelude.{ℕ, List};
+
+    ghost Value = { List ℕ };
+
+    ghost view = { λ t. t.written.items };
+}
+
+impl Text {
+    /// An empty text.
+    pub fn new(alloc: Global) -> Self
+        ensures { result ≡ [] }
+    {
+        Text {
+            written: Vec::new(alloc),
+        }
+    }
+
+    /// Puts the bytes at the end. An error leaves the text as it was.
+    pub fn put(&mut self, bytes: &[u8]) -> Result<(), AllocError>
+        ensures put { OnOk result (self.new ≡ self.old ++ bytes.now) }
+        ensures unchanged { OnErr result (self.new ≡ self.old) }
+    {
+        self.written.extend_from_slice(bytes)
+    }
+
+    /// Puts the number's decimal digits at the end, behind a `-` if it is negative. An error leaves
+    /// the text as it was.
+    pub fn put_number(&mut self, n: i128) -> Result<(), AllocError>
+        ensures put { OnOk result (self.new ≡ self.old ++ signed_decimal n) }
+        ensures unchanged { OnErr result (self.new ≡ self.old) }
+    {
+        let mut buffer = Buffer::new();
+        let digits = buffer.format(n);
+        self.put(digits.as_bytes())
+    }
+
+    pub fn bytes(&self) -> &[u8]
+        ensures { result.now ≡ self.now }
+    {
+        &self.written
+    }
+}
