@@ -1,0 +1,4 @@
+pub mod SeveralLemmas
+pub mod HeaderLemmas
+pub mod NetLemmas
+pub mod ReadLemmas

@@ -1,0 +1,16 @@
+use Rattle.std.proofs.Common.{◌≡◌, ℕ, ◌-◌, ◌≤◌, All, replicate, length, take, drop, List, [], IsTrue}
+use Rattle.gr_text.specs.Reading.{several}
+use Rattle.ispd_reader.specs.Steps.{natural}
+use Rattle.ispd_reader.proofs.header.by_layer.Given as goal
+
+abbrev pub invariant-loop-layer : goal.invariant-loop-layer
+invariant-loop-layer g l = record {
+  count : length l.numbers ≡ 16;
+  reads : IsTrue g.S.TokenSource.tells →
+      several (λ _. natural 0 l.most) (l.layers - l.layer) (take l.layer l.numbers) (g.S.TokenSource.place l.source)
+      ≡ several (λ _. natural 0 l.most) l.layers [] (g.S.TokenSource.place l.fn.source);
+  faults : g.S.TokenSource.faults l.source ≡ g.S.TokenSource.faults l.fn.source;
+  device : g.S.TokenSource.device l.source ≡ g.S.TokenSource.device l.fn.source;
+  most : All (λ n. n ≤ l.most) l.numbers;
+  others : drop l.layer l.numbers ≡ replicate (16 - l.layer) 0;
+}

@@ -1,0 +1,20 @@
+use Rattle.std.proofs.Common.{◌≡◌, ℕ, ◌-◌, ◌≤◌, length, [], IsTrue}
+use Rattle.gr_base.specs.Limits.{most_pins}
+use Rattle.gr_base.specs.Designs.{pins_of}
+use Rattle.gr_text.specs.Reading.{several}
+use Rattle.ispd_reader.specs.Nets.{net}
+use Rattle.ispd_reader.proofs.nets.counted_nets.Given as goal
+
+abbrev pub invariant-loop : goal.invariant-loop
+invariant-loop g l = record {
+  reads : IsTrue g.S.TokenSource.tells →
+      several (net l.fn.design.frame) (l.count - l.counter) l.design.nets (g.S.TokenSource.place l.source)
+      ≡ several (net l.fn.design.frame) l.count [] (g.S.TokenSource.place l.fn.source);
+  faults : g.S.TokenSource.faults l.source ≡ g.S.TokenSource.faults l.fn.source;
+  device : g.S.TokenSource.device l.source ≡ g.S.TokenSource.device l.fn.source;
+  frame : l.design.frame ≡ l.fn.design.frame;
+  adjustments : l.design.adjustments ≡ l.fn.design.adjustments;
+  count : length l.design.nets ≡ l.counter;
+  pins : l.pins ≡ pins_of l.design.nets;
+  most : l.pins ≤ most_pins;
+}

@@ -1,0 +1,29 @@
+-- What a design text says. The grammar is a table: one line for each check, in the order of the text.
+use Rattle.std.specs.Prelude.{ℕ, ◌*◌, List, Result, Ok, Err}
+use Rattle.gr_base.specs.Designs.{DesignView}
+use Rattle.gr_text.specs.Tokens.{place_in}
+use Rattle.gr_text.specs.Reading.{Read, Reader, ◌>>=◌, ◌>>◌, pure}
+use Rattle.ispd_reader.specs.Header.{frame}
+use Rattle.ispd_reader.specs.Nets.{nets}
+use Rattle.ispd_reader.specs.Adjustments.{adjustments}
+use Rattle.ispd_reader.specs.declared.fault.DesignFault.{DesignFault}
+
+-- a whole design text
+unfoldable pub design : Reader DesignFault DesignView
+design = do
+  frame ← frame
+  nets ← nets frame
+  adjustments ← adjustments frame.shape
+  pure (record { frame = frame; nets = nets; adjustments = adjustments })
+
+-- the most bytes of a text that are read
+abbrev pub most_bytes : ℕ
+most_bytes = 2147483648
+
+abbrev pub value_of : Read DesignFault DesignView → Result DesignView (DesignFault × ℕ)
+value_of (Ok read) = Ok read.0
+value_of (Err fault) = Err fault
+
+-- what the bytes of a text say: a design, or the first fault and the number of its token
+unfoldable pub design_of : List ℕ → Result DesignView (DesignFault × ℕ)
+design_of bytes = value_of (design (place_in most_bytes 0 bytes))

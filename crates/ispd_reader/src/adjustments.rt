@@ -1,0 +1,170 @@
+//! The adjustments and the end of the text.
+ghost use Rattle.std.specs.Prelude.{◌≡◌, ℕ, ◌<◌, ◌≤◌, [], IsTrue, IfOk, IfSome, OnOk};
+ghost use Rattle.gr_text.specs.Reads.{Reads, Counts};
+ghost use Rattle.gr_text.specs.Reading.{several};
+ghost use Rattle.gr_base.specs.Limits.{most_adjustments};
+ghost use Rattle.gr_base.specs.Grid.{cells_of, has_edge, is_wire};
+ghost use Rattle.gr_base.specs.Designs.{IsAdjustment};
+ghost use Rattle.ispd_reader.specs.Adjustments.{tile, place, wire_between, adjustment, end, adjustment_count, counted_adjustments, adjustments};
+
+use crate::fault::DesignFault;
+use crate::steps::{ENDS, MOST_ID, given, layer_in, natural};
+use gr_base::{Adjustment, Design, Edge, Shape, Way};
+use gr_text::{ReadError, TokenSource, check, next_token_or_end, whole_of};
+
+/// The most adjustments of a design.
+const MOST_ADJUSTMENTS: i64 = 16_777_216;
+
+/// The greatest capacity of an edge, in units of width.
+const MOST_CAPACITY: u32 = 1_000_000;
+
+/// Takes a column or a row, of so many.
+#[tactic(auto, unfolding(crate::specs::Adjustments::tile))]
+fn tile<S: TokenSource>(source: &mut S, tiles: u32) -> Result<u32, ReadError<DesignFault>>
+    ensures reads { IsTrue S.tells → Reads (tile tiles (S.place source.old)) (λ at. at) result (S.place source.new) }
+    ensures faults { Counts result (S.faults source.old) (S.faults source.new) }
+    ensures device { S.device source.new ≡ S.device source.old }
+    ensures below { IfOk result (λ at. at < tiles) }
+{
+    let at = natural(source, 0, MOST_ID)?;
+    check(source, at < tiles, DesignFault::Adjust)?;
+    Ok(at)
+}
+
+/// Takes a place of the grid, and gives its cell.
+#[tactic(auto, unfolding(crate::specs::Adjustments::place))]
+fn place<S: TokenSource>(source: &mut S, shape: Shape) -> Result<u32, ReadError<DesignFault>>
+    ensures reads { IsTrue S.tells → Reads (place shape (S.place source.old)) (λ cell. cell) result (S.place source.new) }
+    ensures faults { Counts result (S.faults source.old) (S.faults source.new) }
+    ensures device { S.device source.new ≡ S.device source.old }
+    ensures cell { IfOk result (λ cell. cell < cells_of shape) }
+{
+    let column = tile(source, shape.columns())?;
+    let row = tile(source, shape.rows())?;
+    let layer = layer_in(source, shape, DesignFault::Adjust)?;
+    Ok(shape.cell_of(column, row, layer))
+}
+
+/// The edge between two cells, if they are neighbours on one layer.
+fn wire_between(shape: Shape, from: u32, to: u32) -> Option<Edge>
+    requires from { from < cells_of shape }
+    requires to { to < cells_of shape }
+    ensures edge { result ≡ wire_between shape from to }
+    ensures has { IfSome result (λ edge. IsTrue (has_edge shape edge)) }
+    ensures wire { IfSome result (λ edge. IsTrue (is_wire edge)) }
+{
+    let edge = shape.edge_between(from, to)?;
+    match edge.way {
+        Way::East | Way::North => Some(edge),
+        Way::Up => None,
+    }
+}
+
+/// Takes an adjustment.
+#[tactic(auto, unfolding(crate::specs::Adjustments::adjustment))]
+fn adjustment<S: TokenSource>(
+    source: &mut S,
+    shape: Shape,
+) -> Result<Adjustment, ReadError<DesignFault>>
+    ensures reads { IsTrue S.tells → Reads (adjustment shape (S.place source.old)) (λ adjustment. adjustment) result (S.place source.new) }
+    ensures faults { Counts result (S.faults source.old) (S.faults source.new) }
+    ensures device { S.device source.new ≡ S.device source.old }
+    ensures adjustment { IfOk result (IsAdjustment shape) }
+{
+    let from = place(source, shape)?;
+    let to = place(source, shape)?;
+    let edge = given(source, wire_between(shape, from, to), DesignFault::Adjust)?;
+    let capacity = natural(source, 0, MOST_CAPACITY)?;
+    Ok(Adjustment { edge, capacity })
+}
+
+/// The number of adjustments, which is the token in hand.
+#[tactic(auto, unfolding(crate::specs::Adjustments::adjustment_count))]
+fn adjustment_count<S: TokenSource>(source: &S) -> Result<u32, ReadError<DesignFault>>
+    ensures reads { IsTrue S.tells → Reads (adjustment_count (S.word source.now) (S.place source.now)) (λ count. count) result (S.place source.now) }
+    ensures faults { (count : ℕ) → Counts result count count }
+    ensures most { IfOk result (λ count. count ≤ most_adjustments) }
+{
+    let count = given(
+        source,
+        whole_of(source.word(), 0, MOST_ADJUSTMENTS),
+        DesignFault::Number,
+    )?;
+    Ok(count as u32)
+}
+
+/// Adds so many adjustments to a design without adjustments.
+fn several_adjustments<S: TokenSource>(
+    source: &mut S,
+    design: &mut Design,
+    count: u32,
+) -> Result<(), ReadError<DesignFault>>
+    requires none { design.old.adjustments ≡ [] }
+    requires most { count ≤ most_adjustments }
+    ensures reads { IsTrue S.tells → Reads (several (λ _. adjustment design.old.frame.shape) count [] (S.place source.old)) (λ _. design.new.adjustments) result (S.place source.new) }
+    ensures faults { Counts result (S.faults source.old) (S.faults source.new) }
+    ensures device { S.device source.new ≡ S.device source.old }
+    ensures frame { design.new.frame ≡ design.old.frame }
+    ensures nets { design.new.nets ≡ design.old.nets }
+{
+    let shape = design.frame().shape;
+    for _ in 0..count {
+        let adjustment = adjustment(source, shape)?;
+        let Ok(()) = design.push_adjustment(adjustment) else {
+            return Err(ReadError::NoMemory);
+        };
+    }
+    Ok(())
+}
+
+/// Sees that no further token is there.
+#[tactic(auto, unfolding(crate::specs::Adjustments::end))]
+fn end<S: TokenSource>(source: &mut S) -> Result<(), ReadError<DesignFault>>
+    ensures reads { IsTrue S.tells → Reads (end (S.place source.old)) (λ _. tt) result (S.place source.new) }
+    ensures faults { Counts result (S.faults source.old) (S.faults source.new) }
+    ensures device { S.device source.new ≡ S.device source.old }
+    ensures ended { OnOk result (IsTrue S.tells → S.ended source.new) }
+{
+    let more = next_token_or_end(source, ENDS)?;
+    check(source, !more, DesignFault::Trailing)
+}
+
+/// Reads the adjustments, whose number is in hand, into a design without adjustments.
+#[tactic(auto, unfolding(crate::specs::Adjustments::counted_adjustments))]
+fn counted_adjustments<S: TokenSource>(
+    source: &mut S,
+    design: &mut Design,
+) -> Result<(), ReadError<DesignFault>>
+    requires { design.old.adjustments ≡ [] }
+    ensures reads { IsTrue S.tells → Reads (counted_adjustments design.old.frame.shape (S.word source.old) (S.place source.old)) (λ _. design.new.adjustments) result (S.place source.new) }
+    ensures faults { Counts result (S.faults source.old) (S.faults source.new) }
+    ensures device { S.device source.new ≡ S.device source.old }
+    ensures frame { design.new.frame ≡ design.old.frame }
+    ensures nets { design.new.nets ≡ design.old.nets }
+    ensures ended { OnOk result (IsTrue S.tells → S.ended source.new) }
+{
+    let count = adjustment_count(source)?;
+    several_adjustments(source, design, count)?;
+    end(source)
+}
+
+/// Reads the adjustments, of which there may be none, into a design without adjustments.
+#[tactic(auto, unfolding(crate::specs::Adjustments::adjustments))]
+pub(crate) fn adjustments<S: TokenSource>(
+    source: &mut S,
+    design: &mut Design,
+) -> Result<(), ReadError<DesignFault>>
+    requires { design.old.adjustments ≡ [] }
+    ensures reads { IsTrue S.tells → Reads (adjustments design.old.frame.shape (S.place source.old)) (λ _. design.new.adjustments) result (S.place source.new) }
+    ensures faults { Counts result (S.faults source.old) (S.faults source.new) }
+    ensures device { S.device source.new ≡ S.device source.old }
+    ensures frame { design.new.frame ≡ design.old.frame }
+    ensures nets { design.new.nets ≡ design.old.nets }
+    ensures ended { OnOk result (IsTrue S.tells → S.ended source.new) }
+{
+    if next_token_or_end(source, ENDS)? {
+        counted_adjustments(source, design)
+    } else {
+        Ok(())
+    }
+}

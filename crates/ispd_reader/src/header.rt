@@ -1,0 +1,222 @@
+//! What stands before the nets: the grid, the capacities, the widths and spacings, and the tiles.
+ghost use Rattle.std.specs.Prelude.{◌≡◌, ◌-◌, ◌*◌, ◌<◌, ◌≤◌, ℤ, All, Any, length, replicate, take, drop, nat_lt, negsuc, pos, ◌≤ℤ◌, IsTrue, IfOk};
+ghost use Rattle.std.specs.List.{list_any};
+ghost use Rattle.gr_text.specs.Reads.{Reads, Counts};
+ghost use Rattle.gr_base.specs.Limits.{most_lower, most_tile, most_width, most_capacity};
+ghost use Rattle.gr_base.specs.Designs.{IsFrame};
+ghost use Rattle.ispd_reader.specs.Header.{shape_of, grid, by_layer, stack_of, IsStack, capacities, measures, layers, corner, tile_size, frame};
+
+use crate::fault::DesignFault;
+use crate::steps::{ENDS, given, natural, words};
+use gr_base::{Frame, Layer, Shape};
+use gr_text::{ReadError, TokenSource, check, number, word};
+
+/// The most columns, rows and cells of a grid.
+const MOST_CELLS: u32 = 8_388_608;
+
+/// The most layers of a grid.
+const MOST_LAYERS: u32 = 16;
+
+/// The greatest capacity of a layer, in units of width.
+const MOST_CAPACITY: u32 = 1_000_000;
+
+/// The greatest width or spacing.
+const MOST_WIDTH: u32 = 1_000;
+
+/// The greatest width or height of a tile.
+const MOST_TILE: u32 = 1_000_000;
+
+/// The greatest coordinate of the lower left corner.
+const MOST_LOWER: i64 = 1 << 40;
+
+/// What stands for a layer that the grid hasn't.
+const NO_LAYER: Layer = Layer {
+    vertical: 0,
+    horizontal: 0,
+    width: 0,
+    spacing: 0,
+    via: 0,
+};
+
+fn shape_of(columns: u32, rows: u32, layers: u32) -> Option<Shape>
+    ensures { result ≡ shape_of columns rows layers }
+{
+    Shape::new(columns, rows, layers)
+}
+
+#[tactic(auto, unfolding(crate::specs::Header::grid))]
+fn grid<S: TokenSource>(source: &mut S) -> Result<Shape, ReadError<DesignFault>>
+    ensures reads { IsTrue S.tells → Reads (grid (S.place source.old)) (λ shape. shape) result (S.place source.new) }
+    ensures faults { Counts result (S.faults source.old) (S.faults source.new) }
+    ensures device { S.device source.new ≡ S.device source.old }
+{
+    word(source, ENDS, DesignFault::Word, b"grid")?;
+    let columns = natural(source, 1, MOST_CELLS)?;
+    let rows = natural(source, 1, MOST_CELLS)?;
+    let layers = natural(source, 1, MOST_LAYERS)?;
+    given(source, shape_of(columns, rows, layers), DesignFault::Grid)
+}
+
+/// A number for each of the grid's layers. The others have 0.
+fn by_layer<S: TokenSource>(
+    source: &mut S,
+    layers: u32,
+    most: u32,
+) -> Result<[u32; 16], ReadError<DesignFault>>
+    requires { layers ≤ 16 }
+    ensures reads { IsTrue S.tells → Reads (by_layer layers most (S.place source.old)) (λ numbers. numbers) result (S.place source.new) }
+    ensures faults { Counts result (S.faults source.old) (S.faults source.new) }
+    ensures device { S.device source.new ≡ S.device source.old }
+    ensures count { IfOk result (λ numbers. length numbers ≡ 16) }
+    ensures most { IfOk result (All (λ n. n ≤ most)) }
+    ensures others { IfOk result (λ numbers. drop layers numbers ≡ replicate (16 - layers) 0) }
+{
+    let mut numbers = [0; 16];
+    for layer in 0..layers {
+        numbers[layer as usize] = natural(source, 0, most)?;
+    }
+    Ok(numbers)
+}
+
+fn is_any_above_zero(numbers: &[u32; 16]) -> bool
+    ensures { result ≡ list_any (nat_lt 0) numbers.now }
+{
+    numbers.iter().any(|&n| 0 < n)
+}
+
+/// The capacities along one way, in which the grid is so many tiles wide.
+#[tactic(auto, unfolding(crate::specs::Header::capacities))]
+fn capacities<S: TokenSource>(
+    source: &mut S,
+    way: &[u8],
+    tiles: u32,
+    layers: u32,
+) -> Result<[u32; 16], ReadError<DesignFault>>
+    requires { layers ≤ 16 }
+    ensures reads { IsTrue S.tells → Reads (capacities way.now tiles layers (S.place source.old)) (λ numbers. numbers) result (S.place source.new) }
+    ensures faults { Counts result (S.faults source.old) (S.faults source.new) }
+    ensures device { S.device source.new ≡ S.device source.old }
+    ensures count { IfOk result (λ numbers. length numbers ≡ 16) }
+    ensures most { IfOk result (All (λ n. n ≤ most_capacity)) }
+    ensures some { IfOk result (λ numbers. 1 < tiles → Any (λ n. 0 < n) (take layers numbers)) }
+{
+    words(source, way, b"capacity")?;
+    let numbers = by_layer(source, layers, MOST_CAPACITY)?;
+    check(
+        source,
+        tiles <= 1 || is_any_above_zero(&numbers),
+        DesignFault::NoLayer,
+    )?;
+    Ok(numbers)
+}
+
+/// The widths or the spacings of the layers.
+#[tactic(auto, unfolding(crate::specs::Header::measures))]
+fn measures<S: TokenSource>(
+    source: &mut S,
+    first: &[u8],
+    second: &[u8],
+    layers: u32,
+) -> Result<[u32; 16], ReadError<DesignFault>>
+    requires { layers ≤ 16 }
+    ensures reads { IsTrue S.tells → Reads (measures first.now second.now layers (S.place source.old)) (λ numbers. numbers) result (S.place source.new) }
+    ensures faults { Counts result (S.faults source.old) (S.faults source.new) }
+    ensures device { S.device source.new ≡ S.device source.old }
+    ensures count { IfOk result (λ numbers. length numbers ≡ 16) }
+    ensures most { IfOk result (All (λ n. n ≤ most_width)) }
+{
+    words(source, first, second)?;
+    by_layer(source, layers, MOST_WIDTH)
+}
+
+/// A coordinate of the lower left corner.
+#[tactic(auto, unfolding(crate::specs::Header::corner))]
+fn corner<S: TokenSource>(source: &mut S) -> Result<i64, ReadError<DesignFault>>
+    ensures reads { IsTrue S.tells → Reads (corner (S.place source.old)) (λ n. n) result (S.place source.new) }
+    ensures faults { Counts result (S.faults source.old) (S.faults source.new) }
+    ensures device { S.device source.new ≡ S.device source.old }
+    ensures low { IfOk result (λ n. negsuc (most_lower - 1) ≤ℤ n) }
+    ensures high { IfOk result (λ n. n ≤ℤ pos most_lower) }
+{
+    number(source, ENDS, DesignFault::Number, -MOST_LOWER, MOST_LOWER)
+}
+
+/// The width or the height of a tile.
+#[tactic(auto, unfolding(crate::specs::Header::tile_size))]
+fn tile_size<S: TokenSource>(source: &mut S) -> Result<u32, ReadError<DesignFault>>
+    ensures reads { IsTrue S.tells → Reads (tile_size (S.place source.old)) (λ n. n) result (S.place source.new) }
+    ensures faults { Counts result (S.faults source.old) (S.faults source.new) }
+    ensures device { S.device source.new ≡ S.device source.old }
+    ensures some { IfOk result (λ n. 0 < n) }
+    ensures most { IfOk result (λ n. n ≤ most_tile) }
+{
+    let size = natural(source, 0, MOST_TILE)?;
+    check(source, size > 0, DesignFault::Tile)?;
+    Ok(size)
+}
+
+/// The numbers of each layer out of those of all layers.
+fn stacked(
+    vertical: &[u32; 16],
+    horizontal: &[u32; 16],
+    width: &[u32; 16],
+    spacing: &[u32; 16],
+    via: &[u32; 16],
+) -> [Layer; 16]
+    ensures { result ≡ stack_of vertical.now horizontal.now width.now spacing.now via.now }
+{
+    let mut layers = [NO_LAYER; 16];
+    for at in 0..16 {
+        layers[at] = Layer {
+            vertical: vertical[at],
+            horizontal: horizontal[at],
+            width: width[at],
+            spacing: spacing[at],
+            via: via[at],
+        };
+    }
+    layers
+}
+
+/// The capacities, widths and spacings of the layers.
+#[tactic(auto, unfolding(crate::specs::Header::layers))]
+fn layers<S: TokenSource>(
+    source: &mut S,
+    shape: Shape,
+) -> Result<[Layer; 16], ReadError<DesignFault>>
+    ensures reads { IsTrue S.tells → Reads (layers shape (S.place source.old)) (λ layers. layers) result (S.place source.new) }
+    ensures faults { Counts result (S.faults source.old) (S.faults source.new) }
+    ensures device { S.device source.new ≡ S.device source.old }
+    ensures stack { IfOk result (IsStack shape) }
+{
+    let vertical = capacities(source, b"vertical", shape.rows(), shape.layers())?;
+    let horizontal = capacities(source, b"horizontal", shape.columns(), shape.layers())?;
+    let width = measures(source, b"minimum", b"width", shape.layers())?;
+    let spacing = measures(source, b"minimum", b"spacing", shape.layers())?;
+    let via = measures(source, b"via", b"spacing", shape.layers())?;
+    Ok(stacked(&vertical, &horizontal, &width, &spacing, &via))
+}
+
+/// Reads all that stands before the nets.
+#[tactic(auto, unfolding(crate::specs::Header::frame))]
+pub(crate) fn frame<S: TokenSource>(source: &mut S) -> Result<Frame, ReadError<DesignFault>>
+    ensures reads { IsTrue S.tells → Reads (frame (S.place source.old)) (λ frame. frame) result (S.place source.new) }
+    ensures faults { Counts result (S.faults source.old) (S.faults source.new) }
+    ensures device { S.device source.new ≡ S.device source.old }
+    ensures frame { IfOk result IsFrame }
+{
+    let shape = grid(source)?;
+    let layers = layers(source, shape)?;
+    let lower_x = corner(source)?;
+    let lower_y = corner(source)?;
+    let tile_width = tile_size(source)?;
+    let tile_height = tile_size(source)?;
+    Ok(Frame {
+        shape,
+        layers,
+        lower_x,
+        lower_y,
+        tile_width,
+        tile_height,
+    })
+}
