@@ -1,0 +1,7 @@
+pub mod Runs
+pub mod Covers
+pub mod Grammar
+pub mod Cover
+pub mod WrittenText
+pub mod Laws
+pub mod Rows

@@ -1,0 +1,6 @@
+/// A straight segment of a net between two cells, by number.
+#[derive(Clone, Copy, Debug, PartialEq, Eq)]
+pub struct Run {
+    pub from: u32,
+    pub to: u32,
+}
