@@ -1,0 +1,4 @@
+pub mod LowLemmas
+pub mod MarkLemmas
+pub mod TreeLemmas
+pub mod WriteLemmas

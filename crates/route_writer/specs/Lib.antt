@@ -1,0 +1,3 @@
+pub mod Lows
+pub mod Marks
+pub mod Routed

@@ -1,0 +1,17 @@
+//! Writes the routes of a design as the text of a solution.
+#![tactic(auto)]
+
+mod edges;
+mod error;
+mod lows;
+mod marks;
+mod record;
+mod runs;
+mod text;
+mod write;
+
+pub use error::WriteError;
+pub use write::write_solution;
+
+#[cfg(test)]
+mod tests;

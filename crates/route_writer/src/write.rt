@@ -1,0 +1,62 @@
+ghost use Rattle.std.specs.Prelude.{◌≡◌, ◌<◌, ◌≤◌, ◌++◌, [], length, Err, IsTrue, OnOk, OnErr};
+ghost use Rattle.gr_base.specs.Grid.{cells_of};
+ghost use Rattle.gr_io.specs.Counts.{Rose};
+ghost use Rattle.gr_io.specs.Parts.{AppendsPart};
+ghost use Rattle.solution_text.specs.WrittenText.{written_text};
+ghost use Rattle.route_writer.specs.Routed.{AreRouted, route_edges};
+
+use crate::error::WriteError;
+use crate::record::Draft;
+use gr_base::{Design, Routes};
+use gr_io::{Failed, Sink, write_whole};
+use std::alloc::Global;
+
+/// The records are written once they fill so many bytes.
+const FULL: usize = 65_536;
+
+/// Writes what was gathered, and empties the text. At an error the sink holds a first part of it.
+fn flush<K: Sink>(sink: &mut K, text: &mut Vec<u8>) -> Result<(), Failed>
+    ensures ok { OnOk result (IsTrue K.tells → K.written sink.new ≡ K.written sink.old ++ text.old.items) }
+    ensures empty { OnOk result (text.new.items ≡ []) }
+    ensures quiet { OnOk result (K.faults sink.new ≡ K.faults sink.old) }
+    ensures prefix { OnErr result (IsTrue K.tells → AppendsPart (K.written sink.old) (K.written sink.new) text.old.items) }
+    ensures failed { OnErr result (Rose (K.faults sink.old) (K.faults sink.new)) }
+    ensures faults_kept { K.faults sink.old ≤ K.faults sink.new }
+{
+    write_whole(sink, text)?;
+    text.clear();
+    Ok(())
+}
+
+/// Writes the text of the routes: for each routed net, in the design's order, its record with the
+/// maximal straight runs of its tree's edges. `Failed` comes only where the sink's count of faults
+/// rose. At an error the sink holds a first part of the text, and no more.
+pub fn write_solution<K: Sink>(
+    alloc: Global,
+    sink: &mut K,
+    design: &Design,
+    routes: &Routes,
+) -> Result<(), WriteError>
+    requires { AreRouted design.now routes.now }
+    ensures ok { OnOk result (IsTrue K.tells → K.written sink.new ≡ K.written sink.old ++ written_text design.now (route_edges routes.now)) }
+    ensures quiet { OnOk result (K.faults sink.new ≡ K.faults sink.old) }
+    ensures prefix { OnErr result (IsTrue K.tells → AppendsPart (K.written sink.old) (K.written sink.new) (written_text design.now (route_edges routes.now))) }
+    ensures failed { result ≡ Err WriteError.Failed → Rose (K.faults sink.old) (K.faults sink.new) }
+    ensures no_memory { result ≡ Err WriteError.NoMemory → K.faults sink.new ≡ K.faults sink.old }
+    ensures faults_kept { K.faults sink.old ≤ K.faults sink.new }
+{
+    let mut draft = Draft::new(alloc, design.frame().shape)?;
+    for net in 0..design.nets() {
+        if !design.routed(net) {
+            continue;
+        }
+        let tree = routes.get(net).unwrap();
+        draft.put_record(design, design.net(net), tree)?;
+        if draft.text.len() < FULL {
+            continue;
+        }
+        flush(sink, &mut draft.text)?;
+    }
+    flush(sink, &mut draft.text)?;
+    Ok(())
+}
