@@ -1,0 +1,3 @@
+pub mod EarlyLemmas
+pub mod GrammarLemmas
+pub mod DesignTextLemmas
