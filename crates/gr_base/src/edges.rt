@@ -126,7 +126,7 @@ impl Shape {
     }
 
     /// By how much cell numbers grow along a way.
-    fn stride(self, way: Way) -> u32
+    pub fn stride(self, way: Way) -> u32
         ensures { result ≡ stride self way }
     {
         match way {

@@ -6,3 +6,4 @@ pub mod SeekLemmas
 pub mod TakeLemmas
 pub mod FindLemmas
 pub mod NumberLemmas
+pub mod SeveralLemmas

@@ -5,7 +5,7 @@ use Rattle.gr_text.specs.Tokens.{Place}
 use Rattle.gr_text.specs.Reading.{Reader, several}
 use Rattle.ispd_reader.specs.Steps.{natural}
 use Rattle.ispd_reader.specs.declared.fault.DesignFault.{DesignFault}
-use Rattle.ispd_reader.proofs.SeveralLemmas.{several-next, several-fails, several-done}
+use Rattle.gr_text.proofs.SeveralLemmas.{several-next, several-fails, several-done}
 use Rattle.gr_base.specs.Limits.{is_grid, most_capacity, most_width}
 use Rattle.gr_base.specs.Designs.{IsLayer}
 use Rattle.gr_base.specs.declared.frame.Layer.{Layer}

@@ -1,4 +1,3 @@
-pub mod SeveralLemmas
 pub mod HeaderLemmas
 pub mod NetLemmas
 pub mod ReadLemmas

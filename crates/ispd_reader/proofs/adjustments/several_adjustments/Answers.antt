@@ -8,7 +8,7 @@ use Rattle.gr_text.specs.Tokens.{Place}
 use Rattle.gr_text.specs.Reading.{Reader, several}
 use Rattle.ispd_reader.specs.Adjustments.{adjustment}
 use Rattle.ispd_reader.specs.declared.fault.DesignFault.{DesignFault}
-use Rattle.ispd_reader.proofs.SeveralLemmas.{Reads-fails, several-next, several-fails, several-done}
+use Rattle.gr_text.proofs.SeveralLemmas.{Reads-fails, several-next, several-fails, several-done}
 use Rattle.ispd_reader.proofs.adjustments.several_adjustments.Goals as goal
 
 pub returns-in_err-adjustment-clause-reads : goal.returns-in_err-adjustment-clause-reads

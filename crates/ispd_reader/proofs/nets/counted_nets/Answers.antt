@@ -6,7 +6,7 @@ use Rattle.gr_base.specs.Designs.{DesignView, pins_of}
 use Rattle.gr_text.specs.Reading.{Reader, several}
 use Rattle.ispd_reader.specs.Nets.{net}
 use Rattle.ispd_reader.specs.declared.fault.DesignFault.{DesignFault}
-use Rattle.ispd_reader.proofs.SeveralLemmas.{Reads-fails, several-next, several-fails, several-done}
+use Rattle.gr_text.proofs.SeveralLemmas.{Reads-fails, several-next, several-fails, several-done}
 use Rattle.ispd_reader.proofs.NetLemmas.{pins_of-push}
 use Rattle.ispd_reader.proofs.nets.counted_nets.Goals as goal
 

@@ -6,7 +6,7 @@ use Rattle.gr_text.specs.Tokens.{Place}
 use Rattle.gr_text.specs.Reading.{Reader, several}
 use Rattle.ispd_reader.specs.Nets.{pin}
 use Rattle.ispd_reader.specs.declared.fault.DesignFault.{DesignFault}
-use Rattle.ispd_reader.proofs.SeveralLemmas.{Reads-fails, several-next, several-fails, several-done}
+use Rattle.gr_text.proofs.SeveralLemmas.{Reads-fails, several-next, several-fails, several-done}
 use Rattle.ispd_reader.proofs.nets.pins.Goals as goal
 
 pub returns-in_err-pin-clause-reads : goal.returns-in_err-pin-clause-reads
