@@ -115,3 +115,11 @@ topology_of-shortest tiles some edges spans =
     let prim = topology_of-prim tiles some in
     let least = joins_of-least tiles edges spans in
     omega arith
+
+-- Prim's tree as points, before any of them is handled
+pub prim-inside : (tiles : List Tile) (points : List Point) → 0 < length tiles → points ≡ prim_points tiles →
+    (length points ≡ length tiles) × All (λ p. p.parent < length points) points
+prim-inside tiles points some is =
+    let prim = prim_points-tree tiles some in
+    let P : List Point → Type 0 = λ xs. (length xs ≡ length tiles) × All (λ p. p.parent < length xs) xs in
+    subst P (sym is) (prim.size, prim.tree.parents)

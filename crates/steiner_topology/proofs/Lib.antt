@@ -7,3 +7,5 @@ pub mod PrimLemmas
 pub mod SpanningLemmas
 pub mod LawLemmas
 pub mod ThreeLemmas
+pub mod BestLemmas
+pub mod ChildLemmas

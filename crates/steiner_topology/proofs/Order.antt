@@ -12,7 +12,7 @@ by_less a b rest less = grind (arith, nat_tests)
 by_more : (a b : ℕ) (rest : Bool) → b < a → by_number a b rest ≡ false
 by_more a b rest more = grind (arith, nat_tests)
 
-by_same : (a b : ℕ) (rest : Bool) → a ≡ b → by_number a b rest ≡ rest
+pub by_same : (a b : ℕ) (rest : Bool) → a ≡ b → by_number a b rest ≡ rest
 by_same a b rest same = grind (arith, nat_tests)
 
 -- comparison by three numbers
@@ -48,7 +48,7 @@ trans_by a b c p q r step h k = elim (yes_by a b p h) [
   ]
 ]
 
-back_by : (a b c : ℕ) (p q r : Bool) → (p ≡ false → q ≡ false → r ≡ false) →
+pub back_by : (a b c : ℕ) (p q r : Bool) → (p ≡ false → q ≡ false → r ≡ false) →
     by_number a b p ≡ false → by_number b c q ≡ false → by_number a c r ≡ false
 back_by a b c p q r step h k = elim (no_by a b p h) [
   | inl ab ↦ elim (no_by b c q k) [
@@ -62,13 +62,13 @@ back_by a b c p q r step h k = elim (no_by a b p h) [
 ]
 
 -- a test and its reverse
-asym_by : (a b : ℕ) (p q : Bool) → (p ≡ true → q ≡ false) → by_number a b p ≡ true → by_number b a q ≡ false
+pub asym_by : (a b : ℕ) (p q : Bool) → (p ≡ true → q ≡ false) → by_number a b p ≡ true → by_number b a q ≡ false
 asym_by a b p q step h = elim (yes_by a b p h) [
   | inl ab ↦ by_more b a q ab
   | inr ab ↦ by_same b a q (sym ab.0) ∙ step ab.1
 ]
 
-same_by : (a b : ℕ) (p q : Bool) → by_number a b p ≡ false → by_number b a q ≡ false → (a ≡ b) × (p ≡ false) × (q ≡ false)
+pub same_by : (a b : ℕ) (p q : Bool) → by_number a b p ≡ false → by_number b a q ≡ false → (a ≡ b) × (p ≡ false) × (q ≡ false)
 same_by a b p q h k = elim (no_by a b p h) [
   | inl ab ↦ elim (no_by b a q k) [ inl ba ↦ absurd (omega arith) | inr ba ↦ let e = ba.0 in absurd (omega arith) ]
   | inr ab ↦ let d = ab.0 in elim (no_by b a q k) [ inl ba ↦ absurd (omega arith) | inr ba ↦ (ab.0, ab.1, ba.1) ]

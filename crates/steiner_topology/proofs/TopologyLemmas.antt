@@ -1,14 +1,13 @@
-use Rattle.std.proofs.Common.{◌≡◌, ℕ, ◌+◌, ◌<◌, Bool, true, false, ◌==◌, Option, Some, None, List, [], ◌∷◌, ◌++◌, length, filter, fold, get_or, set, refl, sym, ap, ◌∙◌, arith}
+use Rattle.std.proofs.Common.{◌≡◌, ℕ, ◌+◌, ◌<◌, Bool, true, false, ◌==◌, Option, Some, List, [], ◌∷◌, ◌++◌, length, filter, get_or, set, refl, sym, ap, ◌∙◌, arith}
 use Rattle.std.specs.List.{range_with_len}
 use Rattle.std.proofs.lemmas.Bool.Decides.{nat_tests}
 use Rattle.std.proofs.lemmas.List.{length-set, get_or_default, get_or_append_left, set-append_left, map-id, append-nil}
 use Rattle.std.proofs.lemmas.List.FromFn.{map-range_with_len_more, length-map-range_with_len}
 use Rattle.std.proofs.lemmas.List.Elements.{filter-append}
-use Rattle.std.proofs.lemmas.List.Sums.{fold_push}
 use Rattle.steiner_topology.specs.declared.point.Join.{Join}
 use Rattle.steiner_topology.specs.declared.point.Point.{Point}
 use Rattle.steiner_topology.specs.Tile.{Tile, tile_at}
-use Rattle.steiner_topology.specs.Topology.{point, place_of, hung, loose_points, is_neighbour, saving, better, best_neighbour, with_branch, branched, branched_if, handled}
+use Rattle.steiner_topology.specs.Topology.{point, place_of, parent_of, hung, loose_points, saving, best_neighbour, with_branch, branched, branched_if, handled}
 
 -- one number more
 pub range-more : (n : ℕ) → range_with_len 0 (n + 1) ≡ range_with_len 0 n ++ n ∷ []
@@ -24,22 +23,12 @@ pub filter-more_no : (p : ℕ → Bool) (n : ℕ) → p n ≡ false → filter p
 filter-more_no p n fails =
     ap (filter p) (range-more n) ∙ filter-append p (range_with_len 0 n) (n ∷ []) ∙ (rw fails (append-nil (filter p (range_with_len 0 n))))
 
-pub best-more : (points : List Point) (j q : ℕ) (best : Option ℕ) → is_neighbour points j q ≡ true →
-    best ≡ fold (better points j) None (filter (λ n. is_neighbour points j n) (range_with_len 0 q)) →
-    better points j best q ≡ fold (better points j) None (filter (λ n. is_neighbour points j n) (range_with_len 0 (q + 1)))
-best-more points j q best passes is =
-    ap (λ (o : Option ℕ). better points j o q) is ∙
-    sym (fold_push (better points j) None (filter (λ n. is_neighbour points j n) (range_with_len 0 q)) q) ∙
-    sym (ap (fold (better points j) None) (filter-more_yes (is_neighbour points j) q passes))
-
-pub best-same : (points : List Point) (j q : ℕ) (best : Option ℕ) → is_neighbour points j q ≡ false →
-    best ≡ fold (better points j) None (filter (λ n. is_neighbour points j n) (range_with_len 0 q)) →
-    best ≡ fold (better points j) None (filter (λ n. is_neighbour points j n) (range_with_len 0 (q + 1)))
-best-same points j q best fails is = is ∙ sym (ap (fold (better points j) None) (filter-more_no (is_neighbour points j) q fails))
-
 -- a read of a point
 read_tile : (points : List Point) (v : ℕ) (p : Point) → v < length points → p ≡ get_or points v p → p.tile ≡ place_of points v
 read_tile points v p below is = ap (λ (x : Point). x.tile) (is ∙ get_or_default points v p (point (0, 0) 0) below)
+
+pub read_parent : (points : List Point) (v : ℕ) (p : Point) → v < length points → p ≡ get_or points v p → p.parent ≡ parent_of points v
+read_parent points v p below is = ap (λ (x : Point). x.parent) (is ∙ get_or_default points v p (point (0, 0) 0) below)
 
 -- two points hung on one that was just added
 pub hung-pushed : (points : List Point) (b : Point) (lower j n : ℕ) (p q : Point) → lower < length points → j < length points → n ≡ length points →

@@ -2,3 +2,4 @@ pub mod Tile
 pub mod Joins
 pub mod Topology
 pub mod Spanning
+pub mod Children

@@ -4,6 +4,7 @@ ghost use Rattle.steiner_topology.specs.Topology.{with_pair, loose_points, topol
 ghost use Rattle.steiner_topology.specs.Spanning.{IsTree, IsSpanningTree, IsShortest, IsLeast, total_span};
 
 use crate::branch::handle;
+use crate::children::child_lists;
 use crate::point::{Join, Point, Tile};
 use crate::prim::joins_of;
 use crate::tree::Topology;
@@ -40,9 +41,11 @@ fn build(alloc: Global, tiles: &[Tile]) -> Result<Topology, AllocError>
 {
     let joins = joins_of(alloc, tiles)?;
     let mut points = joined_points(alloc, tiles, &joins)?;
+    let mut children = child_lists(alloc, &points)?;
     points.reserve(joins.len())?;
+    children.reserve(joins.len())?;
     for &join in &joins {
-        handle(&mut points, join)?;
+        handle(&mut points, &mut children, join)?;
     }
     Ok(Topology::from_points(points))
 }

@@ -4,6 +4,7 @@
 
 mod branch;
 mod build;
+mod children;
 mod point;
 mod prim;
 #[cfg(test)]
