@@ -5,3 +5,4 @@ pub mod WireParentLemmas
 pub mod LoadSteps
 pub mod LoadLemmas
 pub mod OperationLemmas
+pub mod ChargeLemmas

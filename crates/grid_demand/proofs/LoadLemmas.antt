@@ -18,7 +18,7 @@ use Rattle.grid_demand.specs.LoadSums.{LoadsView, demand_at, marks_at, share, ad
 use Rattle.grid_demand.specs.Tables.{CapacityView, capacity_of, capacity_at, IsCapacity}
 
 -- an edge that leaves the grid has no demand
-no_demand : (l : LoadsView) (n : ℕ) → AreLoads l → n < 2 * cells_of l.shape → has_edge l.shape (wire_at n) ≡ false → demand_at l (wire_at n) ≡ 0
+pub no_demand : (l : LoadsView) (n : ℕ) → AreLoads l → n < 2 * cells_of l.shape → has_edge l.shape (wire_at n) ≡ false → demand_at l (wire_at n) ≡ 0
 no_demand l n loads below out = ap (λ (k : ℕ). slice_index l.demands k) (number-wire_at n) ∙ loads.inside n below out
 
 -- and is none of a tree's

@@ -1,4 +1,5 @@
 use Rattle.std.specs.Prelude.{◌≡◌, ℕ, ◌+◌, ◌-◌, ◌*◌, ◌^◌, ◌<◌, ◌≤◌, min, false, nat_lt, List, All, length, map, replicate, slice_index, if◌then◌else◌, IsTrue}
+use Rattle.gr_base.specs.EdgeSets.{is_edge}
 use Rattle.gr_base.specs.Grid.{cells_of, has_edge, is_wire}
 use Rattle.gr_base.specs.Sums.{wire_at, wire_number, wires_from_cells}
 use Rattle.gr_base.specs.Trees.{TreeView, edges_of}
@@ -25,6 +26,14 @@ no_loads g = record { shape = g; demands = replicate (2 * cells_of g) 0; marks =
 -- what a net takes of an edge by a tree
 abbrev pub share : CapacityView → ℕ → TreeView → Edge → ℕ
 share c net t e = if edges_of t e then need_at c net e else 0
+
+-- one edge gains the net's need
+abbrev pub charged : CapacityView → ℕ → Edge → LoadsView → LoadsView
+charged c net e l = record {
+  shape = l.shape;
+  demands = map (λ f. demand_at l f + (if is_edge f e then need_at c net f else 0)) (wires_from_cells l.shape);
+  marks = l.marks;
+}
 
 -- each wire edge of the tree gains the net's need
 abbrev pub added : CapacityView → ℕ → TreeView → LoadsView → LoadsView

@@ -5,7 +5,7 @@ ghost use Rattle.gr_base.specs.Grid.{cells_of, has_edge, is_wire};
 ghost use Rattle.gr_base.specs.Sums.{wire_number as number_of, wires_from_cells, total_overflow, most_overflow};
 ghost use Rattle.gr_base.specs.Trees.{IsTree, edges_of};
 ghost use Rattle.grid_demand.specs.Tables.{capacity_of, capacity_at, need_at};
-ghost use Rattle.grid_demand.specs.LoadSums.{no_loads, demand_at, marks_at, share, added, taken, marked, mark_of, HasRoom, HasShare, AreLoads, most_marks};
+ghost use Rattle.grid_demand.specs.LoadSums.{no_loads, demand_at, marks_at, share, charged, added, taken, marked, mark_of, HasRoom, HasShare, AreLoads, most_marks};
 
 use crate::capacity::Capacity;
 use crate::wires::{wire_number, wire_to_parent};
@@ -72,6 +72,19 @@ impl Loads {
         self.marks[wire_number(e)]
     }
 
+    /// Puts one wire edge of a net in: the edge gains the net's need.
+    pub fn charge(&mut self, capacity: &Capacity, net: u32, e: Edge)
+        requires capacity { capacity.now.shape ≡ self.old.shape }
+        requires edge { IsTrue (has_edge self.old.shape e) }
+        requires wire { IsTrue (is_wire e) }
+        requires room { demand_at self.old e ≤ 2 ^ 62 }
+        ensures loads { self.new ≡ charged capacity.now net e self.old }
+        ensures whole { AreLoads self.new }
+    {
+        let need = capacity.need(net, e);
+        self.demands[wire_number(e)] += need;
+    }
+
     /// Puts a net's tree in: each wire edge of the tree gains the net's need.
     pub fn add(&mut self, capacity: &Capacity, net: u32, tree: &RouteTree)
         requires capacity { capacity.now.shape ≡ self.old.shape }
@@ -79,6 +92,7 @@ impl Loads {
         requires room { HasRoom self.old tree.now }
         ensures loads { self.new ≡ added capacity.now net tree.now self.old }
         ensures whole { AreLoads self.new }
+        ensures tree { IsTree tree.now }
     {
         gain(&mut self.demands, capacity, net, tree);
     }

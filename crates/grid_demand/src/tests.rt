@@ -162,3 +162,17 @@ fn a_tree_is_added_and_taken(rt: HostRuntime) -> Result<(), Fail> {
     loads_are_sums();
     Ok(())
 }
+
+#[test]
+fn one_edge_is_charged(rt: HostRuntime) -> Result<(), Fail> {
+    let design = design(rt.alloc()).expect(&rt, "memory for a design");
+    let capacity = Capacity::of(rt.alloc(), &design)?;
+    let mut loads = Loads::new(rt.alloc(), &capacity)?;
+    let e = Edge {
+        low: 7,
+        way: Way::North,
+    };
+    loads.charge(&capacity, 0, e);
+    assert_eq!(rt; (loads.demand(e), loads.over_total(&capacity)), (7, 1));
+    Ok(())
+}
