@@ -1,0 +1,327 @@
+use Rattle.std.proofs.Common.{◌≡◌, ◌≢◌, ℕ, suc, zero, ◌+◌, ◌*◌, ◌<◌, ◌≤◌, inl, inr, Bool, true, false, ◌&&◌, ◌||◌, ◌==◌, nat_lt, if◌then◌else◌, IsTrue, refl, sym, ap, subst, ◌∙◌, arith}
+use Rattle.std.proofs.lemmas.Bool.{cases_eq, cases_Bool}
+use Rattle.std.proofs.lemmas.Bool.Decides.{nat_tests}
+use Rattle.layer_assign.specs.declared.span.Span.{Span}
+use Rattle.layer_assign.specs.Spans.{grown, climb, IsWithin, span_by}
+use Rattle.layer_assign.specs.Choices.{IsBest}
+use Rattle.layer_assign.proofs.Sums.{sums, sums-same, sums-changed, sums-at}
+
+-- what assignments are judged by: the parents of nodes, what each node's edge costs on a layer,
+-- the layers that it may have, and the span of the pins of each node's tile
+pub record Problem : Type 0 where
+  pub layers : ℕ
+  pub nodes : ℕ
+  pub parent : ℕ → ℕ
+  pub wire : ℕ → ℕ → ℕ
+  pub may : ℕ → ℕ → Bool
+  pub base : ℕ → Span
+
+pub record IsSound (p : Problem) : Type 0 where
+  pub earlier : (v : ℕ) → 0 < v → v < p.nodes → p.parent v < v
+  pub within : (u : ℕ) → IsWithin p.layers (p.base u)
+  pub below : (v l : ℕ) → IsTrue (p.may v l) → l < p.layers
+  pub root : (l : ℕ) → p.wire 0 l ≡ 0
+
+abbrev pub ends : Problem → ℕ → ℕ → Bool
+ends p u v = nat_lt 0 v && ((v == u) || (p.parent v == u))
+
+-- the span of a node's tile, of the edges of nodes below a number
+abbrev pub span : Problem → (ℕ → ℕ) → ℕ → ℕ → Span
+span p a u i = span_by (ends p) p.base a u i
+
+abbrev pub Assigned : Problem → (ℕ → ℕ) → Type 0
+Assigned p a = (v : ℕ) → 0 < v → v < p.nodes → IsTrue (p.may v (a v))
+
+-- the cost of the edges of nodes below a number, and of what E says of the tiles of these nodes
+abbrev pub total : Problem → (ℕ → Span → ℕ) → (ℕ → ℕ) → ℕ → ℕ
+total p E a i = sums (λ v. p.wire v (a v)) i + sums (λ u. E u (span p a u i)) i
+
+abbrev pub whole : Problem → (ℕ → ℕ) → ℕ
+whole p a = total p (λ u s. climb s) a p.nodes
+
+-- from a node on each node's layer is the choice for its parent's span
+abbrev pub FollowsFrom : Problem → (ℕ → Span → ℕ) → ℕ → (ℕ → ℕ) → Type 0
+FollowsFrom p choice i a = (v : ℕ) → i ≤ v → 0 < v → v < p.nodes → a v ≡ choice v (span p a (p.parent v) v)
+
+abbrev pub Alike : (ℕ → ℕ) → (ℕ → ℕ) → ℕ → Type 0
+Alike a b v = (w : ℕ) → 0 < w → w < v → a w ≡ b w
+
+-- the layers of the nodes from a number on are eliminated: E tells what they cost at least, and the choices the first layers that cost this
+pub record Eliminates (p : Problem) (i : ℕ) (E choice : ℕ → Span → ℕ) : Type 0 where
+  pub bound : (a : ℕ → ℕ) → Assigned p a → total p E a i ≤ whole p a
+  pub attained : (a : ℕ → ℕ) → Assigned p a → FollowsFrom p choice i a → whole p a ≡ total p E a i
+  pub first : (a b : ℕ → ℕ) → Assigned p a → Assigned p b → FollowsFrom p choice i a → whole p b ≡ total p E b i →
+      (v : ℕ) → i ≤ v → 0 < v → v < p.nodes → Alike a b v → a v ≤ b v
+  pub allowed : (v : ℕ) → i ≤ v → 0 < v → v < p.nodes → (s : Span) → IsWithin p.layers s → IsTrue (p.may v (choice v s))
+
+pub grown-within : (layers : ℕ) (s : Span) (l : ℕ) → IsWithin layers s → l < layers → IsWithin layers (grown s l)
+grown-within layers s l within below = record { low = let h = within.low in omega arith; high = let h = within.high in omega arith }
+
+-- an edge of a node above ends in none of the tiles of nodes below it but its parent's
+pub ends-own : (p : Problem) (i : ℕ) → 0 < i → ends p i i ≡ true
+ends-own p i later = grind (arith, nat_tests)
+
+pub ends-parent : (p : Problem) (i : ℕ) → 0 < i → ends p (p.parent i) i ≡ true
+ends-parent p i later = grind (arith, nat_tests)
+
+pub ends-other : (p : Problem) (u i : ℕ) → u ≢ i → u ≢ p.parent i → ends p u i ≡ false
+ends-other p u i own other = grind (arith, nat_tests)
+
+pub ends-none : (p : Problem) (u : ℕ) → ends p u 0 ≡ false
+ends-none p u = refl
+
+span-more : (p : Problem) (a : ℕ → ℕ) (u i : ℕ) → ends p u i ≡ true → span p a u (suc i) ≡ grown (span p a u i) (a i)
+span-more p a u i is = rw is refl
+
+span-kept : (p : Problem) (a : ℕ → ℕ) (u i : ℕ) → ends p u i ≡ false → span p a u (suc i) ≡ span p a u i
+span-kept p a u i is = rw is refl
+
+-- before its own number a node's tile has the pins' span
+pub span-base : (p : Problem) (a : ℕ → ℕ) (u i : ℕ) → IsSound p → u < p.nodes → i ≤ u → span p a u i ≡ p.base u
+span-base p a u zero sound inside le = refl
+span-base p a u (suc zero) sound inside le = refl
+span-base p a u (suc (suc i)) sound inside le =
+    let earlier = sound.earlier (suc i) (omega arith) (omega arith) in
+    span-kept p a u (suc i) (ends-other p u (suc i) (λ e. omega arith) (λ e. omega arith)) ∙ span-base p a u (suc i) sound inside (omega arith)
+
+pub span-within : (p : Problem) (a : ℕ → ℕ) (u i : ℕ) → IsSound p → Assigned p a → i ≤ p.nodes → IsWithin p.layers (span p a u i)
+span-within p a u zero sound assigned le = sound.within u
+span-within p a u (suc zero) sound assigned le = sound.within u
+span-within p a u (suc (suc i)) sound assigned le =
+    let before = span-within p a u (suc i) sound assigned (omega arith) in
+    let below = sound.below (suc i) (a (suc i)) (assigned (suc i) (omega arith) (omega arith)) in
+    elim (cases_Bool (ends p u (suc i))) [
+      | inl is ↦ subst (λ (s : Span). IsWithin p.layers s) (sym (span-more p a u (suc i) is)) (grown-within p.layers (span p a u (suc i)) (a (suc i)) before below)
+      | inr is ↦ subst (λ (s : Span). IsWithin p.layers s) (sym (span-kept p a u (suc i) is)) before
+    ]
+
+pub span-alike : (p : Problem) (a b : ℕ → ℕ) (u i : ℕ) → Alike a b i → span p a u i ≡ span p b u i
+span-alike p a b u zero alike = refl
+span-alike p a b u (suc zero) alike = refl
+span-alike p a b u (suc (suc i)) alike =
+    let before = span-alike p a b u (suc i) (λ w later lt. alike w later (omega arith)) in
+    let at = alike (suc i) (omega arith) (omega arith) in
+    let choose : Span → ℕ → Span = λ s l. if ends p u (suc i) then grown s l else s in
+    ap (λ (s : Span). choose s (a (suc i))) before ∙ ap (λ (l : ℕ). choose (span p b u (suc i)) l) at
+
+-- what a node's layer adds where the others' are eliminated: its edge, and its tile's and its parent's tile's costs
+abbrev pub onward : Problem → (ℕ → Span → ℕ) → ℕ → Span → ℕ → ℕ
+onward p E v s l = p.wire v l + E v (grown (p.base v) l) + E (p.parent v) (grown s l)
+
+-- one node's layer is eliminated: its parent's costs change, and its own are gone
+pub record Step (p : Problem) (v : ℕ) (E F choice later : ℕ → Span → ℕ) : Type 0 where
+  pub best : (s : Span) → IsWithin p.layers s → IsBest (onward p E v s) (p.may v) (choice v s) (F (p.parent v) s)
+  pub others : (u : ℕ) (s : Span) → u < v → u ≢ p.parent v → IsWithin p.layers s → F u s ≡ E u s
+  pub kept : (w : ℕ) (s : Span) → v < w → w < p.nodes → IsWithin p.layers s → choice w s ≡ later w s
+
+-- what the step changes in the total
+pub total-step : (p : Problem) (v : ℕ) (E F choice later : ℕ → Span → ℕ) (a : ℕ → ℕ) → IsSound p → 0 < v → v < p.nodes → Assigned p a →
+    Step p v E F choice later →
+    total p E a (suc v) + F (p.parent v) (span p a (p.parent v) v) ≡ total p F a v + onward p E v (span p a (p.parent v) v) (a v)
+total-step p v E F choice later a sound positive below assigned step =
+    let up = p.parent v in
+    let earlier : up < v = sound.earlier v positive below in
+    let f : ℕ → ℕ = λ u. E u (span p a u (suc v)) in
+    let h : ℕ → ℕ = λ u. F u (span p a u v) in
+    let changed : sums f v + h up ≡ sums h v + f up = sums-changed f h v up earlier (λ u lt other.
+    ap (λ (s : Span). E u s) (span-kept p a u v (ends-other p u v (λ e. omega arith) other))
+    ∙ sym (step.others u (span p a u v) lt other (span-within p a u v sound assigned (omega arith)))) in
+    let own : f v ≡ E v (grown (p.base v) (a v)) =
+    ap (λ (s : Span). E v s) (span-more p a v v (ends-own p v positive) ∙ ap (λ (s : Span). grown s (a v)) (span-base p a v v sound below (omega arith))) in
+    let above : f up ≡ E up (grown (span p a up v) (a v)) = ap (λ (s : Span). E up s) (span-more p a up v (ends-parent p v positive)) in
+    plain (sums (λ w. p.wire w (a w)) v) (p.wire v (a v)) (sums f v) (f v) (h up) (sums h v) (f up) (E v (grown (p.base v) (a v))) (E up (grown (span p a up v) (a v))) changed own above
+  where
+    plain : (ws w fs fv hu hs fu own above : ℕ) → fs + hu ≡ hs + fu → fv ≡ own → fu ≡ above → ws + w + (fs + fv) + hu ≡ ws + hs + (w + own + above)
+    plain ws w fs fv hu hs fu own above changed is up = omega arith
+
+-- a step goes on from what eliminates the layers of the later nodes
+pub eliminates-more : (p : Problem) (v : ℕ) (E F choice later : ℕ → Span → ℕ) → IsSound p → 0 < v → v < p.nodes →
+    Step p v E F choice later → Eliminates p (suc v) E later → Eliminates p v F choice
+eliminates-more p v E F choice later sound positive below step done = record {
+  bound = λ a assigned.
+      let s = span p a (p.parent v) v in
+      let best = step.best s (span-within p a (p.parent v) v sound assigned (omega arith)) in
+      let least = best.least (a v) (assigned v positive below) in
+      let change = total-step p v E F choice later a sound positive below assigned step in
+      let rest = done.bound a assigned in
+      low (total p F a v) (total p E a (suc v)) (whole p a) (F (p.parent v) s) (onward p E v s (a v)) least change rest;
+  attained = λ a assigned follows.
+      let s = span p a (p.parent v) v in
+      let best = step.best s (span-within p a (p.parent v) v sound assigned (omega arith)) in
+      let change = total-step p v E F choice later a sound positive below assigned step in
+      let taken : onward p E v s (a v) ≡ F (p.parent v) s = ap (λ (l : ℕ). onward p E v s l) (follows v (omega arith) positive below) ∙ best.cost in
+      let rest = done.attained a assigned (later-follows a assigned follows) in
+      even (total p F a v) (total p E a (suc v)) (whole p a) (F (p.parent v) s) (onward p E v s (a v)) taken change rest;
+  first = λ a b assigned other follows least w from later_node inside alike.
+      let s = span p b (p.parent v) v in
+      let best = step.best s (span-within p b (p.parent v) v sound other (omega arith)) in
+      let change = total-step p v E F choice later b sound positive below other step in
+      let over = best.least (b v) (other v positive below) in
+      let rest = done.bound b other in
+      elim (cases_eq v w) [
+        | inl same ↦
+            let agree : Alike a b v = λ k pos lt. alike k pos (omega arith) in
+            let is : a v ≡ choice v s = follows v (omega arith) positive below ∙ ap (λ (t : Span). choice v t) (span-alike p a b (p.parent v) v agree) in
+            let tight : onward p E v s (b v) ≡ F (p.parent v) s =
+            tight_by (total p F b v) (total p E b (suc v)) (whole p b) (F (p.parent v) s) (onward p E v s (b v)) over change rest least in
+            let le = best.first (b v) (other v positive below) tight in
+            subst (λ (k : ℕ). a k ≤ b k) same (omega arith)
+        | inr apart ↦
+            let equal : whole p b ≡ total p E b (suc v) = equal_by (total p F b v) (total p E b (suc v)) (whole p b) (F (p.parent v) s) (onward p E v s (b v)) over change rest least in
+            done.first a b assigned other (later-follows a assigned follows) equal w (omega arith) later_node inside alike
+      ];
+  allowed = λ w from positive_w inside s within.
+      elim (cases_eq v w) [
+        | inl same ↦ subst (λ (k : ℕ). IsTrue (p.may k (choice k s))) same (step.best s within).allowed
+        | inr apart ↦
+            let rest = done.allowed w (omega arith) positive_w inside s within in
+            subst (λ (l : ℕ). IsTrue (p.may w l)) (sym (step.kept w s (omega arith) inside within)) rest
+      ];
+}
+  where
+    low : (f e all m o : ℕ) → m ≤ o → e + m ≡ f + o → e ≤ all → f ≤ all
+    low f e all m o least change rest = omega arith
+
+    even : (f e all m o : ℕ) → o ≡ m → e + m ≡ f + o → all ≡ e → all ≡ f
+    even f e all m o taken change rest = omega arith
+
+    tight_by : (f e all m o : ℕ) → m ≤ o → e + m ≡ f + o → e ≤ all → all ≡ f → o ≡ m
+    tight_by f e all m o over change rest least = omega arith
+
+    equal_by : (f e all m o : ℕ) → m ≤ o → e + m ≡ f + o → e ≤ all → all ≡ f → all ≡ e
+    equal_by f e all m o over change rest least = omega arith
+
+    later-follows : (a : ℕ → ℕ) → Assigned p a → FollowsFrom p choice v a → FollowsFrom p later (suc v) a
+    later-follows a assigned follows = λ w from positive_w inside.
+        follows w (omega arith) positive_w inside
+        ∙ step.kept w (span p a (p.parent w) w) (omega arith) inside (span-within p a (p.parent w) w sound assigned (omega arith))
+
+-- before any step the totals are the whole costs
+pub eliminates-none : (p : Problem) (E choice : ℕ → Span → ℕ) → IsSound p →
+    ((u : ℕ) (s : Span) → u < p.nodes → IsWithin p.layers s → E u s ≡ climb s) → Eliminates p p.nodes E choice
+eliminates-none p E choice sound each = record {
+  bound = λ a assigned. let e = same a assigned in omega (arith, e);
+  attained = λ a assigned follows. sym (same a assigned);
+  first = λ a b assigned other follows least w from positive inside alike. absurd (omega arith);
+  allowed = λ w from positive inside s within. absurd (omega arith);
+}
+  where
+    same : (a : ℕ → ℕ) → Assigned p a → total p E a p.nodes ≡ whole p a
+    same a assigned =
+        ap (λ (k : ℕ). sums (λ v. p.wire v (a v)) p.nodes + k)
+        (sums-same (λ u. E u (span p a u p.nodes)) (λ u. climb (span p a u p.nodes)) p.nodes
+        (λ u lt. each u (span p a u p.nodes) lt (span-within p a u p.nodes sound assigned (omega arith))))
+
+-- where all layers are eliminated the choices lead to the first least assignment
+pub eliminated-least : (p : Problem) (E choice : ℕ → Span → ℕ) → IsSound p → Eliminates p 1 E choice →
+    (a : ℕ → ℕ) → Assigned p a → FollowsFrom p choice 1 a → (b : ℕ → ℕ) → Assigned p b → whole p a ≤ whole p b
+eliminated-least p E choice sound done a assigned follows b other =
+    let own = done.attained a assigned follows in
+    let bound = done.bound b other in
+    let first = sound.root (a 0) in
+    let second = sound.root (b 0) in
+    omega (arith, own, bound, first, second)
+
+pub eliminated-first : (p : Problem) (E choice : ℕ → Span → ℕ) → IsSound p → Eliminates p 1 E choice →
+    (a : ℕ → ℕ) → Assigned p a → FollowsFrom p choice 1 a → (b : ℕ → ℕ) → Assigned p b → whole p b ≡ whole p a →
+    (v : ℕ) → 0 < v → v < p.nodes → Alike a b v → a v ≤ b v
+eliminated-first p E choice sound done a assigned follows b other same v positive inside alike =
+    let own = done.attained a assigned follows in
+    let first = sound.root (a 0) in
+    let second = sound.root (b 0) in
+    let equal : whole p b ≡ total p E b 1 = omega (arith, own, same, first, second) in
+    done.first a b assigned other follows equal v (omega arith) positive inside alike
+
+pub span-within_below : (p : Problem) (a : ℕ → ℕ) (u i : ℕ) → IsSound p → ((w : ℕ) → 0 < w → w < i → a w < p.layers) → IsWithin p.layers (span p a u i)
+span-within_below p a u zero sound each = sound.within u
+span-within_below p a u (suc zero) sound each = sound.within u
+span-within_below p a u (suc (suc i)) sound each =
+    let before = span-within_below p a u (suc i) sound (λ w later lt. each w later (omega arith)) in
+    let below = each (suc i) (omega arith) (omega arith) in
+    elim (cases_Bool (ends p u (suc i))) [
+      | inl is ↦ subst (λ (s : Span). IsWithin p.layers s) (sym (span-more p a u (suc i) is)) (grown-within p.layers (span p a u (suc i)) (a (suc i)) before below)
+      | inr is ↦ subst (λ (s : Span). IsWithin p.layers s) (sym (span-kept p a u (suc i) is)) before
+    ]
+
+-- layers that follow allowed choices are an assignment
+pub follows-assigned : (p : Problem) (choice : ℕ → Span → ℕ) (a : ℕ → ℕ) → IsSound p → FollowsFrom p choice 1 a →
+    ((v : ℕ) → 0 < v → v < p.nodes → (s : Span) → IsWithin p.layers s → IsTrue (p.may v (choice v s))) →
+    (i : ℕ) → i ≤ p.nodes → (w : ℕ) → 0 < w → w < i → IsTrue (p.may w (a w))
+follows-assigned p choice a sound follows allowed zero le w later lt = absurd (omega arith)
+follows-assigned p choice a sound follows allowed (suc i) le w later lt =
+    elim (cases_eq w i) [
+      | inl same ↦
+          let each : (v : ℕ) → 0 < v → v < w → a v < p.layers =
+          λ v positive less. sound.below v (a v) (follows-assigned p choice a sound follows allowed i (omega arith) v positive (omega arith)) in
+          let within = span-within_below p a (p.parent w) w sound each in
+          subst (λ (l : ℕ). IsTrue (p.may w l)) (sym (follows w (omega arith) later (omega arith))) (allowed w later (omega arith) (span p a (p.parent w) w) within)
+      | inr other ↦ follows-assigned p choice a sound follows allowed i (omega arith) w later (omega arith)
+    ]
+
+-- what the nodes not yet eliminated cost at most
+pub record Weighed (p : Problem) (i : ℕ) (E : ℕ → Span → ℕ) : Type 0 where
+  pub weight : ℕ → ℕ
+  pub bound : (u : ℕ) (s : Span) → u < i → IsWithin p.layers s → E u s ≤ weight u
+  pub few : sums weight i + i * 1048576 ≤ p.nodes * 1048624
+
+pub weighed-none : (p : Problem) (E : ℕ → Span → ℕ) → p.layers ≤ 16 → ((u : ℕ) (s : Span) → u < p.nodes → IsWithin p.layers s → E u s ≡ climb s) → Weighed p p.nodes E
+weighed-none p E few each = record {
+  weight = λ u. 48;
+  bound = λ u s lt within. let e = each u s lt within in let h = within.high in omega (arith, e, h);
+  few = let h = all_alike p.nodes in omega (arith, h);
+}
+  where
+    all_alike : (n : ℕ) → sums (λ u. 48) n ≡ n * 48
+    all_alike zero = refl
+    all_alike (suc n) = let h = all_alike n in omega (arith, h)
+
+-- the weights after a step: the parent's tile weighs what the node did as well
+abbrev pub heavier : (ℕ → ℕ) → ℕ → ℕ → ℕ → ℕ
+heavier weight up v u = if u == up then weight up + weight v + 1048576 else weight u
+
+pub weighed-more : (p : Problem) (v : ℕ) (E F choice later : ℕ → Span → ℕ) → IsSound p → 0 < v → v < p.nodes →
+    ((l : ℕ) → IsTrue (p.may v l) → p.wire v l ≤ 1048576) → Step p v E F choice later → Weighed p (suc v) E → Weighed p v F
+weighed-more p v E F choice later sound positive below cheap step so_far = record {
+  weight = heavier w up v;
+  bound = λ u s lt within.
+      elim (cases_eq u up) [
+        | inl same ↦
+            let best = step.best s within in
+            let l = choice v s in
+            let wire = cheap l best.allowed in
+            let less = sound.below v l best.allowed in
+            let own = so_far.bound v (grown (p.base v) l) (omega arith) (grown-within p.layers (p.base v) l (sound.within v) less) in
+            let above = so_far.bound up (grown s l) (omega arith) (grown-within p.layers s l within less) in
+            let cost = best.cost in
+            subst (λ (k : ℕ). F k s ≤ heavier w up v k) (sym same) (rw at_up (omega (arith, wire, own, above, cost)))
+        | inr other ↦
+            let test : (u == up) ≡ false = grind (arith, nat_tests) in
+            let kept = step.others u s lt other within in
+            let old = so_far.bound u s (omega arith) within in
+            rw test (omega (arith, kept, old))
+      ];
+  few =
+      let changed = sums-changed (heavier w up v) w v up earlier (λ u lt other. let test : (u == up) ≡ false = grind (arith, nat_tests) in rw test refl) in
+      let at : heavier w up v up ≡ w up + w v + 1048576 = rw at_up refl in
+      let few = so_far.few in
+      omega (arith, changed, at, few);
+}
+  where
+    w : ℕ → ℕ
+    w = so_far.weight
+
+    up : ℕ
+    up = p.parent v
+
+    earlier : p.parent v < v
+    earlier = sound.earlier v positive below
+
+    at_up : (p.parent v == p.parent v) ≡ true
+    at_up = grind (arith, nat_tests)
+
+pub weighed-small : (p : Problem) (i : ℕ) (E : ℕ → Span → ℕ) → p.nodes ≤ 8388608 → Weighed p i E → (u : ℕ) (s : Span) → u < i → IsWithin p.layers s → E u s ≤ 1125899906842624
+weighed-small p i E few weighed u s lt within =
+    let bound = weighed.bound u s lt within in
+    let all = sums-at weighed.weight i u lt in
+    let most = weighed.few in
+    omega (arith, bound, all, most)

@@ -1,0 +1,15 @@
+pub mod Sums
+pub mod Elimination
+pub mod FlatLemmas
+pub mod Problems
+pub mod TableLemmas
+pub mod ChoiceLemmas
+pub mod Choosing
+pub mod Following
+pub mod PinLemmas
+pub mod Turns
+pub mod ColumnLemmas
+pub mod LinkLemmas
+pub mod RaisingLemmas
+pub mod SpanLemmas
+pub mod PlantLemmas

@@ -1,0 +1,10 @@
+use Rattle.std.proofs.Common.{◌≡◌, ◌≤◌}
+use Rattle.layer_assign.proofs.ColumnLemmas.{Risen}
+use Rattle.layer_assign.proofs.columns.rise.Given as goal
+
+abbrev pub invariant-loop-layer : goal.invariant-loop-layer
+invariant-loop-layer l = record {
+  so_far : Risen l.fn.tree.shape l.fn.tree l.tree l.tile l.fn.from l.layer;
+  shape : l.shape ≡ l.fn.tree.shape;
+  above : l.fn.from ≤ l.layer;
+}

@@ -1,0 +1,94 @@
+ghost use Rattle.std.specs.Prelude.{◌≡◌, ◌≢◌, ◌∷◌, [], ℕ, ◌+◌, ◌*◌, ◌<◌, ◌≤◌, false, ◌&&◌, ◌||◌, ◌==◌, OnOk, IsTrue};
+ghost use Rattle.gr_base.specs.Grid.{cells_of, AreNeighbours};
+ghost use Rattle.gr_base.specs.EdgeSets.{is_way, set_of};
+ghost use Rattle.gr_base.specs.Trees.{holds, walk_edges};
+ghost use Rattle.gr_base.specs.declared.grid.Way.TheVariants.{Up};
+ghost use Rattle.layer_assign.specs.Assignments.{tiles_of, cell_on};
+ghost use Rattle.layer_assign.specs.Raised.{in_column, is_via_of, Grows};
+
+use crate::span::Span;
+use gr_base::{RouteTree, Shape};
+use std::alloc::AllocError;
+
+/// Hangs one cell on a neighbour in the tree.
+pub(crate) fn hang(tree: &mut RouteTree, cell: u32, on: u32) -> Result<(), AllocError>
+    requires inside { cell < cells_of tree.old.shape }
+    requires outside { holds tree.old cell ≡ false }
+    requires on { IsTrue (holds tree.old on) }
+    requires near { AreNeighbours tree.old.shape cell on }
+    ensures { OnOk result (Grows tree.old tree.new (λ other. cell == other) (set_of (walk_edges tree.old.shape (cell ∷ on ∷ [])))) }
+{
+    tree.attach(&[cell, on])
+}
+
+/// The cell of a tile on a layer.
+pub(crate) fn cell_at_level(shape: Shape, tile: u32, layer: u32) -> u32
+    requires tile { tile < tiles_of shape }
+    requires layer { layer < shape.layers }
+    ensures cell { result ≡ cell_on shape tile layer }
+    ensures inside { result < cells_of shape }
+{
+    layer * (shape.columns() * shape.rows()) + tile
+}
+
+/// Hangs the cells of a tile above one of its cells on that, up to a layer.
+pub(crate) fn rise(tree: &mut RouteTree, tile: u32, from: u32, to: u32) -> Result<(), AllocError>
+    requires tile { tile < tiles_of tree.old.shape }
+    requires layers { to < tree.old.shape.layers }
+    requires up { from ≤ to }
+    requires on { IsTrue (holds tree.old (cell_on tree.old.shape tile from)) }
+    requires free { (layer : ℕ) → from < layer → layer ≤ to → holds tree.old (cell_on tree.old.shape tile layer) ≡ false }
+    ensures { OnOk result (Grows tree.old tree.new
+        (in_column tree.old.shape tile (from + 1) (to + 1)) (λ e. is_way e.way Up && in_column tree.old.shape tile from to e.low)) }
+{
+    let shape = tree.shape();
+    for layer in from..to {
+        hang(
+            tree,
+            cell_at_level(shape, tile, layer + 1),
+            cell_at_level(shape, tile, layer),
+        )?;
+    }
+    Ok(())
+}
+
+/// Hangs the cells of a tile below one of its cells on that, down to a layer.
+pub(crate) fn sink(tree: &mut RouteTree, tile: u32, from: u32, to: u32) -> Result<(), AllocError>
+    requires tile { tile < tiles_of tree.old.shape }
+    requires layers { from < tree.old.shape.layers }
+    requires down { to ≤ from }
+    requires on { IsTrue (holds tree.old (cell_on tree.old.shape tile from)) }
+    requires free { (layer : ℕ) → to ≤ layer → layer < from → holds tree.old (cell_on tree.old.shape tile layer) ≡ false }
+    ensures { OnOk result (Grows tree.old tree.new
+        (in_column tree.old.shape tile to from) (λ e. is_way e.way Up && in_column tree.old.shape tile to from e.low)) }
+{
+    let shape = tree.shape();
+    for layer in (to..from).rev() {
+        hang(
+            tree,
+            cell_at_level(shape, tile, layer),
+            cell_at_level(shape, tile, layer + 1),
+        )?;
+    }
+    Ok(())
+}
+
+/// Hangs the other cells of a tile's span on one of its cells.
+pub(crate) fn spread(
+    tree: &mut RouteTree,
+    tile: u32,
+    layer: u32,
+    span: Span,
+) -> Result<(), AllocError>
+    requires tile { tile < tiles_of tree.old.shape }
+    requires high { span.high < tree.old.shape.layers }
+    requires above { span.low ≤ layer }
+    requires below { layer ≤ span.high }
+    requires on { IsTrue (holds tree.old (cell_on tree.old.shape tile layer)) }
+    requires free { (other : ℕ) → other ≢ layer → other < tree.old.shape.layers → holds tree.old (cell_on tree.old.shape tile other) ≡ false }
+    ensures { OnOk result (Grows tree.old tree.new
+        (in_column tree.old.shape tile span.low (span.high + 1)) (is_via_of tree.old.shape tile span)) }
+{
+    rise(tree, tile, layer, span.high)?;
+    sink(tree, tile, layer, span.low)
+}

@@ -1,0 +1,70 @@
+ghost use Rattle.std.specs.Prelude.{◌≡◌, ℕ, ◌<◌, length, slice_index, IfOk};
+ghost use Rattle.gr_base.specs.Trees.{IsTree};
+ghost use Rattle.layer_assign.specs.Assignments.{IsFlat, IsAssignment, IsLeast, IsFirst, HasLayers, ArePins};
+ghost use Rattle.layer_assign.specs.Answers.{IsFirstLeast};
+
+use crate::choices::choose_layers;
+use crate::layers::Layers;
+use crate::span::Span;
+use crate::tables::climbs;
+use crate::tiles::{follow, pin_spans};
+use cost_rules::Costs;
+use gr_base::{RouteTree, Shape};
+use std::alloc::{AllocError, Global};
+
+/// The first assignment of least cost of a flat tree's edges to layers.
+///
+/// An assignment gives each edge a layer that goes its way. It costs what its wire edges cost and,
+/// for each tile of the tree, 3 for each layer from the least to the greatest of those that meet
+/// there: the layers of the tile's edges and of its pins. Of the least assignments the first by the
+/// layers of nodes 1, 2 and so on is taken. The only error is want of memory.
+///
+/// After Lee and Wang, "Congestion-constrained layer assignment for via minimization in global
+/// routing", 2008: by tables from the last node down, here for each span of layers of a tile. The
+/// time is the number of nodes times the third power of the number of layers.
+pub fn assign<C: Costs>(
+    alloc: Global,
+    costs: &C,
+    shape: Shape,
+    flat: &RouteTree,
+    pins: &[u32],
+) -> Result<Layers, AllocError>
+    requires grid { C.grid costs.now ≡ shape }
+    requires flat { IsFlat shape flat.now.shape }
+    requires pins { ArePins shape flat.now pins.now }
+    requires layers { HasLayers shape (C.ways costs.now) flat.now }
+    ensures nodes { IfOk result (λ layers. length layers ≡ length flat.now.nodes) }
+    ensures assignment { IfOk result (λ layers. IsAssignment shape (C.ways costs.now) flat.now (λ node. slice_index layers node)) }
+    ensures least { IfOk result (λ layers.
+        IsLeast shape (C.ways costs.now) (C.price costs.now) flat.now pins.now (λ node. slice_index layers node)) }
+    ensures first { IfOk result (λ layers.
+        IsFirst shape (C.ways costs.now) (C.price costs.now) flat.now pins.now (λ node. slice_index layers node)) }
+{
+    let numbers = first_least(alloc, costs, shape, flat, pins)?;
+    Ok(Layers { numbers })
+}
+
+/// The layers of the first least assignment, by the nodes.
+fn first_least<C: Costs>(
+    alloc: Global,
+    costs: &C,
+    shape: Shape,
+    flat: &RouteTree,
+    pins: &[u32],
+) -> Result<Vec<u32>, AllocError>
+    requires grid { C.grid costs.now ≡ shape }
+    requires flat { IsFlat shape flat.now.shape }
+    requires pins { ArePins shape flat.now pins.now }
+    requires layers { HasLayers shape (C.ways costs.now) flat.now }
+    ensures { IfOk result (λ layers. IsFirstLeast shape (C.ways costs.now) (C.price costs.now) flat.now pins.now layers.items) }
+{
+    let mut spans = pin_spans(alloc, shape, flat, pins)?;
+    let nodes = flat.len();
+    let mut least = climbs(alloc, shape, nodes)?;
+    let mut choices = vec![in alloc; 0; nodes as usize * Span::count(shape)]?;
+    for node in (1..nodes).rev() {
+        let base = spans[node as usize];
+        choose_layers(costs, shape, flat, base, node, &mut least, &mut choices);
+    }
+    follow(alloc, shape, flat, &mut spans, &choices)
+}

@@ -1,0 +1,20 @@
+//! The layers of a flat tree's edges: the first assignment of least cost, and the tree raised from
+//! an assignment.
+#![tactic(auto)]
+
+mod choices;
+mod columns;
+mod edges;
+mod first_least;
+mod layers;
+mod raised;
+mod span;
+mod spans;
+mod tables;
+#[cfg(test)]
+mod tests;
+mod tiles;
+
+pub use first_least::assign;
+pub use layers::Layers;
+pub use raised::raise;

@@ -1,0 +1,155 @@
+ghost use Rattle.std.specs.Prelude.{◌≡◌, ℕ, ◌+◌, ◌*◌, ◌^◌, ◌<◌, ◌≤◌, Option, Some, length, map, slice_get, IfOk, IfSome, IsTrue, IsSome};
+ghost use Rattle.std.specs.Option.{option_and_then};
+ghost use Rattle.gr_base.specs.Grid.{has_edge};
+ghost use Rattle.gr_base.specs.Trees.{IsTree};
+ghost use Rattle.layer_assign.specs.declared.span.Span.{Span as SpanView};
+ghost use Rattle.layer_assign.specs.Spans.{IsWithin, grown, climb, span_number, spans_of};
+ghost use Rattle.layer_assign.specs.Assignments.{IsFlat, edge_up, on_layer};
+ghost use Rattle.layer_assign.specs.Choices.{entry};
+ghost use Rattle.layer_assign.specs.Tables.{HasRows, IsSmall, limb_cost, offer, better, best_below};
+
+use crate::edges::{edge_on, edge_up_of};
+use crate::span::{Best, Span};
+use cost_rules::Costs;
+use gr_base::{Edge, RouteTree, Shape};
+use std::alloc::{AllocError, Global};
+
+/// Where a table has the entry of a node and a span.
+pub(crate) fn place_in(shape: Shape, node: u32, span: Span) -> usize
+    requires node { node < 8388608 }
+    requires within { IsWithin shape.layers span }
+    ensures { result ≡ node * spans_of shape.layers + span_number shape.layers span }
+{
+    node as usize * Span::count(shape) + span.number(shape)
+}
+
+/// What a limb costs on one layer. None exactly where the layer doesn't go the edge's way.
+fn limb_on<C: Costs>(
+    costs: &C,
+    shape: Shape,
+    flat: &RouteTree,
+    least: &[u64],
+    node: u32,
+    edge: Edge,
+    base: Span,
+    layer: u32,
+) -> Option<u64>
+    requires grid { C.grid costs.now ≡ shape }
+    requires flat { IsFlat shape flat.now.shape }
+    requires tree { IsTree flat.now }
+    requires node { node < length flat.now.nodes }
+    requires edge { edge_up flat.now node ≡ Some edge }
+    requires inside { IsTrue (has_edge flat.now.shape edge) }
+    requires base { IsWithin shape.layers base }
+    requires layer { layer < shape.layers }
+    requires rows { HasRows shape.layers (length flat.now.nodes) least.now }
+    requires small { IsSmall shape.layers least.now node }
+    ensures cost { result ≡ limb_cost shape (C.price costs.now) flat.now least.now node base layer }
+    ensures most { IfSome result (λ cost. cost ≤ 2 ^ 50 + 1048576) }
+{
+    let wire = costs.cost(edge_on(shape, layer, edge))?;
+    Some(wire + least[place_in(shape, node, base.with(layer))])
+}
+
+/// What a limb costs on each layer.
+pub(crate) fn limb_costs<C: Costs>(
+    costs: &C,
+    shape: Shape,
+    flat: &RouteTree,
+    least: &[u64],
+    node: u32,
+    base: Span,
+) -> [Option<u64>; 16]
+    requires grid { C.grid costs.now ≡ shape }
+    requires flat { IsFlat shape flat.now.shape }
+    requires later { 0 < node }
+    requires node { node < length flat.now.nodes }
+    requires base { IsWithin shape.layers base }
+    requires rows { HasRows shape.layers (length flat.now.nodes) least.now }
+    requires small { IsSmall shape.layers least.now node }
+    ensures costs { (layer : ℕ) → layer < shape.layers →
+        slice_get result layer ≡ Some (limb_cost shape (C.price costs.now) flat.now least.now node base layer) }
+    ensures most { (layer : ℕ) → layer < shape.layers →
+        IfSome (limb_cost shape (C.price costs.now) flat.now least.now node base layer) (λ cost. cost ≤ 2 ^ 50 + 1048576) }
+    ensures tree { IsTree flat.now }
+{
+    let edge = edge_up_of(flat, node);
+    let mut limbs = [None; 16];
+    for layer in 0..shape.layers() {
+        limbs[layer as usize] = limb_on(costs, shape, flat, least, node, edge, base, layer);
+    }
+    limbs
+}
+
+/// A layer with what it costs to take it, where the parent's tile has a span so far.
+fn offer_of(
+    shape: Shape,
+    limbs: &[Option<u64>; 16],
+    least: &[u64],
+    up: u32,
+    span: Span,
+    layer: u32,
+) -> Option<Best>
+    requires layer { layer < shape.layers }
+    requires span { IsWithin shape.layers span }
+    requires up { up < 8388608 }
+    requires row { up * spans_of shape.layers + spans_of shape.layers ≤ length least.now }
+    requires small { (other : ℕ) → other < shape.layers → entry shape.layers least.now up (grown span other) ≤ 2 ^ 50 }
+    requires limbs { (other : ℕ) → other < shape.layers →
+        IfSome (option_and_then (λ (o : Option ℕ). o) (slice_get limbs.now other)) (λ cost. cost ≤ 2 ^ 50 + 1048576) }
+    ensures { result ≡ offer shape limbs.now least.now up span layer }
+{
+    let limb = limbs[layer as usize]?;
+    let cost = limb + least[place_in(shape, up, span.with(layer))];
+    Some(Best { layer, cost })
+}
+
+/// Of two offers the first, unless the second costs less.
+fn better_of(first: Option<Best>, second: Option<Best>) -> Option<Best>
+    ensures { result ≡ better first second }
+{
+    match (first, second) {
+        (None, _) => second,
+        (Some(_), None) => first,
+        (Some(one), Some(two)) => { if two.cost < one.cost { second } else { first } }
+    }
+}
+
+/// The first layer of least cost, where the parent's tile has a span so far.
+pub(crate) fn best_layer(
+    shape: Shape,
+    limbs: &[Option<u64>; 16],
+    least: &[u64],
+    up: u32,
+    span: Span,
+) -> Option<Best>
+    requires span { IsWithin shape.layers span }
+    requires up { up < 8388608 }
+    requires row { up * spans_of shape.layers + spans_of shape.layers ≤ length least.now }
+    requires small { (other : ℕ) → other < shape.layers → entry shape.layers least.now up (grown span other) ≤ 2 ^ 50 }
+    requires limbs { (other : ℕ) → other < shape.layers →
+        IfSome (option_and_then (λ (o : Option ℕ). o) (slice_get limbs.now other)) (λ cost. cost ≤ 2 ^ 50 + 1048576) }
+    ensures { result ≡ best_below (offer shape limbs.now least.now up span) shape.layers }
+{
+    let mut best = None;
+    for layer in 0..shape.layers() {
+        best = better_of(best, offer_of(shape, limbs, least, up, span, layer));
+    }
+    best
+}
+
+/// What it costs to climb each span, for each node.
+pub(crate) fn climbs(alloc: Global, shape: Shape, nodes: u32) -> Result<Vec<u64>, AllocError>
+    requires { nodes ≤ 8388608 }
+    ensures rows { IfOk result (λ costs. HasRows shape.layers nodes costs.items) }
+    ensures climbs { IfOk result (λ costs. (node : ℕ) → (s : SpanView) → node < nodes → IsWithin shape.layers s →
+        entry shape.layers costs.items node s ≡ climb s) }
+{
+    let spans = Span::count(shape);
+    let places = nodes as usize * spans;
+    let mut costs = Vec::with_capacity(alloc, places)?;
+    for place in 0..places {
+        costs.push(Span::at(shape, place % spans).climb())?;
+    }
+    Ok(costs)
+}
