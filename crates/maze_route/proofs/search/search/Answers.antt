@@ -1,0 +1,111 @@
+use Rattle.std.proofs.Common.{◌≡◌, ℕ, false, get_or, Option, refl, sym, subst, ◌∙◌, arith}
+use Rattle.std.proofs.lemmas.Option.{same_Some, unwrap_or-slice_get}
+use Rattle.cost_rules.specs.Prices.{ArePrices}
+use Rattle.gr_base.specs.declared.grid.Edge.{Edge}
+use Rattle.gr_base.specs.declared.grid.Shape.{Shape}
+use Rattle.maze_route.specs.Spreads.{Spreads}
+use Rattle.maze_route.specs.Steps.{size_of, rest_of, pane_graph}
+use Rattle.maze_route.proofs.SpreadLemmas.{pane-rest}
+use Rattle.maze_route.proofs.TurnLemmas.{taken-has, is-some, stale-turn, settled-turn, stop-turn, end-turn, left_of, spot-rest}
+use Rattle.maze_route.proofs.search.search.Goals as goal
+
+pub loop-key-init : goal.loop-key-init
+loop-key-init g c = record {
+  size_is = c.in_ok-front.ensures.size;
+  sources = c.in_ok-front.ensures.sources (g.C.Costs.price c.args.costs.now);
+  searching = c.in_ok-front.ensures.searching (g.C.Costs.price c.args.costs.now);
+  goal = tt;
+  near = tt;
+}
+
+pub spot-spot-requires : goal.spot-spot-requires
+spot-spot-requires g c =
+    let graph = pane_graph c.args.pane c.args.tree.now (g.C.Costs.price c.args.costs.now) in
+    let has = taken-has graph (rest_of c.args.pane c.args.aim) c.args.marks.now (size_of c.args.pane) c.loop-key.nearest c.loop-key.front c.in-Some.key c.in-Some.cell c.pop.new.self c.loop-key.invariant c.in-Some.ensures in
+    has.inside
+
+pub unwrap-label-requires : goal.unwrap-label-requires
+unwrap-label-requires g c =
+    let graph = pane_graph c.args.pane c.args.tree.now (g.C.Costs.price c.args.costs.now) in
+    let has = taken-has graph (rest_of c.args.pane c.args.aim) c.args.marks.now (size_of c.args.pane) c.loop-key.nearest c.loop-key.front c.in-Some.key c.in-Some.cell c.pop.new.self c.loop-key.invariant c.in-Some.ensures in
+    is-some c.at.result has.cost (c.at.ensures ∙ has.is)
+
+pub settle-requires : goal.settle-requires
+settle-requires g c =
+    let graph = pane_graph c.args.pane c.args.tree.now (g.C.Costs.price c.args.costs.now) in
+    let has = taken-has graph (rest_of c.args.pane c.args.aim) c.args.marks.now (size_of c.args.pane) c.loop-key.nearest c.loop-key.front c.in-Some.key c.in-Some.cell c.pop.new.self c.loop-key.invariant c.in-Some.ensures in
+    let same : has.cost ≡ c.unwrap-label.result = same_Some has.cost c.unwrap-label.result (sym has.is ∙ sym c.at.ensures ∙ c.unwrap-label.ensures) in
+    let rest = spot-rest c.args.pane c.args.aim c.spot-spot.result c.spot-spot.result.local c.distance_to.result c.spot-spot.ensures.spot refl c.distance_to.ensures.tiles in
+    record {
+      grid = c.requires.costs;
+      spot = c.spot-spot.ensures.spot;
+      from = omega (arith, same, has.small);
+      size = c.loop-key.invariant.size_is;
+      key = omega (arith, rest, c.if-label-distance_to.false, c.in-Some.ensures.last);
+    }
+
+pub returns-then-is_past-clause-found : goal.returns-then-is_past-clause-found
+returns-then-is_past-clause-found g c =
+    let price : Edge → Option ℕ = g.C.Costs.price c.args.costs.now in
+    let P : Shape → Type 0 = λ s. ArePrices s (g.C.Costs.ways c.args.costs.now) price in
+    let prices = subst P c.requires.costs (g.met.C.Costs.prices c.args.costs.now) in
+    stop-turn (pane_graph c.args.pane c.args.tree.now price) (rest_of c.args.pane c.args.aim) c.args.marks.now (size_of c.args.pane) c.loop-key.nearest c.loop-key.front
+    c.in-Some.key c.in-Some.cell c.pop.new.self (pane-rest c.args.pane c.args.tree.now (g.C.Costs.ways c.args.costs.now) price c.args.aim prices)
+    c.loop-key.invariant c.in-Some.ensures (sym c.is_past.ensures ∙ c.if-is_past.true)
+
+pub loop-key-preserved : goal.loop-key-preserved
+loop-key-preserved g c =
+    let price : Edge → Option ℕ = g.C.Costs.price c.args.costs.now in
+    let P : Shape → Type 0 = λ s. ArePrices s (g.C.Costs.ways c.args.costs.now) price in
+    let prices = subst P c.requires.costs (g.met.C.Costs.prices c.args.costs.now) in
+    let is = sym c.at.ensures ∙ c.unwrap-label.ensures in
+    let rest = spot-rest c.args.pane c.args.aim c.spot-spot.result c.in-Some.cell c.distance_to.result c.spot-spot.ensures.spot c.spot-spot.ensures.local c.distance_to.ensures.tiles in
+    let S : ℕ → Type 0 = λ n. Spreads c.args.pane price c.args.aim n c.unwrap-label.result (left_of c.loop-key.front c.pop.new.self) c.settle.new.front in
+    let spreads = subst S c.spot-spot.ensures.local c.in_ok-settle.ensures in
+    let turn = settled-turn c.args.pane c.args.tree.now (g.C.Costs.ways c.args.costs.now) price c.args.aim c.args.marks.now c.loop-key.nearest c.nearest_with-nearest.result
+    (get_or c.args.marks.now c.in-Some.cell false) c.loop-key.front c.settle.new.front c.pop.new.self c.in-Some.key c.in-Some.cell c.unwrap-label.result prices
+    c.loop-key.invariant c.in-Some.ensures is (omega (arith, rest, c.if-label-distance_to.false))
+    (unwrap_or-slice_get c.args.marks.now c.in-Some.cell false) c.nearest_with-nearest.ensures c.requires.aim spreads in
+    turn.0
+
+pub loop-key-smaller : goal.loop-key-smaller
+loop-key-smaller g c =
+    let price : Edge → Option ℕ = g.C.Costs.price c.args.costs.now in
+    let P : Shape → Type 0 = λ s. ArePrices s (g.C.Costs.ways c.args.costs.now) price in
+    let prices = subst P c.requires.costs (g.met.C.Costs.prices c.args.costs.now) in
+    let is = sym c.at.ensures ∙ c.unwrap-label.ensures in
+    let rest = spot-rest c.args.pane c.args.aim c.spot-spot.result c.in-Some.cell c.distance_to.result c.spot-spot.ensures.spot c.spot-spot.ensures.local c.distance_to.ensures.tiles in
+    let S : ℕ → Type 0 = λ n. Spreads c.args.pane price c.args.aim n c.unwrap-label.result (left_of c.loop-key.front c.pop.new.self) c.settle.new.front in
+    let spreads = subst S c.spot-spot.ensures.local c.in_ok-settle.ensures in
+    let turn = settled-turn c.args.pane c.args.tree.now (g.C.Costs.ways c.args.costs.now) price c.args.aim c.args.marks.now c.loop-key.nearest c.nearest_with-nearest.result
+    (get_or c.args.marks.now c.in-Some.cell false) c.loop-key.front c.settle.new.front c.pop.new.self c.in-Some.key c.in-Some.cell c.unwrap-label.result prices
+    c.loop-key.invariant c.in-Some.ensures is (omega (arith, rest, c.if-label-distance_to.false))
+    (unwrap_or-slice_get c.args.marks.now c.in-Some.cell false) c.nearest_with-nearest.ensures c.requires.aim spreads in
+    turn.1
+
+pub loop-key-preserved-then-label-distance_to : goal.loop-key-preserved-then-label-distance_to
+loop-key-preserved-then-label-distance_to g c =
+    let is = sym c.at.ensures ∙ c.unwrap-label.ensures in
+    let rest = spot-rest c.args.pane c.args.aim c.spot-spot.result c.in-Some.cell c.distance_to.result c.spot-spot.ensures.spot c.spot-spot.ensures.local c.distance_to.ensures.tiles in
+    let turn = stale-turn (pane_graph c.args.pane c.args.tree.now (g.C.Costs.price c.args.costs.now)) (rest_of c.args.pane c.args.aim) c.args.marks.now (size_of c.args.pane) c.loop-key.nearest
+    c.loop-key.front c.in-Some.key c.in-Some.cell c.unwrap-label.result c.pop.new.self c.loop-key.invariant c.in-Some.ensures is (omega (arith, rest, c.if-label-distance_to.true)) in
+    turn.0
+
+pub loop-key-smaller-then-label-distance_to : goal.loop-key-smaller-then-label-distance_to
+loop-key-smaller-then-label-distance_to g c =
+    let is = sym c.at.ensures ∙ c.unwrap-label.ensures in
+    let rest = spot-rest c.args.pane c.args.aim c.spot-spot.result c.in-Some.cell c.distance_to.result c.spot-spot.ensures.spot c.spot-spot.ensures.local c.distance_to.ensures.tiles in
+    let turn = stale-turn (pane_graph c.args.pane c.args.tree.now (g.C.Costs.price c.args.costs.now)) (rest_of c.args.pane c.args.aim) c.args.marks.now (size_of c.args.pane) c.loop-key.nearest
+    c.loop-key.front c.in-Some.key c.in-Some.cell c.unwrap-label.result c.pop.new.self c.loop-key.invariant c.in-Some.ensures is (omega (arith, rest, c.if-label-distance_to.true)) in
+    turn.1
+
+pub returns : goal.returns
+returns g c =
+    let price : Edge → Option ℕ = g.C.Costs.price c.args.costs.now in
+    let P : Shape → Type 0 = λ s. ArePrices s (g.C.Costs.ways c.args.costs.now) price in
+    let prices = subst P c.requires.costs (g.met.C.Costs.prices c.args.costs.now) in
+    record {
+      found = end-turn (pane_graph c.args.pane c.args.tree.now price) (rest_of c.args.pane c.args.aim) c.args.marks.now (size_of c.args.pane) c.loop-key.nearest c.loop-key.front
+          (pane-rest c.args.pane c.args.tree.now (g.C.Costs.ways c.args.costs.now) price c.args.aim prices) c.requires.aim c.loop-key.invariant c.in_default.ensures.0 c.requires.goal;
+      size = c.loop-key.invariant.size_is;
+    }

@@ -1,0 +1,51 @@
+use Rattle.std.proofs.Common.{ℕ, ◌+◌, Option, Some, refl, sym, ap, ◌∙◌, arith}
+use Rattle.gr_base.specs.declared.grid.Edge.{Edge}
+use Rattle.maze_route.specs.Queues.{QueueView}
+use Rattle.maze_route.specs.Steps.{cell_in, rest_of, pane_graph, size_of}
+use Rattle.maze_route.specs.declared.pane.Step.{Step}
+use Rattle.maze_route.specs.Labels.{label_at}
+use Rattle.maze_route.proofs.SeedLemmas.{seed-start, seed-turn, seed-done, tree-window}
+use Rattle.maze_route.proofs.search.seeded.Goals as goal
+
+pub loop-node-init : goal.loop-node-init
+loop-node-init c = record {
+  size = c.in_ok-new.ensures.size ∙ c.size.ensures;
+  last = ap (λ (q : QueueView). q.last) c.new-2.ensures;
+  seeded = λ k cell below is. absurd (omega arith);
+  searching = λ price. seed-start (pane_graph c.args.pane c.args.tree.now price) (rest_of c.args.pane c.args.aim) (label_at c.in_ok-new.field-0.costs.items)
+      c.new-2.result.pairs (size_of c.args.pane) c.in_ok-new.ensures.none (ap (λ (q : QueueView). q.pairs) c.new-2.ensures);
+}
+
+pub local-requires : goal.local-requires
+local-requires c = tree-window c.args.pane c.args.tree.now c.loop-node.node c.cell.result c.requires.grid c.requires.tree c.cell.ensures.only
+
+pub reach-requires : goal.reach-requires
+reach-requires c = record {
+  from = omega arith;
+  small = omega arith;
+  rest = c.distance_to.ensures.small;
+  inside = omega (arith, c.loop-node.invariant.size, c.spot-spot.ensures.local, c.local.ensures.inside);
+  keys = omega (arith, c.loop-node.invariant.last);
+}
+
+pub loop-node-preserved : goal.loop-node-preserved
+loop-node-preserved c =
+    let step : Step = record { cell = c.spot-spot.result.local; cost = 0; rest = c.distance_to.result } in
+    let back = ap (λ (n : ℕ). cell_in c.args.pane n) (sym c.local.ensures.local) ∙ c.local.ensures.cell in
+    let turn = λ (price : Edge → Option ℕ). seed-turn c.args.pane c.args.tree.now price c.args.aim c.loop-node.node (c.loop-node.node + 1) c.cell.result c.spot-spot.result step c.loop-node.front c.reach.new.front
+    refl c.cell.ensures.cell c.cell.ensures.only c.spot-spot.ensures.spot (c.spot-spot.ensures.local ∙ c.local.ensures.local) back
+    refl refl c.distance_to.ensures.tiles c.loop-node.invariant.size c.in_ok-reach.ensures.done (c.loop-node.invariant.searching price) c.loop-node.invariant.seeded in
+    record {
+      size = c.reach.ensures.size ∙ c.loop-node.invariant.size;
+      last = c.reach.ensures.last ∙ c.loop-node.invariant.last;
+      seeded = (turn (λ _. Some 0)).1;
+      searching = λ price. (turn price).0;
+    }
+
+pub returns : goal.returns
+returns c = record {
+  size = c.loop-node.invariant.size;
+  sources = λ price. seed-done c.args.pane c.args.tree.now price (label_at c.loop-node.front.labels.costs.items) c.loop-node.node
+      (omega (arith, c.loop-node-test.false, c.len-node-end.ensures.len)) c.loop-node.invariant.seeded;
+  searching = c.loop-node.invariant.searching;
+}

@@ -1,0 +1,97 @@
+use Rattle.std.proofs.Common.{◌≡◌, ℕ, ◌<◌, Bool, Option, List, All, IsTrue, length, map, refl, sym, ap, subst, ◌∙◌}
+use Rattle.cost_rules.specs.Prices.{ArePrices}
+use Rattle.gr_base.specs.declared.grid.Edge.{Edge}
+use Rattle.gr_base.specs.declared.grid.Shape.{Shape}
+use Rattle.gr_base.specs.Trees.{is_among}
+use Rattle.maze_route.specs.Ends.{IsFirstOf}
+use Rattle.maze_route.specs.Labels.{label_at}
+use Rattle.maze_route.specs.Search.{is_marked}
+use Rattle.maze_route.specs.Steps.{size_of, local_of, pane_graph}
+use Rattle.maze_route.specs.Walks.{IsFirstGoal}
+use Rattle.maze_route.specs.declared.pane.Reached.{Reached}
+use Rattle.maze_route.proofs.GoalLemmas.{locals-below, can-reach, finds-first, found-first, walk-least, some-source, lies-in, some-locals, result-then}
+use Rattle.maze_route.proofs.walk.walk_in.Goals as goal
+
+pub box_of-aim-requires : goal.box_of-aim-requires
+box_of-aim-requires g c =
+    let B : List ℕ → Type 0 = λ xs. All (λ e. e < size_of c.args.pane) xs in
+    subst B (sym (c.deref.ensures.value ∙ c.in_ok-ends.ensures)) (locals-below c.args.pane c.args.goals.now (size_of c.args.pane) refl c.requires.goals)
+
+pub marked-requires : goal.marked-requires
+marked-requires g c =
+    let B : List ℕ → Type 0 = λ xs. All (λ e. e < size_of c.args.pane) xs in
+    subst B (sym (c.deref-2.ensures.value ∙ c.in_ok-ends.ensures)) (locals-below c.args.pane c.args.goals.now (size_of c.args.pane) refl c.requires.goals)
+
+pub search-requires : goal.search-requires
+search-requires g c =
+    let price : Edge → Option ℕ = g.C.Costs.price c.args.costs.now in
+    let P : Shape → Type 0 = λ s. ArePrices s (g.C.Costs.ways c.args.costs.now) price in
+    let prices = subst P c.requires.grid (g.met.C.Costs.prices c.args.costs.now) in
+    let p = c.args.pane in
+    let ends = map (local_of p) c.args.goals.now in
+    let below = locals-below p c.args.goals.now (size_of p) refl c.requires.goals in
+    let source = some-source p c.args.tree.now c.requires.shape c.requires.tree c.requires.rooted in
+    let marked = λ (n : ℕ). ap (λ (xs : List Bool). is_marked xs n) c.deref-3.ensures.value ∙ c.in_ok-marks.ensures.marks n ∙ ap (λ (xs : List ℕ). is_among xs n) (c.deref-2.ensures.value ∙ c.in_ok-ends.ensures) in
+    record {
+      costs = c.requires.grid;
+      grid = c.requires.shape;
+      tree = c.requires.tree;
+      marks = ap (λ (xs : List Bool). length xs) c.deref-3.ensures.value ∙ c.in_ok-marks.ensures.size;
+      aim = λ cell is. c.box_of-aim.ensures cell (ap (λ (xs : List ℕ). is_among xs cell) (c.deref.ensures.value ∙ c.in_ok-ends.ensures) ∙ sym (marked cell) ∙ is);
+      goal = can-reach p c.args.tree.now (g.C.Costs.ways c.args.costs.now) price c.deref-3.result.now ends source.0 prices c.requires.passable source.1.0 source.1.1
+          (some-locals p c.args.goals.now c.requires.some) below marked;
+    }
+
+pub first_reached-requires : goal.first_reached-requires
+first_reached-requires g c =
+    let p = c.args.pane in
+    let size = length c.in_ok-labels.labels.costs.items in
+    let B : List ℕ → Type 0 = λ xs. All (λ e. e < size) xs in
+    subst B (sym (c.deref-4.ensures.value ∙ c.in_ok-ends.ensures)) (locals-below p c.args.goals.now size c.in_ok-labels.ensures.size c.requires.goals)
+
+pub unwrap-goal-requires : goal.unwrap-goal-requires
+unwrap-goal-requires g c =
+    let marked = λ (n : ℕ). ap (λ (xs : List Bool). is_marked xs n) c.deref-3.ensures.value ∙ c.in_ok-marks.ensures.marks n ∙ ap (λ (xs : List ℕ). is_among xs n) (c.deref-2.ensures.value ∙ sym c.deref-4.ensures.value) in
+    finds-first c.deref-3.result.now c.deref-4.result.now (label_at c.in_ok-labels.labels.costs.items) c.in_ok-labels.ensures.found.bound c.first_reached.result
+    c.in_ok-labels.ensures.found.goal marked c.first_reached.ensures
+
+pub walk_back-requires : goal.walk_back-requires
+walk_back-requires g c =
+    let price : Edge → Option ℕ = g.C.Costs.price c.args.costs.now in
+    let P : Shape → Type 0 = λ s. ArePrices s (g.C.Costs.ways c.args.costs.now) price in
+    let prices = subst P c.requires.grid (g.met.C.Costs.prices c.args.costs.now) in
+    let p = c.args.pane in
+    let label : ℕ → Option ℕ = label_at c.in_ok-labels.labels.costs.items in
+    let ends = c.deref-4.result.now in
+    let are : ends ≡ map (local_of p) c.args.goals.now = c.deref-4.ensures.value ∙ c.in_ok-ends.ensures in
+    let B : List ℕ → Type 0 = λ xs. All (λ e. e < size_of p) xs in
+    let below = subst B (sym are) (locals-below p c.args.goals.now (size_of p) refl c.requires.goals) in
+    let marked = λ (n : ℕ). ap (λ (xs : List Bool). is_marked xs n) c.deref-3.ensures.value ∙ c.in_ok-marks.ensures.marks n ∙ ap (λ (xs : List ℕ). is_among xs n) (c.deref-2.ensures.value ∙ sym c.deref-4.ensures.value) in
+    let free = λ (end : ℕ) (among : IsTrue (is_among ends end)). c.box_of-aim.ensures end (ap (λ (xs : List ℕ). is_among xs end) (c.deref.ensures.value ∙ sym c.deref-4.ensures.value) ∙ among) in
+    let Q : Option Reached → Type 0 = λ o. IsFirstOf label ends o in
+    let first = subst Q c.unwrap-goal.ensures c.first_reached.ensures in
+    let found = found-first p c.args.tree.now (g.C.Costs.ways c.args.costs.now) price c.box_of-aim.result c.deref-3.result.now label ends c.unwrap-goal.result prices
+    c.in_ok-labels.ensures.found marked free below first in
+    record { grid = c.requires.grid; size = c.in_ok-labels.ensures.size; near = found.near }
+
+pub returns : goal.returns
+returns g c =
+    let price : Edge → Option ℕ = g.C.Costs.price c.args.costs.now in
+    let P : Shape → Type 0 = λ s. ArePrices s (g.C.Costs.ways c.args.costs.now) price in
+    let prices = subst P c.requires.grid (g.met.C.Costs.prices c.args.costs.now) in
+    let p = c.args.pane in
+    let label : ℕ → Option ℕ = label_at c.in_ok-labels.labels.costs.items in
+    let ends = c.deref-4.result.now in
+    let are : ends ≡ map (local_of p) c.args.goals.now = c.deref-4.ensures.value ∙ c.in_ok-ends.ensures in
+    let B : List ℕ → Type 0 = λ xs. All (λ e. e < size_of p) xs in
+    let below = subst B (sym are) (locals-below p c.args.goals.now (size_of p) refl c.requires.goals) in
+    let marked = λ (n : ℕ). ap (λ (xs : List Bool). is_marked xs n) c.deref-3.ensures.value ∙ c.in_ok-marks.ensures.marks n ∙ ap (λ (xs : List ℕ). is_among xs n) (c.deref-2.ensures.value ∙ sym c.deref-4.ensures.value) in
+    let free = λ (end : ℕ) (among : IsTrue (is_among ends end)). c.box_of-aim.ensures end (ap (λ (xs : List ℕ). is_among xs end) (c.deref.ensures.value ∙ sym c.deref-4.ensures.value) ∙ among) in
+    let Q : Option Reached → Type 0 = λ o. IsFirstOf label ends o in
+    let first = subst Q c.unwrap-goal.ensures c.first_reached.ensures in
+    let found = found-first p c.args.tree.now (g.C.Costs.ways c.args.costs.now) price c.box_of-aim.result c.deref-3.result.now label ends c.unwrap-goal.result prices
+    c.in_ok-labels.ensures.found marked free below first in
+    let G : List ℕ → Type 0 = λ xs. IsFirstGoal (pane_graph p c.args.tree.now price) xs c.unwrap-goal.result.cell in
+    let goal_is = subst G are found.goal in
+    result-then c.walk_back.result _ _ c.walk_back.ensures (λ cells walk.
+    walk-least p c.args.tree.now price c.args.goals.now cells c.unwrap-goal.result.cell (lies-in p c.args.tree.now c.requires.shape c.requires.tree) c.requires.goals goal_is walk)

@@ -1,0 +1,16 @@
+pub mod Walks
+pub mod Windows
+pub mod Panes
+pub mod Steps
+pub mod Queues
+pub mod Labels
+pub mod Search
+pub mod Buckets
+pub mod Spreads
+pub mod Ends
+pub mod Backs
+pub mod Whole
+pub mod Stored
+pub mod Spreading
+pub mod Places
+pub mod Renewed

@@ -1,0 +1,93 @@
+ghost use Rattle.std.specs.Prelude.{◌≡◌, ℕ, ◌<◌, length, Option, Some, IfOk, IfSome};
+ghost use Rattle.gr_base.specs.declared.grid.Edge.{Edge};
+ghost use Rattle.maze_route.specs.Backs.{closer_of, either_of, first_closer, IsNear, IsWalkBack};
+ghost use Rattle.maze_route.specs.Labels.{label_at};
+ghost use Rattle.maze_route.specs.Steps.{size_of, IsSpot};
+
+use crate::front::Labels;
+use crate::pane::{Pane, Reached, Spot, Step};
+use crate::steps::{ahead, behind};
+use crate::window::Window;
+use cost_rules::Costs;
+use gr_base::{Cells, RouteTree, Way};
+use std::alloc::{AllocError, Global};
+
+/// A step, if it leads to a cell whose label and the step's cost make up what is left.
+fn closer(labels: &Labels, left: u64, step: Option<Step>) -> Option<Step>
+    requires { IfSome step (λ s. s.cell < length labels.now.costs.items) }
+    ensures { result ≡ closer_of (label_at labels.now.costs.items) left step }
+{
+    let step = step?;
+    match labels.at(step.cell) {
+        Some(label) if label.checked_add(step.cost) == Some(left) => Some(step),
+        _ => None,
+    }
+}
+
+/// The first of two steps that is there.
+fn either(first: Option<Step>, second: Option<Step>) -> Option<Step>
+    ensures { result ≡ either_of first second }
+{
+    match first {
+        Some(step) => Some(step),
+        None => second,
+    }
+}
+
+/// The step back from a cell to the least-numbered neighbour on a least walk to it, if there is
+/// one.
+fn step_back<C: Costs>(
+    costs: &C,
+    pane: Pane,
+    aim: Window,
+    labels: &Labels,
+    spot: Spot,
+    left: u64,
+) -> Option<Step>
+    requires grid { C.grid costs.now ≡ pane.grid }
+    requires spot { IsSpot pane spot }
+    requires size { length labels.now.costs.items ≡ size_of pane }
+    ensures { let label = label_at labels.now.costs.items in
+        result ≡ first_closer pane (C.price costs.now) aim label spot.local left }
+{
+    let below = closer(labels, left, behind(costs, pane, aim, spot, Way::Up));
+    let south = closer(labels, left, behind(costs, pane, aim, spot, Way::North));
+    let west = closer(labels, left, behind(costs, pane, aim, spot, Way::East));
+    let east = closer(labels, left, ahead(costs, pane, aim, spot, Way::East));
+    let north = closer(labels, left, ahead(costs, pane, aim, spot, Way::North));
+    let above = closer(labels, left, ahead(costs, pane, aim, spot, Way::Up));
+    either(
+        below,
+        either(south, either(west, either(east, either(north, above)))),
+    )
+}
+
+/// The least walk from a labelled cell back to the tree.
+pub(crate) fn walk_back<C: Costs>(
+    alloc: Global,
+    costs: &C,
+    pane: Pane,
+    aim: Window,
+    tree: &RouteTree,
+    labels: &Labels,
+    goal: Reached,
+) -> Result<Cells, AllocError>
+    requires grid { C.grid costs.now ≡ pane.grid }
+    requires size { length labels.now.costs.items ≡ size_of pane }
+    requires near { let label = label_at labels.now.costs.items in
+        IsNear pane tree.now (C.price costs.now) aim label goal.cell goal.cost }
+    ensures { IfOk result (IsWalkBack pane tree.now (C.price costs.now) goal.cell) }
+{
+    let _tree = tree;
+    let mut cells = Cells::new(alloc);
+    let mut spot = pane.spot(goal.cell);
+    let mut left = goal.cost;
+    while left > 0 {
+        cells.push(spot.cell)?;
+        let step = step_back(costs, pane, aim, labels, spot, left).unwrap();
+        spot = pane.spot(step.cell);
+        left -= step.cost;
+    }
+    cells.push(spot.cell)?;
+    Ok(cells)
+}

@@ -1,0 +1,94 @@
+ghost use Rattle.std.specs.Prelude.{◌≡◌, ℕ, ◌<◌, ◌↔◌, true, All, Contains, length, map, IfOk, IsTrue};
+ghost use Rattle.gr_base.specs.Trees.{is_among};
+ghost use Rattle.gr_base.specs.declared.grid.Cell.{Cell};
+ghost use Rattle.maze_route.specs.Ends.{grown, IsFirstOf, earlier_of};
+ghost use Rattle.maze_route.specs.Labels.{label_at};
+ghost use Rattle.maze_route.specs.Search.{is_marked};
+ghost use Rattle.maze_route.specs.Steps.{size_of, rest_of, local_of};
+ghost use Rattle.maze_route.specs.Windows.{LieIn};
+
+use crate::front::Labels;
+use crate::pane::{Pane, Reached};
+use crate::window::Window;
+use gr_base::Cell;
+use std::alloc::{AllocError, Global};
+
+/// The numbers in the window of some cells.
+pub(crate) fn locals(alloc: Global, pane: Pane, cells: &[u32]) -> Result<Vec<u32>, AllocError>
+    requires { LieIn pane.grid pane.window cells.now }
+    ensures { IfOk result (λ ends. ends.items ≡ map (local_of pane) cells.now) }
+{
+    let mut ends = Vec::new(alloc);
+    for &cell in cells {
+        ends.push(pane.local(cell))?;
+    }
+    Ok(ends)
+}
+
+/// The least box that holds a box and a place.
+fn grown_to(aim: Window, place: Cell) -> Window
+    ensures { result ≡ grown aim place }
+{
+    Window {
+        x0: aim.x0.min(place.x),
+        y0: aim.y0.min(place.y),
+        x1: aim.x1.max(place.x),
+        y1: aim.y1.max(place.y),
+    }
+}
+
+/// A box of tiles that holds these cells of a window.
+pub(crate) fn box_of(pane: Pane, ends: &[u32]) -> Window
+    requires { All (λ end. end < size_of pane) ends.now }
+    ensures { (end : ℕ) → IsTrue (is_among ends.now end) → rest_of pane result end ≡ 0 }
+{
+    let mut aim = Window {
+        x0: u32::MAX,
+        y0: u32::MAX,
+        x1: 0,
+        y1: 0,
+    };
+    for &end in ends {
+        aim = grown_to(aim, pane.spot(end).place);
+    }
+    aim
+}
+
+/// A mark for each of these cells of a window, and for no other.
+pub(crate) fn marked(alloc: Global, pane: Pane, ends: &[u32]) -> Result<Vec<bool>, AllocError>
+    requires { All (λ end. end < size_of pane) ends.now }
+    ensures size { IfOk result (λ marks. length marks.items ≡ size_of pane) }
+    ensures marks { (cell : ℕ) → IfOk result (λ marks. is_marked marks.items cell ≡ is_among ends.now cell) }
+{
+    let mut marks = vec![in alloc; false; pane.size() as usize]?;
+    for &end in ends {
+        marks[end as usize] = true;
+    }
+    Ok(marks)
+}
+
+/// The earlier of two labelled cells, if the second has a label: the one of least label, and of
+/// equals the one of least number.
+fn earlier(first: Option<Reached>, label: Option<u64>, cell: u32) -> Option<Reached>
+    ensures { result ≡ earlier_of first label cell }
+{
+    let Some(cost) = label else {
+        return first;
+    };
+    match first {
+        Some(best) if best.cost < cost || best.cost == cost && best.cell <= cell => first,
+        _ => Some(Reached { cell, cost }),
+    }
+}
+
+/// The cell of least label, and of these the least-numbered, if one has a label.
+pub(crate) fn first_reached(labels: &Labels, ends: &[u32]) -> Option<Reached>
+    requires { All (λ end. end < length labels.now.costs.items) ends.now }
+    ensures { IsFirstOf (label_at labels.now.costs.items) ends.now result }
+{
+    let mut first = None;
+    for &end in ends {
+        first = earlier(first, labels.at(end), end);
+    }
+    first
+}

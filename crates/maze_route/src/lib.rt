@@ -1,0 +1,23 @@
+//! Least walks: from a tree to the nearest of some goals, inside a window of the grid.
+#![tactic(auto)]
+
+mod back;
+mod bucket;
+mod ends;
+mod first;
+mod front;
+mod numbers;
+mod pane;
+mod places;
+mod queue;
+mod search;
+mod slot;
+mod steps;
+#[cfg(test)]
+mod tests;
+mod walk;
+mod window;
+
+pub use queue::BucketQueue;
+pub use walk::least_walk;
+pub use window::Window;

@@ -1,0 +1,43 @@
+ghost use Rattle.maze_route.specs.Panes.{IsPane};
+
+use crate::window::Window;
+use gr_base::{Cell, Shape};
+
+/// The cells of a window, numbered from 0 in the order of their numbers in the grid.
+#[derive(Clone, Copy)]
+pub(crate) struct Pane {
+    pub(crate) grid: Shape,
+    pub(crate) window: Window,
+    /// The window's columns and rows, and the grid's layers.
+    pub(crate) shape: Shape,
+    pub(crate) ghost fits: { IsPane grid window shape },
+}
+
+/// A cell of a window: its number there and in the grid, and its place, counted from the window's
+/// first column and row.
+#[derive(Clone, Copy)]
+pub(crate) struct Spot {
+    pub(crate) local: u32,
+    pub(crate) cell: u32,
+    pub(crate) place: Cell,
+}
+
+/// A step to a cell of a window.
+#[derive(Clone, Copy)]
+pub(crate) struct Step {
+    /// The cell's number in the window.
+    pub(crate) cell: u32,
+    /// What the step costs.
+    pub(crate) cost: u64,
+    /// What the rest of a walk from there costs at least.
+    pub(crate) rest: u64,
+}
+
+/// A cell of a window that a search has labelled.
+#[derive(Clone, Copy)]
+pub(crate) struct Reached {
+    /// The cell's number in the window.
+    pub(crate) cell: u32,
+    /// Its label: what the least walk to it costs.
+    pub(crate) cost: u64,
+}

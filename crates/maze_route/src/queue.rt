@@ -1,0 +1,80 @@
+ghost use Rattle.std.specs.Prelude.{◌≡◌, ◌≤◌, [], OnOk, OnErr};
+ghost use Rattle.maze_route.specs.Queues.{IsPushed, Pops};
+
+use crate::bucket::{bucket_of, first_full};
+use crate::first::{renew, take_first};
+use crate::places::put;
+use crate::slot::Slot;
+use std::alloc::{AllocError, Global};
+use std::marker::Model;
+
+/// Pairs of a key and a cell, taken out by least key. No key that is put in is below the last one
+/// taken out.
+///
+/// A pair lies in one of 65 buckets, by the highest bit in which its key differs from the last key
+/// taken: the radix heap of Ahuja, Mehlhorn, Orlin and Tarjan, "Faster algorithms for the shortest
+/// path problem", 1990. The pairs lie in one vector and are linked into their buckets by place.
+#[derive(Drop)]
+pub struct BucketQueue {
+    slots: Vec<Slot>,
+    /// The first place of each bucket.
+    heads: [Option<u32>; 65],
+    /// The first free place.
+    free: Option<u32>,
+    last: u64,
+}
+
+impl Model for BucketQueue {
+    ghost use Rattle.maze_route.specs.Queues.{QueueView};
+
+    ghost Value = { QueueView };
+
+    ghost use Rattle.maze_route.specs.Stored.{seen, AreBuckets};
+
+    ghost view = { seen };
+
+    ghost invariant = { AreBuckets };
+}
+
+impl BucketQueue {
+    /// An empty queue, which takes no memory. Its last key is 0.
+    pub fn new(alloc: Global) -> BucketQueue
+        ensures { result ≡ record { pairs = []; last = 0 } }
+    {
+        BucketQueue {
+            slots: Vec::new(alloc),
+            heads: [None; 65],
+            free: None,
+            last: 0,
+        }
+    }
+
+    /// Puts a pair in. The only error is want of memory, and leaves the queue as it was.
+    pub fn push(&mut self, key: u64, cell: u32) -> Result<(), AllocError>
+        requires { self.old.last ≤ key }
+        ensures ok { OnOk result (IsPushed key cell self.old self.new) }
+        ensures err { OnErr result (self.new ≡ self.old) }
+    {
+        let bucket = bucket_of(self.last, key);
+        let slot = Slot {
+            key,
+            cell,
+            next: self.heads[bucket],
+            taken: true,
+        };
+        let place = put(&mut self.slots, &mut self.free, slot)?;
+        self.heads[bucket] = Some(place);
+        Ok(())
+    }
+
+    /// Takes a pair of least key out. None exactly where the queue is empty. It takes no memory.
+    pub fn pop(&mut self) -> Option<(u64, u32)>
+        ensures { Pops result self.old self.new }
+    {
+        let bucket = first_full(&self.heads)?;
+        let first = self.heads[bucket].unwrap();
+        self.last = renew(&mut self.slots, &mut self.heads, self.last, bucket, first);
+        let slot = take_first(&mut self.slots, &mut self.heads, &mut self.free);
+        Some((slot.key, slot.cell))
+    }
+}

@@ -1,0 +1,152 @@
+ghost use Rattle.std.specs.Prelude.{◌≡◌, ℕ, ◌+◌, ◌^◌, ◌<◌, ◌≤◌, true, length, Option, Some, IfSome, IfOk, OnOk, if◌then◌else◌};
+ghost use Rattle.gr_base.specs.declared.grid.Edge.{Edge};
+ghost use Rattle.maze_route.specs.Labels.{label_at};
+ghost use Rattle.maze_route.specs.Steps.{size_of, rest_of, IsSpot, pane_graph};
+ghost use Rattle.maze_route.specs.Windows.{TreeLiesIn};
+ghost use Rattle.maze_route.specs.Search.{most_cost, is_above, HasSources, IsSearching, is_marked, CanReach, Finds};
+ghost use Rattle.maze_route.specs.Spreads.{IsReach, Spreads};
+
+use crate::front::{Front, Labels};
+use crate::pane::{Pane, Spot, Step};
+use crate::queue::BucketQueue;
+use crate::steps::{ahead, behind, distance_to};
+use crate::window::Window;
+use cost_rules::Costs;
+use gr_base::{RouteTree, Way};
+use std::alloc::{AllocError, Global};
+
+/// The greatest label. Walks that cost more are not looked for.
+const MOST_COST: u64 = 1_152_921_504_606_846_976;
+
+/// Gives the end of a step from a cell with this label a label of its own, if that is lower.
+fn reach(front: &mut Front, from: u64, step: Option<Step>) -> Result<(), AllocError>
+    requires from { from ≤ most_cost }
+    requires small { IfSome step (λ s. s.cost ≤ 1048576) }
+    requires rest { IfSome step (λ s. s.rest < 2 ^ 34) }
+    requires inside { IfSome step (λ s. s.cell < length front.old.labels.costs.items) }
+    requires keys { IfSome step (λ s. front.old.queue.last ≤ from + s.cost + s.rest) }
+    ensures done { OnOk result (IsReach from step front.old front.new) }
+    ensures size { length front.new.labels.costs.items ≡ length front.old.labels.costs.items }
+    ensures last { front.new.queue.last ≡ front.old.queue.last }
+{
+    let Some(step) = step else {
+        return Ok(());
+    };
+    let cost = from + step.cost;
+    if cost > MOST_COST {
+        return Ok(());
+    }
+    if !front.labels.lower(step.cell, cost) {
+        return Ok(());
+    }
+    front.queue.push(cost + step.rest, step.cell)?;
+    Ok(())
+}
+
+/// The front at which the tree's cells have label 0, and wait.
+fn seeded(alloc: Global, pane: Pane, aim: Window, tree: &RouteTree) -> Result<Front, AllocError>
+    requires grid { tree.now.shape ≡ pane.grid }
+    requires tree { TreeLiesIn pane.window tree.now }
+    ensures size { IfOk result (λ front. length front.labels.costs.items ≡ size_of pane) }
+    ensures sources { (price : Edge → Option ℕ) → IfOk result (λ front. HasSources (pane_graph pane tree.now price) (label_at front.labels.costs.items)) }
+    ensures searching { (price : Edge → Option ℕ) → IfOk result (λ front.
+        IsSearching (pane_graph pane tree.now price) (rest_of pane aim) (label_at front.labels.costs.items) front.queue.pairs (size_of pane)) }
+{
+    let mut front = Front {
+        labels: Labels::new(alloc, pane.size())?,
+        queue: BucketQueue::new(alloc),
+    };
+    for node in 0..tree.len() {
+        let spot = pane.spot(pane.local(tree.cell(node)));
+        let start = Step {
+            cell: spot.local,
+            cost: 0,
+            rest: distance_to(aim, spot.place),
+        };
+        reach(&mut front, 0, Some(start))?;
+    }
+    Ok(front)
+}
+
+/// Hands a cell's label on to its neighbours.
+fn settle<C: Costs>(
+    costs: &C,
+    pane: Pane,
+    aim: Window,
+    front: &mut Front,
+    spot: Spot,
+    from: u64,
+) -> Result<(), AllocError>
+    requires grid { C.grid costs.now ≡ pane.grid }
+    requires spot { IsSpot pane spot }
+    requires from { from ≤ most_cost }
+    requires size { length front.old.labels.costs.items ≡ size_of pane }
+    requires key { front.old.queue.last ≤ from + rest_of pane aim spot.local }
+    ensures { OnOk result (Spreads pane (C.price costs.now) aim spot.local from front.old front.new) }
+{
+    reach(front, from, behind(costs, pane, aim, spot, Way::Up))?;
+    reach(front, from, behind(costs, pane, aim, spot, Way::North))?;
+    reach(front, from, behind(costs, pane, aim, spot, Way::East))?;
+    reach(front, from, ahead(costs, pane, aim, spot, Way::East))?;
+    reach(front, from, ahead(costs, pane, aim, spot, Way::North))?;
+    reach(front, from, ahead(costs, pane, aim, spot, Way::Up))?;
+    Ok(())
+}
+
+/// Labels the cells of a window with the least costs of walks to them from the tree, as far as to
+/// the nearest marked cell.
+///
+/// Cells wait in a queue by their label and a bound on the rest of the way, as in A* of Hart,
+/// Nilsson and Raphael, "A formal basis for the heuristic determination of minimum cost paths",
+/// 1968. The search goes on until every key up to the first goal's distance is taken.
+pub(crate) fn search<C: Costs>(
+    alloc: Global,
+    costs: &C,
+    pane: Pane,
+    aim: Window,
+    marks: &[bool],
+    tree: &RouteTree,
+) -> Result<Labels, AllocError>
+    requires costs { C.grid costs.now ≡ pane.grid }
+    requires grid { tree.now.shape ≡ pane.grid }
+    requires tree { TreeLiesIn pane.window tree.now }
+    requires marks { length marks.now ≡ size_of pane }
+    requires aim { (cell : ℕ) → is_marked marks.now cell ≡ true → rest_of pane aim cell ≡ 0 }
+    requires goal { CanReach (pane_graph pane tree.now (C.price costs.now)) marks.now }
+    ensures found { IfOk result (λ labels. let label = label_at labels.costs.items in
+        Finds (pane_graph pane tree.now (C.price costs.now)) (rest_of pane aim) marks.now label) }
+    ensures size { IfOk result (λ labels. length labels.costs.items ≡ size_of pane) }
+{
+    let mut front = seeded(alloc, pane, aim, tree)?;
+    let mut nearest: Option<u64> = None;
+    while let Some((key, cell)) = front.queue.pop() {
+        if is_past(nearest, key) {
+            return Ok(front.labels);
+        }
+        let spot = pane.spot(cell);
+        let label = front.labels.at(cell).unwrap();
+        if label + distance_to(aim, spot.place) < key {
+            continue;
+        }
+        nearest = nearest_with(nearest, marks[cell as usize], key);
+        settle(costs, pane, aim, &mut front, spot, label)?;
+    }
+    Ok(front.labels)
+}
+
+/// The nearest goal's distance after a cell with this key is settled.
+fn nearest_with(nearest: Option<u64>, marked: bool, key: u64) -> Option<u64>
+    ensures { result ≡ (if marked then Some key else nearest) }
+{
+    if marked { Some(key) } else { nearest }
+}
+
+/// Whether the key is greater than the nearest goal's distance, if one is known.
+fn is_past(nearest: Option<u64>, key: u64) -> bool
+    ensures { result ≡ is_above nearest key }
+{
+    match nearest {
+        Some(distance) => key > distance,
+        None => false,
+    }
+}

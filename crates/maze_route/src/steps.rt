@@ -1,0 +1,148 @@
+ghost use Rattle.std.specs.Prelude.{◌≡◌, ◌^◌, ◌<◌, ◌≤◌, IsTrue, IfSome};
+ghost use Rattle.gr_base.specs.Grid.{IsInside, beyond, has_room};
+ghost use Rattle.gr_base.specs.Limits.{most_cells};
+ghost use Rattle.maze_route.specs.Steps.{IsSpot, has_room_behind, before, ahead_of, behind_of, tiles_to, step_to};
+
+use crate::pane::{Pane, Spot, Step};
+use crate::window::Window;
+use cost_rules::Costs;
+use gr_base::{Cell, Edge, Shape, Way};
+
+/// Whether the shape has a cell next to this one along the way.
+fn has_ahead(shape: Shape, place: Cell, way: Way) -> bool
+    requires { IsInside shape place }
+    ensures { result ≡ has_room shape place way }
+{
+    match way {
+        Way::East => place.x + 1 < shape.columns,
+        Way::North => place.y + 1 < shape.rows,
+        Way::Up => place.layer + 1 < shape.layers,
+    }
+}
+
+/// Whether there is a cell next to this one against the way.
+fn has_behind(place: Cell, way: Way) -> bool
+    ensures { result ≡ has_room_behind place way }
+{
+    match way {
+        Way::East => place.x > 0,
+        Way::North => place.y > 0,
+        Way::Up => place.layer > 0,
+    }
+}
+
+/// The next place along the way.
+fn one_on(place: Cell, way: Way) -> Cell
+    requires x { place.x < most_cells }
+    requires y { place.y < most_cells }
+    requires layer { place.layer < most_cells }
+    ensures { result ≡ beyond place way }
+{
+    match way {
+        Way::East => Cell {
+            x: place.x + 1,
+            ..place
+        },
+        Way::North => Cell {
+            y: place.y + 1,
+            ..place
+        },
+        Way::Up => Cell {
+            layer: place.layer + 1,
+            ..place
+        },
+    }
+}
+
+/// The next place against the way.
+fn one_back(place: Cell, way: Way) -> Cell
+    requires { IsTrue (has_room_behind place way) }
+    ensures { result ≡ before place way }
+{
+    match way {
+        Way::East => Cell {
+            x: place.x - 1,
+            ..place
+        },
+        Way::North => Cell {
+            y: place.y - 1,
+            ..place
+        },
+        Way::Up => Cell {
+            layer: place.layer - 1,
+            ..place
+        },
+    }
+}
+
+/// How many tiles lie between a place and a box at least.
+pub(crate) fn distance_to(aim: Window, place: Cell) -> u64
+    ensures tiles { result ≡ tiles_to aim place }
+    ensures small { result < 2 ^ 34 }
+{
+    let columns = u64::from(aim.x0.saturating_sub(place.x))
+        + u64::from(place.x.saturating_sub(aim.x1));
+    let rows = u64::from(aim.y0.saturating_sub(place.y))
+        + u64::from(place.y.saturating_sub(aim.y1));
+    columns + rows
+}
+
+/// The step to the next cell along the way, if there is one.
+pub(crate) fn ahead<C: Costs>(
+    costs: &C,
+    pane: Pane,
+    aim: Window,
+    spot: Spot,
+    way: Way,
+) -> Option<Step>
+    requires grid { C.grid costs.now ≡ pane.grid }
+    requires spot { IsSpot pane spot }
+    ensures step { result ≡ step_to pane (C.price costs.now) aim spot.local (ahead_of pane.shape spot.local way) }
+    ensures cost { IfSome result (λ s. s.cost ≤ 1048576) }
+    ensures rest { IfSome result (λ s. s.rest < 2 ^ 34) }
+{
+    if !has_ahead(pane.shape, spot.place, way) {
+        return None;
+    }
+    let Some(cost) = costs.cost(Edge {
+        low: spot.cell,
+        way,
+    }) else {
+        return None;
+    };
+    let cell = spot.local + pane.shape.stride(way);
+    Some(Step {
+        cell,
+        cost,
+        rest: distance_to(aim, one_on(spot.place, way)),
+    })
+}
+
+/// The step to the next cell against the way, if there is one.
+pub(crate) fn behind<C: Costs>(
+    costs: &C,
+    pane: Pane,
+    aim: Window,
+    spot: Spot,
+    way: Way,
+) -> Option<Step>
+    requires grid { C.grid costs.now ≡ pane.grid }
+    requires spot { IsSpot pane spot }
+    ensures step { result ≡ step_to pane (C.price costs.now) aim spot.local (behind_of pane.shape spot.local way) }
+    ensures cost { IfSome result (λ s. s.cost ≤ 1048576) }
+    ensures rest { IfSome result (λ s. s.rest < 2 ^ 34) }
+{
+    if !has_behind(spot.place, way) {
+        return None;
+    }
+    let low = spot.cell - pane.grid.stride(way);
+    let Some(cost) = costs.cost(Edge { low, way }) else {
+        return None;
+    };
+    let cell = spot.local - pane.shape.stride(way);
+    Some(Step {
+        cell,
+        cost,
+        rest: distance_to(aim, one_back(spot.place, way)),
+    })
+}

@@ -1,0 +1,68 @@
+ghost use Rattle.std.specs.Prelude.{◌≡◌, ◌<◌, length, IfOk, IsTrue};
+ghost use Rattle.gr_base.specs.Trees.{IsTree, IsWalkTo};
+ghost use Rattle.maze_route.specs.Walks.{IsLeastWalk};
+ghost use Rattle.maze_route.specs.Windows.{IsWindow, TreeLiesIn, LieIn, IsPassable, window_graph};
+ghost use Rattle.maze_route.specs.Whole.{whole};
+
+use crate::back::walk_back;
+use crate::ends::{box_of, first_reached, locals, marked};
+use crate::pane::Pane;
+use crate::search::search;
+use crate::window::Window;
+use cost_rules::Costs;
+use gr_base::{Cells, RouteTree};
+use std::alloc::{AllocError, Global};
+
+/// The least walk from the nearest goal to the tree, inside a window.
+///
+/// The distance of a cell is the least cost of all walks to it from a cell of the tree, along edges
+/// that have a cost and whose ends lie in the window. The walk begins at the goal of least distance,
+/// and of these at the least-numbered. From each cell it goes to the least-numbered neighbour whose
+/// distance and the cost of the edge between make up its own, until it meets the tree. It can be
+/// attached to the tree. The only error is want of memory.
+///
+/// The walk is found by Dijkstra's method, "A note on two problems in connexion with graphs", 1959,
+/// with a lower bound on the rest of the way.
+pub fn least_walk<C: Costs>(
+    alloc: Global,
+    costs: &C,
+    window: Window,
+    tree: &RouteTree,
+    goals: &[u32],
+) -> Result<Cells, AllocError>
+    requires grid { C.grid costs.now ≡ tree.now.shape }
+    requires window { IsWindow tree.now.shape window }
+    requires tree { TreeLiesIn window tree.now }
+    requires goals { LieIn tree.now.shape window goals.now }
+    requires some { 0 < length goals.now }
+    requires passable { IsPassable tree.now.shape (C.ways costs.now) window }
+    ensures walk { IfOk result (IsLeastWalk (window_graph tree.now window (C.price costs.now)) goals.now) }
+    ensures attaches { IfOk result (IsWalkTo tree.now) }
+{
+    walk_in(alloc, costs, Pane::new(tree.shape(), window), tree, goals)
+}
+
+/// The same walk.
+fn walk_in<C: Costs>(
+    alloc: Global,
+    costs: &C,
+    pane: Pane,
+    tree: &RouteTree,
+    goals: &[u32],
+) -> Result<Cells, AllocError>
+    requires grid { C.grid costs.now ≡ pane.grid }
+    requires shape { tree.now.shape ≡ pane.grid }
+    requires tree { TreeLiesIn pane.window tree.now }
+    requires rooted { IsTree tree.now }
+    requires goals { LieIn pane.grid pane.window goals.now }
+    requires some { 0 < length goals.now }
+    requires passable { IsPassable pane.grid (C.ways costs.now) pane.window }
+    ensures { IfOk result (IsLeastWalk (whole pane tree.now (C.price costs.now)) goals.now) }
+{
+    let ends = locals(alloc, pane, goals)?;
+    let aim = box_of(pane, &ends);
+    let marks = marked(alloc, pane, &ends)?;
+    let labels = search(alloc, costs, pane, aim, &marks, tree)?;
+    let goal = first_reached(&labels, &ends).unwrap();
+    walk_back(alloc, costs, pane, aim, tree, &labels, goal)
+}
