@@ -1,0 +1,56 @@
+use Rattle.std.proofs.Common.{◌≡◌, ℕ, suc, zero, ◌+◌, ◌<◌, ◌≤◌, Bool, true, false, ◌||◌, List, [], ◌∷◌, length, drop, Option, Some, None, slice_get, cond, refl, sym, ap, ◌∙◌, arith}
+use Rattle.std.specs.List.{filter_map, cons_option, find, list_any}
+use Rattle.std.specs.Option.{option_and_then}
+use Rattle.gr_base.specs.Trees.{TreeView, edge_to_parent}
+use Rattle.gr_base.specs.declared.grid.Edge.{Edge}
+use Rattle.gr_base.specs.declared.tree.Node.{Node}
+use Rattle.grid_demand.proofs.LoadSteps.{node-at}
+
+-- the edges to their parents of a tree's nodes from one on
+abbrev pub edges_from : TreeView → ℕ → List Edge
+edges_from t k = filter_map (edge_to_parent t.shape t.nodes) (drop k t.nodes)
+
+-- the edge from a node to its parent, if it has one
+abbrev pub edge_at_node : TreeView → ℕ → Option Edge
+edge_at_node t k = option_and_then (edge_to_parent t.shape t.nodes) (slice_get t.nodes k)
+
+drop-node : (nodes : List Node) (k : ℕ) (node : Node) → slice_get nodes k ≡ Some node → drop k nodes ≡ node ∷ drop (k + 1) nodes
+drop-node [] k node is = absurd (cc)
+drop-node (x ∷ xs) zero node is = let e : x ≡ node = cc in ap (λ (y : Node). y ∷ xs) e
+drop-node (x ∷ xs) (suc k) node is =
+    let more : suc k + 1 ≡ suc (k + 1) = omega arith in
+    drop-node xs k node is ∙ ap (λ (n : ℕ). node ∷ drop n (x ∷ xs)) (sym more)
+
+edges-next : (t : TreeView) (k : ℕ) → k < length t.nodes → edges_from t k ≡ cons_option (edge_at_node t k) (edges_from t (k + 1))
+edges-next t k below =
+    let node = node-at t k below in
+    ap (λ (ns : List Node). filter_map (edge_to_parent t.shape t.nodes) ns) (drop-node t.nodes k node.0 node.1)
+    ∙ ap (λ (o : Option Node). cons_option (option_and_then (edge_to_parent t.shape t.nodes) o) (edges_from t (k + 1))) (sym node.1)
+
+-- a search that takes the nodes in order: at a node without an edge, at one whose edge fails, at one whose edge passes, and at the end
+pub none-here : (t : TreeView) (k : ℕ) → k < length t.nodes → None ≡ edge_at_node t k → edges_from t k ≡ edges_from t (k + 1)
+none-here t k below is = edges-next t k below ∙ ap (λ (o : Option Edge). cons_option o (edges_from t (k + 1))) (sym is)
+
+some-here : (t : TreeView) (k : ℕ) (e : Edge) → k < length t.nodes → Some e ≡ edge_at_node t k → edges_from t k ≡ e ∷ edges_from t (k + 1)
+some-here t k e below is = edges-next t k below ∙ ap (λ (o : Option Edge). cons_option o (edges_from t (k + 1))) (sym is)
+
+pub find-fails : (p : Edge → Bool) (t : TreeView) (k : ℕ) (e : Edge) → k < length t.nodes → Some e ≡ edge_at_node t k → p e ≡ false → find p (edges_from t k) ≡ find p (edges_from t (k + 1))
+find-fails p t k e below is fails = ap (find p) (some-here t k e below is) ∙ ap (λ (b : Bool). cond b (Some e) (find p (edges_from t (k + 1)))) fails
+
+pub find-passes : (p : Edge → Bool) (t : TreeView) (k : ℕ) (e : Edge) → k < length t.nodes → Some e ≡ edge_at_node t k → p e ≡ true → find p (edges_from t k) ≡ Some e
+find-passes p t k e below is passes = ap (find p) (some-here t k e below is) ∙ ap (λ (b : Bool). cond b (Some e) (find p (edges_from t (k + 1)))) passes
+
+pub any-fails : (p : Edge → Bool) (t : TreeView) (k : ℕ) (e : Edge) → k < length t.nodes → Some e ≡ edge_at_node t k → p e ≡ false → list_any p (edges_from t k) ≡ list_any p (edges_from t (k + 1))
+any-fails p t k e below is fails = ap (list_any p) (some-here t k e below is) ∙ ap (λ (b : Bool). b || list_any p (edges_from t (k + 1))) fails
+
+pub any-passes : (p : Edge → Bool) (t : TreeView) (k : ℕ) (e : Edge) → k < length t.nodes → Some e ≡ edge_at_node t k → p e ≡ true → list_any p (edges_from t k) ≡ true
+any-passes p t k e below is passes = ap (list_any p) (some-here t k e below is) ∙ ap (λ (b : Bool). b || list_any p (edges_from t (k + 1))) passes
+
+drop-end : (nodes : List Node) (k : ℕ) → length nodes ≤ k → drop k nodes ≡ []
+drop-end [] zero long = refl
+drop-end [] (suc k) long = refl
+drop-end (x ∷ xs) zero long = absurd (omega arith)
+drop-end (x ∷ xs) (suc k) long = drop-end xs k (omega arith)
+
+pub edges-end : (t : TreeView) (k : ℕ) → length t.nodes ≤ k → edges_from t k ≡ []
+edges-end t k long = ap (λ (ns : List Node). filter_map (edge_to_parent t.shape t.nodes) ns) (drop-end t.nodes k long)

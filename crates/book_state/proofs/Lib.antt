@@ -1,0 +1,12 @@
+pub mod RangeSums
+pub mod BookSteps
+pub mod HistoryLists
+pub mod PastLists
+pub mod ReplicaSteps
+pub mod StandSteps
+pub mod LegalHistories
+pub mod EdgeSearch
+pub mod Replies
+pub mod LeastMarks
+pub mod RouteCopies
+pub mod BookingLaws

@@ -1,0 +1,25 @@
+use Rattle.std.proofs.Common.{Bool, sym, ap, ◌∙◌, arith}
+use Rattle.std.specs.List.{find}
+use Rattle.grid_demand.specs.LoadSums.{demand_at}
+use Rattle.gr_base.specs.declared.grid.Edge.{Edge}
+use Rattle.book_state.specs.Books.{is_full}
+use Rattle.book_state.proofs.EdgeSearch.{none-here, find-fails, find-passes}
+use Rattle.book_state.proofs.edges.first_full.Goals as goal
+
+pub loop-node-preserved-in_default : goal.loop-node-preserved-in_default
+loop-node-preserved-in_default c =
+    let t = c.args.claim.now.tree in
+    let p : Edge → Bool = is_full c.args.capacity.now (demand_at c.args.loads.now) c.args.claim.now.net c.args.slack in
+    sym (ap (λ es. find p es) (none-here t c.loop-node.node (omega (arith, c.loop-node-test.true, c.len-node-end.ensures.len)) c.in_default.ensures.edge)) ∙ c.loop-node.invariant
+
+pub returns-then-is_full-clause-first : goal.returns-then-is_full-clause-first
+returns-then-is_full-clause-first c =
+    let t = c.args.claim.now.tree in
+    let p : Edge → Bool = is_full c.args.capacity.now (demand_at c.args.loads.now) c.args.claim.now.net c.args.slack in
+    sym (find-passes p t c.loop-node.node c.in-Some.e (omega (arith, c.loop-node-test.true, c.len-node-end.ensures.len)) c.in-Some.ensures.edge (sym c.is_full.ensures ∙ c.if-is_full.true)) ∙ c.loop-node.invariant
+
+pub loop-node-preserved : goal.loop-node-preserved
+loop-node-preserved c =
+    let t = c.args.claim.now.tree in
+    let p : Edge → Bool = is_full c.args.capacity.now (demand_at c.args.loads.now) c.args.claim.now.net c.args.slack in
+    sym (find-fails p t c.loop-node.node c.in-Some.e (omega (arith, c.loop-node-test.true, c.len-node-end.ensures.len)) c.in-Some.ensures.edge (sym c.is_full.ensures ∙ c.if-is_full.false)) ∙ c.loop-node.invariant

@@ -1,0 +1,10 @@
+pub mod Entries
+pub mod Books
+pub mod Marks
+pub mod Cuts
+pub mod HistoryStore
+pub mod Replicas
+pub mod ReplicaStore
+pub mod Views
+pub mod BookStore
+pub mod LeastSearch

@@ -1,0 +1,12 @@
+use Rattle.std.specs.Prelude.{◌≤◌, length}
+use Rattle.gr_base.specs.Limits.{most_nets}
+use Rattle.book_state.specs.Replicas.{ReplicaView}
+use Rattle.book_state.specs.declared.replica.Replica.TheInside.{Inside}
+
+-- what the fields say
+abbrev pub seen : Inside → ReplicaView
+seen r = record { front = r.front; places = r.places.items; loads = r.loads }
+
+-- there are no more nets than a design may have
+abbrev pub Keeps : Inside → Type 0
+Keeps r = length r.places.items ≤ most_nets

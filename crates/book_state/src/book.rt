@@ -1,0 +1,286 @@
+ghost use Rattle.std.specs.Prelude.{◌≡◌, ℕ, ◌+◌, ◌<◌, ◌≤◌, [], length, map, take, Some, IfOk, IfErr, OnOk, OnErr, IsTrue};
+ghost use Rattle.std.specs.List.{range_with_len};
+ghost use Rattle.std.specs.Option.{option_copied};
+ghost use Rattle.grid_demand.specs.Tables.{capacity_of};
+ghost use Rattle.book_state.specs.Books.{nets_of, booked as booked_tree, demand, reply_to_free as free_reply, reply_to_claim, reply_to_release, overflow_after, IsClaim, IsRight, IsLegal, AreLoadsOf, victims as victims_of, is_victim as victim_net};
+ghost use Rattle.book_state.specs.Entries.{is_claim_call};
+ghost use Rattle.book_state.specs.Marks.{least_mark as least_mark_of};
+ghost use Rattle.book_state.specs.Replicas.{StandsFor};
+ghost use Rattle.book_state.specs.Views.{entry_of, with_entry};
+
+use crate::edges::{is_crowded, reply_to_free};
+use crate::entry::{Call, Claim, Entry, Reply};
+use crate::history::History;
+use crate::least::least_mark;
+use crate::replica::Replica;
+use gr_base::{Cells, Design, RouteTree, Routes};
+use grid_demand::{Capacity, Loads};
+use std::alloc::{AllocError, Global};
+use std::marker::Model;
+
+/// A claim that was not answered, for want of memory.
+#[derive(Debug, Drop)]
+pub struct ClaimRefused {
+    pub claim: Claim,
+}
+
+/// A book of the tracks of a design: which nets are booked with which trees, the demand and the
+/// marks that follow, and the history of all calls with their replies.
+#[derive(Debug, Drop)]
+pub struct BookState {
+    capacity: Capacity,
+    history: History,
+    replica: Replica,
+}
+
+impl Model for BookState {
+    ghost use Rattle.book_state.specs.Views.{BookView};
+
+    ghost Value = { BookView };
+
+    ghost use Rattle.book_state.specs.BookStore.{seen, Keeps};
+
+    ghost view = { seen };
+
+    ghost invariant = { Keeps };
+}
+
+impl BookState {
+    /// A book of a design without entries. The only error is want of memory.
+    pub fn new(alloc: Global, design: &Design) -> Result<BookState, AllocError>
+        ensures { IfOk result (λ book. book ≡ record { capacity = capacity_of design.now; history = [] }) }
+    {
+        let nets = design.nets();
+        let capacity = Capacity::of(alloc, design)?;
+        let replica = Replica::of_nothing(alloc, &capacity, nets)?;
+        Ok(BookState {
+            capacity,
+            history: History::new(alloc),
+            replica,
+        })
+    }
+
+    /// The history of all calls.
+    pub fn history(&self) -> &History
+        ensures history { result.now ≡ self.now.history }
+        ensures legal { IsLegal self.now.capacity self.now.history }
+    {
+        &self.history
+    }
+
+    /// The tree by which a net is booked. None exactly where it isn't.
+    pub fn booked(&self, net: u32) -> Option<&RouteTree>
+        ensures tree { option_copied result ≡ booked_tree self.now.history net }
+        ensures legal { IsLegal self.now.capacity self.now.history }
+    {
+        self.replica.tree(&self.history, net)
+    }
+
+    /// The demand and the marks of the history.
+    pub fn loads(&self) -> &Loads
+        ensures loads { AreLoadsOf self.now.capacity self.now.history result.now }
+        ensures legal { IsLegal self.now.capacity self.now.history }
+    {
+        self.replica.loads()
+    }
+
+    /// Books a net with a tree, where it isn't booked and the tree's wire edges have room within
+    /// capacity and slack. The answer is `Taken` exactly where the net is booked; else `Full`
+    /// exactly where there is a slack and a wire edge of the tree whose demand with the net's need
+    /// is above capacity and slack, and names the first such edge by node number; else `Claimed`.
+    /// The claim comes back only for want of memory, and the book is then as it was.
+    pub fn claim(&mut self, number: u32, claim: Claim) -> Result<Reply, ClaimRefused>
+        requires { IsClaim self.old.capacity (length self.old.history) claim }
+        ensures reply { IfOk result (λ reply. reply ≡ reply_to_claim self.old.capacity self.old.history claim) }
+        ensures entry { IfOk result (λ reply. self.new ≡ with_entry self.old (entry_of number (Call.Claim claim) reply)) }
+        ensures err { OnErr result (self.new ≡ self.old) }
+        ensures back { IfErr result (λ refused. refused.claim ≡ claim) }
+        ensures legal { IsLegal self.new.capacity self.new.history }
+    {
+        let reply = self.reply_to_claim(&claim);
+        let call = Call::Claim(claim);
+        match self.append(Entry {
+            number,
+            call,
+            reply,
+        }) {
+            Ok(()) => Ok(reply),
+            Err(refused) => Err(ClaimRefused {
+                claim: claim_of(refused.call),
+            }),
+        }
+    }
+
+    /// Frees a booked net. The answer is `Released` exactly where the net is booked, else
+    /// `NotBooked`. The only error is want of memory, and leaves the book as it was.
+    pub fn release(&mut self, number: u32, net: u32) -> Result<Reply, AllocError>
+        requires { net < nets_of self.old.capacity }
+        ensures reply { IfOk result (λ reply. reply ≡ reply_to_release self.old.history net) }
+        ensures entry { IfOk result (λ reply. self.new ≡ with_entry self.old (entry_of number (Call.Release net) reply)) }
+        ensures err { OnErr result (self.new ≡ self.old) }
+        ensures legal { IsLegal self.new.capacity self.new.history }
+    {
+        let reply = self.reply_to_release(net);
+        let call = Call::Release { net };
+        match self.append(Entry {
+            number,
+            call,
+            reply,
+        }) {
+            Ok(()) => Ok(reply),
+            Err(_) => Err(AllocError),
+        }
+    }
+
+    /// Marks the edges whose demand is above their capacity. The answer carries the total overflow.
+    /// The only error is want of memory, and leaves the book as it was.
+    pub fn mark(&mut self, number: u32) -> Result<Reply, AllocError>
+        ensures reply { IfOk result (λ reply. reply ≡ Reply.Marked (overflow_after self.old.capacity self.old.history)) }
+        ensures entry { IfOk result (λ reply. self.new ≡ with_entry self.old (entry_of number Call.Mark reply)) }
+        ensures err { OnErr result (self.new ≡ self.old) }
+        ensures legal { IsLegal self.new.capacity self.new.history }
+    {
+        let reply = self.reply_to_mark();
+        match self.append(Entry {
+            number,
+            call: Call::Mark,
+            reply,
+        }) {
+            Ok(()) => Ok(reply),
+            Err(_) => Err(AllocError),
+        }
+    }
+
+    fn reply_to_claim(&self, claim: &Claim) -> Reply
+        requires { IsClaim self.now.capacity (length self.now.history) claim.now }
+        ensures { result ≡ reply_to_claim self.now.capacity self.now.history claim.now }
+    {
+        if self.booked(claim.net).is_some() {
+            return Reply::Taken;
+        }
+        self.reply_to_free(claim)
+    }
+
+    /// The reply to a claim of a net that isn't booked.
+    fn reply_to_free(&self, claim: &Claim) -> Reply
+        requires { IsClaim self.now.capacity (length self.now.history) claim.now }
+        ensures { result ≡ free_reply self.now.capacity (demand self.now.capacity self.now.history) claim.now claim.now.slack }
+    {
+        reply_to_free(&self.capacity, self.replica.loads(), claim)
+    }
+
+    fn reply_to_release(&self, net: u32) -> Reply
+        ensures { result ≡ reply_to_release self.now.history net }
+    {
+        if self.booked(net).is_some() {
+            Reply::Released
+        } else {
+            Reply::NotBooked
+        }
+    }
+
+    fn reply_to_mark(&self) -> Reply
+        ensures { result ≡ Reply.Marked (overflow_after self.now.capacity self.now.history) }
+    {
+        Reply::Marked {
+            overflow: self.replica.loads().over_total(&self.capacity),
+        }
+    }
+
+    /// The booked nets whose tree has a wire edge with more demand than capacity, in the order of
+    /// the design. The only error is want of memory.
+    pub fn victims(&self) -> Result<Cells, AllocError>
+        ensures { IfOk result (λ nets. nets ≡ victims_of self.now.capacity self.now.history) }
+    {
+        let mut victims = Cells::new(self.history.alloc());
+        for net in 0..self.replica.nets() {
+            if self.is_victim(net) {
+                victims.push(net)?;
+            }
+        }
+        Ok(victims)
+    }
+
+    fn is_victim(&self, net: u32) -> bool
+        ensures victim { result ≡ victim_net self.now.capacity self.now.history net }
+        ensures legal { IsLegal self.now.capacity self.now.history }
+    {
+        match self.booked(net) {
+            Some(tree) => is_crowded(&self.capacity, self.replica.loads(), tree),
+            None => false,
+        }
+    }
+
+    /// The length of the shortest first part of the history that ends with a mark of least
+    /// overflow. None exactly where the history has no mark.
+    pub fn least_mark(&self) -> Option<u64>
+        ensures { result ≡ least_mark_of self.now.history }
+    {
+        least_mark(&self.history)
+    }
+
+    /// A copy of each tree that was booked after the first `front` entries. The only error is want
+    /// of memory.
+    pub fn routes_at(&self, front: u64) -> Result<Routes, AllocError>
+        requires { front ≤ length self.now.history }
+        ensures { IfOk result (λ routes. routes ≡ map (booked_tree (take front self.now.history)) (range_with_len 0 (nets_of self.now.capacity))) }
+    {
+        let alloc = self.history.alloc();
+        let replica = self.replica_at(&self.capacity, front)?;
+        let nets = replica.nets();
+        let mut routes = Routes::new(alloc, nets)?;
+        for net in 0..nets {
+            if let Some(tree) = replica.tree(&self.history, net) {
+                routes.set(net, tree.copy(alloc)?);
+            }
+        }
+        Ok(routes)
+    }
+
+    /// The demand and the marks after the first `front` entries. The capacity is that of the book's
+    /// design. The only error is want of memory.
+    pub fn loads_at(&self, capacity: &Capacity, front: u64) -> Result<Loads, AllocError>
+        requires capacity { capacity.now ≡ self.now.capacity }
+        requires front { front ≤ length self.now.history }
+        ensures { IfOk result (λ loads. AreLoadsOf self.now.capacity (take front self.now.history) loads) }
+    {
+        let replica = self.replica_at(capacity, front)?;
+        Ok(replica.into_loads())
+    }
+
+    /// A replica of the first `front` entries.
+    fn replica_at(&self, capacity: &Capacity, front: u64) -> Result<Replica, AllocError>
+        requires capacity { capacity.now ≡ self.now.capacity }
+        requires front { front ≤ length self.now.history }
+        ensures { IfOk result (λ replica. StandsFor self.now.capacity (take front self.now.history) replica) }
+    {
+        let nets = self.replica.nets();
+        let mut replica = Replica::of_nothing(self.history.alloc(), capacity, nets)?;
+        replica.read(capacity, &self.history, front);
+        Ok(replica)
+    }
+
+    /// Adds an entry behind the others. It comes back only for want of memory.
+    fn append(&mut self, entry: Entry) -> Result<(), Entry>
+        requires { IsRight self.old.capacity self.old.history entry }
+        ensures ok { OnOk result (self.new ≡ with_entry self.old entry) }
+        ensures err { OnErr result (self.new ≡ self.old) }
+        ensures back { IfErr result (λ refused. refused ≡ entry) }
+        ensures legal { IsLegal self.new.capacity self.new.history }
+    {
+        self.history.push(entry)?;
+        self.replica.follow(&self.capacity, &self.history);
+        Ok(())
+    }
+}
+
+/// The claim of a call that is one.
+fn claim_of(call: Call) -> Claim
+    requires { IsTrue (is_claim_call call) }
+    ensures { call ≡ Call.Claim result }
+{
+    let Call::Claim(claim) = call else {
+        unreachable!()
+    };
+    claim
+}

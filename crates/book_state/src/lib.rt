@@ -1,0 +1,22 @@
+//! A book of the tracks of a design, for one thread: it answers claims and releases of routes, and
+//! keeps the history of all calls with their replies.
+#![tactic(auto)]
+
+mod book;
+mod edges;
+mod entry;
+mod history;
+mod laws;
+mod least;
+mod past;
+mod replica;
+
+pub use book::{BookState, ClaimRefused};
+pub use entry::{Call, Claim, Entry, PlanKind, Reply};
+pub use history::History;
+pub use laws::replies_make_bookings;
+pub use past::Past;
+pub use replica::Replica;
+
+#[cfg(test)]
+mod tests;

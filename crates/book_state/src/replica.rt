@@ -1,0 +1,225 @@
+ghost use Rattle.std.specs.Prelude.{◌≡◌, ℕ, ◌+◌, ◌^◌, ◌<◌, ◌≤◌, [], length, take, slice_get, Some, IfOk, IsTrue};
+ghost use Rattle.std.specs.Option.{option_copied};
+ghost use Rattle.gr_base.specs.Limits.{most_nets};
+ghost use Rattle.grid_demand.specs.Tables.{capacity_of};
+ghost use Rattle.book_state.specs.Books.{nets_of, IsLegal, IsIdle};
+ghost use Rattle.book_state.specs.Replicas.{StandsFor, tree_at_place, place_of, IsClaimed, IsReleased};
+
+use crate::entry::{Call, Claim, Entry, Reply};
+use crate::history::History;
+use crate::past::Past;
+use gr_base::{Design, RouteTree};
+use grid_demand::{Capacity, Loads};
+use std::alloc::{AllocError, Global};
+use std::marker::Model;
+
+/// The demand and the marks of a history, or of its first part. It reads the entries one by one.
+#[derive(Debug, Drop)]
+pub struct Replica {
+    front: u64,
+    places: Vec<Option<u64>>,
+    loads: Loads,
+}
+
+impl Model for Replica {
+    ghost use Rattle.book_state.specs.Replicas.{ReplicaView};
+
+    ghost Value = { ReplicaView };
+
+    ghost use Rattle.book_state.specs.ReplicaStore.{seen, Keeps};
+
+    ghost view = { seen };
+
+    ghost invariant = { Keeps };
+}
+
+impl Replica {
+    /// A replica of the empty history of a design. The only error is want of memory.
+    pub fn new(alloc: Global, design: &Design) -> Result<Replica, AllocError>
+        ensures { IfOk result (λ replica. StandsFor (capacity_of design.now) [] replica) }
+    {
+        let nets = design.nets();
+        let capacity = Capacity::of(alloc, design)?;
+        Replica::of_nothing(alloc, &capacity, nets)
+    }
+
+    /// A replica of the empty history of the design with this capacity and so many nets.
+    pub(crate) fn of_nothing(
+        alloc: Global,
+        capacity: &Capacity,
+        nets: u32,
+    ) -> Result<Replica, AllocError>
+        requires nets { nets ≡ nets_of capacity.now }
+        requires few { nets ≤ most_nets }
+        ensures { IfOk result (λ replica. StandsFor capacity.now [] replica) }
+    {
+        Ok(Replica {
+            front: 0,
+            places: vec![in alloc; None; nets as usize]?,
+            loads: Loads::new(alloc, capacity)?,
+        })
+    }
+
+    /// The length of the first part of the history that it stands for.
+    pub fn front(&self) -> u64
+        ensures { result ≡ self.now.front }
+    {
+        self.front
+    }
+
+    /// The demand and the marks.
+    pub fn loads(&self) -> &Loads
+        ensures { result.now ≡ self.now.loads }
+    {
+        &self.loads
+    }
+
+    /// The demand and the marks, by value.
+    pub(crate) fn into_loads(self) -> Loads
+        ensures { result ≡ self.loads }
+    {
+        self.loads
+    }
+
+    /// How many nets there are.
+    pub(crate) fn nets(&self) -> u32
+        ensures nets { result ≡ length self.now.places }
+        ensures few { result ≤ most_nets }
+    {
+        self.places.len() as u32
+    }
+
+    /// The tree of the claim by which a net is booked.
+    pub(crate) fn tree<'a>(&self, history: &'a History, net: u32) -> Option<&'a RouteTree>
+        ensures { option_copied result ≡ tree_at_place history.now (place_of self.now.places net) }
+    {
+        let place = (*self.places.get(net as usize)?)?;
+        tree_of_claim(history, place)
+    }
+
+    /// Reads what a legal history has beyond the part that the replica stands for, which is the
+    /// history's first part.
+    pub fn follow(&mut self, capacity: &Capacity, history: &History)
+        requires legal { IsLegal capacity.now history.now }
+        requires stands { StandsFor capacity.now (take self.old.front history.now) self.old }
+        ensures { StandsFor capacity.now history.now self.new }
+    {
+        let end = history.len();
+        self.read(capacity, history, end);
+    }
+
+    /// Reads the entries of a past that the replica doesn't stand for yet. The past is legal, and
+    /// the replica stands for its first part.
+    pub fn catch_up(&mut self, capacity: &Capacity, past: &Past)
+        requires legal { IsLegal capacity.now past.now }
+        requires stands { StandsFor capacity.now (take self.old.front past.now) self.old }
+        ensures { StandsFor capacity.now past.now self.new }
+    {
+        self.follow(capacity, past.entries());
+    }
+
+    /// Reads the entries before `end`.
+    pub(crate) fn read(&mut self, capacity: &Capacity, history: &History, end: u64)
+        requires legal { IsLegal capacity.now history.now }
+        requires stands { StandsFor capacity.now (take self.old.front history.now) self.old }
+        requires front { self.old.front ≤ end }
+        requires end { end ≤ length history.now }
+        ensures { StandsFor capacity.now (take end history.now) self.new }
+    {
+        for place in self.front..end {
+            self.read_entry(capacity, history, place);
+        }
+    }
+
+    /// Reads one entry.
+    fn read_entry(&mut self, capacity: &Capacity, history: &History, place: u64)
+        requires legal { IsLegal capacity.now history.now }
+        requires stands { StandsFor capacity.now (take place history.now) self.old }
+        requires place { place < length history.now }
+        ensures { StandsFor capacity.now (take (place + 1) history.now) self.new }
+    {
+        let entry = history.entry(place);
+        match &entry.call {
+            Call::Claim(claim) => match entry.reply {
+                Reply::Claimed => self.book(capacity, history, place, claim),
+                _ => self.pass(capacity, history, place, entry),
+            },
+            Call::Release { net } => match entry.reply {
+                Reply::Released => self.free(capacity, history, place, *net),
+                _ => self.pass(capacity, history, place, entry),
+            },
+            Call::Mark => self.mark(capacity, history, place, entry),
+        }
+    }
+
+    /// Books a net with the tree of its claim.
+    fn book(&mut self, capacity: &Capacity, history: &History, place: u64, claim: &Claim)
+        requires legal { IsLegal capacity.now history.now }
+        requires stands { StandsFor capacity.now (take place history.now) self.old }
+        requires few { place < 2 ^ 62 }
+        requires claim { IsClaimed history.now place claim.now }
+        ensures { StandsFor capacity.now (take (place + 1) history.now) self.new }
+    {
+        let fits = claim.tree.shape() == capacity.shape();
+        prove!(fits);
+        self.front = place + 1;
+        self.loads.add(capacity, claim.net, &claim.tree);
+        self.places[claim.net as usize] = Some(place);
+    }
+
+    /// Frees a booked net.
+    fn free(&mut self, capacity: &Capacity, history: &History, place: u64, net: u32)
+        requires legal { IsLegal capacity.now history.now }
+        requires stands { StandsFor capacity.now (take place history.now) self.old }
+        requires few { place < 2 ^ 62 }
+        requires release { IsReleased history.now place net }
+        ensures { StandsFor capacity.now (take (place + 1) history.now) self.new }
+    {
+        let Some(tree) = self.tree(history, net) else {
+            unreachable!()
+        };
+        let fits = tree.shape() == capacity.shape();
+        prove!(fits);
+        self.loads.take(capacity, net, tree);
+        self.places[net as usize] = None;
+        self.front = place + 1;
+    }
+
+    /// Marks the loads.
+    fn mark(&mut self, capacity: &Capacity, history: &History, place: u64, entry: &Entry)
+        requires legal { IsLegal capacity.now history.now }
+        requires stands { StandsFor capacity.now (take place history.now) self.old }
+        requires few { place < 2 ^ 62 }
+        requires there { slice_get history.now place ≡ Some entry.now }
+        requires mark { entry.now.call ≡ Call.Mark }
+        ensures { StandsFor capacity.now (take (place + 1) history.now) self.new }
+    {
+        self.front = place + 1;
+        self.loads.mark(capacity);
+    }
+
+    /// Passes an entry that changes neither bookings nor loads.
+    fn pass(&mut self, capacity: &Capacity, history: &History, place: u64, entry: &Entry)
+        requires legal { IsLegal capacity.now history.now }
+        requires stands { StandsFor capacity.now (take place history.now) self.old }
+        requires few { place < 2 ^ 62 }
+        requires there { slice_get history.now place ≡ Some entry.now }
+        requires idle { IsIdle entry.now.call entry.now.reply }
+        ensures { StandsFor capacity.now (take (place + 1) history.now) self.new }
+    {
+        self.front = place + 1;
+    }
+}
+
+/// The tree of the claim at a place.
+fn tree_of_claim(history: &History, place: u64) -> Option<&RouteTree>
+    ensures { option_copied result ≡ tree_at_place history.now (Some place) }
+{
+    if place >= history.len() {
+        return None;
+    }
+    match &history.entry(place).call {
+        Call::Claim(claim) => Some(&claim.tree),
+        Call::Release { .. } | Call::Mark => None,
+    }
+}
