@@ -1,0 +1,15 @@
+pub mod RangeLemmas
+pub mod PriceLemmas
+pub mod WayLemmas
+pub mod FlatPriceLemmas
+pub mod OrderLemmas
+pub mod CutLemmas
+pub mod TileLemmas
+pub mod PointLemmas
+pub mod GrowLemmas
+pub mod FlatLemmas
+pub mod PlanLemmas
+pub mod MazeLemmas
+pub mod WindowLemmas
+pub mod GrowthLemmas
+pub mod OnlyLemmas

@@ -1,0 +1,52 @@
+use Rattle.std.proofs.Common.{sym, subst, ◌∙◌}
+use Rattle.gr_base.specs.declared.grid.Shape.{Shape}
+use Rattle.maze_route.specs.Windows.{IsWindow, IsPassable, LieIn}
+use Rattle.net_plan.proofs.GrowthLemmas.{growing-first, growing-goals, growing-turn, growing-done, growing-pins, growing-driver, no-goals}
+use Rattle.net_plan.proofs.maze.grow.Goals as goal
+
+pub loop-alloc-init : goal.loop-alloc-init
+loop-alloc-init g c =
+    growing-first c.args.shape c.args.window (g.C.Costs.price c.args.costs.now) c.args.pins.now c.in_ok-tree.tree c.in_ok-goals.goals.items c.requires.some c.requires.pins
+    c.in_ok-tree.ensures.tree c.in_ok-goals.ensures
+
+pub least_walk-requires-clause-window : goal.least_walk-requires-clause-window
+least_walk-requires-clause-window g c = subst (λ (s : Shape). IsWindow s c.args.window) (sym c.loop-alloc.invariant.shape) c.requires.window
+
+pub least_walk-requires-clause-passable : goal.least_walk-requires-clause-passable
+least_walk-requires-clause-passable g c =
+    subst (λ (s : Shape). IsPassable s (g.C.Costs.ways c.args.costs.now) c.args.window) (sym c.loop-alloc.invariant.shape) c.requires.passable
+
+pub least_walk-requires-clause-goals : goal.least_walk-requires-clause-goals
+least_walk-requires-clause-goals g c =
+    subst (LieIn c.loop-alloc.tree.shape c.args.window) (sym c.deref.ensures.value)
+    (growing-goals c.args.shape c.args.window (g.C.Costs.price c.args.costs.now) c.args.pins.now c.loop-alloc.tree c.loop-alloc.goals.items c.requires.pins c.loop-alloc.invariant)
+
+pub loop-alloc-smaller : goal.loop-alloc-smaller
+loop-alloc-smaller g c =
+    let turn = growing-turn c.args.shape c.args.window (g.C.Costs.price c.args.costs.now) c.args.pins.now c.loop-alloc.tree c.attach.new.self c.in_ok-walk.walk c.as_slice.result.now
+    c.as_slice-in-loop-alloc.result.now c.loop-alloc.goals.items c.deref.result.now c.deref-in-loop-alloc.result.now c.in_ok-goals-2.goals.items
+    c.as_slice.ensures c.as_slice-in-loop-alloc.ensures c.deref.ensures.value c.deref-in-loop-alloc.ensures.value c.loop-alloc.invariant c.in_ok-walk.ensures.walk c.requires.pins
+    c.in_ok-attach.ensures.ok c.in_ok-attach.ensures.cells c.in_ok-attach.ensures.begins c.in_ok-goals-2.ensures in
+    turn.less
+
+pub loop-alloc-preserved : goal.loop-alloc-preserved
+loop-alloc-preserved g c =
+    let turn = growing-turn c.args.shape c.args.window (g.C.Costs.price c.args.costs.now) c.args.pins.now c.loop-alloc.tree c.attach.new.self c.in_ok-walk.walk c.as_slice.result.now
+    c.as_slice-in-loop-alloc.result.now c.loop-alloc.goals.items c.deref.result.now c.deref-in-loop-alloc.result.now c.in_ok-goals-2.goals.items
+    c.as_slice.ensures c.as_slice-in-loop-alloc.ensures c.deref.ensures.value c.deref-in-loop-alloc.ensures.value c.loop-alloc.invariant c.in_ok-walk.ensures.walk c.requires.pins
+    c.in_ok-attach.ensures.ok c.in_ok-attach.ensures.cells c.in_ok-attach.ensures.begins c.in_ok-goals-2.ensures in
+    turn.growing
+
+pub returns-clause-grown : goal.returns-clause-grown
+returns-clause-grown g c =
+    growing-done c.args.shape c.args.window (g.C.Costs.price c.args.costs.now) c.args.pins.now c.loop-alloc.tree c.loop-alloc.goals.items c.loop-alloc.invariant
+    (no-goals c.loop-alloc.goals.items _ c.loop-alloc.goals.ok.0 (sym c.is_empty.ensures ∙ c.loop-alloc-test.false))
+
+pub returns-clause-driver : goal.returns-clause-driver
+returns-clause-driver g c =
+    growing-driver c.args.shape c.args.window (g.C.Costs.price c.args.costs.now) c.args.pins.now c.loop-alloc.tree c.loop-alloc.goals.items c.requires.some c.loop-alloc.invariant
+
+pub returns-clause-pins : goal.returns-clause-pins
+returns-clause-pins g c =
+    growing-pins c.args.shape c.args.window (g.C.Costs.price c.args.costs.now) c.args.pins.now c.loop-alloc.tree c.loop-alloc.goals.items c.loop-alloc.invariant
+    (no-goals c.loop-alloc.goals.items _ c.loop-alloc.goals.ok.0 (sym c.is_empty.ensures ∙ c.loop-alloc-test.false))

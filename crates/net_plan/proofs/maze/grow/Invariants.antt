@@ -1,0 +1,9 @@
+use Rattle.std.proofs.Common.{length}
+use Rattle.net_plan.proofs.GrowthLemmas.{IsGrowing}
+use Rattle.net_plan.proofs.maze.grow.Given as goal
+
+abbrev pub invariant-loop-alloc : goal.invariant-loop-alloc
+invariant-loop-alloc g l = IsGrowing l.fn.shape l.window (g.C.Costs.price l.costs) l.fn.pins l.tree l.goals.items
+
+abbrev pub decreases-loop-alloc : goal.decreases-loop-alloc
+decreases-loop-alloc g l = length l.goals.items

@@ -1,0 +1,11 @@
+use Rattle.std.proofs.Common.{◌<◌, length, sym, ◌∙◌, arith}
+use Rattle.net_plan.specs.Orders.{is_marked, is_due}
+use Rattle.net_plan.proofs.RangeLemmas.{found-later}
+use Rattle.net_plan.proofs.order.next_due.Goals as goal
+
+pub loop-point-preserved : goal.loop-point-preserved
+loop-point-preserved c =
+    let points = c.args.topology.now in
+    let below : c.loop-point.point < length points = let e = c.len-point-end.ensures.len in let t = c.loop-point-test.true in omega arith in
+    found-later (is_due points (is_marked c.args.handled.now)) (length points) c.loop-point.point below
+    (sym c.is_due.ensures ∙ c.if-is_due.false) ∙ c.loop-point.invariant

@@ -1,0 +1,20 @@
+use Rattle.std.specs.Prelude.{ℕ, Bool, Option, Some, None, min, map, fold}
+use Rattle.std.specs.List.{range_with_len, list_any}
+use Rattle.gr_base.specs.declared.grid.Edge.{Edge}
+use Rattle.gr_base.specs.declared.grid.Shape.{Shape}
+use Rattle.gr_base.specs.declared.grid.Way.{Way}
+use Rattle.layer_assign.specs.Assignments.{on_layer}
+
+-- the lesser of two prices, if there are two
+abbrev pub lesser : Option ℕ → Option ℕ → Option ℕ
+lesser None q = q
+lesser (Some p) None = Some p
+lesser (Some p) (Some q) = Some (min p q)
+
+-- the flat price of an edge: the least price of the edges over it on the grid's layers
+abbrev pub flat_price : Shape → (Edge → Option ℕ) → Edge → Option ℕ
+flat_price g price e = fold lesser None (map (λ layer. price (on_layer g layer e)) (range_with_len 0 g.layers))
+
+-- some layer goes this way
+abbrev pub some_goes : Shape → (ℕ → Way → Bool) → Way → Bool
+some_goes g ways way = list_any (λ layer. ways layer way) (range_with_len 0 g.layers)

@@ -1,0 +1,6 @@
+pub mod Prices
+pub mod FlatPrices
+pub mod Orders
+pub mod FlatTrees
+pub mod Patterns
+pub mod Mazes

@@ -1,0 +1,35 @@
+use Rattle.std.specs.Prelude.{ℕ, zero, suc, ◌-◌, Bool, false, not, ◌&&◌, ◌||◌, ◌==◌, List, [], ◌∷◌, ◌++◌, length, find, slice_index_or, Option, Some, None}
+use Rattle.std.specs.List.{range_with_len}
+use Rattle.gr_base.specs.Trees.{is_among}
+use Rattle.steiner_topology.specs.Topology.{parent_of}
+use Rattle.steiner_topology.specs.declared.point.Point.{Point}
+
+-- a point has been handled if it is point 0, or is one of these
+abbrev pub is_handled : List ℕ → ℕ → Bool
+is_handled order v = v == 0 || is_among order v
+
+-- a point is due if it hasn't been handled, and its parent has
+abbrev pub is_due : List Point → (ℕ → Bool) → ℕ → Bool
+is_due points handled v = not (handled v) && handled (parent_of points v)
+
+-- the least-numbered point that is due
+abbrev pub next_due : List Point → (ℕ → Bool) → Option ℕ
+next_due points handled = find (is_due points handled) (range_with_len 0 (length points))
+
+-- the points handled so far, and the next one, if there is one
+abbrev pub with_next : List ℕ → Option ℕ → List ℕ
+with_next order None = order
+with_next order (Some v) = order ++ v ∷ []
+
+-- handles so many points more
+unfoldable pub order_after : ℕ → List Point → List ℕ → List ℕ
+order_after zero points order = order
+order_after (suc n) points order = order_after n points (with_next order (next_due points (is_handled order)))
+
+-- the points but point 0, in the order in which they are handled
+abbrev pub order_of : List Point → List ℕ
+order_of points = order_after (length points - 1) points []
+
+-- the point is marked
+abbrev pub is_marked : List Bool → ℕ → Bool
+is_marked marks v = slice_index_or marks v false

@@ -1,0 +1,95 @@
+ghost use Rattle.std.specs.Prelude.{◌≡◌, ◌<◌, IsTrue};
+ghost use Rattle.gr_base.specs.Grid.{has_edge};
+ghost use Rattle.net_plan.specs.Prices.{HasPrices, kept_prices, price_of, ways_of};
+ghost use Rattle.layer_assign.specs.Assignments.{on_layer, IsFlat as IsFlattened};
+ghost use Rattle.net_plan.specs.FlatPrices.{lesser, flat_price, some_goes};
+
+use crate::net_costs::NetCosts;
+use cost_rules::Costs;
+use gr_base::{Edge, Shape, Way};
+
+/// What the edges of a grid cost where its layers are laid on one another: each the least of what
+/// the edges over it cost.
+#[derive(Clone, Copy)]
+pub(crate) struct FlatCosts<'a> {
+    pub(crate) costs: &'a NetCosts<'a>,
+    pub(crate) shape: Shape,
+    pub(crate) ghost flattened: { IsFlattened costs.now.capacity.now.shape shape },
+    pub(crate) ghost prices: { HasPrices shape (λ _. some_goes costs.now.capacity.now.shape (ways_of costs.now.capacity.now)) (flat_price costs.now.capacity.now.shape (price_of costs.now.capacity.now costs.now.loads.now costs.now.rule.now.formula costs.now.net)) },
+}
+
+impl<'a> FlatCosts<'a> {
+    pub(crate) fn new(costs: &'a NetCosts<'a>) -> Self
+        ensures capacity { result.costs.now.capacity.now ≡ costs.now.capacity.now }
+        ensures loads { result.costs.now.loads.now ≡ costs.now.loads.now }
+        ensures formula { result.costs.now.rule.now.formula ≡ costs.now.rule.now.formula }
+        ensures net { result.costs.now.net ≡ costs.now.net }
+    {
+        let grid = costs.capacity.shape();
+        FlatCosts {
+            costs,
+            shape: Shape {
+                columns: grid.columns,
+                rows: grid.rows,
+                layers: 1,
+            },
+        }
+    }
+
+    /// How many layers there are.
+    fn layers(&self) -> u32
+        ensures { result ≡ self.now.costs.now.capacity.now.shape.layers }
+    {
+        self.costs.capacity.shape().layers()
+    }
+
+    /// The edge on a layer over an edge.
+    fn over(&self, e: Edge, layer: u32) -> Edge
+        requires edge { IsTrue (has_edge self.now.shape e) }
+        requires layer { layer < self.now.costs.now.capacity.now.shape.layers }
+        ensures over { result ≡ on_layer self.now.costs.now.capacity.now.shape layer e }
+        ensures edge { IsTrue (has_edge self.now.costs.now.capacity.now.shape result) }
+    {
+        Edge {
+            low: layer * self.shape.cells() + e.low,
+            way: e.way,
+        }
+    }
+}
+
+impl Costs for FlatCosts<'_> {
+    ghost grid = { λ c. c.shape };
+
+    ghost ways = { λ c _. some_goes c.costs.now.capacity.now.shape (ways_of c.costs.now.capacity.now) };
+
+    ghost price = { λ c. flat_price c.costs.now.capacity.now.shape (price_of c.costs.now.capacity.now c.costs.now.loads.now c.costs.now.rule.now.formula c.costs.now.net) };
+
+    ghost prices = { λ c. kept_prices c.shape (λ _. some_goes c.costs.now.capacity.now.shape (ways_of c.costs.now.capacity.now)) (flat_price c.costs.now.capacity.now.shape (price_of c.costs.now.capacity.now c.costs.now.loads.now c.costs.now.rule.now.formula c.costs.now.net)) c.prices };
+
+    fn goes(&self, _layer: u32, way: Way) -> bool {
+        for layer in 0..self.layers() {
+            if self.costs.goes(layer, way) {
+                return true;
+            }
+        }
+        false
+    }
+
+    fn cost(&self, e: Edge) -> Option<u64> {
+        let mut least = None;
+        for layer in 0..self.layers() {
+            least = lesser(least, self.costs.cost(self.over(e, layer)));
+        }
+        least
+    }
+}
+
+/// The lesser of two costs, if there are two.
+fn lesser(a: Option<u64>, b: Option<u64>) -> Option<u64>
+    ensures { result ≡ lesser a b }
+{
+    match (a, b) {
+        (Some(a), Some(b)) => Some(a.min(b)),
+        (None, least) | (least, None) => least,
+    }
+}

@@ -1,0 +1,17 @@
+//! Plans of nets over the loads of a design: pattern plans, by topology, flat walks and layers, and
+//! maze plans, by least walks in a window.
+#![tactic(auto)]
+
+mod flat;
+mod flat_costs;
+mod maze;
+mod net_costs;
+mod order;
+mod pattern;
+mod pin_tiles;
+#[cfg(test)]
+mod tests;
+mod window;
+
+pub use maze::maze_plan;
+pub use pattern::pattern_plan;

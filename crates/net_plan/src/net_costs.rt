@@ -1,0 +1,97 @@
+ghost use Rattle.std.specs.Prelude.{◌≡◌, IsTrue};
+ghost use Rattle.cost_rules.specs.Formulas.{IsInRange};
+ghost use Rattle.gr_base.specs.Grid.{has_edge, is_wire};
+ghost use Rattle.grid_demand.specs.Tables.{capacity_of};
+ghost use Rattle.net_plan.specs.Prices.{HasBoundedDemand, HasPrices, kept_prices, site_of, price_of, ways_of};
+
+use cost_rules::{CostRule, Costs, Site};
+use gr_base::{Design, Edge, Frame, Way};
+use grid_demand::{Capacity, Loads};
+
+/// What the edges of a design's grid cost a net over given loads: a via edge 3, a usable wire edge
+/// what the rule gives at the edge's demand, capacity and marks and the net's need.
+#[derive(Clone, Copy)]
+pub(crate) struct NetCosts<'a> {
+    pub(crate) frame: &'a Frame,
+    pub(crate) capacity: &'a Capacity,
+    pub(crate) loads: &'a Loads,
+    pub(crate) rule: &'a CostRule,
+    pub(crate) net: u32,
+    pub(crate) ghost layers: { frame.now.layers ≡ capacity.now.layers },
+    pub(crate) ghost shape: { loads.now.shape ≡ capacity.now.shape },
+    pub(crate) ghost bounded: { HasBoundedDemand loads.now },
+    pub(crate) ghost prices: { HasPrices capacity.now.shape (ways_of capacity.now) (price_of capacity.now loads.now rule.now.formula net) },
+}
+
+/// What a via edge costs.
+const VIA_COST: u64 = 3;
+
+impl<'a> NetCosts<'a> {
+    pub(crate) fn new(
+        design: &'a Design,
+        capacity: &'a Capacity,
+        loads: &'a Loads,
+        net: u32,
+        rule: &'a CostRule,
+    ) -> Self
+        requires capacity { capacity.now ≡ capacity_of design.now }
+        requires loads { loads.now.shape ≡ design.now.frame.shape }
+        requires bounded { HasBoundedDemand loads.now }
+        ensures capacity { result.capacity.now ≡ capacity.now }
+        ensures loads { result.loads.now ≡ loads.now }
+        ensures formula { result.rule.now.formula ≡ rule.now.formula }
+        ensures net { result.net ≡ net }
+    {
+        NetCosts {
+            frame: design.frame(),
+            capacity,
+            loads,
+            rule,
+            net,
+        }
+    }
+
+    /// The net at a wire edge.
+    fn site(&self, e: Edge) -> Site
+        requires edge { IsTrue (has_edge self.now.capacity.now.shape e) }
+        requires wire { IsTrue (is_wire e) }
+        ensures site { result ≡ site_of self.now.capacity.now self.now.loads.now self.now.net e }
+        ensures in_range { IsInRange result }
+    {
+        Site {
+            demand: self.loads.demand(e),
+            capacity: self.capacity.at(e),
+            need: self.capacity.need(self.net, e),
+            marks: self.loads.marks(e),
+        }
+    }
+}
+
+impl Costs for NetCosts<'_> {
+    ghost grid = { λ c. c.capacity.now.shape };
+
+    ghost ways = { λ c. ways_of c.capacity.now };
+
+    ghost price = { λ c. price_of c.capacity.now c.loads.now c.rule.now.formula c.net };
+
+    ghost prices = { λ c. kept_prices c.capacity.now.shape (ways_of c.capacity.now) (price_of c.capacity.now c.loads.now c.rule.now.formula c.net) c.prices };
+
+    fn goes(&self, layer: u32, way: Way) -> bool {
+        let stated = self.frame.layers.get(layer as usize);
+        match way {
+            Way::East => stated.is_some_and(|stated| stated.horizontal != 0),
+            Way::North => stated.is_some_and(|stated| stated.vertical != 0),
+            Way::Up => true,
+        }
+    }
+
+    fn cost(&self, e: Edge) -> Option<u64> {
+        if !self.capacity.usable(e) {
+            return None;
+        }
+        if e.way == Way::Up {
+            return Some(VIA_COST);
+        }
+        Some(self.rule.cost(self.site(e)))
+    }
+}

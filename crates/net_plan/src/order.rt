@@ -1,0 +1,47 @@
+ghost use Rattle.std.specs.Prelude.{◌≡◌, ◌<◌, length, IfOk, IfSome};
+ghost use Rattle.steiner_topology.specs.Spanning.{IsTree};
+ghost use Rattle.net_plan.specs.Orders.{is_marked, is_due, next_due, order_of};
+
+use std::alloc::{AllocError, Global};
+use steiner_topology::Topology;
+
+/// The points of a topology but point 0, in the order in which they are joined to a tree: again and
+/// again the least-numbered one that hasn't been handled and whose parent has. Point 0 counts as
+/// handled. It takes time in the square of the number of points. The only error is want of memory.
+pub(crate) fn order_of(alloc: Global, topology: &Topology) -> Result<Vec<u32>, AllocError>
+    ensures order { IfOk result (λ order. order.items ≡ order_of topology.now) }
+    ensures tree { IsTree topology.now }
+{
+    let mut handled = vec![in alloc; false; topology.len() as usize]?;
+    handled[0] = true;
+    let mut order = Vec::new(alloc);
+    while let Some(point) = next_due(topology, &handled) {
+        handled[point as usize] = true;
+        order.push(point)?;
+    }
+    Ok(order)
+}
+
+/// The least-numbered point that is due.
+fn next_due(topology: &Topology, handled: &[bool]) -> Option<u32>
+    requires { length handled.now ≡ length topology.now }
+    ensures due { result ≡ next_due topology.now (is_marked handled.now) }
+    ensures inside { IfSome result (λ point. point < length topology.now) }
+    ensures tree { IsTree topology.now }
+{
+    for point in 0..topology.len() {
+        if is_due(topology, handled, point) {
+            return Some(point);
+        }
+    }
+    None
+}
+
+/// Whether a point hasn't been handled, and its parent has.
+fn is_due(topology: &Topology, handled: &[bool], point: u32) -> bool
+    requires handled { length handled.now ≡ length topology.now }
+    requires point { point < length topology.now }
+    ensures { result ≡ is_due topology.now (is_marked handled.now) point }
+{
+    !handled[point as usize] && handled[topology.parent(point) as usize]
+}

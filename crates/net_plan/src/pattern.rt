@@ -1,0 +1,68 @@
+ghost use Rattle.std.specs.Prelude.{◌≡◌, Some, slice_get, IfOk, IsTrue};
+ghost use Rattle.gr_base.specs.Designs.{is_routed};
+ghost use Rattle.gr_base.specs.Plans.{Routes};
+ghost use Rattle.gr_base.specs.Trees.{TreeView, edges_of};
+ghost use Rattle.gr_base.specs.declared.frame.Net.{Net};
+ghost use Rattle.gr_base.specs.declared.grid.Edge.{Edge};
+ghost use Rattle.grid_demand.specs.Tables.{capacity_of};
+ghost use Rattle.net_plan.specs.Patterns.{pins_at, IsPattern};
+ghost use Rattle.net_plan.specs.Prices.{HasBoundedDemand};
+
+use crate::flat::flat_tree;
+use crate::net_costs::NetCosts;
+use cost_rules::CostRule;
+use gr_base::{Design, RouteTree};
+use grid_demand::{Capacity, Loads};
+use layer_assign::{assign, raise};
+use std::alloc::{AllocError, Global};
+
+/// The pattern plan of a routed net over the loads of a design, in which no wire edge has a demand
+/// above 2^62.
+///
+/// The tiles of the net's pins are joined by the flat walks of their topology, each step at the
+/// least cost over the layers. The edges of this flat tree then get the first assignment of layers
+/// of least cost, and the tree is raised from it. It starts at the driver's cell. The only error is
+/// want of memory.
+pub fn pattern_plan(
+    alloc: Global,
+    design: &Design,
+    capacity: &Capacity,
+    loads: &Loads,
+    net: u32,
+    rule: &CostRule,
+) -> Result<RouteTree, AllocError>
+    requires net { IsTrue (is_routed design.now net) }
+    requires capacity { capacity.now ≡ capacity_of design.now }
+    requires loads { loads.now.shape ≡ design.now.frame.shape }
+    requires demand { HasBoundedDemand loads.now }
+    ensures plan { IfOk result (IsPattern capacity.now loads.now rule.now.formula net (pins_at design.now net)) }
+    // Another such plan has the same edges.
+    ensures only { IfOk result (λ t. (other : TreeView) → IsPattern capacity.now loads.now rule.now.formula net (pins_at design.now net) other → (e : Edge) → edges_of other e ≡ edges_of t e) }
+    ensures routes { (wanted : Net) → slice_get design.now.nets net ≡ Some wanted → IfOk result (Routes design.now.frame.shape wanted) }
+{
+    plan_tree(alloc, design, capacity, loads, net, rule)
+}
+
+/// The same tree.
+fn plan_tree(
+    alloc: Global,
+    design: &Design,
+    capacity: &Capacity,
+    loads: &Loads,
+    net: u32,
+    rule: &CostRule,
+) -> Result<RouteTree, AllocError>
+    requires net { IsTrue (is_routed design.now net) }
+    requires capacity { capacity.now ≡ capacity_of design.now }
+    requires loads { loads.now.shape ≡ design.now.frame.shape }
+    requires demand { HasBoundedDemand loads.now }
+    ensures plan { IfOk result (IsPattern capacity.now loads.now rule.now.formula net (pins_at design.now net)) }
+    ensures routes { (wanted : Net) → slice_get design.now.nets net ≡ Some wanted → IfOk result (Routes design.now.frame.shape wanted) }
+{
+    let costs = NetCosts::new(design, capacity, loads, net, rule);
+    let pins = design.net(net).pins.as_slice();
+    let flat = flat_tree(alloc, design, &costs, pins)?;
+    let shape = capacity.shape();
+    let layers = assign(alloc, &costs, shape, &flat, pins)?;
+    raise(alloc, shape, &flat, &layers, pins)
+}
