@@ -1,24 +1,37 @@
+ghost use Rattle.std.specs.Prelude.{◌≡◌};
+
 use thiserror::Error;
 
 /// What is wrong with a token of a solution.
 #[derive(Clone, Copy, Debug, PartialEq, Eq, Error)]
 pub enum SolutionFault {
     #[error("the text ends within a record")]
-    Ended,
+    Ended = 1,
     #[error("the token has the wrong form")]
-    Form,
+    Form = 2,
     #[error("the number is out of range")]
-    Number,
+    Number = 3,
     #[error("the design has no net of this id")]
-    UnknownId,
+    UnknownId = 4,
     #[error("the net of this id has another name")]
-    Name,
+    Name = 5,
     #[error("the net has a record before this one")]
-    RepeatedNet,
+    RepeatedNet = 6,
     #[error("the segment leaves the chip")]
-    Outside,
+    Outside = 7,
     #[error("the segment isn't straight")]
-    Slanted,
+    Slanted = 8,
     #[error("the text is too long")]
-    TooLong,
+    TooLong = 9,
+}
+
+impl SolutionFault {
+    ghost use Rattle.solution_text.specs.Faults.{fault_number};
+
+    /// The number under which a user is told of the fault.
+    pub fn number(self) -> u8
+        ensures { result ≡ fault_number self }
+    {
+        self as u8
+    }
 }
