@@ -1,4 +1,2 @@
-pub mod LowLemmas
-pub mod MarkLemmas
 pub mod TreeLemmas
 pub mod WriteLemmas

@@ -1,3 +1,1 @@
-pub mod Lows
-pub mod Marks
 pub mod Routed

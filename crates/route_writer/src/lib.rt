@@ -3,8 +3,6 @@
 
 mod edges;
 mod error;
-mod lows;
-mod marks;
 mod record;
 mod runs;
 mod text;

@@ -45,7 +45,7 @@ pub fn write_solution<K: Sink>(
     ensures no_memory { result ≡ Err WriteError.NoMemory → K.faults sink.new ≡ K.faults sink.old }
     ensures faults_kept { K.faults sink.old ≤ K.faults sink.new }
 {
-    let mut draft = Draft::new(alloc, design.frame().shape)?;
+    let mut draft = Draft::new(alloc);
     for net in 0..design.nets() {
         if !design.routed(net) {
             continue;

@@ -1,20 +1,11 @@
-use Rattle.std.proofs.Common.{◌≡◌, ℕ, ◌+◌, ◌≤◌, List, [], ◌++◌, length, IsTrue, refl, sym, ap, ◌∙◌, append-nil, arith}
+use Rattle.std.proofs.Common.{◌≡◌, ℕ, ◌+◌, ◌≤◌, List, ◌++◌, length, IsTrue, sym, ap, ◌∙◌, append-nil, arith}
 use Rattle.std.specs.Option.{option_copied}
 use Rattle.gr_base.specs.Trees.{edges_of}
 use Rattle.gr_io.specs.Parts.{AppendsPart}
 use Rattle.solution_text.specs.WrittenText.{record_text, written_text}
 use Rattle.route_writer.specs.Routed.{route_edges}
-use Rattle.route_writer.proofs.WriteLemmas.{text_before, text_behind, before-more, before-behind, text-skip, text-routed, on-err, stands-first, stands-same, stands-put, stands-flushed, stands-part, stands-cut}
+use Rattle.route_writer.proofs.WriteLemmas.{text_before, text_behind, before-more, before-behind, text-skip, text-routed, on-err, stands-same, stands-put, stands-flushed, stands-part, stands-cut}
 use Rattle.route_writer.proofs.write.write_solution.Goals as goal
-
-pub returns-in_err-draft-clause-prefix : goal.returns-in_err-draft-clause-prefix
-returns-in_err-draft-clause-prefix g c =
-    let d = c.args.design.now in
-    let sets = route_edges c.args.routes.now in
-    let old = g.K.Sink.written c.args.sink.now in
-    let part : IsTrue g.K.Sink.tells → AppendsPart old old (written_text d sets) = λ tells.
-    stands-part (written_text d sets) (text_behind d sets 0) (before-behind d sets 0 (omega arith)) (stands-first old [] (text_before d sets 0) refl refl) in
-    on-err c.from_residual.result (IsTrue g.K.Sink.tells → AppendsPart old old (written_text d sets)) part
 
 pub loop-net-preserved-then-not-routed : goal.loop-net-preserved-then-not-routed
 loop-net-preserved-then-not-routed g c =
@@ -24,7 +15,6 @@ loop-net-preserved-then-not-routed g c =
     let same : text_before d sets (n + 1) ≡ text_before d sets n =
     before-more d sets n ∙ ap (λ (t : List ℕ). text_before d sets n ++ t) (text-skip d sets n (sym c.routed.ensures ∙ c.if-not-routed.true)) ∙ append-nil (text_before d sets n) in
     record {
-      clear = c.loop-net.invariant.clear;
       quiet = c.loop-net.invariant.quiet;
       stands = λ tells. stands-same (text_before d sets (n + 1)) same (c.loop-net.invariant.stands tells);
     }
@@ -39,7 +29,7 @@ returns-in_err-put_record-clause-prefix g c =
     let now = g.K.Sink.written c.loop-net.sink in
     let part : IsTrue g.K.Sink.tells → AppendsPart old now (written_text d sets) = λ tells.
     stands-part (written_text d sets) (text_behind d sets n) (before-behind d sets n most) (c.loop-net.invariant.stands tells) in
-    on-err c.from_residual-in_err-put_record.result (IsTrue g.K.Sink.tells → AppendsPart old now (written_text d sets)) part
+    on-err c.from_residual.result (IsTrue g.K.Sink.tells → AppendsPart old now (written_text d sets)) part
 
 pub loop-net-preserved-then-len-lt-FULL : goal.loop-net-preserved-then-len-lt-FULL
 loop-net-preserved-then-len-lt-FULL g c =
@@ -53,9 +43,8 @@ loop-net-preserved-then-len-lt-FULL g c =
     (text-routed d c.args.routes.now n c.net.result.now c.unwrap-tree.result.now c.net.ensures.net (sym c.routed.ensures ∙ c.if-not-routed.false)
     (sym c.get.ensures ∙ ap option_copied c.unwrap-tree.ensures)) in
     record {
-      clear = c.in_ok-put_record.ensures.clear;
       quiet = c.loop-net.invariant.quiet;
-      stands = λ tells. stands-put added c.put_record.new.self.text.items (text_before d sets (n + 1)) c.in_ok-put_record.ensures.text more (c.loop-net.invariant.stands tells);
+      stands = λ tells. stands-put added c.put_record.new.self.text.items (text_before d sets (n + 1)) c.in_ok-put_record.ensures more (c.loop-net.invariant.stands tells);
     }
 
 pub returns-in_err-flush-clause-prefix : goal.returns-in_err-flush-clause-prefix
@@ -74,7 +63,7 @@ returns-in_err-flush-clause-prefix g c =
     let now = g.K.Sink.written c.flush.new.sink in
     let part : IsTrue g.K.Sink.tells → AppendsPart old now (written_text d sets) = λ tells.
     stands-cut now (written_text d sets) (text_behind d sets (n + 1)) (before-behind d sets (n + 1) most) (c.in_err-flush.ensures.prefix tells)
-    (stands-put added c.put_record.new.self.text.items (text_before d sets (n + 1)) c.in_ok-put_record.ensures.text more (c.loop-net.invariant.stands tells)) in
+    (stands-put added c.put_record.new.self.text.items (text_before d sets (n + 1)) c.in_ok-put_record.ensures more (c.loop-net.invariant.stands tells)) in
     on-err c.from_residual-in_err-flush.result (IsTrue g.K.Sink.tells → AppendsPart old now (written_text d sets)) part
 
 pub loop-net-preserved : goal.loop-net-preserved
@@ -89,11 +78,10 @@ loop-net-preserved g c =
     (text-routed d c.args.routes.now n c.net.result.now c.unwrap-tree.result.now c.net.ensures.net (sym c.routed.ensures ∙ c.if-not-routed.false)
     (sym c.get.ensures ∙ ap option_copied c.unwrap-tree.ensures)) in
     record {
-      clear = c.in_ok-put_record.ensures.clear;
       quiet = c.in_ok-flush.ensures.quiet ∙ c.loop-net.invariant.quiet;
       stands = λ tells.
           stands-flushed (g.K.Sink.written c.flush.new.sink) c.flush.new.text.items (c.in_ok-flush.ensures.ok tells) c.in_ok-flush.ensures.empty
-          (stands-put added c.put_record.new.self.text.items (text_before d sets (n + 1)) c.in_ok-put_record.ensures.text more (c.loop-net.invariant.stands tells));
+          (stands-put added c.put_record.new.self.text.items (text_before d sets (n + 1)) c.in_ok-put_record.ensures more (c.loop-net.invariant.stands tells));
     }
 
 pub returns-in_err-flush-2-clause-prefix : goal.returns-in_err-flush-2-clause-prefix

@@ -1,12 +1,10 @@
 use Rattle.std.proofs.Common.{◌≡◌, IsTrue}
-use Rattle.route_writer.specs.Marks.{AreClear}
 use Rattle.route_writer.specs.Routed.{route_edges}
 use Rattle.route_writer.proofs.WriteLemmas.{text_before, Stands}
 use Rattle.route_writer.proofs.write.write_solution.Given as goal
 
 abbrev pub invariant-loop-net : goal.invariant-loop-net
 invariant-loop-net g l = record {
-  clear : AreClear l.design.frame.shape l.draft.marks.items;
   quiet : g.K.Sink.faults l.sink ≡ g.K.Sink.faults l.fn.sink;
   stands : IsTrue g.K.Sink.tells →
       Stands (g.K.Sink.written l.fn.sink) (g.K.Sink.written l.sink) l.draft.text.items (text_before l.design (route_edges l.routes) l.net);

@@ -1,0 +1,4 @@
+pub mod LowLemmas
+pub mod MemberLemmas
+pub mod ListLemmas
+pub mod EndLemmas

@@ -1,0 +1,2 @@
+pub mod Lows
+pub mod Ends
