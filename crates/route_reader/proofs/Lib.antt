@@ -1,0 +1,10 @@
+pub mod SolutionLemmas
+pub mod PartLemmas
+pub mod FormLemmas
+pub mod SpotLemmas
+pub mod PushLemmas
+pub mod StepLemmas
+pub mod TextLemmas
+pub mod FinishLemmas
+pub mod ReadLemmas
+pub mod CoverLemmas

@@ -1,0 +1,7 @@
+pub mod Solutions
+pub mod SolutionStore
+pub mod SolutionText
+pub mod Answers
+pub mod Segments
+pub mod Spots
+pub mod Gathered

@@ -1,0 +1,155 @@
+//! Reading a solution's text.
+ghost use Rattle.std.specs.Prelude.{◌≡◌, ℕ, ◌≤◌, true, false, List, [], IsTrue, IfOk, OnOk, Ok, Err};
+ghost use Rattle.gr_base.specs.declared.grid.Edge.{Edge};
+ghost use Rattle.gr_io.specs.Counts.{Rose};
+ghost use Rattle.gr_io.specs.declared.shelf.Slot.{Slot};
+ghost use Rattle.gr_text.specs.Reads.{Counts};
+ghost use Rattle.gr_text.specs.Streams.{place_of};
+ghost use Rattle.solution_text.specs.Cover.{cover};
+ghost use Rattle.solution_text.specs.Grammar.{Progress, start};
+ghost use Rattle.route_reader.specs.Solutions.{IsOf, edges_by};
+ghost use Rattle.route_reader.specs.SolutionText.{solution_of, solution_at};
+ghost use Rattle.route_reader.specs.Answers.{Says, SaysSo};
+ghost use Rattle.route_reader.specs.Gathered.{Fits, Gathers, Takes, rest_says};
+
+use crate::error::SolutionError;
+use crate::gathering::{Gathering, Position, Refusal};
+use crate::solution::Solution;
+use gr_base::Design;
+use gr_io::{Shelf, Slot};
+use gr_text::{Ends, ReadError, TokenReader, TokenSource, Tokens, next_token_or_end};
+use solution_text::SolutionFault;
+use std::alloc::Global;
+
+/// The most bytes of a text that are read.
+const MOST_BYTES: u64 = 2_147_483_648;
+
+const ENDS: Ends<SolutionFault> = Ends {
+    ended: SolutionFault::Ended,
+    too_long: SolutionFault::TooLong,
+};
+
+/// Takes the next token, where the text doesn't end, and says whether there was one.
+fn take_token<S: TokenSource>(
+    source: &mut S,
+    design: &Design,
+    gathering: &mut Gathering,
+) -> Result<bool, ReadError<SolutionFault>>
+    requires fits { Fits design.now gathering.old }
+    ensures takes { (s : Progress) → Gathers design.now s gathering.old → Takes design.now s S.tells (S.place source.old) (S.place source.new) gathering.new result }
+    ensures faults { Counts result (S.faults source.old) (S.faults source.new) }
+    ensures device { S.device source.new ≡ S.device source.old }
+    ensures ended { result ≡ Ok false → IsTrue S.tells → S.ended source.new }
+{
+    if !next_token_or_end(source, ENDS)? {
+        return Ok(false);
+    }
+    match gathering.take(design, source.word()) {
+        Ok(()) => Ok(true),
+        Err(Refusal::Fault(fault)) => Err(ReadError::Fault {
+            fault,
+            token: source.number(),
+        }),
+        Err(Refusal::NoMemory) => Err(ReadError::NoMemory),
+    }
+}
+
+/// The solution, where the text ends between two records.
+fn finish<S: TokenSource>(
+    source: &S,
+    design: &Design,
+    gathering: Gathering,
+) -> Result<Solution, ReadError<SolutionFault>>
+    requires fits { Fits design.now gathering }
+    ensures says { (s : Progress) → Gathers design.now s gathering → IsTrue S.tells → SaysSo (rest_says design.now s false (S.place source.now)) result }
+    ensures of { IfOk result (IsOf design.now) }
+    ensures faults { (count : ℕ) → Counts result count count }
+{
+    let Position::Between = gathering.position else {
+        return Err(ReadError::Fault {
+            fault: SolutionFault::Ended,
+            token: source.number() + 1,
+        });
+    };
+    let shape = design.frame().shape;
+    Ok(Solution::new(shape, gathering.runs, gathering.spans))
+}
+
+/// Reads a whole solution.
+fn solution<S: TokenSource>(
+    alloc: Global,
+    source: &mut S,
+    design: &Design,
+) -> Result<Solution, ReadError<SolutionFault>>
+    ensures says { IsTrue S.tells → SaysSo (solution_at design.now start (S.place source.old)) result }
+    ensures of { IfOk result (IsOf design.now) }
+    ensures faults { Counts result (S.faults source.old) (S.faults source.new) }
+    ensures device { S.device source.new ≡ S.device source.old }
+    ensures ended { OnOk result (IsTrue S.tells → S.ended source.new) }
+{
+    let Ok(mut gathering) = Gathering::new(alloc, design.nets()) else {
+        return Err(ReadError::NoMemory);
+    };
+    for _ in 0..u64::MAX {
+        if !take_token(source, design, &mut gathering)? {
+            return finish(source, design, gathering);
+        }
+    }
+    // No text has so many tokens.
+    Err(ReadError::NoMemory)
+}
+
+/// Reads a whole solution from a shelf.
+fn read<S: Shelf>(
+    alloc: Global,
+    reader: &mut TokenReader<'_, '_, S>,
+    design: &Design,
+) -> Result<Solution, ReadError<SolutionFault>>
+    ensures says { IsTrue S.tells → SaysSo (solution_at design.now start (place_of reader.old.tokens.now (S.left reader.old.shelf.now reader.old.tokens.now.slot))) result }
+    ensures of { IfOk result (IsOf design.now) }
+    ensures ended { OnOk result (IsTrue S.tells → S.left reader.new.shelf.now reader.new.tokens.now.slot ≡ []) }
+    ensures faults { Counts result (S.faults reader.old.shelf.now) (S.faults reader.new.shelf.now) }
+    ensures same_reference { reader.new.shelf.ghost_name ≡ reader.old.shelf.ghost_name }
+    ensures slot { reader.new.tokens.now.slot ≡ reader.old.tokens.now.slot }
+    ensures misses { S.misses reader.new.shelf.now ≡ S.misses reader.old.shelf.now }
+    ensures held { S.held reader.new.shelf.now ≡ S.held reader.old.shelf.now }
+{
+    solution(alloc, reader, design)
+}
+
+/// Reads the solution that was reached on the shelf, from its next byte to its end: the routes that
+/// any router wrote for the design. Nets may come in any order, and segments may overlap, go
+/// backward or be empty.
+///
+/// # Errors
+/// `Fault` with the first fault of the text, exactly where it has one and no read failed; `Failed`
+/// where a read failed; `NoMemory`.
+pub fn read_solution<S: Shelf>(
+    alloc: Global,
+    shelf: &mut S,
+    design: &Design,
+) -> Result<Solution, SolutionError>
+    requires reached { IsTrue (S.reached shelf.old Slot.Solution) }
+
+    // Where the shelf tells the bytes, the answer is the solution that they say, or their first fault.
+    ensures says { IsTrue S.tells → Says (solution_of design.now (S.left shelf.old Slot.Solution)) result }
+    ensures covers { IfOk result (λ solution. IsTrue S.tells → (net : ℕ) → (e : Edge) → edges_by solution net e ≡ cover design.now (S.left shelf.old Slot.Solution) net e) }
+    ensures whole_text { OnOk result (IsTrue S.tells → S.left shelf.new Slot.Solution ≡ []) }
+
+    // Whatever the shelf tells, a solution is one for the design.
+    ensures of { IfOk result (IsOf design.now) }
+
+    ensures failed { result ≡ Err SolutionError.Failed → Rose (S.faults shelf.old) (S.faults shelf.new) }
+    ensures quiet { (result ≡ Err SolutionError.Failed → ⊥) → S.faults shelf.new ≡ S.faults shelf.old }
+    ensures faults_kept { S.faults shelf.old ≤ S.faults shelf.new }
+    ensures misses { S.misses shelf.new ≡ S.misses shelf.old }
+    ensures held { (slot : Slot) → (name : List ℕ) → S.held shelf.new slot name ≡ S.held shelf.old slot name }
+{
+    let mut tokens = Tokens::new(alloc, Slot::Solution, MOST_BYTES)?;
+    let mut reader = TokenReader {
+        tokens: &mut tokens,
+        shelf,
+    };
+    let solution = read(alloc, &mut reader, design)?;
+    Ok(solution)
+}

@@ -1,0 +1,57 @@
+ghost use Rattle.std.specs.Prelude.{◌≡◌, ◌<◌, length, map, All};
+ghost use Rattle.route_reader.specs.Solutions.{runs_at, IsRun, IsSolution};
+ghost use Rattle.route_reader.specs.SolutionStore.{runs_between, IsSpan};
+
+use gr_base::Shape;
+use solution_text::Run;
+use std::marker::Model;
+
+/// From where to where a net's runs stand in the list of all runs.
+#[derive(Clone, Copy, Debug, PartialEq, Eq)]
+pub(crate) struct Span {
+    pub(crate) start: usize,
+    pub(crate) end: usize,
+}
+
+/// The routes of a solution's text: each net's runs, in the order of the text.
+#[derive(Debug, Drop)]
+pub struct Solution {
+    shape: Shape,
+    runs: Vec<Run>,
+    spans: Vec<Span>,
+}
+
+impl Model for Solution {
+    ghost use Rattle.route_reader.specs.Solutions.{SolutionView};
+
+    ghost Value = { SolutionView };
+
+    ghost use Rattle.route_reader.specs.SolutionStore.{seen, Keeps};
+
+    ghost view = { seen };
+
+    ghost invariant = { Keeps };
+}
+
+impl Solution {
+    /// The solution whose runs these are, those of each net between the ends of its span.
+    pub(crate) fn new(shape: Shape, runs: Vec<Run>, spans: Vec<Span>) -> Self
+        requires spans { All (IsSpan (length runs.items)) spans.items }
+        requires runs { All (IsRun shape) runs.items }
+        ensures { result ≡ record { shape = shape; runs = map (runs_between runs.items) spans.items } }
+    {
+        Solution { shape, runs, spans }
+    }
+
+    /// The runs of a net's segments, in the order of the text. There are none for a net without a
+    /// record.
+    pub fn runs(&self, net: u32) -> &[Run]
+        requires { net < length self.now.runs }
+        ensures runs { result.now ≡ runs_at self.now net }
+        ensures each { All (IsRun self.now.shape) result.now }
+        ensures all { IsSolution self.now }
+    {
+        let span = self.spans[net as usize];
+        &self.runs[span.start..span.end]
+    }
+}

@@ -1,0 +1,171 @@
+//! The numbers of a segment, and the run that they name.
+ghost use Rattle.std.specs.Prelude.{◌≡◌, ◌-◌, ◌<◌, ◌≤◌, ◌≤ℤ◌, nat_lt, is_some, pos, IfOk, IfSome};
+ghost use Rattle.gr_base.specs.Limits.{most_id};
+ghost use Rattle.gr_base.specs.Grid.{IsInside};
+ghost use Rattle.gr_text.specs.Numbers.{is_digit, all_digits, decimal_value, whole_value};
+ghost use Rattle.solution_text.specs.Grammar.{is_straight, segment};
+ghost use Rattle.route_reader.specs.Segments.{run_of_ends};
+ghost use Rattle.route_reader.specs.Solutions.{IsRun};
+ghost use Rattle.route_reader.specs.Spots.{are_whole, spot_in, place_of, run_of_spots, run_of_places};
+
+use crate::segment::{Ends, Written, ends_of};
+use gr_base::{Cell, Design, Shape};
+use gr_text::whole_of;
+use solution_text::{Run, SolutionFault};
+
+/// The greatest coordinate of a segment's end.
+const MOST_COORDINATE: i64 = 1 << 44;
+
+/// The greatest number that is read of a layer.
+const MOST_LAYER: i64 = 2_147_483_647;
+
+/// The end of a segment, in the units of the design. Layers count from 1.
+#[derive(Clone, Copy)]
+pub(crate) struct Spot {
+    x: i64,
+    y: i64,
+    layer: u32,
+}
+
+fn is_digit(byte: u8) -> bool
+    ensures { result ≡ is_digit byte }
+{
+    b'0' <= byte && byte <= b'9'
+}
+
+fn all_digits(bytes: &[u8]) -> bool
+    ensures { result ≡ all_digits bytes.now }
+{
+    bytes.iter().all(|byte| is_digit(*byte))
+}
+
+/// Whether the bytes are decimal digits, at least one.
+#[tactic(auto, unfolding(gr_text::specs::Numbers::decimal_value))]
+fn are_digits(bytes: &[u8]) -> bool
+    ensures { result ≡ is_some (decimal_value bytes.now) }
+{
+    if bytes.is_empty() {
+        return false;
+    }
+    all_digits(bytes)
+}
+
+/// Whether the bytes write a whole number, of any size.
+fn is_whole(bytes: &[u8]) -> bool
+    ensures { result ≡ is_some (whole_value bytes.now) }
+{
+    let Some((first, rest)) = bytes.split_first() else {
+        return false;
+    };
+    if *first == b'-' {
+        are_digits(rest)
+    } else {
+        are_digits(bytes)
+    }
+}
+
+fn are_whole(point: Written<'_>) -> bool
+    ensures { result ≡ are_whole point.entry }
+{
+    is_whole(point.x) && is_whole(point.y) && is_whole(point.layer)
+}
+
+/// The end of a segment that is written, if its numbers are in range.
+fn spot_in(point: Written<'_>) -> Option<Spot>
+    ensures { result ≡ spot_in point.entry }
+{
+    let x = whole_of(point.x, -MOST_COORDINATE, MOST_COORDINATE)?;
+    let y = whole_of(point.y, -MOST_COORDINATE, MOST_COORDINATE)?;
+    let layer = whole_of(point.layer, 0, MOST_LAYER)?;
+    Some(Spot {
+        x,
+        y,
+        layer: layer as u32,
+    })
+}
+
+/// The place of the grid in which a segment's end lies, if it lies on the chip.
+fn place_of(design: &Design, spot: Spot) -> Option<Cell>
+    ensures place { result ≡ place_of design.now.frame spot }
+    ensures inside { IfSome result (IsInside design.now.frame.shape) }
+{
+    let x = design.tile_x(spot.x)?;
+    let y = design.tile_y(spot.y)?;
+    if spot.layer < 1 || spot.layer > design.frame().shape.layers() {
+        return None;
+    }
+    Some(Cell {
+        x,
+        y,
+        layer: spot.layer - 1,
+    })
+}
+
+/// Whether two places differ in at most one of column, row and layer.
+fn is_straight(a: Cell, b: Cell) -> bool
+    ensures { result ≡ is_straight a b }
+{
+    (a.x == b.x && a.y == b.y)
+        || (a.x == b.x && a.layer == b.layer)
+        || (a.y == b.y && a.layer == b.layer)
+}
+
+/// The run between two places.
+fn run_of_places(shape: Shape, from: Cell, to: Cell) -> Result<Run, SolutionFault>
+    requires from { IsInside shape from }
+    requires to { IsInside shape to }
+    ensures run { result ≡ run_of_places shape from to }
+    ensures of { IfOk result (IsRun shape) }
+{
+    if !is_straight(from, to) {
+        return Err(SolutionFault::Slanted);
+    }
+    Ok(Run {
+        from: shape.cell_of(from.x, from.y, from.layer),
+        to: shape.cell_of(to.x, to.y, to.layer),
+    })
+}
+
+/// The run between two ends whose numbers are in range.
+fn run_of_spots(design: &Design, from: Spot, to: Spot) -> Result<Run, SolutionFault>
+    ensures run { result ≡ run_of_spots design.now.frame from to }
+    ensures of { IfOk result (IsRun design.now.frame.shape) }
+{
+    let Some(from) = place_of(design, from) else {
+        return Err(SolutionFault::Outside);
+    };
+    let Some(to) = place_of(design, to) else {
+        return Err(SolutionFault::Outside);
+    };
+    run_of_places(design.frame().shape, from, to)
+}
+
+/// The run between two ends that are written.
+fn run_of_ends(design: &Design, ends: Ends<'_>) -> Result<Run, SolutionFault>
+    ensures run { result ≡ run_of_ends design.now.frame (Some ends.entry) }
+    ensures of { IfOk result (IsRun design.now.frame.shape) }
+{
+    if !are_whole(ends.from) || !are_whole(ends.to) {
+        return Err(SolutionFault::Form);
+    }
+    let Some(from) = spot_in(ends.from) else {
+        return Err(SolutionFault::Number);
+    };
+    let Some(to) = spot_in(ends.to) else {
+        return Err(SolutionFault::Number);
+    };
+    run_of_spots(design, from, to)
+}
+
+/// The run that a segment writes. The form of the whole token is checked first, then all numbers,
+/// then whether both ends lie on the chip, then whether they differ in at most one of column, row
+/// and layer.
+pub(crate) fn segment(design: &Design, token: &[u8]) -> Result<Run, SolutionFault>
+    ensures run { result ≡ segment design.now.frame token.now }
+    ensures of { IfOk result (IsRun design.now.frame.shape) }
+{
+    let Some(ends) = ends_of(token) else {
+        return Err(SolutionFault::Form);
+    };
+    run_of_ends(design, ends)
+}
