@@ -1,0 +1,17 @@
+pub mod NumberLemmas
+pub mod EdgeNumberLemmas
+pub mod LineLemmas
+pub mod GatherLemmas
+pub mod FloodLemmas
+pub mod CountLemmas
+pub mod ChargeSteps
+pub mod StepLemmas
+pub mod CountedLemmas
+pub mod VerdictLemmas
+pub mod PathLemmas
+pub mod TreePaths
+pub mod EdgeTableLemmas
+pub mod TreeFloodLemmas
+pub mod NetTreeLemmas
+pub mod RunEdges
+pub mod NetSets

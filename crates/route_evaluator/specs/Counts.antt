@@ -1,0 +1,36 @@
+use Rattle.std.specs.Prelude.{◌≡◌, ◌↔◌, ℕ, ◌*◌, ◌<◌, Bool, List, [], ◌∷◌, ◌++◌, Contains, count_by, sum_by, filter, if◌then◌else◌, IsTrue}
+use Rattle.std.specs.List.{range_with_len}
+use Rattle.std.specs.List.Sorted.{IsStrictlyIncreasing}
+use Rattle.gr_base.specs.Capacities.{need}
+use Rattle.gr_base.specs.Designs.{DesignView, is_routed}
+use Rattle.gr_base.specs.EdgeSets.{Edges}
+use Rattle.gr_base.specs.Grid.{cells_of, has_edge, is_wire}
+use Rattle.gr_base.specs.Sums.{wire_edges, via_edges}
+use Rattle.gr_base.specs.declared.grid.Edge.{Edge}
+use Rattle.grid_demand.specs.LoadSums.{demand_at}
+use Rattle.grid_demand.specs.Tables.{capacity_of}
+use Rattle.route_evaluator.specs.NumberSets.{empty_set}
+use Rattle.route_evaluator.specs.Verdicts.{IsUnjoined}
+use Rattle.route_evaluator.specs.declared.tally.Tally.{Tally}
+
+-- the sum of what f gives for each routed net below a number
+abbrev pub sum_before : DesignView → ℕ → (ℕ → ℕ) → ℕ
+sum_before d count f = sum_by f (filter (is_routed d) (range_with_len 0 count))
+
+-- the net comes behind the others, unless it is joined
+abbrev pub noted : Bool → ℕ → List ℕ → List ℕ
+noted joined net nets = if joined then nets else nets ++ net ∷ []
+
+-- the nets below a number are counted, and nothing is left of them in the sets
+pub record AreCounted (d : DesignView) (sets : ℕ → Edges) (count : ℕ) (t : Tally) : Type 0 where
+  pub capacity : t.capacity ≡ capacity_of d
+  pub shape : t.loads.shape ≡ d.frame.shape
+  pub demand : (e : Edge) → IsTrue (has_edge d.frame.shape e) → IsTrue (is_wire e) →
+      demand_at t.loads e ≡ sum_before d count (λ net. if sets net e then need d net e else 0)
+  pub edges : t.edges ≡ empty_set (3 * cells_of d.frame.shape)
+  pub reached : t.reached ≡ empty_set (cells_of d.frame.shape)
+  pub routed : t.routed ≡ count_by (is_routed d) (range_with_len 0 count)
+  pub wires : t.wires ≡ sum_before d count (λ net. count_by (sets net) (wire_edges d.frame.shape))
+  pub vias : t.vias ≡ sum_before d count (λ net. count_by (sets net) (via_edges d.frame.shape))
+  pub rising : IsStrictlyIncreasing t.unjoined
+  pub unjoined : (net : ℕ) → Contains t.unjoined net ↔ ((net < count) × IsUnjoined d sets net)

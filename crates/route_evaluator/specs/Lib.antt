@@ -1,0 +1,10 @@
+pub mod Verdicts
+pub mod NumberSets
+pub mod NumberSetStore
+pub mod EdgeNumbers
+pub mod Floods
+pub mod Counts
+pub mod NetTrees
+pub mod WayApart
+pub mod EdgeTables
+pub mod TreeFlood

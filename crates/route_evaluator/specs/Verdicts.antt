@@ -1,0 +1,35 @@
+use Rattle.std.specs.Prelude.{◌≡◌, ◌↔◌, ℕ, List, [], length, Contains, count_by, Option, Some, None, slice_get, IsTrue}
+use Rattle.std.specs.List.{range_with_len}
+use Rattle.std.specs.List.Sorted.{IsStrictlyIncreasing}
+use Rattle.gr_base.specs.Designs.{DesignView, is_routed}
+use Rattle.gr_base.specs.EdgeSets.{Edges, IsJoined}
+use Rattle.gr_base.specs.Sums.{total_over, most_over, wirelength as wirelength_of, vias as vias_of}
+use Rattle.gr_base.specs.declared.frame.Net.{Net}
+use Rattle.route_evaluator.specs.declared.verdict.Verdict.{Verdict}
+
+abbrev pub pins_or_none : Option Net → List ℕ
+pins_or_none None = []
+pins_or_none (Some net) = net.pins
+
+-- the cells of a net's pins, in order
+abbrev pub pins_at : DesignView → ℕ → List ℕ
+pins_at d net = pins_or_none (slice_get d.nets net)
+
+-- how many nets are routed
+abbrev pub routed_nets : DesignView → ℕ
+routed_nets d = count_by (is_routed d) (range_with_len 0 (length d.nets))
+
+-- the net is routed, and its set of edges doesn't join its pins
+pub record IsUnjoined (d : DesignView) (sets : ℕ → Edges) (net : ℕ) : Type 0 where
+  pub routed : IsTrue (is_routed d net)
+  pub apart : IsJoined d.frame.shape (sets net) (pins_at d net) → ⊥
+
+-- what is said of routes where each net has its set of edges
+pub record IsVerdict (d : DesignView) (via_cost : ℕ) (sets : ℕ → Edges) (v : Verdict) : Type 0 where
+  pub routed : v.routed ≡ routed_nets d
+  pub total : v.total ≡ total_over d sets
+  pub max : v.max ≡ most_over d sets
+  pub wirelength : v.wirelength ≡ wirelength_of d via_cost sets
+  pub vias : v.vias ≡ vias_of d sets
+  pub rising : IsStrictlyIncreasing v.unjoined
+  pub unjoined : (net : ℕ) → Contains v.unjoined net ↔ IsUnjoined d sets net

@@ -1,0 +1,62 @@
+//! The edges that the runs of a net cover.
+ghost use Rattle.std.specs.Prelude.{◌≡◌, ◌<◌, ◌≤◌, ◌*◌, ◌||◌, ℕ, All, OnOk};
+ghost use Rattle.std.specs.List.{list_any};
+ghost use Rattle.gr_base.specs.declared.grid.Edge.{Edge};
+ghost use Rattle.gr_base.specs.Grid.{cells_of, way_between};
+ghost use Rattle.solution_text.specs.Covers.{covers};
+ghost use Rattle.route_reader.specs.Solutions.{IsRun};
+ghost use Rattle.route_evaluator.specs.EdgeNumbers.{edges_numbered};
+
+use crate::edge_numbers::edge_number;
+use crate::number_set::NumberSet;
+use gr_base::{Edge, Shape, Way};
+use solution_text::Run;
+use std::alloc::AllocError;
+
+/// The way from a cell to another in one line with it.
+fn way_along(shape: Shape, low: u32, high: u32) -> Way
+    requires low { low < cells_of shape }
+    requires high { high < cells_of shape }
+    ensures { result ≡ way_between shape low high }
+{
+    let from = shape.place_of(low);
+    let to = shape.place_of(high);
+    if from.x != to.x {
+        Way::East
+    } else if from.y != to.y {
+        Way::North
+    } else {
+        Way::Up
+    }
+}
+
+/// Puts the edges that a run covers into a set of edges.
+fn add_run(edges: &mut NumberSet, shape: Shape, run: Run) -> Result<(), AllocError>
+    requires bound { edges.old.bound ≡ 3 * cells_of shape }
+    requires run { IsRun shape run }
+    ensures bound { OnOk result (edges.new.bound ≡ edges.old.bound) }
+    ensures edges { OnOk result ((e : Edge) → edges_numbered edges.new.numbers e ≡ (edges_numbered edges.old.numbers e || covers shape run e)) }
+{
+    let mut low = run.from.min(run.to);
+    let high = run.from.max(run.to);
+    let way = way_along(shape, low, high);
+    while low < high {
+        let edge = Edge { low, way };
+        edges.insert(edge_number(edge))?;
+        low = shape.high(edge);
+    }
+    Ok(())
+}
+
+/// Puts the edges that runs cover into a set of edges.
+pub(crate) fn gather(edges: &mut NumberSet, shape: Shape, runs: &[Run]) -> Result<(), AllocError>
+    requires bound { edges.old.bound ≡ 3 * cells_of shape }
+    requires runs { All (IsRun shape) runs.now }
+    ensures bound { OnOk result (edges.new.bound ≡ edges.old.bound) }
+    ensures edges { OnOk result ((e : Edge) → edges_numbered edges.new.numbers e ≡ (edges_numbered edges.old.numbers e || list_any (λ run. covers shape run e) runs.now)) }
+{
+    for run in runs {
+        add_run(edges, shape, *run)?;
+    }
+    Ok(())
+}

@@ -1,0 +1,31 @@
+ghost use Rattle.std.specs.Prelude.{◌≤◌, IfOk};
+ghost use Rattle.route_reader.specs.Solutions.{IsOf, edges_by};
+ghost use Rattle.route_evaluator.specs.Verdicts.{IsVerdict};
+
+use crate::tally::Tally;
+use crate::verdict::Verdict;
+use gr_base::Design;
+use route_reader::Solution;
+use std::alloc::{AllocError, Global};
+
+/// Judges a solution of a design. Each routed net has the set of edges that its runs cover, however
+/// often they cover an edge; a net of more than 1,000 pins isn't counted. The via cost, at most
+/// 1,000, is what a via edge counts in the wirelength. The only error is want of memory.
+pub fn evaluate(
+    alloc: Global,
+    design: &Design,
+    solution: &Solution,
+    via_cost: u32,
+) -> Result<Verdict, AllocError>
+    requires solution { IsOf design.now solution.now }
+    requires cost { via_cost ≤ 1000 }
+    ensures { IfOk result (λ verdict. IsVerdict design.now via_cost (edges_by solution.now) verdict) }
+{
+    let mut tally = Tally::new(alloc, design)?;
+    for net in 0..design.nets() {
+        if design.routed(net) {
+            tally.count(design, solution, net)?;
+        }
+    }
+    Ok(tally.verdict(via_cost))
+}

@@ -1,0 +1,30 @@
+//! Judges a solution: its measures and the nets that it leaves unjoined, and the tree and the
+//! straight runs of each net's edges.
+#![tactic(auto)]
+
+mod edge_numbers;
+mod edge_table;
+mod edge_tree;
+mod flood;
+mod gather;
+mod judgement;
+mod net_runs;
+mod net_tree;
+mod number_set;
+mod run_edges;
+mod straight_list;
+mod tally;
+#[cfg(test)]
+mod tests;
+mod tree_error;
+mod tree_flood;
+#[cfg(test)]
+mod tree_tests;
+mod verdict;
+
+pub use judgement::evaluate;
+pub use net_runs::straight;
+pub use net_tree::tree_of;
+pub use straight_list::Straight;
+pub use tree_error::TreeError;
+pub use verdict::Verdict;

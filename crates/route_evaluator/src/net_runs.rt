@@ -1,0 +1,30 @@
+ghost use Rattle.std.specs.Prelude.{◌≡◌, ◌<◌, length, IfOk};
+ghost use Rattle.solution_text.specs.Runs.{runs_of};
+ghost use Rattle.route_reader.specs.Solutions.{IsOf, edges_by};
+
+use crate::run_edges::edges_along;
+use crate::straight_list::Straight;
+use gr_base::Design;
+use route_reader::Solution;
+use std::alloc::{AllocError, Global};
+use straight_runs::gather_runs;
+
+/// The maximal straight runs of a net's edges in a solution, in the order in which they are written.
+/// The only error is want of memory.
+pub fn straight(
+    alloc: Global,
+    design: &Design,
+    solution: &Solution,
+    net: u32,
+) -> Result<Straight, AllocError>
+    requires of { IsOf design.now solution.now }
+    requires net { net < length design.now.nets }
+    ensures { IfOk result (λ straight. straight ≡ runs_of design.now.frame.shape (edges_by solution.now net)) }
+{
+    let shape = design.frame().shape;
+    let edges = edges_along(alloc, shape, solution.runs(net))?;
+    let mut runs = Vec::new(alloc);
+    let mut lows = Vec::new(alloc);
+    gather_runs(&mut runs, &mut lows, shape, &edges)?;
+    Ok(Straight { runs })
+}
