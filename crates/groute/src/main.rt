@@ -1,6 +1,9 @@
 //! `groute`: a global router over files and standard streams.
 #![tactic(auto)]
 
+use cost_rules::{
+    CostRule, Formula, Rules, Watch, Watcher, first_cost, flat_cost, goal, never, steep_cost, still,
+};
 use gr_io::{HostShelf, HostSink};
 use router_top::run;
 use std::env::Env;
@@ -22,6 +25,23 @@ fn main(rt: HostRuntime) -> ExitCode {
     let mut shelf = HostShelf::new(&rt);
     let mut out = HostSink::new(rt.stdout());
     let mut err = HostSink::new(rt.stderr());
-    let ended = run(&rt, rt.alloc(), &words, &mut shelf, &mut out, &mut err);
+    // Functions are made here and handed in, so that their contracts go with them.
+    let rules = Rules::new(
+        CostRule::new(Formula::First, first_cost),
+        CostRule::new(Formula::Steep, steep_cost),
+        CostRule::new(Formula::Flat, flat_cost),
+        Watcher::new(Watch::Never, never),
+        Watcher::new(Watch::Still, still),
+        Watcher::new(Watch::Goal, goal),
+    );
+    let ended = run(
+        &rt,
+        rt.alloc(),
+        &words,
+        &mut shelf,
+        &mut out,
+        &mut err,
+        &rules,
+    );
     ExitCode::from(ended.status)
 }

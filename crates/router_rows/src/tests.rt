@@ -1,3 +1,6 @@
+use cost_rules::{
+    CostRule, Formula, Rules, Watch, Watcher, first_cost, flat_cost, goal, never, steep_cost, still,
+};
 use gr_io::{MemoryShelf, MemorySink};
 use router_top::run;
 use std::alloc::Global;
@@ -43,6 +46,18 @@ const AMPLE: Devices = Devices {
     err: 0,
 };
 
+/// The rules and watchers, each by its own function.
+fn rules() -> Rules {
+    Rules::new(
+        CostRule::new(Formula::First, first_cost),
+        CostRule::new(Formula::Steep, steep_cost),
+        CostRule::new(Formula::Flat, flat_cost),
+        Watcher::new(Watch::Never, never),
+        Watcher::new(Watch::Still, still),
+        Watcher::new(Watch::Goal, goal),
+    )
+}
+
 fn one(alloc: Global, call: u64) -> Result<Vec<u64>, Fail> {
     Ok(vec![in alloc; call]?)
 }
@@ -61,7 +76,7 @@ fn route<R: AllocGlobal + Abort>(rt: &R, text: &[u8], devices: Devices) -> Resul
     for word in ["route", "A"] {
         words.push(String::from_str(alloc, word)?)?;
     }
-    let ended = run(rt, alloc, &words, &mut shelf, &mut out, &mut err);
+    let ended = run(rt, alloc, &words, &mut shelf, &mut out, &mut err, &rules());
     Ok(Left {
         status: ended.status,
         out,

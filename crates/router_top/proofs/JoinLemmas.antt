@@ -1,12 +1,7 @@
-use Rattle.std.proofs.Common.{◌≡◌, ℕ, ◌+◌, ◌<◌, ◌&&◌, Bool, true, List, [], ◌∷◌, length, get_or, slice_get, All, Option, Some, None, IsSomeAnd, IsTrue, refl, sym, ap, subst, ◌∙◌, arith}
-use Rattle.std.specs.Option.{option_map_or}
+use Rattle.std.proofs.Common.{ℕ, List, [], ◌∷◌, get_or, All, IsTrue, arith}
 use Rattle.std.proofs.lemmas.List.Elements.{All-get_or}
-use Rattle.gr_base.specs.Designs.{DesignView, IsDesign, is_routed, is_routed_net}
 use Rattle.gr_base.specs.EdgeSets.{Edges, Leads, Stays, Goes_on, IsJoined}
-use Rattle.gr_base.specs.Grid.{has_edge}
-use Rattle.gr_base.specs.Plans.{Routes, RoutesAll}
-use Rattle.gr_base.specs.Trees.{TreeView, holds, edges_of, tree_at, IsConnected}
-use Rattle.gr_base.specs.declared.frame.Net.{Net}
+use Rattle.gr_base.specs.Trees.{TreeView, holds, edges_of, IsConnected}
 use Rattle.gr_base.specs.declared.grid.Edge.{Edge}
 use Rattle.gr_base.specs.declared.grid.Shape.{Shape}
 

@@ -1,3 +1,5 @@
 pub mod JoinLemmas
 pub mod RoutingLemmas
+pub mod PlanningLemmas
+pub mod JudgingLemmas
 pub mod EndLemmas

@@ -1,23 +1,23 @@
-use Rattle.std.proofs.Common.{◌≡◌, ℕ, ◌⊎◌, inl, inr, ◌&&◌, Bool, true, false, List, [], ◌++◌, slice_get, Option, Some, None, IsSomeAnd, Result, Ok, Err, IsTrue, refl, sym, ap, subst, ◌∙◌}
-use Rattle.std.specs.Option.{option_map}
+use Rattle.std.proofs.Common.{◌≡◌, ℕ, ◌&&◌, true, List, slice_get, Option, Some, None, IsSomeAnd, Ok, IsTrue, refl, ap, subst, ◌∙◌}
 use Rattle.gr_base.specs.Designs.{DesignView, IsDesign, is_routed, is_routed_net}
-use Rattle.gr_base.specs.EdgeSets.{Edges, IsJoined}
+use Rattle.gr_base.specs.EdgeSets.{IsJoined}
 use Rattle.gr_base.specs.Grid.{has_edge}
 use Rattle.gr_base.specs.Plans.{Routes, RoutesAll}
-use Rattle.gr_base.specs.Trees.{TreeView, IsTree, edges_of, tree_at, tree_edges}
+use Rattle.gr_base.specs.Trees.{TreeView, edges_of, tree_at, tree_edges}
 use Rattle.gr_base.specs.declared.frame.Net.{Net}
 use Rattle.gr_base.specs.declared.grid.Edge.{Edge}
 use Rattle.gr_base.specs.declared.grid.Shape.{Shape}
 use Rattle.gr_base.proofs.TreeEdges.{tree-connected, tree-grid_edges}
-use Rattle.first_path.specs.Growth.{AreTrees}
-use Rattle.ispd_reader.specs.DesignText.{design_of}
+use Rattle.cost_rules.specs.declared.site.Formula.TheVariants.{First}
 use Rattle.route_writer.specs.Routed.{AreRouted, route_edges, edges_or_none}
-use Rattle.route_writer.proofs.MarkLemmas.{list-within}
+use Rattle.straight_runs.proofs.ListLemmas.{list-within}
 use Rattle.solution_text.specs.Cover.{cover}
 use Rattle.solution_text.specs.Laws.{WrittenTextCovers}
 use Rattle.solution_text.specs.Runs.{LieIn}
 use Rattle.solution_text.specs.WrittenText.{written_text}
-use Rattle.router_top.specs.Outcomes.{said_by, AllJoined, IsRouting}
+use Rattle.router_top.specs.Devices.{Reading}
+use Rattle.router_top.specs.Planning.{AreTrees, IsPlanned}
+use Rattle.router_top.specs.Texts.{design_said, AllJoined, IsRouting}
 use Rattle.router_top.proofs.JoinLemmas.{IsJoined-tree}
 
 some-weaken : (P Q : TreeView → Type 0) (o : Option TreeView) → ((t : TreeView) → P t → Q t) → IsSomeAnd o P → IsSomeAnd o Q
@@ -62,13 +62,15 @@ all-joined d trees law design routes are number net is routed = by_tree (tree_at
         (IsJoined-tree t (cover d (written_text d (route_edges trees)) number) net.pins (tree-connected t (are number t there).0) (covers t there) r.pins)
 
 -- a design that was read, and the trees of its nets, make a routing
-pub is-routing : (held : Option (List ℕ)) (bytes : List ℕ) (d : DesignView) (trees : List (Option TreeView)) → WrittenTextCovers → held ≡ Some bytes → design_of bytes ≡ Ok d →
-    IsDesign d → RoutesAll d trees → AreTrees d.frame.shape trees → IsRouting held (written_text d (route_edges trees))
-is-routing held bytes d trees law is says design routes are = record {
+pub is-routing : (shelf : Reading) (name : List ℕ) (d : DesignView) (trees : List (Option TreeView)) → WrittenTextCovers →
+    (IsTrue shelf.tells → design_said shelf name ≡ Some (Ok d)) →
+    IsDesign d → RoutesAll d trees → AreTrees d.frame.shape trees → IsPlanned d First trees → IsRouting shelf name (written_text d (route_edges trees))
+is-routing shelf name d trees law said design routes are planned = record {
   design = d;
-  said = ap (option_map design_of) is ∙ ap Some says;
+  said = said;
   trees = trees;
   routes = routes;
+  planned = planned;
   says = refl;
   joined = all-joined d trees law design routes are;
 }

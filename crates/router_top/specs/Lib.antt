@@ -1,4 +1,9 @@
 pub mod Words
+pub mod Orders
+pub mod Devices
 pub mod Lines
+pub mod Planning
+pub mod Texts
+pub mod Opening
 pub mod Outcomes
 pub mod Ends

@@ -1,30 +1,57 @@
 ghost use Rattle.std.specs.Prelude.{◌≡◌, IfOk};
-ghost use Rattle.router_top.specs.Lines.{status_of, line_of};
-ghost use Rattle.router_top.specs.Outcomes.{GainsLine, IsTold};
-ghost use Rattle.router_top.specs.declared.stop.Stop.TheVariants.{DesignFault};
+ghost use Rattle.router_top.specs.Devices.{GainsLine};
+ghost use Rattle.router_top.specs.Lines.{status_done, status_of, fault_line};
+ghost use Rattle.router_top.specs.Outcomes.{IsTold};
 
 use gr_io::{Sink, write_whole};
 use gr_text::Text;
-use ispd_reader::DesignFault as Fault;
+use ispd_reader::DesignFault as DesignFaultKind;
+use solution_text::SolutionFault as SolutionFaultKind;
 use std::alloc::{AllocError, Global};
+
+/// How a command that was done found the routes.
+#[derive(Clone, Copy, Debug, PartialEq, Eq)]
+pub(crate) enum Outcome {
+    Whole,
+    /// Some routed net isn't joined.
+    Open,
+}
 
 /// Why a command stopped.
 #[derive(Clone, Copy, Debug, PartialEq, Eq)]
 pub(crate) enum Stop {
     Usage,
-    DesignFault { fault: Fault, token: u64 },
+    DesignFault {
+        fault: DesignFaultKind,
+        token: u64,
+    },
+    SolutionFault {
+        fault: SolutionFaultKind,
+        token: u64,
+    },
     ReadFailed,
     WriteFailed,
     NoMemory,
 }
 
-/// The status that the program ends with.
+/// The status that the program ends with where a command was done.
+pub(crate) fn status_done(outcome: Outcome) -> u8
+    ensures { result ≡ status_done outcome }
+{
+    match outcome {
+        Outcome::Whole => 0,
+        Outcome::Open => 1,
+    }
+}
+
+/// The status that the program ends with where a command stopped.
 pub(crate) fn status(stop: Stop) -> u8
     ensures { result ≡ status_of stop }
 {
     match stop {
         Stop::Usage => 2,
         Stop::DesignFault { .. } => 3,
+        Stop::SolutionFault { .. } => 5,
         Stop::ReadFailed => 6,
         Stop::WriteFailed => 7,
         Stop::NoMemory => 8,
@@ -39,7 +66,14 @@ pub(crate) fn tell<E: Sink>(alloc: Global, err: &mut E, stop: Stop) -> Stop
     match stop {
         Stop::Usage => write_line(err, b"groute: usage\n"),
         Stop::DesignFault { fault, token } => {
-            let Ok(line) = fault_line(alloc, fault, token) else {
+            let Ok(line) = fault_line(alloc, b"design", fault.number(), token) else {
+                write_line(err, b"groute: out of memory\n");
+                return Stop::NoMemory;
+            };
+            write_line(err, line.bytes());
+        }
+        Stop::SolutionFault { fault, token } => {
+            let Ok(line) = fault_line(alloc, b"solution", fault.number(), token) else {
                 write_line(err, b"groute: out of memory\n");
                 return Stop::NoMemory;
             };
@@ -59,15 +93,17 @@ fn write_line<E: Sink>(err: &mut E, line: &[u8])
     let _ = write_whole(err, line);
 }
 
-/// The line of a design fault. The only error is want of memory.
-fn fault_line(alloc: Global, fault: Fault, token: u64) -> Result<Text, AllocError>
-    ensures { IfOk result (λ text. text ≡ line_of (DesignFault fault token)) }
+/// The line of a fault of a text. The only error is want of memory.
+fn fault_line(alloc: Global, text: &[u8], fault: u8, token: u64) -> Result<Text, AllocError>
+    ensures { IfOk result (λ line. line ≡ fault_line text.now fault token) }
 {
-    let mut text = Text::new(alloc);
-    text.put(b"groute: design fault ")?;
-    text.put_number(i128::from(fault.number()))?;
-    text.put(b" at token ")?;
-    text.put_number(i128::from(token))?;
-    text.put(b"\n")?;
-    Ok(text)
+    let mut line = Text::new(alloc);
+    line.put(b"groute: ")?;
+    line.put(text)?;
+    line.put(b" fault ")?;
+    line.put_number(i128::from(fault))?;
+    line.put(b" at token ")?;
+    line.put_number(i128::from(token))?;
+    line.put(b"\n")?;
+    Ok(line)
 }

@@ -1,46 +1,40 @@
-use Rattle.std.proofs.Common.{◌≡◌, inl, inr, subst, ◌∙◌}
-use Rattle.gr_base.specs.Designs.{IsDesign}
+use Rattle.std.proofs.Common.{inr, refl, subst}
+use Rattle.cost_rules.specs.declared.site.Formula.{Formula}
+use Rattle.router_top.specs.Planning.{IsPlanned}
 use Rattle.route_writer.specs.Routed.{route_edges}
 use Rattle.solution_text.specs.WrittenText.{written_text}
 use Rattle.solution_text.proofs.LawLemmas.{written-text-covers}
-use Rattle.gr_io.specs.declared.shelf.Slot.TheVariants.{Design}
+use Rattle.router_top.specs.declared.stop.Outcome.TheVariants.{Whole}
 use Rattle.router_top.proofs.RoutingLemmas.{are-routed, is-routing}
 use Rattle.router_top.proofs.routing.route.Goals as goal
 
 pub write_solution-requires : goal.write_solution-requires
-write_solution-requires g c = are-routed c.in-Ok-read_design.design c.in-Ok-first_routes.routes c.in-Ok-first_routes.ensures.routes
+write_solution-requires g c = are-routed c.in_ok-design.design c.in-Ok.routes c.in-Ok.ensures.routes
 
 pub returns-in-Ok-write_solution : goal.returns-in-Ok-write_solution
 returns-in-Ok-write_solution g c = record {
-  reads = c.in-Ok-read_design.ensures.quiet (λ e. cc) ∙ c.in-Ok.ensures.faults (λ e. cc);
+  reads = c.in_ok-design.ensures.opens.0;
   writes = c.in-Ok-write_solution.ensures.quiet;
-  text = written_text c.in-Ok-read_design.design (route_edges c.in-Ok-first_routes.routes);
+  text = written_text c.in_ok-design.design (route_edges c.in-Ok.routes);
   written = c.in-Ok-write_solution.ensures.ok;
-  routing = λ tells.
-      is-routing (g.S.Shelf.held c.args.shelf.now Design c.args.name.now) (g.S.Shelf.left c.reach.new.self Design) c.in-Ok-read_design.design c.in-Ok-first_routes.routes
-      written-text-covers (c.in-Ok.ensures.opened tells) (c.in-Ok-read_design.ensures.says tells)
-      (subst IsDesign c.design.view_is c.design.invariant.design) c.in-Ok-first_routes.ensures.routes c.in-Ok-first_routes.ensures.trees;
+  says = (refl, is-routing _ c.args.design.now c.in_ok-design.design c.in-Ok.routes written-text-covers c.in_ok-design.ensures.opens.2 c.in_ok-design.ensures.design c.in-Ok.ensures.routes c.in-Ok.ensures.trees (subst (λ (formula : Formula). IsPlanned c.in_ok-design.design formula c.in-Ok.routes) c.requires c.in-Ok.ensures.planned));
 }
 
-pub returns-in-Err-Failed-write_solution : goal.returns-in-Err-Failed-write_solution
-returns-in-Err-Failed-write_solution g c = record {
-  cause = c.write_solution.ensures.failed (cc (c.in-Err-Failed-write_solution.is, c.in-Err-Failed-write_solution.field-0-is));
+pub returns-in-Err-Failed : goal.returns-in-Err-Failed
+returns-in-Err-Failed g c = record {
+  cause = c.write_solution.ensures.failed (cc (c.in-Err-Failed.is, c.in-Err-Failed.field-0-is));
   part = record {
-    text = written_text c.in-Ok-read_design.design (route_edges c.in-Ok-first_routes.routes);
-    part = c.in-Err-Failed-write_solution.ensures.prefix;
-    routing = λ tells.
-        is-routing (g.S.Shelf.held c.args.shelf.now Design c.args.name.now) (g.S.Shelf.left c.reach.new.self Design) c.in-Ok-read_design.design c.in-Ok-first_routes.routes
-        written-text-covers (c.in-Ok.ensures.opened tells) (c.in-Ok-read_design.ensures.says tells)
-        (subst IsDesign c.design.view_is c.design.invariant.design) c.in-Ok-first_routes.ensures.routes c.in-Ok-first_routes.ensures.trees;
+    outcome = Whole;
+    text = written_text c.in_ok-design.design (route_edges c.in-Ok.routes);
+    part = c.in-Err-Failed.ensures.prefix;
+    says = (refl, is-routing _ c.args.design.now c.in_ok-design.design c.in-Ok.routes written-text-covers c.in_ok-design.ensures.opens.2 c.in_ok-design.ensures.design c.in-Ok.ensures.routes c.in-Ok.ensures.trees (subst (λ (formula : Formula). IsPlanned c.in_ok-design.design formula c.in-Ok.routes) c.requires c.in-Ok.ensures.planned));
   };
 }
 
 pub returns : goal.returns
 returns g c = inr (record {
-  text = written_text c.in-Ok-read_design.design (route_edges c.in-Ok-first_routes.routes);
-  part = c.in-Err-NoMemory-write_solution.ensures.prefix;
-  routing = λ tells.
-      is-routing (g.S.Shelf.held c.args.shelf.now Design c.args.name.now) (g.S.Shelf.left c.reach.new.self Design) c.in-Ok-read_design.design c.in-Ok-first_routes.routes
-      written-text-covers (c.in-Ok.ensures.opened tells) (c.in-Ok-read_design.ensures.says tells)
-      (subst IsDesign c.design.view_is c.design.invariant.design) c.in-Ok-first_routes.ensures.routes c.in-Ok-first_routes.ensures.trees;
+  outcome = Whole;
+  text = written_text c.in_ok-design.design (route_edges c.in-Ok.routes);
+  part = c.in-Err-NoMemory.ensures.prefix;
+  says = (refl, is-routing _ c.args.design.now c.in_ok-design.design c.in-Ok.routes written-text-covers c.in_ok-design.ensures.opens.2 c.in_ok-design.ensures.design c.in-Ok.ensures.routes c.in-Ok.ensures.trees (subst (λ (formula : Formula). IsPlanned c.in_ok-design.design formula c.in-Ok.routes) c.requires c.in-Ok.ensures.planned));
 })

@@ -1,4 +1,0 @@
-pub mod Ways
-pub mod Walks
-pub mod Stamps
-pub mod Growth

@@ -1,0 +1,82 @@
+use Rattle.std.proofs.Common.{◌≡◌, ℕ, List, [], ◌∷◌, Contains, Option, Some, None, Result, Ok, IsTrue, IsSomeAnd, refl, subst, arith}
+use Rattle.gr_base.specs.Designs.{DesignView}
+use Rattle.gr_io.specs.declared.shelf.Slot.TheVariants.{Solution}
+use Rattle.ispd_reader.specs.declared.fault.DesignFault.{DesignFault as Fault}
+use Rattle.route_evaluator.specs.Verdicts.{IsVerdict, IsUnjoined}
+use Rattle.route_evaluator.specs.declared.verdict.Verdict.{Verdict}
+use Rattle.route_evaluator.proofs.VerdictLemmas.{verdict-same}
+use Rattle.route_reader.specs.Solutions.{SolutionView, edges_by}
+use Rattle.router_top.specs.Opening.{IsCovered}
+use Rattle.router_top.specs.declared.stop.Outcome.{Outcome}
+use Rattle.solution_text.specs.Cover.{cover}
+use Rattle.router_top.specs.Devices.{Reading}
+use Rattle.router_top.specs.Texts.{design_said, solution_said, IsJudging, outcome_of, verdict_text, HasOpenNet}
+use Rattle.router_top.specs.declared.stop.Outcome.TheVariants.{Whole, Open}
+
+-- the design is said in one way
+pub one_design : (said : Option (Result DesignView (Fault × ℕ))) (d e : DesignView) → said ≡ Some (Ok d) → said ≡ Some (Ok e) → d ≡ e
+one_design said d e first second = cc
+
+-- a list that isn't empty has a member
+first_open : (nets : List ℕ) → Open ≡ outcome_of nets → (net : ℕ) × Contains nets net
+first_open [] is = cc
+first_open (net ∷ nets) is = (net, (0, omega arith, refl))
+
+none_open : (nets : List ℕ) (net : ℕ) → Whole ≡ outcome_of nets → Contains nets net → ⊥
+none_open [] net is has = let below = has.1 in absurd (omega arith)
+none_open (first ∷ nets) net is has = cc
+
+-- where a judged text leaves a net open, the files leave it open
+pub judged-open : (shelf : Reading) (design solution text : List ℕ) → IsJudging shelf design solution Open text → IsTrue shelf.tells → HasOpenNet shelf design solution
+judged-open shelf design solution text judging tells = by_held (shelf.held Solution solution) refl (judging.covered tells)
+  where
+    by_held : (o : Option (List ℕ)) → shelf.held Solution solution ≡ o → IsSomeAnd o (λ bytes. IsVerdict judging.design 1 (cover judging.design bytes) judging.verdict) →
+        HasOpenNet shelf design solution
+    by_held None is judged = absurd judged
+    by_held (Some bytes) is judged =
+        let found = first_open judging.verdict.unjoined judging.ends in
+        record {
+          design = judging.design;
+          said = judging.said tells;
+          bytes = bytes;
+          held = is;
+          net = found.0;
+          unjoined = (judged.unjoined found.0).0 found.1;
+        }
+
+-- where it leaves none open, neither do the files
+pub judged-whole : (shelf : Reading) (design solution text : List ℕ) → IsJudging shelf design solution Whole text → IsTrue shelf.tells → HasOpenNet shelf design solution → ⊥
+judged-whole shelf design solution text judging tells left = by_held (shelf.held Solution solution) refl (judging.covered tells)
+  where
+    by_held : (o : Option (List ℕ)) → shelf.held Solution solution ≡ o → IsSomeAnd o (λ bytes. IsVerdict judging.design 1 (cover judging.design bytes) judging.verdict) → ⊥
+    by_held None is judged = absurd judged
+    by_held (Some bytes) is judged =
+        let same : left.design ≡ judging.design = one_design (design_said shelf design) left.design judging.design left.said (judging.said tells) in
+        let text_same : left.bytes ≡ bytes = cc in
+        let unjoined : IsUnjoined judging.design (cover judging.design bytes) left.net =
+        subst (λ (b : List ℕ). IsUnjoined judging.design (cover judging.design b) left.net) text_same
+        (subst (λ (d : DesignView). IsUnjoined d (cover d left.bytes) left.net) same left.unjoined) in
+        none_open judging.verdict.unjoined left.net judging.ends ((judged.unjoined left.net).1 unjoined)
+
+-- a verdict by a solution's runs is one by what the held bytes cover
+covered-verdict : (d : DesignView) (s : SolutionView) (v : Verdict) → IsVerdict d 1 (edges_by s) v → (held : Option (List ℕ)) → IsCovered d held s →
+    IsSomeAnd held (λ bytes. IsVerdict d 1 (cover d bytes) v)
+covered-verdict d s v judged None covered = covered
+covered-verdict d s v judged (Some bytes) covered = verdict-same d 1 (edges_by s) (cover d bytes) v covered judged
+
+-- a verdict on what was read is a judgement
+pub is-judging : (shelf : Reading) (design_name solution_name : List ℕ) (d : DesignView) (s : SolutionView) (v : Verdict) (outcome : Outcome) →
+    (IsTrue shelf.tells → design_said shelf design_name ≡ Some (Ok d)) → (IsTrue shelf.tells → solution_said shelf solution_name d ≡ Some (Ok s)) →
+    IsVerdict d 1 (edges_by s) v → (IsTrue shelf.tells → IsCovered d (shelf.held Solution solution_name) s) → outcome ≡ outcome_of v.unjoined →
+    IsJudging shelf design_name solution_name outcome (verdict_text d v)
+is-judging shelf design_name solution_name d s v outcome said read judged covered ends = record {
+  design = d;
+  said = said;
+  solution = s;
+  read = read;
+  verdict = v;
+  judged = judged;
+  covered = λ tells. covered-verdict d s v judged (shelf.held Solution solution_name) (covered tells);
+  says = refl;
+  ends = ends;
+}
