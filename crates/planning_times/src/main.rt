@@ -1,8 +1,10 @@
-//! Plans many nets, for timing from outside: `planning_times topologies COUNT` and
-//! `planning_times walks SIDE COUNT`. It prints a sum, so that the work can't be left out.
+//! Plans many nets, for timing from outside: `planning_times topologies COUNT`,
+//! `planning_times walks SIDE COUNT` and `planning_times mazes SIDE COUNT`. It prints a sum, so
+//! that the work can't be left out.
 #![tactic(auto)]
 
 mod draws;
+mod mazes;
 mod topologies;
 mod walks;
 
@@ -22,7 +24,10 @@ fn sum<R: Env + AllocGlobal>(rt: &R) -> io::Result<u64> {
     let Some(kind) = words.next() else {
         return Ok(0);
     };
-    if kind.as_str() == "walks" {
+    if kind.as_str() == "mazes" {
+        let side = number(words.next());
+        Ok(mazes::sum(rt.alloc(), side, number(words.next()))?)
+    } else if kind.as_str() == "walks" {
         let side = number(words.next());
         Ok(walks::sum(rt.alloc(), side, number(words.next()))?)
     } else {

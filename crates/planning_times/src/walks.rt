@@ -9,8 +9,8 @@ use std::alloc::{AllocError, Global};
 
 /// Costs from 1 to 13.
 #[derive(Clone, Copy)]
-struct Uneven {
-    shape: Shape,
+pub(crate) struct Uneven {
+    pub(crate) shape: Shape,
 }
 
 impl Costs for Uneven {
