@@ -4,13 +4,13 @@ use Rattle.std.proofs.lemmas.Bool.{cases_Bool}
 use Rattle.std.proofs.lemmas.List.{length_push, take-append-le, take_at}
 use Rattle.std.proofs.lemmas.List.Sums.{fold_push}
 use Rattle.gr_base.specs.Limits.{most_width, most_nets}
-use Rattle.gr_base.specs.Trees.{TreeView}
+use Rattle.gr_base.specs.Trees.{TreeView, edges_or_none}
 use Rattle.gr_base.specs.declared.grid.Edge.{Edge}
 use Rattle.grid_demand.proofs.OperationLemmas.{need-most}
 use Rattle.grid_demand.specs.LoadSums.{most_marks, mark_of}
 use Rattle.grid_demand.specs.Tables.{CapacityView, capacity_at, IsCapacity}
 use Rattle.book_state.proofs.RangeSums.{sum-same, sum-change, sum-most, sum-part, count-same, count-more}
-use Rattle.book_state.specs.Books.{nets_of, booked_by, booked_after, booked, edges_in, share_of, demand, marks_over, marks}
+use Rattle.book_state.specs.Books.{nets_of, booked_by, booked_after, booked, share_of, demand, marks_over, marks}
 use Rattle.book_state.specs.Entries.{is_mark, is_mark_in}
 use Rattle.book_state.specs.declared.entry.Entry.{Entry}
 
@@ -48,7 +48,7 @@ demand-change c h k e net within same =
 
 share_of-most : (c : CapacityView) (net : ℕ) (tree : Option TreeView) (e : Edge) → IsCapacity c → share_of c net tree e ≤ 2 * most_width
 share_of-most c net tree e tables =
-    elim (cases_Bool (edges_in tree e)) [
+    elim (cases_Bool (edges_or_none tree e)) [
       | inl inside ↦ rw inside (need-most c net e tables)
       | inr outside ↦ rw outside (omega arith)
     ]

@@ -1,9 +1,8 @@
 use Rattle.std.specs.Prelude.{◌≡◌, ℕ, ◌+◌, ◌<◌, ◌≤◌, Bool, false, ◌&&◌, ◌==◌, nat_lt, min, List, length, take, Option, Some, None, is_some, if◌then◌else◌, IsTrue}
 use Rattle.std.specs.List.{fold, filter, find, list_any, sum_by, count_by, range_with_len}
-use Rattle.gr_base.specs.EdgeSets.{Edges}
 use Rattle.gr_base.specs.Grid.{has_edge, is_wire}
 use Rattle.gr_base.specs.Sums.{total_overflow}
-use Rattle.gr_base.specs.Trees.{TreeView, tree_edges, edges_of}
+use Rattle.gr_base.specs.Trees.{TreeView, tree_edges, edges_or_none}
 use Rattle.gr_base.specs.declared.grid.Edge.{Edge}
 use Rattle.grid_demand.specs.LoadSums.{LoadsView, demand_at, marks_at, most_marks}
 use Rattle.grid_demand.specs.Tables.{CapacityView, capacity_at, need_at}
@@ -32,14 +31,9 @@ booked_after net tree e = booked_by net tree e.call e.reply
 unfoldable pub booked : List Entry → ℕ → Option TreeView
 booked h net = fold (booked_after net) None h
 
--- the edges of a tree, if there is one
-abbrev pub edges_in : Option TreeView → Edges
-edges_in None e = false
-edges_in (Some t) e = edges_of t e
-
 -- what a net takes of an edge by the tree that it has, if any
 abbrev pub share_of : CapacityView → ℕ → Option TreeView → Edge → ℕ
-share_of c net tree e = if edges_in tree e then need_at c net e else 0
+share_of c net tree e = if edges_or_none tree e then need_at c net e else 0
 
 -- the demand for an edge: what the booked nets take of it together
 unfoldable pub demand : CapacityView → List Entry → Edge → ℕ

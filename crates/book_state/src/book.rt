@@ -60,6 +60,14 @@ impl BookState {
         })
     }
 
+    /// The capacity of the book's design.
+    pub fn capacity(&self) -> &Capacity
+        ensures capacity { result.now ≡ self.now.capacity }
+        ensures legal { IsLegal self.now.capacity self.now.history }
+    {
+        &self.capacity
+    }
+
     /// The history of all calls.
     pub fn history(&self) -> &History
         ensures history { result.now ≡ self.now.history }

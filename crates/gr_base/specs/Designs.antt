@@ -83,6 +83,14 @@ is_routed_net (Some net) = nat_lt 0 (length net.pins) && nat_le (length net.pins
 abbrev pub is_routed : DesignView → ℕ → Bool
 is_routed d number = is_routed_net (slice_get d.nets number)
 
+-- the cells of a net's pins, in order; none where there is no such net
+abbrev pub pins_in : Option Net → List ℕ
+pins_in None = []
+pins_in (Some net) = net.pins
+
+abbrev pub pins_at : DesignView → ℕ → List ℕ
+pins_at d number = pins_in (slice_get d.nets number)
+
 -- how far a coordinate lies above the lower border, if it does
 abbrev pub above : ℤ → Option ℕ
 above (pos n) = Some n

@@ -134,6 +134,15 @@ walk_edges g (cell ∷ next ∷ after) = option_to_list (edge_of g cell next) ++
 abbrev pub AddsEdges : TreeView → List ℕ → TreeView → Type 0
 AddsEdges old walk new = (e : Edge) → edges_of new e ≡ (edges_of old e || set_of (walk_edges old.shape walk) e)
 
+-- the edges of a tree, or none where there is no tree
+abbrev pub edges_or_none : Option TreeView → Edges
+edges_or_none None e = false
+edges_or_none (Some t) e = edges_of t e
+
 -- the tree of a net, if one was set
 abbrev pub tree_at : List (Option TreeView) → ℕ → Option TreeView
 tree_at trees net = option_and_then (λ tree. tree) (slice_get trees net)
+
+-- the edges of each net's tree
+abbrev pub route_edges : List (Option TreeView) → ℕ → Edges
+route_edges trees net = edges_or_none (tree_at trees net)

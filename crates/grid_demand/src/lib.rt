@@ -11,3 +11,4 @@ mod wires;
 pub use capacity::Capacity;
 pub use loads::Loads;
 pub use sums::loads_are_sums;
+pub use wires::wire_to_parent;

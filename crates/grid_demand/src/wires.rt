@@ -21,7 +21,7 @@ pub(crate) fn wire_number(e: Edge) -> usize
 
 /// The wire edge from a node of a tree to its parent. None exactly where the node has no edge to a
 /// parent or a via edge.
-pub(crate) fn wire_to_parent(tree: &RouteTree, node: u32) -> Option<Edge>
+pub fn wire_to_parent(tree: &RouteTree, node: u32) -> Option<Edge>
     requires { node < length tree.now.nodes }
     ensures edge { result ≡ parent_wire tree.now node }
     ensures tree { IsTree tree.now }

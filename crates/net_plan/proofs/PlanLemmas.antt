@@ -4,7 +4,7 @@ use Rattle.std.proofs.lemmas.Bool.Decides.{nat_tests}
 use Rattle.std.proofs.lemmas.List.Elements.{All-get_or}
 use Rattle.std.proofs.lemmas.Option.{slice_get_within, get_or_from_slice_get}
 use Rattle.gr_base.proofs.GridLemmas.{edge-room}
-use Rattle.gr_base.specs.Designs.{DesignView, IsFrame, IsDesign, IsNet, is_routed, is_routed_net}
+use Rattle.gr_base.specs.Designs.{DesignView, IsFrame, IsDesign, IsNet, is_routed, is_routed_net, pins_in, pins_at}
 use Rattle.gr_base.specs.Grid.{cells_of, place_at}
 use Rattle.gr_base.specs.Trees.{TreeView, IsTree}
 use Rattle.gr_base.specs.declared.frame.Net.{Net}
@@ -18,7 +18,7 @@ use Rattle.layer_assign.specs.Raised.{AreLayers}
 use Rattle.layer_assign.specs.Assignments.{IsAssignment, ArePins, edge_up, goes_on, HasLayers, IsFlat as IsFlattened}
 use Rattle.layer_assign.proofs.FlatLemmas.{some_edge}
 use Rattle.net_plan.specs.FlatTrees.{HoldsTiles}
-use Rattle.net_plan.specs.Patterns.{pins_at, IsPatternTree, IsPattern}
+use Rattle.net_plan.specs.Patterns.{IsPatternTree, IsPattern}
 use Rattle.net_plan.specs.Prices.{price_of, ways_of}
 use Rattle.net_plan.proofs.WayLemmas.{edge-layer}
 
@@ -47,7 +47,7 @@ net-of d number net design is =
     (All-get_or (IsNet d.frame.shape) d.nets number net (slice_get_within d.nets number net is) design.nets)
 
 pub pins-of : (d : DesignView) (number : ℕ) (net : Net) → slice_get d.nets number ≡ Some net → pins_at d number ≡ net.pins
-pins-of d number net is = ap (λ (o : Option Net). unwrap_or (option_map (λ (n : Net). n.pins) o) []) is
+pins-of d number net is = ap pins_in is
 
 -- a routed net is one of the design's
 pub routed-within : (d : DesignView) (number : ℕ) → IsTrue (is_routed d number) → number < length d.nets

@@ -1,9 +1,6 @@
-use Rattle.std.specs.Prelude.{◌≡◌, ℕ, Bool, List, [], Option, slice_get, unwrap_or}
-use Rattle.std.specs.Option.{option_map}
+use Rattle.std.specs.Prelude.{◌≡◌, ℕ, Bool, List, Option, slice_get}
 use Rattle.cost_rules.specs.declared.site.Formula.{Formula}
-use Rattle.gr_base.specs.Designs.{DesignView}
 use Rattle.gr_base.specs.Trees.{TreeView, IsTree, cell_at, edges_of}
-use Rattle.gr_base.specs.declared.frame.Net.{Net}
 use Rattle.gr_base.specs.declared.grid.Edge.{Edge}
 use Rattle.gr_base.specs.declared.grid.Shape.{Shape}
 use Rattle.gr_base.specs.declared.grid.Way.{Way}
@@ -13,10 +10,6 @@ use Rattle.layer_assign.specs.Assignments.{IsAssignment, IsLeast, IsFirst}
 use Rattle.layer_assign.specs.Raised.{raised_edges}
 use Rattle.net_plan.specs.FlatTrees.{IsFlatTree}
 use Rattle.net_plan.specs.Prices.{price_of, ways_of}
-
--- the pins of a net
-abbrev pub pins_at : DesignView → ℕ → List ℕ
-pins_at d net = unwrap_or (option_map (λ (n : Net). n.pins) (slice_get d.nets net)) []
 
 -- a tree from the first pin's cell, whose edges are those that are raised from the first least assignment of the pins' flat tree
 pub record IsPatternTree (g : Shape) (ways : ℕ → Way → Bool) (price : Edge → Option ℕ) (pins : List ℕ) (t : TreeView) : Type 0 where

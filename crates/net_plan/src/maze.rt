@@ -1,5 +1,5 @@
 ghost use Rattle.std.specs.Prelude.{◌≡◌, ◌<◌, Some, All, IfOk, IsTrue, not, filter, length, slice_get};
-ghost use Rattle.gr_base.specs.Designs.{is_routed};
+ghost use Rattle.gr_base.specs.Designs.{is_routed, pins_at};
 ghost use Rattle.gr_base.specs.Plans.{Routes};
 ghost use Rattle.gr_base.specs.Grid.{cells_of};
 ghost use Rattle.gr_base.specs.Trees.{TreeView, cell_at, holds, is_among};
@@ -7,7 +7,6 @@ ghost use Rattle.gr_base.specs.declared.frame.Net.{Net};
 ghost use Rattle.grid_demand.specs.Tables.{capacity_of};
 ghost use Rattle.maze_route.specs.Windows.{IsWindow, IsPassable, LieIn};
 ghost use Rattle.net_plan.specs.Mazes.{missing, driver_tree, GrowsTo, IsMaze};
-ghost use Rattle.net_plan.specs.Patterns.{pins_at};
 ghost use Rattle.net_plan.specs.Prices.{HasBoundedDemand};
 
 use crate::net_costs::NetCosts;

@@ -1,11 +1,11 @@
 ghost use Rattle.std.specs.Prelude.{◌≡◌, Some, slice_get, IfOk, IsTrue};
-ghost use Rattle.gr_base.specs.Designs.{is_routed};
+ghost use Rattle.gr_base.specs.Designs.{is_routed, pins_at};
 ghost use Rattle.gr_base.specs.Plans.{Routes};
 ghost use Rattle.gr_base.specs.Trees.{TreeView, edges_of};
 ghost use Rattle.gr_base.specs.declared.frame.Net.{Net};
 ghost use Rattle.gr_base.specs.declared.grid.Edge.{Edge};
 ghost use Rattle.grid_demand.specs.Tables.{capacity_of};
-ghost use Rattle.net_plan.specs.Patterns.{pins_at, IsPattern};
+ghost use Rattle.net_plan.specs.Patterns.{IsPattern};
 ghost use Rattle.net_plan.specs.Prices.{HasBoundedDemand};
 
 use crate::flat::flat_tree;

@@ -5,7 +5,7 @@ use Rattle.std.proofs.lemmas.Bool.{or_cases, and_parts, false≢true}
 use Rattle.std.proofs.lemmas.List.FromFn.{length-map-range_with_len}
 use Rattle.std.proofs.lemmas.List.Sums.{count_by-le-length, length-filter}
 use Rattle.gr_base.specs.Capacities.{need}
-use Rattle.gr_base.specs.Designs.{DesignView, IsDesign, IsNet, is_routed, is_routed_net}
+use Rattle.gr_base.specs.Designs.{DesignView, IsDesign, IsNet, is_routed, is_routed_net, pins_in, pins_at}
 use Rattle.gr_base.specs.EdgeSets.{Edges, IsJoined}
 use Rattle.gr_base.specs.Grid.{cells_of, edge_at, high_of, has_edge, is_wire}
 use Rattle.gr_base.specs.Limits.{most_width}
@@ -27,7 +27,6 @@ use Rattle.route_reader.specs.Solutions.{SolutionView, IsOf, edges_by, runs_at}
 use Rattle.route_evaluator.specs.Counts.{sum_before}
 use Rattle.route_evaluator.specs.EdgeNumbers.{edges_numbered, is_via_number}
 use Rattle.route_evaluator.specs.NumberSets.{NumberSetView, empty_set}
-use Rattle.route_evaluator.specs.Verdicts.{pins_or_none, pins_at}
 use Rattle.route_evaluator.proofs.CountLemmas.{times, vias-count, wires-count}
 use Rattle.route_evaluator.proofs.StepLemmas.{sum-next, sum-most}
 
@@ -74,7 +73,7 @@ pins-inside d net value design is =
     found.pins
 
 pub pins-are : (d : DesignView) (net : ℕ) (value : Net) → slice_get d.nets net ≡ Some value → value.pins ≡ pins_at d net
-pins-are d net value is = sym (ap pins_or_none is)
+pins-are d net value is = sym (ap pins_in is)
 
 -- the demand of the nets below a number has room for that of one more
 share-most : (d : DesignView) (sets : ℕ → Edges) (e : Edge) → IsDesign d → (net : ℕ) → (if sets net e then need d net e else 0) ≤ 2 * most_width

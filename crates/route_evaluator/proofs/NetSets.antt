@@ -4,12 +4,11 @@ use Rattle.std.proofs.Math.Path.{fun_ext}
 use Rattle.gr_base.specs.declared.frame.Net.{Net}
 use Rattle.gr_base.specs.declared.grid.Edge.{Edge}
 use Rattle.gr_base.specs.declared.grid.Shape.{Shape}
-use Rattle.gr_base.specs.Designs.{DesignView}
+use Rattle.gr_base.specs.Designs.{DesignView, pins_in, pins_at}
 use Rattle.gr_base.specs.EdgeSets.{Edges, set_of}
 use Rattle.solution_text.specs.declared.run.Run.{Run}
 use Rattle.solution_text.specs.Covers.{covers}
 use Rattle.route_reader.specs.Solutions.{SolutionView, runs_at, edges_by}
-use Rattle.route_evaluator.specs.NetTrees.{pins_in, pins_at}
 
 -- what is covered by the runs that were read is the net's set of edges
 pub net-set : (s : SolutionView) (net : ℕ) (g : Shape) (runs : List Run) (edges listed : List Edge) → g ≡ s.shape → runs ≡ runs_at s net → listed ≡ edges →

@@ -8,10 +8,10 @@ use Rattle.std.proofs.lemmas.List.{length-append}
 use Rattle.std.proofs.lemmas.List.Elements.{filter-append, Contains-push, Contains-append_left, Contains-push_cases}
 use Rattle.std.proofs.lemmas.List.Sums.{sum_by-append, sum_by_push, count_by-le-length}
 use Rattle.std.proofs.lemmas.List.FromFn.{length-range_with_len}
-use Rattle.gr_base.specs.Designs.{DesignView, is_routed}
+use Rattle.gr_base.specs.Designs.{DesignView, is_routed, pins_at}
 use Rattle.gr_base.specs.EdgeSets.{Edges, IsJoined}
 use Rattle.route_evaluator.specs.Counts.{sum_before, noted}
-use Rattle.route_evaluator.specs.Verdicts.{IsUnjoined, pins_at}
+use Rattle.route_evaluator.specs.Verdicts.{IsUnjoined}
 
 range-next : (a n : ℕ) → range_with_len a (n + 1) ≡ range_with_len a n ++ (a + n) ∷ []
 range-next a zero =

@@ -1,10 +1,8 @@
 -- When the edges of a net are a tree: between any two of the cells that they and the net's pins touch, exactly one path leads.
-use Rattle.std.specs.Prelude.{◌≡◌, ◌⊎◌, ℕ, false, List, [], ◌∷◌, Option, Some, None, slice_get, IsTrue}
-use Rattle.gr_base.specs.declared.frame.Net.{Net}
+use Rattle.std.specs.Prelude.{◌≡◌, ◌⊎◌, ℕ, false, List, [], ◌∷◌, IsTrue}
 use Rattle.gr_base.specs.declared.grid.Edge.{Edge}
 use Rattle.gr_base.specs.declared.grid.Shape.{Shape}
 use Rattle.gr_base.specs.Grid.{high_of, Joins}
-use Rattle.gr_base.specs.Designs.{DesignView}
 use Rattle.gr_base.specs.EdgeSets.{Edges}
 use Rattle.gr_base.specs.Trees.{TreeView, edges_of, is_among}
 
@@ -37,14 +35,6 @@ IsTouched g set pins cell = IsEnd g set cell ⊎ IsTrue (is_among pins cell)
 -- the edges of the set are a tree for these pins
 abbrev pub AreTree : Shape → Edges → (pins : List ℕ) → Type 0
 AreTree g set pins = (a b : ℕ) → IsTouched g set pins a → IsTouched g set pins b → OnePath g set a b
-
-abbrev pub pins_in : Option Net → List ℕ
-pins_in None = []
-pins_in (Some net) = net.pins
-
--- the cells of a net's pins
-abbrev pub pins_at : DesignView → ℕ → List ℕ
-pins_at d net = pins_in (slice_get d.nets net)
 
 -- the tree has just the edges of the set
 abbrev pub HasJust : Edges → TreeView → Type 0

@@ -1,19 +1,10 @@
-use Rattle.std.specs.Prelude.{◌≡◌, ◌↔◌, ℕ, List, [], length, Contains, count_by, Option, Some, None, slice_get, IsTrue}
+use Rattle.std.specs.Prelude.{◌≡◌, ◌↔◌, ℕ, List, length, Contains, count_by, IsTrue}
 use Rattle.std.specs.List.{range_with_len}
 use Rattle.std.specs.List.Sorted.{IsStrictlyIncreasing}
-use Rattle.gr_base.specs.Designs.{DesignView, is_routed}
+use Rattle.gr_base.specs.Designs.{DesignView, is_routed, pins_at}
 use Rattle.gr_base.specs.EdgeSets.{Edges, IsJoined}
 use Rattle.gr_base.specs.Sums.{total_over, most_over, wirelength as wirelength_of, vias as vias_of}
-use Rattle.gr_base.specs.declared.frame.Net.{Net}
 use Rattle.route_evaluator.specs.declared.verdict.Verdict.{Verdict}
-
-abbrev pub pins_or_none : Option Net → List ℕ
-pins_or_none None = []
-pins_or_none (Some net) = net.pins
-
--- the cells of a net's pins, in order
-abbrev pub pins_at : DesignView → ℕ → List ℕ
-pins_at d net = pins_or_none (slice_get d.nets net)
 
 -- how many nets are routed
 abbrev pub routed_nets : DesignView → ℕ

@@ -1,10 +1,10 @@
 ghost use Rattle.std.specs.Prelude.{◌≡◌, Some, Err, slice_get, IsTrue, IfOk, OnOk};
 ghost use Rattle.gr_base.specs.declared.frame.Net.{Net as NetView};
-ghost use Rattle.gr_base.specs.Designs.{is_routed};
+ghost use Rattle.gr_base.specs.Designs.{is_routed, pins_at};
 ghost use Rattle.gr_base.specs.Plans.{Routes as RoutesNet};
 ghost use Rattle.gr_base.specs.Trees.{IsTree};
 ghost use Rattle.route_reader.specs.Solutions.{IsOf, edges_by};
-ghost use Rattle.route_evaluator.specs.NetTrees.{AreTree, HasJust, pins_at};
+ghost use Rattle.route_evaluator.specs.NetTrees.{AreTree, HasJust};
 
 use crate::edge_tree::tree_along;
 use crate::run_edges::edges_along;

@@ -5,8 +5,7 @@ use Rattle.gr_base.specs.declared.frame.Net.{Net}
 use Rattle.gr_base.specs.Designs.{DesignView, is_routed, is_routed_net}
 use Rattle.gr_base.specs.EdgeSets.{Edges}
 use Rattle.gr_io.specs.Parts.{AppendsPart}
-use Rattle.gr_base.specs.Trees.{TreeView, edges_of, tree_at}
-use Rattle.route_writer.specs.Routed.{edges_or_none, route_edges}
+use Rattle.gr_base.specs.Trees.{TreeView, edges_of, tree_at, edges_or_none, route_edges}
 use Rattle.std.specs.Result.{OnErr}
 use Rattle.solution_text.specs.WrittenText.{record_text, text_of_net, written_text}
 

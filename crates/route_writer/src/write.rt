@@ -3,7 +3,8 @@ ghost use Rattle.gr_base.specs.Grid.{cells_of};
 ghost use Rattle.gr_io.specs.Counts.{Rose};
 ghost use Rattle.gr_io.specs.Parts.{AppendsPart};
 ghost use Rattle.solution_text.specs.WrittenText.{written_text};
-ghost use Rattle.route_writer.specs.Routed.{AreRouted, route_edges};
+ghost use Rattle.route_writer.specs.Routed.{AreRouted};
+ghost use Rattle.gr_base.specs.Trees.{route_edges};
 
 use crate::error::WriteError;
 use crate::record::Draft;

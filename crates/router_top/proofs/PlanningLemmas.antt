@@ -6,7 +6,7 @@ use Rattle.std.proofs.lemmas.Bool.{cases_eq, cases_lt}
 use Rattle.std.proofs.lemmas.List.{get_or-set_same, get_or-set_other, length-replicate, get_or-replicate}
 use Rattle.std.proofs.lemmas.Option.{slice_get-get_or, slice_get_within, slice_get_past}
 use Rattle.cost_rules.specs.declared.site.Formula.{Formula}
-use Rattle.gr_base.specs.Designs.{DesignView, IsDesign, is_routed, is_routed_net}
+use Rattle.gr_base.specs.Designs.{DesignView, IsDesign, is_routed, is_routed_net, pins_at}
 use Rattle.gr_base.specs.Limits.{most_nets, most_width}
 use Rattle.gr_base.specs.Plans.{Routes, RoutesAll}
 use Rattle.gr_base.specs.Sums.{wire_number}
@@ -17,7 +17,7 @@ use Rattle.grid_demand.specs.Tables.{CapacityView, capacity_of}
 use Rattle.grid_demand.proofs.CapacityLemmas.{tables-of}
 use Rattle.grid_demand.proofs.LoadLemmas.{index-most}
 use Rattle.grid_demand.proofs.OperationLemmas.{below-none, below-added}
-use Rattle.net_plan.specs.Patterns.{IsPattern, pins_at}
+use Rattle.net_plan.specs.Patterns.{IsPattern}
 use Rattle.net_plan.specs.Prices.{HasBoundedDemand}
 use Rattle.router_top.specs.Planning.{added_if, loads_before, IsPlannedAt, IsPlanned, AreTrees, RoutedBelow, ArePlanned}
 

@@ -3,13 +3,13 @@ use Rattle.gr_base.specs.Designs.{DesignView, IsDesign, is_routed, is_routed_net
 use Rattle.gr_base.specs.EdgeSets.{IsJoined}
 use Rattle.gr_base.specs.Grid.{has_edge}
 use Rattle.gr_base.specs.Plans.{Routes, RoutesAll}
-use Rattle.gr_base.specs.Trees.{TreeView, edges_of, tree_at, tree_edges}
+use Rattle.gr_base.specs.Trees.{TreeView, edges_of, tree_at, tree_edges, route_edges, edges_or_none}
 use Rattle.gr_base.specs.declared.frame.Net.{Net}
 use Rattle.gr_base.specs.declared.grid.Edge.{Edge}
 use Rattle.gr_base.specs.declared.grid.Shape.{Shape}
 use Rattle.gr_base.proofs.TreeEdges.{tree-connected, tree-grid_edges}
 use Rattle.cost_rules.specs.declared.site.Formula.TheVariants.{First}
-use Rattle.route_writer.specs.Routed.{AreRouted, route_edges, edges_or_none}
+use Rattle.route_writer.specs.Routed.{AreRouted}
 use Rattle.straight_runs.proofs.ListLemmas.{list-within}
 use Rattle.solution_text.specs.Cover.{cover}
 use Rattle.solution_text.specs.Laws.{WrittenTextCovers}

@@ -1,7 +1,7 @@
 -- The plans of a design's nets: in the design's order, each over the loads of the nets before it.
 use Rattle.std.specs.Prelude.{◌≡◌, ℕ, zero, suc, ◌*◌, ◌<◌, ◌≤◌, List, All, Option, Some, None, length, slice_get, IsSomeAnd, IsTrue}
 use Rattle.cost_rules.specs.declared.site.Formula.{Formula}
-use Rattle.gr_base.specs.Designs.{DesignView, is_routed, is_routed_net}
+use Rattle.gr_base.specs.Designs.{DesignView, is_routed, is_routed_net, pins_at}
 use Rattle.gr_base.specs.Limits.{most_width}
 use Rattle.gr_base.specs.Plans.{Routes}
 use Rattle.gr_base.specs.Trees.{TreeView, IsTree, tree_at}
@@ -9,7 +9,7 @@ use Rattle.gr_base.specs.declared.frame.Net.{Net}
 use Rattle.gr_base.specs.declared.grid.Shape.{Shape}
 use Rattle.grid_demand.specs.LoadSums.{LoadsView, no_loads, added}
 use Rattle.grid_demand.specs.Tables.{CapacityView, capacity_of}
-use Rattle.net_plan.specs.Patterns.{IsPattern, pins_at}
+use Rattle.net_plan.specs.Patterns.{IsPattern}
 
 -- the loads with a net's tree, if it has one
 abbrev pub added_if : CapacityView → ℕ → Option TreeView → LoadsView → LoadsView

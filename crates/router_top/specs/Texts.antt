@@ -4,7 +4,7 @@ use Rattle.std.specs.Option.{option_map}
 use Rattle.cost_rules.specs.declared.site.Formula.TheVariants.{First}
 use Rattle.gr_base.specs.Designs.{DesignView, is_routed_net}
 use Rattle.gr_base.specs.EdgeSets.{Edges, IsJoined}
-use Rattle.gr_base.specs.Trees.{TreeView}
+use Rattle.gr_base.specs.Trees.{TreeView, route_edges}
 use Rattle.gr_base.specs.Plans.{RoutesAll}
 use Rattle.gr_base.specs.declared.frame.Net.{Net}
 use Rattle.gr_io.specs.declared.shelf.Slot.TheVariants.{Design, Solution}
@@ -15,7 +15,6 @@ use Rattle.route_evaluator.specs.Verdicts.{IsVerdict, IsUnjoined}
 use Rattle.route_evaluator.specs.declared.verdict.Verdict.{Verdict}
 use Rattle.route_reader.specs.Solutions.{SolutionView, edges_by}
 use Rattle.route_reader.specs.SolutionText.{solution_of}
-use Rattle.route_writer.specs.Routed.{route_edges}
 use Rattle.solution_text.specs.Cover.{cover}
 use Rattle.solution_text.specs.WrittenText.{written_text}
 use Rattle.solution_text.specs.declared.fault.SolutionFault.{SolutionFault}

@@ -5,7 +5,7 @@ use Rattle.gr_base.specs.declared.grid.Shape.{Shape}
 use Rattle.grid_demand.specs.Tables.{CapacityView}
 use Rattle.maze_route.specs.Windows.{IsWindow, IsPassable}
 use Rattle.net_plan.specs.Mazes.{driver_tree, GrowsTo}
-use Rattle.net_plan.specs.Patterns.{pins_at}
+use Rattle.gr_base.specs.Designs.{pins_at}
 use Rattle.net_plan.specs.Prices.{price_of, ways_of}
 use Rattle.net_plan.proofs.FlatLemmas.{if-then, if-three}
 use Rattle.net_plan.proofs.MazeLemmas.{same-maze, maze-only}

@@ -1,4 +1,5 @@
-use Rattle.net_plan.specs.Patterns.{pins_at, IsPattern}
+use Rattle.net_plan.specs.Patterns.{IsPattern}
+use Rattle.gr_base.specs.Designs.{pins_at}
 use Rattle.net_plan.specs.Prices.{price_of, ways_of}
 use Rattle.net_plan.proofs.FlatLemmas.{if-then}
 use Rattle.net_plan.proofs.OnlyLemmas.{pattern-only}

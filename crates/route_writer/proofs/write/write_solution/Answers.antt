@@ -1,9 +1,8 @@
 use Rattle.std.proofs.Common.{◌≡◌, ℕ, ◌+◌, ◌≤◌, List, ◌++◌, length, IsTrue, sym, ap, ◌∙◌, append-nil, arith}
 use Rattle.std.specs.Option.{option_copied}
-use Rattle.gr_base.specs.Trees.{edges_of}
+use Rattle.gr_base.specs.Trees.{edges_of, route_edges}
 use Rattle.gr_io.specs.Parts.{AppendsPart}
 use Rattle.solution_text.specs.WrittenText.{record_text, written_text}
-use Rattle.route_writer.specs.Routed.{route_edges}
 use Rattle.route_writer.proofs.WriteLemmas.{text_before, text_behind, before-more, before-behind, text-skip, text-routed, on-err, stands-same, stands-put, stands-flushed, stands-part, stands-cut}
 use Rattle.route_writer.proofs.write.write_solution.Goals as goal
 

@@ -1,5 +1,5 @@
 use Rattle.std.proofs.Common.{◌≡◌, IsTrue}
-use Rattle.route_writer.specs.Routed.{route_edges}
+use Rattle.gr_base.specs.Trees.{route_edges}
 use Rattle.route_writer.proofs.WriteLemmas.{text_before, Stands}
 use Rattle.route_writer.proofs.write.write_solution.Given as goal
 

@@ -3,7 +3,8 @@ use Rattle.gr_base.specs.Limits.{most_width}
 use Rattle.grid_demand.specs.LoadSums.{no_loads, added}
 use Rattle.grid_demand.specs.Tables.{CapacityView}
 use Rattle.grid_demand.proofs.OperationLemmas.{room-below}
-use Rattle.net_plan.specs.Patterns.{IsPattern, pins_at}
+use Rattle.net_plan.specs.Patterns.{IsPattern}
+use Rattle.gr_base.specs.Designs.{pins_at}
 use Rattle.router_top.proofs.PlanningLemmas.{planned-start, planned-skip, planned-next, planned-shape, planned-bounded, planned-all, planned-each}
 use Rattle.router_top.proofs.planning.pattern_routes.Goals as goal
 

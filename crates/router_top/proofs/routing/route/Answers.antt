@@ -1,7 +1,7 @@
 use Rattle.std.proofs.Common.{inr, refl, subst}
 use Rattle.cost_rules.specs.declared.site.Formula.{Formula}
 use Rattle.router_top.specs.Planning.{IsPlanned}
-use Rattle.route_writer.specs.Routed.{route_edges}
+use Rattle.gr_base.specs.Trees.{route_edges}
 use Rattle.solution_text.specs.WrittenText.{written_text}
 use Rattle.solution_text.proofs.LawLemmas.{written-text-covers}
 use Rattle.router_top.specs.declared.stop.Outcome.TheVariants.{Whole}
