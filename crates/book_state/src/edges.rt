@@ -1,14 +1,13 @@
 //! The edges of trees, and which of them are full or over their capacity.
-ghost use Rattle.std.specs.Prelude.{◌≡◌, ℕ, ◌+◌, ◌<◌, length, slice_get, Some, IfSome, IsSome, IsTrue};
-ghost use Rattle.std.specs.Option.{option_and_then};
+ghost use Rattle.std.specs.Prelude.{◌≡◌, ℕ, ◌+◌, ◌<◌, Some, IfSome, IsSome, IsTrue};
 ghost use Rattle.gr_base.specs.Grid.{has_edge, is_wire};
-ghost use Rattle.gr_base.specs.Trees.{IsTree, edge_to_parent as parent_edge};
+ghost use Rattle.gr_base.specs.Trees.{IsTree};
 ghost use Rattle.grid_demand.specs.LoadSums.{demand_at};
 ghost use Rattle.book_state.specs.Books.{is_full as full_edge, is_over as over_edge, first_full as first_full_edge, is_crowded as crowded, reply_to_free as free_reply};
 
 use crate::entry::{Claim, Reply};
-use gr_base::{Edge, RouteTree, Way};
-use grid_demand::{Capacity, Loads};
+use gr_base::{Edge, RouteTree};
+use grid_demand::{Capacity, Loads, wire_to_parent};
 
 /// The reply to a claim of a net that isn't booked.
 pub(crate) fn reply_to_free(capacity: &Capacity, loads: &Loads, claim: &Claim) -> Reply
@@ -41,7 +40,7 @@ fn first_full(capacity: &Capacity, loads: &Loads, claim: &Claim, slack: u32) -> 
 {
     let tree = &claim.tree;
     for node in 0..tree.len() {
-        let Some(e) = edge_to_parent(tree, node) else {
+        let Some(e) = wire_to_parent(tree, node) else {
             continue;
         };
         if is_full(capacity, loads, claim.net, slack, e) {
@@ -59,44 +58,33 @@ pub(crate) fn is_crowded(capacity: &Capacity, loads: &Loads, tree: &RouteTree) -
     ensures tree { IsTree tree.now }
 {
     for node in 0..tree.len() {
-        let Some(e) = edge_to_parent(tree, node) else {
+        let Some(edge) = wire_to_parent(tree, node) else {
             continue;
         };
-        if is_over(capacity, loads, e) {
+        if is_over(capacity, loads, edge) {
             return true;
         }
     }
     false
 }
 
-/// The edge from a node of a tree to its parent. None exactly for the first node.
-fn edge_to_parent(tree: &RouteTree, node: u32) -> Option<Edge>
-    requires { node < length tree.now.nodes }
-    ensures edge { result ≡ option_and_then (parent_edge tree.now.shape tree.now.nodes) (slice_get tree.now.nodes node) }
-    ensures inside { IfSome result (λ e. IsTrue (has_edge tree.now.shape e)) }
-{
-    let parent = tree.cell(tree.parent(node));
-    tree.shape().edge_between(tree.cell(node), parent)
-}
-
-/// Whether an edge has no room for a net.
+/// Whether a wire edge has no room for a net.
 fn is_full(capacity: &Capacity, loads: &Loads, net: u32, slack: u32, e: Edge) -> bool
     requires edge { IsTrue (has_edge capacity.now.shape e) }
+    requires wire { IsTrue (is_wire e) }
     requires loads { loads.now.shape ≡ capacity.now.shape }
     ensures { result ≡ full_edge capacity.now (demand_at loads.now) net slack e }
 {
-    if e.way == Way::Up {
-        return false;
-    }
     let room = capacity.at(e) + u64::from(slack);
     loads.demand(e).saturating_add(capacity.need(net, e)) > room
 }
 
-/// Whether an edge has more demand than capacity.
+/// Whether a wire edge has more demand than capacity.
 fn is_over(capacity: &Capacity, loads: &Loads, e: Edge) -> bool
     requires edge { IsTrue (has_edge capacity.now.shape e) }
+    requires wire { IsTrue (is_wire e) }
     requires loads { loads.now.shape ≡ capacity.now.shape }
     ensures { result ≡ over_edge capacity.now (demand_at loads.now) e }
 {
-    e.way != Way::Up && loads.demand(e) > capacity.at(e)
+    loads.demand(e) > capacity.at(e)
 }

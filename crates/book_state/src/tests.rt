@@ -253,6 +253,79 @@ fn each_front_has_its_own_routes(rt: HostRuntime) -> Result<(), Fail> {
     Ok(())
 }
 
+/// The length of a past, and the demand of a replica for the edge between the two tiles, once both
+/// have read the whole history.
+fn caught_up(
+    book: &BookState,
+    past: &mut Past,
+    replica: &mut Replica,
+    capacity: &Capacity,
+) -> Result<(u64, u64), AllocError>
+    requires capacity { capacity.now ≡ book.now.capacity }
+    requires past { take (length past.old) book.now.history ≡ past.old }
+    requires replica { StandsFor capacity.now past.old replica.old }
+    requires columns { capacity.now.shape.columns ≡ 2 }
+    requires rows { capacity.now.shape.rows ≡ 1 }
+    requires layers { capacity.now.shape.layers ≡ 1 }
+    ensures past { OnOk result (past.new ≡ book.now.history) }
+    ensures replica { OnOk result (StandsFor capacity.now past.new replica.new) }
+{
+    sync(book, past, replica, capacity)?;
+    Ok((past.len(), replica.loads().demand(EDGE)))
+}
+
+/// What a past and a replica of nothing have after four calls, and after three more.
+fn followed(
+    alloc: Global,
+    book: &mut BookState,
+    past: &mut Past,
+    replica: &mut Replica,
+    capacity: &Capacity,
+) -> Result<[(u64, u64); 2], AllocError>
+    requires nets { 2 ≤ nets_of book.old.capacity }
+    requires capacity { capacity.now ≡ book.old.capacity }
+    requires past { past.old ≡ [] }
+    requires replica { StandsFor capacity.now [] replica.old }
+    requires columns { capacity.now.shape.columns ≡ 2 }
+    requires rows { capacity.now.shape.rows ≡ 1 }
+    requires layers { capacity.now.shape.layers ≡ 1 }
+    ensures capacity { OnOk result (book.new.capacity ≡ book.old.capacity) }
+{
+    let tree = two_tiles(alloc, capacity.shape())?;
+    let _first = four_calls(alloc, book, &tree)?;
+    let four = caught_up(book, past, replica, capacity)?;
+    let _then = three_calls(alloc, book, &tree)?;
+    let seven = caught_up(book, past, replica, capacity)?;
+    Ok([four, seven])
+}
+
+/// The demand for the edge between the two tiles after the first four entries.
+fn demand_at_four(book: &BookState, capacity: &Capacity) -> Result<u64, AllocError>
+    requires capacity { capacity.now ≡ book.now.capacity }
+    requires four { 4 ≤ length book.now.history }
+    requires columns { capacity.now.shape.columns ≡ 2 }
+    requires rows { capacity.now.shape.rows ≡ 1 }
+    requires layers { capacity.now.shape.layers ≡ 1 }
+{
+    let loads = book.loads_at(capacity, 4)?;
+    Ok(loads.demand(EDGE))
+}
+
+#[test]
+fn a_replica_follows_each_call(rt: HostRuntime) -> Result<(), Fail> {
+    let alloc = rt.alloc();
+    let design = design(alloc)?;
+    let capacity = Capacity::of(alloc, &design)?;
+    let mut book = BookState::new(alloc, &design)?;
+    let mut past = Past::new(alloc);
+    let mut replica = Replica::new(alloc, &design)?;
+    let read = followed(alloc, &mut book, &mut past, &mut replica, &capacity)?;
+    assert_eq!(rt; read, [(4, 2), (7, 2)]);
+    assert!(rt; 4 <= book.history().len());
+    assert_eq!(rt; demand_at_four(&book, &capacity)?, 2);
+    Ok(())
+}
+
 /// Adds marks to the history until it has this length.
 fn mark_to(book: &mut BookState, wanted: u64) -> Result<(), AllocError>
     ensures capacity { book.new.capacity ≡ book.old.capacity }
