@@ -184,8 +184,6 @@ joined-same d sets k frame set pins joined same is are decides =
     (subst (λ (ps : List ℕ). IsTrue joined ↔ IsJoined frame.shape set ps) are decides))
 
 -- a net has few edges
-pub few-numbers : (d : DesignView) (now old : NumberSetView) (listed : List ℕ) → length listed ≤ now.bound → now.bound ≡ old.bound →
-    old ≡ empty_set (3 * cells_of d.frame.shape) → length listed ≤ 25165824
-few-numbers d now old listed few kept empty =
-    let bound : old.bound ≡ 3 * cells_of d.frame.shape = ap (λ (s : NumberSetView). s.bound) empty in
-    omega (arith, few, kept, bound, few_cells d.frame.shape)
+pub few-numbers : (d : DesignView) (set : NumberSetView) (listed : List ℕ) → length listed ≤ set.bound → set.bound ≡ 3 * cells_of d.frame.shape →
+    length listed ≤ 25165824
+few-numbers d set listed few bound = omega (arith, few, bound, few_cells d.frame.shape)

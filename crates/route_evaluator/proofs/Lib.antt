@@ -15,3 +15,6 @@ pub mod TreeFloodLemmas
 pub mod NetTreeLemmas
 pub mod RunEdges
 pub mod NetSets
+pub mod GatheredLemmas
+pub mod TreeGather
+pub mod RouteTrees

@@ -50,16 +50,19 @@ unjoined-all d sets nets listed net = (
 -- a net that isn't routed counts nothing
 pub counted-skip : (d : DesignView) (sets : ℕ → Edges) (k : ℕ) (t : Tally) → is_routed d k ≡ false → AreCounted d sets k t → AreCounted d sets (k + 1) t
 counted-skip d sets k t off counted =
-    let listed = listed-skip d sets k t.unjoined (λ u. both_ways (is_routed d k) off u.routed) (record { rising = counted.rising; unjoined = counted.unjoined }) in
+    let tallied = counted.tallied in
+    let listed = listed-skip d sets k t.unjoined (λ u. both_ways (is_routed d k) off u.routed) (record { rising = tallied.rising; unjoined = tallied.unjoined }) in
     record {
-      capacity = counted.capacity;
-      shape = counted.shape;
-      demand = λ e edge wire. counted.demand e edge wire ∙ sym (sum-skip d (λ net. if sets net e then need d net e else 0) k off);
+      tallied = record {
+        capacity = tallied.capacity;
+        shape = tallied.shape;
+        demand = λ e edge wire. tallied.demand e edge wire ∙ sym (sum-skip d (λ net. if sets net e then need d net e else 0) k off);
+        reached = tallied.reached;
+        routed = tallied.routed ∙ sym (routed-skip d k off);
+        wires = tallied.wires ∙ sym (sum-skip d _ k off);
+        vias = tallied.vias ∙ sym (sum-skip d _ k off);
+        rising = listed.rising;
+        unjoined = listed.unjoined;
+      };
       edges = counted.edges;
-      reached = counted.reached;
-      routed = counted.routed ∙ sym (routed-skip d k off);
-      wires = counted.wires ∙ sym (sum-skip d _ k off);
-      vias = counted.vias ∙ sym (sum-skip d _ k off);
-      rising = listed.rising;
-      unjoined = listed.unjoined;
     }

@@ -9,6 +9,8 @@ use Rattle.gr_base.specs.Sums.{wire_edges, via_edges}
 use Rattle.gr_base.specs.declared.grid.Edge.{Edge}
 use Rattle.grid_demand.specs.LoadSums.{demand_at}
 use Rattle.grid_demand.specs.Tables.{capacity_of}
+use Rattle.solution_text.specs.Runs.{LieIn}
+use Rattle.route_evaluator.specs.EdgeNumbers.{edges_numbered}
 use Rattle.route_evaluator.specs.NumberSets.{empty_set}
 use Rattle.route_evaluator.specs.Verdicts.{IsUnjoined}
 use Rattle.route_evaluator.specs.declared.tally.Tally.{Tally}
@@ -21,16 +23,27 @@ sum_before d count f = sum_by f (filter (is_routed d) (range_with_len 0 count))
 abbrev pub noted : Bool → ℕ → List ℕ → List ℕ
 noted joined net nets = if joined then nets else nets ++ net ∷ []
 
--- the nets below a number are counted, and nothing is left of them in the sets
-pub record AreCounted (d : DesignView) (sets : ℕ → Edges) (count : ℕ) (t : Tally) : Type 0 where
+-- the nets below a number are counted
+pub record AreTallied (d : DesignView) (sets : ℕ → Edges) (count : ℕ) (t : Tally) : Type 0 where
   pub capacity : t.capacity ≡ capacity_of d
   pub shape : t.loads.shape ≡ d.frame.shape
   pub demand : (e : Edge) → IsTrue (has_edge d.frame.shape e) → IsTrue (is_wire e) →
       demand_at t.loads e ≡ sum_before d count (λ net. if sets net e then need d net e else 0)
-  pub edges : t.edges ≡ empty_set (3 * cells_of d.frame.shape)
   pub reached : t.reached ≡ empty_set (cells_of d.frame.shape)
   pub routed : t.routed ≡ count_by (is_routed d) (range_with_len 0 count)
   pub wires : t.wires ≡ sum_before d count (λ net. count_by (sets net) (wire_edges d.frame.shape))
   pub vias : t.vias ≡ sum_before d count (λ net. count_by (sets net) (via_edges d.frame.shape))
   pub rising : IsStrictlyIncreasing t.unjoined
   pub unjoined : (net : ℕ) → Contains t.unjoined net ↔ ((net < count) × IsUnjoined d sets net)
+
+-- the nets below a number are counted, and no edges are left of them
+pub record AreCounted (d : DesignView) (sets : ℕ → Edges) (count : ℕ) (t : Tally) : Type 0 where
+  pub tallied : AreTallied d sets count t
+  pub edges : t.edges ≡ empty_set (3 * cells_of d.frame.shape)
+
+-- the nets below a number are counted, and the edges of the net with this number are gathered
+pub record AreGathered (d : DesignView) (sets : ℕ → Edges) (net : ℕ) (t : Tally) : Type 0 where
+  pub tallied : AreTallied d sets net t
+  pub bound : t.edges.bound ≡ 3 * cells_of d.frame.shape
+  pub edges : edges_numbered t.edges.numbers ≡ sets net
+  pub inside : LieIn d.frame.shape (edges_numbered t.edges.numbers)

@@ -1,15 +1,17 @@
-//! The edges that the runs of a net cover.
-ghost use Rattle.std.specs.Prelude.{◌≡◌, ◌<◌, ◌≤◌, ◌*◌, ◌||◌, ℕ, All, OnOk};
+//! The edges that the runs of a net cover, and those of a tree.
+ghost use Rattle.std.specs.Prelude.{◌≡◌, ◌<◌, ◌≤◌, ◌*◌, ◌||◌, ℕ, length, slice_get, All, IfSome, OnOk, IsTrue};
 ghost use Rattle.std.specs.List.{list_any};
+ghost use Rattle.std.specs.Option.{option_and_then};
 ghost use Rattle.gr_base.specs.declared.grid.Edge.{Edge};
-ghost use Rattle.gr_base.specs.Grid.{cells_of, way_between};
+ghost use Rattle.gr_base.specs.Grid.{cells_of, has_edge, way_between};
+ghost use Rattle.gr_base.specs.Trees.{IsTree, edge_to_parent as parent_edge, edges_of};
 ghost use Rattle.solution_text.specs.Covers.{covers};
 ghost use Rattle.route_reader.specs.Solutions.{IsRun};
 ghost use Rattle.route_evaluator.specs.EdgeNumbers.{edges_numbered};
 
 use crate::edge_numbers::edge_number;
 use crate::number_set::NumberSet;
-use gr_base::{Edge, Shape, Way};
+use gr_base::{Edge, RouteTree, Shape, Way};
 use solution_text::Run;
 use std::alloc::AllocError;
 
@@ -59,4 +61,29 @@ pub(crate) fn gather(edges: &mut NumberSet, shape: Shape, runs: &[Run]) -> Resul
         add_run(edges, shape, *run)?;
     }
     Ok(())
+}
+
+/// Puts the edges of a tree into a set of edges.
+pub(crate) fn gather_tree(edges: &mut NumberSet, tree: &RouteTree) -> Result<(), AllocError>
+    requires bound { edges.old.bound ≡ 3 * cells_of tree.now.shape }
+    ensures bound { OnOk result (edges.new.bound ≡ edges.old.bound) }
+    ensures edges { OnOk result ((e : Edge) → edges_numbered edges.new.numbers e ≡ (edges_numbered edges.old.numbers e || edges_of tree.now e)) }
+    ensures tree { OnOk result (IsTree tree.now) }
+{
+    for node in 0..tree.len() {
+        if let Some(edge) = edge_to_parent(tree, node) {
+            edges.insert(edge_number(edge))?;
+        }
+    }
+    Ok(())
+}
+
+/// The edge from a node of a tree to its parent. None exactly for the first node.
+fn edge_to_parent(tree: &RouteTree, node: u32) -> Option<Edge>
+    requires { node < length tree.now.nodes }
+    ensures edge { result ≡ option_and_then (parent_edge tree.now.shape tree.now.nodes) (slice_get tree.now.nodes node) }
+    ensures inside { IfSome result (λ e. IsTrue (has_edge tree.now.shape e)) }
+{
+    let parent = tree.cell(tree.parent(node));
+    tree.shape().edge_between(tree.cell(node), parent)
 }

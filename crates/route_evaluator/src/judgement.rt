@@ -1,10 +1,12 @@
-ghost use Rattle.std.specs.Prelude.{◌≤◌, IfOk};
+ghost use Rattle.std.specs.Prelude.{◌≡◌, ◌≤◌, ℕ, Some, IfOk, OnOk, IsTrue, IsSomeAnd};
+ghost use Rattle.gr_base.specs.Designs.{is_routed};
+ghost use Rattle.gr_base.specs.Trees.{TreeView, IsTree, route_edges, tree_at};
 ghost use Rattle.route_reader.specs.Solutions.{IsOf, edges_by};
 ghost use Rattle.route_evaluator.specs.Verdicts.{IsVerdict};
 
 use crate::tally::Tally;
 use crate::verdict::Verdict;
-use gr_base::Design;
+use gr_base::{Design, Routes};
 use route_reader::Solution;
 use std::alloc::{AllocError, Global};
 
@@ -26,6 +28,30 @@ pub fn evaluate(
         if design.routed(net) {
             tally.count(design, solution, net)?;
         }
+    }
+    Ok(tally.verdict(via_cost))
+}
+
+/// Judges the routes of a design, in which each routed net has a tree in the design's grid. The
+/// via cost, at most 1,000, is what a via edge counts in the wirelength. The only error is want of
+/// memory.
+pub fn evaluate_routes(
+    alloc: Global,
+    design: &Design,
+    routes: &Routes,
+    via_cost: u32,
+) -> Result<Verdict, AllocError>
+    requires routes { (net : ℕ) → IsTrue (is_routed design.now net) → IsSomeAnd (tree_at routes.now net) (λ tree. tree.shape ≡ design.now.frame.shape) }
+    requires cost { via_cost ≤ 1000 }
+    ensures verdict { IfOk result (IsVerdict design.now via_cost (route_edges routes.now)) }
+    ensures trees { OnOk result ((net : ℕ) → (tree : TreeView) → IsTrue (is_routed design.now net) → tree_at routes.now net ≡ Some tree → IsTree tree) }
+{
+    let mut tally = Tally::new(alloc, design)?;
+    for net in 0..design.nets() {
+        if !design.routed(net) {
+            continue;
+        }
+        tally.count_tree(design, routes, net)?;
     }
     Ok(tally.verdict(via_cost))
 }

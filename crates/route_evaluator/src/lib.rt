@@ -22,7 +22,7 @@ mod tree_flood;
 mod tree_tests;
 mod verdict;
 
-pub use judgement::evaluate;
+pub use judgement::{evaluate, evaluate_routes};
 pub use net_runs::straight;
 pub use net_tree::tree_of;
 pub use straight_list::Straight;

@@ -1,23 +1,24 @@
 //! What is counted of the nets of a solution.
-ghost use Rattle.std.specs.Prelude.{◌≡◌, ◌<◌, ◌≤◌, ◌*◌, ◌+◌, ◌-◌, ◌^◌, ℕ, length, count_by, IfOk, OnOk, IsTrue, if◌then◌else◌};
+ghost use Rattle.std.specs.Prelude.{◌≡◌, ◌<◌, ◌≤◌, ◌*◌, ◌+◌, ◌-◌, ◌^◌, ℕ, length, count_by, IfOk, OnOk, IsTrue, IsSomeAnd, if◌then◌else◌};
 ghost use Rattle.gr_base.specs.declared.grid.Edge.{Edge};
 ghost use Rattle.gr_base.specs.Designs.{DesignView, is_routed};
 ghost use Rattle.gr_base.specs.EdgeSets.{Edges};
 ghost use Rattle.gr_base.specs.Grid.{cells_of, has_edge, is_wire};
+ghost use Rattle.gr_base.specs.Trees.{IsTree, route_edges, tree_at};
 ghost use Rattle.solution_text.specs.Runs.{LieIn};
 ghost use Rattle.route_reader.specs.Solutions.{IsOf, edges_by};
 ghost use Rattle.grid_demand.specs.LoadSums.{demand_at};
 ghost use Rattle.grid_demand.specs.Tables.{need_at};
 ghost use Rattle.route_evaluator.specs.EdgeNumbers.{edges_numbered, is_via_number};
-ghost use Rattle.route_evaluator.specs.Counts.{AreCounted, noted};
+ghost use Rattle.route_evaluator.specs.Counts.{AreCounted, AreGathered, noted};
 ghost use Rattle.route_evaluator.specs.Verdicts.{IsVerdict};
 
 use crate::edge_numbers::{edge_with_number, is_via};
 use crate::flood::joins;
-use crate::gather::gather;
+use crate::gather::{gather, gather_tree};
 use crate::number_set::NumberSet;
 use crate::verdict::Verdict;
-use gr_base::{Cells, Design};
+use gr_base::{Cells, Design, Routes};
 use grid_demand::{Capacity, Loads};
 use route_reader::Solution;
 use std::alloc::{AllocError, Global};
@@ -55,7 +56,8 @@ impl Tally {
         })
     }
 
-    /// Counts the next net, which is routed. The only error is want of memory.
+    /// Counts the next net, which is routed, by the runs of a solution. The only error is want of
+    /// memory.
     pub(crate) fn count(
         &mut self,
         design: &Design,
@@ -67,9 +69,39 @@ impl Tally {
         requires counted { AreCounted design.now (edges_by solution.now) net self.old }
         ensures { OnOk result (AreCounted design.now (edges_by solution.now) (net + 1) self.new) }
     {
+        gather(&mut self.edges, design.frame().shape, solution.runs(net))?;
+        self.count_gathered(design, net)?;
+        Ok(())
+    }
+
+    /// Counts the next net, which is routed, by its tree, which is in the design's grid. The only
+    /// error is want of memory.
+    pub(crate) fn count_tree(
+        &mut self,
+        design: &Design,
+        routes: &Routes,
+        net: u32,
+    ) -> Result<(), AllocError>
+        requires routed { IsTrue (is_routed design.now net) }
+        requires tree { IsSomeAnd (tree_at routes.now net) (λ tree. tree.shape ≡ design.now.frame.shape) }
+        requires counted { AreCounted design.now (route_edges routes.now) net self.old }
+        ensures counted { OnOk result (AreCounted design.now (route_edges routes.now) (net + 1) self.new) }
+        ensures tree { OnOk result (IsSomeAnd (tree_at routes.now net) IsTree) }
+    {
+        gather_tree(&mut self.edges, routes.get(net).unwrap())?;
+        self.count_gathered(design, net)?;
+        Ok(())
+    }
+
+    /// Counts the next net, which is routed, and whose edges are gathered. The only error is want
+    /// of memory.
+    fn count_gathered(&mut self, design: &Design, net: u32) -> Result<(), AllocError>
+        requires routed { IsTrue (is_routed design.now net) }
+        requires gathered { (sets : ℕ → Edges) × AreGathered design.now sets net self.old }
+        ensures { OnOk result ((sets : ℕ → Edges) → AreGathered design.now sets net self.old → AreCounted design.now sets (net + 1) self.new) }
+    {
         let shape = design.frame().shape;
         let pins = design.net(net).pins.as_slice();
-        gather(&mut self.edges, shape, solution.runs(net))?;
         charge(&mut self.loads, &self.capacity, net, &self.edges);
         let joined = joins(&mut self.reached, &self.edges, shape, pins)?;
         note(&mut self.unjoined, net, joined)?;

@@ -1,12 +1,12 @@
-ghost use Rattle.std.specs.Prelude.{◌≤◌, IfOk};
+ghost use Rattle.std.specs.Prelude.{◌≡◌, ◌≤◌, length, IfOk};
 ghost use Rattle.route_reader.specs.Solutions.{IsOf};
 
-use crate::{Verdict, evaluate};
-use gr_base::Design;
+use crate::{Verdict, evaluate, evaluate_routes};
+use gr_base::{Design, RouteTree, Routes, Shape};
 use gr_io::{MemoryShelf, Shelf, Slot};
 use ispd_reader::read_design;
 use route_reader::{Solution, read_solution};
-use std::alloc::Global;
+use std::alloc::{AllocError, Global};
 use std::test::Fail;
 
 /// A grid of three by two tiles on two layers.
@@ -19,6 +19,12 @@ const TWO_PINS: &str = "2 1\n5 5 1\n25 15 1\n";
 const NARROW: &str = "grid 2 1 1\nvertical capacity 0\nhorizontal capacity 2\n\
     minimum width 1\nminimum spacing 1\nvia spacing 1\n0 0 10 10\nnum net 2\n\
     a 0 2 1\n5 5 1\n15 5 1\nb 1 2 1\n5 5 1\n15 5 1\n";
+
+/// Two nets on a grid of three by two tiles on two layers, where the wire edges of the first layer
+/// have room for one net.
+const ROOM_FOR_ONE: &str = "grid 3 2 2\nvertical capacity 0 4\nhorizontal capacity 2 0\n\
+    minimum width 1 1\nminimum spacing 1 1\nvia spacing 1 1\n0 0 10 10\nnum net 2\n\
+    a 0 2 1\n5 5 1\n25 15 1\nb 1 2 1\n5 5 1\n15 5 1\n";
 
 /// A route of the one net: a number behind the id, segments that overlap, one inside a tile, and
 /// one that goes backward.
@@ -112,5 +118,68 @@ fn nets_of_many_pins_are_not_routed(rt: HostRuntime) -> Result<(), Fail> {
         assert_eq!(rt; numbers(&verdict), (routed, 0, 0, 0, 0));
         assert!(rt; verdict.unjoined.as_slice().is_empty());
     }
+    Ok(())
+}
+
+/// A tree from cell 0 along the first layer, up, north on the second layer, and down to cell 5.
+fn over_the_second_layer(alloc: Global, shape: Shape) -> Result<RouteTree, AllocError>
+    requires columns { shape.columns ≡ 3 }
+    requires rows { shape.rows ≡ 2 }
+    requires layers { shape.layers ≡ 2 }
+    ensures { IfOk result (λ tree. tree.shape ≡ shape) }
+{
+    let mut tree = RouteTree::start(alloc, shape, 0)?;
+    tree.attach(&[2, 1, 0])?;
+    tree.attach(&[5, 11, 8, 2])?;
+    Ok(tree)
+}
+
+/// A tree of cell 0, and of cell 1 where the net is to be joined.
+fn east(alloc: Global, shape: Shape, joined: bool) -> Result<RouteTree, AllocError>
+    requires columns { shape.columns ≡ 3 }
+    requires rows { shape.rows ≡ 2 }
+    requires layers { shape.layers ≡ 2 }
+    ensures { IfOk result (λ tree. tree.shape ≡ shape) }
+{
+    let mut tree = RouteTree::start(alloc, shape, 0)?;
+    if joined {
+        tree.attach(&[1, 0])?;
+    }
+    Ok(tree)
+}
+
+/// The verdict on two trees of two nets, at a via cost of 3.
+fn judge_trees(
+    alloc: Global,
+    design: &Design,
+    first: RouteTree,
+    second: RouteTree,
+) -> Result<Verdict, AllocError>
+    requires nets { length design.now.nets ≡ 2 }
+    requires first { first.shape ≡ design.now.frame.shape }
+    requires second { second.shape ≡ design.now.frame.shape }
+{
+    let mut routes = Routes::new(alloc, 2)?;
+    routes.set(0, first);
+    routes.set(1, second);
+    evaluate_routes(alloc, design, &routes, 3)
+}
+
+#[test]
+fn trees_are_judged_by_their_edges(rt: HostRuntime) -> Result<(), Fail> {
+    let alloc = rt.alloc();
+    let design = design(alloc, ROOM_FOR_ONE)?;
+    let shape = design.frame().shape;
+    assert!(rt; design.nets() == 2);
+    assert!(rt; shape.columns == 3 && shape.rows == 2 && shape.layers == 2);
+    // Both nets are on the edge between the cells 0 and 1, and take 2 each of its capacity of 2.
+    let first = over_the_second_layer(alloc, shape)?;
+    let verdict = judge_trees(alloc, &design, first, east(alloc, shape, true)?)?;
+    assert_eq!(rt; numbers(&verdict), (2, 2, 2, 10, 2));
+    assert!(rt; verdict.unjoined.as_slice().is_empty());
+    let first = over_the_second_layer(alloc, shape)?;
+    let verdict = judge_trees(alloc, &design, first, east(alloc, shape, false)?)?;
+    assert_eq!(rt; numbers(&verdict), (2, 0, 0, 9, 2));
+    assert_eq!(rt; verdict.unjoined.as_slice(), [1].as_slice());
     Ok(())
 }

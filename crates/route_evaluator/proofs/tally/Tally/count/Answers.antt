@@ -1,89 +1,16 @@
-use Rattle.std.proofs.Common.{◌<◌, ◌+◌, ℕ, List, All, IsTrue, sym, ap, subst, ◌∙◌, arith}
-use Rattle.std.proofs.lemmas.List.Sums.{count_by-le-length}
-use Rattle.gr_base.specs.Designs.{DesignView}
-use Rattle.gr_base.specs.EdgeSets.{Edges}
-use Rattle.gr_base.specs.Grid.{cells_of, has_edge}
-use Rattle.gr_base.specs.declared.frame.Frame.{Frame}
-use Rattle.gr_base.specs.declared.grid.Shape.{Shape}
-use Rattle.solution_text.specs.Runs.{LieIn}
 use Rattle.route_reader.specs.Solutions.{edges_by}
-use Rattle.route_evaluator.specs.EdgeNumbers.{edges_numbered, is_via_number}
-use Rattle.route_evaluator.specs.NumberSets.{NumberSetView, empty_set}
-use Rattle.route_evaluator.proofs.CountedLemmas.{gathered-is, gathered-grid, routed-below, pins-inside, pins-are, demand-room, wires-room, vias-room, demand-next, vias-next, wires-next, joined-same, few-numbers}
-use Rattle.route_evaluator.proofs.StepLemmas.{routed-next, routed-most, listed-next}
+use Rattle.route_evaluator.proofs.GatheredLemmas.{gathered-runs}
 use Rattle.route_evaluator.proofs.tally.Tally.count.Goals as goal
 
-pub charge-requires-clause-grid : goal.charge-requires-clause-grid
-charge-requires-clause-grid c =
-    let is = gathered-is c.args.design.now c.args.solution.now c.args.net c.frame.result.now c.args.self.now.edges c.gather.new.edges.numbers c.runs.result.now
-    c.requires.solution c.frame.ensures.frame c.requires.counted.edges c.runs.ensures.runs c.in_ok-gather.ensures.edges in
-    subst (λ (g : Shape). LieIn g (edges_numbered c.gather.new.edges.numbers)) (sym c.requires.counted.shape)
-    (gathered-grid c.args.design.now c.args.solution.now c.args.net c.gather.new.edges.numbers c.requires.solution is)
-
-pub charge-requires-clause-room : goal.charge-requires-clause-room
-charge-requires-clause-room c e edge wire =
-    let same = c.requires.counted.demand e (subst (λ (g : Shape). IsTrue (has_edge g e)) c.requires.counted.shape edge) wire in
-    let room = demand-room c.args.design.now (edges_by c.args.solution.now) c.args.net e c.frame.ensures.design (routed-below c.args.design.now c.args.net c.requires.routed) in
-    omega (arith, same, room)
-
-pub joins-requires-clause-grid : goal.joins-requires-clause-grid
-joins-requires-clause-grid c =
-    let is = gathered-is c.args.design.now c.args.solution.now c.args.net c.frame.result.now c.args.self.now.edges c.gather.new.edges.numbers c.runs.result.now
-    c.requires.solution c.frame.ensures.frame c.requires.counted.edges c.runs.ensures.runs c.in_ok-gather.ensures.edges in
-    subst (λ (f : Frame). LieIn f.shape (edges_numbered c.gather.new.edges.numbers)) (sym c.frame.ensures.frame)
-    (gathered-grid c.args.design.now c.args.solution.now c.args.net c.gather.new.edges.numbers c.requires.solution is)
-
-pub joins-requires-clause-pins : goal.joins-requires-clause-pins
-joins-requires-clause-pins c =
-    let inside = pins-inside c.args.design.now c.args.net c.net.result.now c.frame.ensures.design c.net.ensures.net in
-    subst (λ (f : Frame). All (λ pin. pin < cells_of f.shape) c.as_slice-pins.result.now) (sym c.frame.ensures.frame)
-    (subst (λ (pins : List ℕ). All (λ pin. pin < cells_of c.args.design.now.frame.shape) pins) (sym c.as_slice-pins.ensures) inside)
-
-pub overflow_add-self : goal.overflow_add-self
-overflow_add-self c =
-    let room = vias-room c.args.design.now (edges_by c.args.solution.now) c.args.net c.frame.ensures.design (routed-below c.args.design.now c.args.net c.requires.routed) in
-    let few = few-numbers c.args.design.now c.gather.new.edges c.args.self.now.edges c.numbers.result.now c.numbers.ensures.few c.in_ok-gather.ensures.bound c.requires.counted.edges in
-    omega (arith, room, few, c.requires.counted.vias, c.count_vias-vias.ensures, count_by-le-length is_via_number c.numbers.result.now)
-
-pub overflow_add-self-2 : goal.overflow_add-self-2
-overflow_add-self-2 c =
-    let room = wires-room c.args.design.now (edges_by c.args.solution.now) c.args.net c.frame.ensures.design (routed-below c.args.design.now c.args.net c.requires.routed) in
-    let few = few-numbers c.args.design.now c.gather.new.edges c.args.self.now.edges c.numbers-2.result.now c.numbers-2.ensures.few c.in_ok-gather.ensures.bound c.requires.counted.edges in
-    omega (arith, room, few, c.requires.counted.wires)
-
-pub overflow_add-self-3 : goal.overflow_add-self-3
-overflow_add-self-3 c =
-    let below = routed-below c.args.design.now c.args.net c.requires.routed in
-    let few = c.frame.ensures.design.few_nets in
-    omega (arith, below, few, c.requires.counted.routed, routed-most c.args.design.now c.args.net)
+pub count_gathered-requires-clause-gathered : goal.count_gathered-requires-clause-gathered
+count_gathered-requires-clause-gathered c = (
+  edges_by c.args.solution.now,
+  gathered-runs c.args.design.now c.args.solution.now c.args.net c.frame.result.now c.args.self.now c.gather.new.edges c.runs.result.now c.requires.solution
+      c.frame.ensures.frame c.runs.ensures.runs c.requires.counted c.in_ok-gather.ensures.bound c.in_ok-gather.ensures.edges,
+)
 
 pub returns : goal.returns
 returns c =
-    let d : DesignView = c.args.design.now in
-    let sets : ℕ → Edges = edges_by c.args.solution.now in
-    let numbers : List ℕ = c.gather.new.edges.numbers in
-    let is = gathered-is d c.args.solution.now c.args.net c.frame.result.now c.args.self.now.edges numbers c.runs.result.now
-    c.requires.solution c.frame.ensures.frame c.requires.counted.edges c.runs.ensures.runs c.in_ok-gather.ensures.edges in
-    let within = gathered-grid d c.args.solution.now c.args.net numbers c.requires.solution is in
-    let decides = joined-same d sets c.args.net c.frame.result.now (edges_numbered numbers) c.as_slice-pins.result.now c.in_ok-joined.joined
-    c.frame.ensures.frame is (c.as_slice-pins.ensures ∙ pins-are d c.args.net c.net.result.now c.net.ensures.net) c.in_ok-joined.ensures.joined in
-    let listed = listed-next d sets c.args.net c.args.self.now.unjoined c.note.new.nets c.in_ok-joined.joined c.requires.routed decides
-    (record { rising = c.requires.counted.rising; unjoined = c.requires.counted.unjoined }) c.in_ok-note.ensures in
-    record {
-      capacity = c.requires.counted.capacity;
-      shape = c.charge.ensures.shape ∙ c.requires.counted.shape;
-      demand =
-          demand-next d sets c.args.net numbers c.args.self.now.capacity c.args.self.now.loads c.charge.new.loads c.requires.routed is
-          c.requires.counted.capacity c.requires.counted.shape c.requires.counted.demand c.charge.ensures.demand;
-      edges = c.clear.ensures ∙ ap empty_set (c.in_ok-gather.ensures.bound ∙ ap (λ (s : NumberSetView). s.bound) c.requires.counted.edges);
-      reached = c.in_ok-joined.ensures.clear ∙ c.requires.counted.reached;
-      routed = ap (λ (n : ℕ). n + 1) c.requires.counted.routed ∙ sym (routed-next d c.args.net c.requires.routed);
-      wires =
-          wires-next d sets c.args.net numbers c.numbers.result.now c.numbers-2.result.now c.args.self.now.wires c.count_vias-vias.result c.requires.routed is within
-          c.numbers.ensures.numbers c.numbers-2.ensures.numbers c.numbers.ensures.once c.count_vias-vias.ensures c.requires.counted.wires;
-      vias =
-          vias-next d sets c.args.net numbers c.numbers.result.now c.args.self.now.vias c.count_vias-vias.result c.requires.routed is within
-          c.numbers.ensures.numbers c.numbers.ensures.once c.count_vias-vias.ensures c.requires.counted.vias;
-      rising = listed.rising;
-      unjoined = listed.unjoined;
-    }
+    c.in_ok-count_gathered.ensures (edges_by c.args.solution.now)
+    (gathered-runs c.args.design.now c.args.solution.now c.args.net c.frame.result.now c.args.self.now c.gather.new.edges c.runs.result.now c.requires.solution
+    c.frame.ensures.frame c.runs.ensures.runs c.requires.counted c.in_ok-gather.ensures.bound c.in_ok-gather.ensures.edges)
