@@ -17,6 +17,15 @@ const NET: &str = "num net 1\na 0 2 1\n5 5 1\n25 15 1\n";
 const ROUTED: &str = "a 0\n(5,5,1)-(25,5,1)\n(25,5,2)-(25,15,2)\n(25,5,1)-(25,5,2)\n\
     (25,15,1)-(25,15,2)\n!\n";
 
+/// What err gains with `ROUTED`.
+const REPORT: &str = "routed 1\noverflow 0\nmaximum 0\nwirelength 5\nvias 2\n";
+
+/// What err gains where no net is routed.
+const NOTHING: &str = "routed 0\noverflow 0\nmaximum 0\nwirelength 0\nvias 0\n";
+
+/// What err gains where one net is routed, all of whose pins are in one cell.
+const STILL: &str = "routed 1\noverflow 0\nmaximum 0\nwirelength 0\nvias 0\n";
+
 /// What a run left.
 #[derive(Drop)]
 struct Left {
@@ -62,7 +71,7 @@ fn one(alloc: Global, call: u64) -> Result<Vec<u64>, Fail> {
     Ok(vec![in alloc; call]?)
 }
 
-/// Routes the design that this text is.
+/// Routes the design that this text is, by pattern plans alone.
 fn route<R: AllocGlobal + Abort>(rt: &R, text: &[u8], devices: Devices) -> Result<Left, Fail> {
     let alloc = rt.alloc();
     let mut shelf = MemoryShelf::new(alloc, one(alloc, devices.shelf)?);
@@ -73,7 +82,7 @@ fn route<R: AllocGlobal + Abort>(rt: &R, text: &[u8], devices: Devices) -> Resul
     let mut out = MemorySink::new(alloc, devices.room, write, one(alloc, devices.out)?)?;
     let mut err = MemorySink::new(alloc, 4096, write, one(alloc, devices.err)?)?;
     let mut words = Vec::new(alloc);
-    for word in ["route", "A"] {
+    for word in ["route", "A", "0"] {
         words.push(String::from_str(alloc, word)?)?;
     }
     let ended = run(rt, alloc, &words, &mut shelf, &mut out, &mut err, &rules());
@@ -105,7 +114,7 @@ fn each_prefix_but_the_whole_is_a_fault(rt: HostRuntime) -> Result<(), Fail> {
         if size - cut <= 1 {
             assert_eq!(rt; left.status, 0, "cut at {cut}");
             assert_eq!(rt; left.out.bytes(), ROUTED.as_bytes(), "cut at {cut}");
-            assert_eq!(rt; left.err.bytes(), b"".as_slice(), "cut at {cut}");
+            assert_eq!(rt; left.err.bytes(), REPORT.as_bytes(), "cut at {cut}");
         } else {
             assert_eq!(rt; left.status, 3, "cut at {cut}");
             assert_eq!(rt; left.out.bytes(), b"".as_slice(), "cut at {cut}");
@@ -161,21 +170,21 @@ fn the_first_fault_is_told(rt: HostRuntime) -> Result<(), Fail> {
     let left = route(&rt, single.as_bytes(), AMPLE)?;
     assert_eq!(rt; left.status, 0);
     assert_eq!(rt; left.out.bytes(), b"".as_slice());
-    assert_eq!(rt; left.err.bytes(), b"".as_slice());
+    assert_eq!(rt; left.err.bytes(), NOTHING.as_bytes());
     Ok(())
 }
 
 #[test]
 fn sizes_at_the_bounds_are_accepted(rt: HostRuntime) -> Result<(), Fail> {
     let alloc = rt.alloc();
-    // How many pins the net has, and its record.
-    for (pins, record) in [(1000, "a 0\n!\n"), (1001, "")] {
+    // How many pins the net has, its record, and its report.
+    for (pins, record, report) in [(1000, "a 0\n!\n", STILL), (1001, "", NOTHING)] {
         let head = format!(in alloc; "{GRID}num net 1 a 0 {pins} 1")?;
         let text = with_copies(alloc, &head, " 5 5 1", pins)?;
         let left = route(&rt, text.as_bytes(), AMPLE)?;
         assert_eq!(rt; left.status, 0, "{pins} pins");
         assert_eq!(rt; left.out.bytes(), record.as_bytes(), "{pins} pins");
-        assert_eq!(rt; left.err.bytes(), b"".as_slice(), "{pins} pins");
+        assert_eq!(rt; left.err.bytes(), report.as_bytes(), "{pins} pins");
     }
     // With the `a` of the net, a name of a million letters.
     let letters = with_copies(alloc, "", "aaaaaaaaa", 111_111)?;
@@ -189,6 +198,7 @@ fn sizes_at_the_bounds_are_accepted(rt: HostRuntime) -> Result<(), Fail> {
     assert_eq!(rt; left.status, 0);
     assert_eq!(rt; left.out.bytes().len(), 1_000_079);
     assert!(rt; left.out.bytes() == wanted.as_bytes());
+    assert_eq!(rt; left.err.bytes(), REPORT.as_bytes());
     Ok(())
 }
 
@@ -196,7 +206,7 @@ fn sizes_at_the_bounds_are_accepted(rt: HostRuntime) -> Result<(), Fail> {
 fn pieces_change_no_byte(rt: HostRuntime) -> Result<(), Fail> {
     // What follows the grid, the status, what out gains, and what err gains.
     for (rest, status, out, err) in [
-        (NET, 0, ROUTED, ""),
+        (NET, 0, ROUTED, REPORT),
         (
             "num net 1 a 0 2 1 5 5 1 31 15 1",
             3,
@@ -262,15 +272,14 @@ fn each_write_that_fails_leaves_a_prefix(rt: HostRuntime) -> Result<(), Fail> {
     let text = format!(in rt.alloc(); "{GRID}{NET}")?;
     let fault = format!(in rt.alloc(); "{GRID}num net 1 a 0 2 1 5 5 1 31 15 1")?;
     let line = b"groute: design fault 8 at token 39\n".as_slice();
-    // Out takes 80 bytes in twelve calls, and err 35 in five.
+    // Out takes 80 bytes in twelve calls, and err the line's 35 in five and the report's 50 in eight.
     for call in 1..14 {
-        let failing = Devices {
+        let out_fails = Devices {
             write: 7,
             out: call,
-            err: call,
             ..AMPLE
         };
-        let left = route(&rt, text.as_bytes(), failing)?;
+        let left = route(&rt, text.as_bytes(), out_fails)?;
         let whole = left.out.bytes() == ROUTED.as_bytes();
         assert_eq!(rt; whole, call > 12, "write {call} of out");
         assert_eq!(rt;
@@ -282,9 +291,33 @@ fn each_write_that_fails_leaves_a_prefix(rt: HostRuntime) -> Result<(), Fail> {
             ROUTED.as_bytes().starts_with(left.out.bytes()),
             "write {call} of out"
         );
-        assert_eq!(rt; left.err.bytes(), b"".as_slice(), "write {call} of out");
+        let told = if whole { REPORT } else { "" };
+        assert_eq!(rt; left.err.bytes(), told.as_bytes(), "write {call} of out");
 
-        let left = route(&rt, fault.as_bytes(), failing)?;
+        let err_fails = Devices {
+            write: 7,
+            err: call,
+            ..AMPLE
+        };
+        let left = route(&rt, text.as_bytes(), err_fails)?;
+        let whole = left.err.bytes() == REPORT.as_bytes();
+        assert_eq!(rt; whole, call > 8, "write {call} of the report");
+        assert_eq!(rt;
+            left.status,
+            if whole { 0 } else { 7 },
+            "write {call} of the report"
+        );
+        assert_eq!(rt;
+            left.out.bytes(),
+            ROUTED.as_bytes(),
+            "write {call} of the report"
+        );
+        assert!(rt;
+            REPORT.as_bytes().starts_with(left.err.bytes()),
+            "write {call} of the report"
+        );
+
+        let left = route(&rt, fault.as_bytes(), err_fails)?;
         assert_eq!(rt; left.status, 3, "write {call} of err");
         assert_eq!(rt; left.out.bytes(), b"".as_slice(), "write {call} of err");
         assert_eq!(rt; left.err.bytes() == line, call > 5, "write {call} of err");

@@ -10,7 +10,8 @@ use Rattle.router_top.specs.Opening.{IsCovered}
 use Rattle.router_top.specs.declared.stop.Outcome.{Outcome}
 use Rattle.solution_text.specs.Cover.{cover}
 use Rattle.router_top.specs.Devices.{Reading}
-use Rattle.router_top.specs.Texts.{design_said, solution_said, IsJudging, outcome_of, verdict_text, HasOpenNet}
+use Rattle.router_top.specs.Said.{design_said, solution_said}
+use Rattle.router_top.specs.Texts.{IsJudging, outcome_of, verdict_text, HasOpenNet}
 use Rattle.router_top.specs.declared.stop.Outcome.TheVariants.{Whole, Open}
 
 -- the design is said in one way

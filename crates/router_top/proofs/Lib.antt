@@ -1,5 +1,10 @@
-pub mod JoinLemmas
+pub mod DemandLemmas
 pub mod RoutingLemmas
-pub mod PlanningLemmas
 pub mod JudgingLemmas
 pub mod EndLemmas
+pub mod HandLemmas
+pub mod RouteLemmas
+pub mod StandLemmas
+pub mod TurnLemmas
+pub mod RoundSteps
+pub mod WordLemmas

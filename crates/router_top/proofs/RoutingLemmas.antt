@@ -1,37 +1,28 @@
-use Rattle.std.proofs.Common.{◌≡◌, ℕ, ◌&&◌, true, List, slice_get, Option, Some, None, IsSomeAnd, Ok, IsTrue, refl, ap, subst, ◌∙◌}
-use Rattle.gr_base.specs.Designs.{DesignView, IsDesign, is_routed, is_routed_net}
-use Rattle.gr_base.specs.EdgeSets.{IsJoined}
+use Rattle.std.proofs.Common.{◌≡◌, ℕ, ◌&&◌, Bool, false, List, take, Option, Some, None, Ok, IsTrue, inl, inr, refl, sym, ap, subst, ◌∙◌}
+use Rattle.std.proofs.Math.Path.{fun_ext}
+use Rattle.std.proofs.lemmas.Bool.{cases_Bool}
+use Rattle.gr_base.specs.Designs.{DesignView, IsDesign, is_routed}
+use Rattle.gr_base.specs.EdgeSets.{Edges}
 use Rattle.gr_base.specs.Grid.{has_edge}
-use Rattle.gr_base.specs.Plans.{Routes, RoutesAll}
-use Rattle.gr_base.specs.Trees.{TreeView, edges_of, tree_at, tree_edges, route_edges, edges_or_none}
-use Rattle.gr_base.specs.declared.frame.Net.{Net}
+use Rattle.gr_base.specs.Sums.{demand as demand_by}
+use Rattle.gr_base.specs.Trees.{TreeView, edges_or_none, route_edges, tree_at, tree_edges}
 use Rattle.gr_base.specs.declared.grid.Edge.{Edge}
 use Rattle.gr_base.specs.declared.grid.Shape.{Shape}
-use Rattle.gr_base.proofs.TreeEdges.{tree-connected, tree-grid_edges}
-use Rattle.cost_rules.specs.declared.site.Formula.TheVariants.{First}
-use Rattle.route_writer.specs.Routed.{AreRouted}
+use Rattle.gr_base.proofs.TreeEdges.{tree-grid_edges}
+use Rattle.grid_demand.specs.Tables.{CapacityView, capacity_of}
+use Rattle.book_state.specs.Books.{booked, demand as demand_after}
+use Rattle.book_state.specs.declared.entry.Entry.{Entry}
+use Rattle.route_evaluator.proofs.VerdictLemmas.{verdict-same}
 use Rattle.straight_runs.proofs.ListLemmas.{list-within}
 use Rattle.solution_text.specs.Cover.{cover}
-use Rattle.solution_text.specs.Laws.{WrittenTextCovers}
 use Rattle.solution_text.specs.Runs.{LieIn}
 use Rattle.solution_text.specs.WrittenText.{written_text}
+use Rattle.solution_text.proofs.LawLemmas.{written-text-covers}
 use Rattle.router_top.specs.Devices.{Reading}
-use Rattle.router_top.specs.Planning.{AreTrees, IsPlanned}
-use Rattle.router_top.specs.Texts.{design_said, AllJoined, IsRouting}
-use Rattle.router_top.proofs.JoinLemmas.{IsJoined-tree}
-
-some-weaken : (P Q : TreeView → Type 0) (o : Option TreeView) → ((t : TreeView) → P t → Q t) → IsSomeAnd o P → IsSomeAnd o Q
-some-weaken P Q None all some = some
-some-weaken P Q (Some t) all some = all t some
-
--- nets that are routed have trees of the design's shape
-pub are-routed : (d : DesignView) (trees : List (Option TreeView)) → RoutesAll d trees → AreRouted d trees
-are-routed d trees routes net is_there = by_net (slice_get d.nets net) refl is_there
-  where
-    by_net : (o : Option Net) → slice_get d.nets net ≡ o → IsTrue (is_routed_net o) → IsSomeAnd (tree_at trees net) (λ tree. tree.shape ≡ d.frame.shape)
-    by_net None is routed = cc
-    by_net (Some n) is routed =
-        some-weaken (Routes d.frame.shape n) (λ tree. tree.shape ≡ d.frame.shape) (tree_at trees net) (λ t r. r.shape) (routes net n is routed)
+use Rattle.router_top.specs.Routings.{booked_edges, AllJoined, AreTrees, IsRoutingOf, IsRouting}
+use Rattle.router_top.specs.Said.{design_said}
+use Rattle.router_top.specs.declared.routes.Routing.{Routing}
+use Rattle.router_top.proofs.DemandLemmas.{booked-demand}
 
 -- the edges of the trees lie in the grid
 pub lie-in : (g : Shape) (trees : List (Option TreeView)) → AreTrees g trees → (net : ℕ) → LieIn g (route_edges trees net)
@@ -43,34 +34,59 @@ lie-in g trees are net = by_tree (tree_at trees net) refl
         let tree = are net t is in
         subst (λ (h : Shape). IsTrue (has_edge h e)) tree.1 (list-within t.shape (tree_edges t) (tree-grid_edges t tree.0) e among)
 
--- by what the written text covers each routed net's pins are joined
-pub all-joined : (d : DesignView) (trees : List (Option TreeView)) → WrittenTextCovers → IsDesign d → RoutesAll d trees → AreTrees d.frame.shape trees →
-    AllJoined d (cover d (written_text d (route_edges trees)))
-all-joined d trees law design routes are number net is routed = by_tree (tree_at trees number) refl (routes number net is routed)
-  where
-    covers : (t : TreeView) → tree_at trees number ≡ Some t → (e : Edge) → IsTrue (edges_of t e) → IsTrue (cover d (written_text d (route_edges trees)) number e)
-    covers t there e among =
-        let has : is_routed d number ≡ true = ap is_routed_net is ∙ routed in
-        let set : route_edges trees number e ≡ true = ap (λ (o : Option TreeView). edges_or_none o e) there ∙ among in
-        law d design (route_edges trees) (lie-in d.frame.shape trees are) number e ∙ ap (λ b. b && route_edges trees number e) has ∙ set
+-- what a text of trees covers: the edges of the routed nets' trees
+pub text-covers : (d : DesignView) (trees : List (Option TreeView)) → IsDesign d → AreTrees d.frame.shape trees →
+    (net : ℕ) (e : Edge) → cover d (written_text d (route_edges trees)) net e ≡ (is_routed d net && route_edges trees net e)
+text-covers d trees design are = written-text-covers d design (route_edges trees) (lie-in d.frame.shape trees are)
 
-    by_tree : (o : Option TreeView) → tree_at trees number ≡ o → IsSomeAnd o (Routes d.frame.shape net) →
-        IsJoined d.frame.shape (cover d (written_text d (route_edges trees)) number) net.pins
-    by_tree None there some = absurd some
-    by_tree (Some t) there r =
-        subst (λ (g : Shape). IsJoined g (cover d (written_text d (route_edges trees)) number) net.pins) r.shape
-        (IsJoined-tree t (cover d (written_text d (route_edges trees)) number) net.pins (tree-connected t (are number t there).0) (covers t there) r.pins)
+-- where only routed nets have trees, a text of them covers just their edges
+text-same : (d : DesignView) (trees : List (Option TreeView)) → IsDesign d → AreTrees d.frame.shape trees → ((net : ℕ) → is_routed d net ≡ false → tree_at trees net ≡ None) →
+    (net : ℕ) (e : Edge) → route_edges trees net e ≡ cover d (written_text d (route_edges trees)) net e
+text-same d trees design are none net e =
+    elim (cases_Bool (is_routed d net)) [
+      | inl routed ↦ sym (text-covers d trees design are net e ∙ ap (λ (b : Bool). b && route_edges trees net e) routed)
+      | inr unrouted ↦
+          let nothing : route_edges trees net e ≡ false = ap (λ (o : Option TreeView). edges_or_none o e) (none net unrouted) in
+          sym (text-covers d trees design are net e ∙ ap (λ (b : Bool). b && route_edges trees net e) unrouted ∙ sym nothing)
+    ]
 
--- a design that was read, and the trees of its nets, make a routing
-pub is-routing : (shelf : Reading) (name : List ℕ) (d : DesignView) (trees : List (Option TreeView)) → WrittenTextCovers →
-    (IsTrue shelf.tells → design_said shelf name ≡ Some (Ok d)) →
-    IsDesign d → RoutesAll d trees → AreTrees d.frame.shape trees → IsPlanned d First trees → IsRouting shelf name (written_text d (route_edges trees))
-is-routing shelf name d trees law said design routes are planned = record {
+-- the sets of the trees are those of the bookings
+booked-same : (d : DesignView) (h : List Entry) (trees : List (Option TreeView)) → ((net : ℕ) → tree_at trees net ≡ booked h net) →
+    (net : ℕ) (e : Edge) → route_edges trees net e ≡ booked_edges h net e
+booked-same d h trees same net e = ap (λ (o : Option TreeView). edges_or_none o e) (same net)
+
+-- booked demand is that of the text
+demand-same : (d : DesignView) (c : CapacityView) (h : List Entry) (trees : List (Option TreeView)) → IsDesign d → c ≡ capacity_of d → AreTrees d.frame.shape trees →
+    ((net : ℕ) → tree_at trees net ≡ booked h net) → ((net : ℕ) → is_routed d net ≡ false → tree_at trees net ≡ None) →
+    (e : Edge) → demand_after c h e ≡ demand_by d (cover d (written_text d (route_edges trees))) e
+demand-same d c h trees design capacity are same none e =
+    ap (λ (x : CapacityView). demand_after x h e) capacity
+    ∙ booked-demand d h (cover d (written_text d (route_edges trees))) (λ net unrouted. sym (same net) ∙ none net unrouted)
+    (λ net routed edge. sym (text-same d trees design are none net edge) ∙ booked-same d h trees same net edge) e
+
+-- sets of edges that join the nets, and others that have the same edges
+joined-same : (d : DesignView) (sets others : ℕ → Edges) → ((net : ℕ) (e : Edge) → sets net e ≡ others net e) → AllJoined d sets → AllJoined d others
+joined-same d sets others same joined = subst (λ (s : ℕ → Edges). AllJoined d s) (fun_ext (λ net. fun_ext (λ e. same net e))) joined
+
+-- routes of a design that was read, and their report, are a routing
+pub is-routing : (shelf : Reading) (name : List ℕ) (d : DesignView) (rounds : ℕ) (r : Routing) → (IsTrue shelf.tells → design_said shelf name ≡ Some (Ok d)) →
+    IsDesign d → IsRoutingOf d rounds r → IsRouting shelf name rounds r.book r.hands.items (written_text d (route_edges r.routes)) r.report
+is-routing shelf name d rounds r said design is = record {
   design = d;
   said = said;
-  trees = trees;
-  routes = routes;
-  planned = planned;
-  says = refl;
-  joined = all-joined d trees law design routes are;
+  made = is.made;
+  chosen = is.chosen;
+  least = is.routes.least;
+  says = ap (written_text d) (fun_ext (λ net. fun_ext (λ e. booked-same d h r.routes is.routes.booked net e)));
+  joined = joined-same d (route_edges r.routes) (cover d (written_text d (route_edges r.routes))) same is.routes.joined;
+  demand = λ e edge wire. demand-same d r.book.capacity h r.routes design is.made.capacity is.trees is.routes.booked is.routes.free e;
+  verdict = is.verdict;
+  judged = verdict-same d 1 (route_edges r.routes) (cover d (written_text d (route_edges r.routes))) is.verdict same is.judged;
+  reports = is.reports;
 }
+  where
+    h : List Entry
+    h = take is.chosen r.book.history
+
+    same : (net : ℕ) (e : Edge) → route_edges r.routes net e ≡ cover d (written_text d (route_edges r.routes)) net e
+    same = text-same d r.routes design is.trees is.routes.free

@@ -25,6 +25,15 @@ pub record IsUntouched (device : Device) : Type 0 where
   pub faults : device.faults_after ≡ device.faults
   pub written : IsTrue device.tells → device.written_after ≡ device.written
 
+-- the sink gained this text, and no call of it failed
+pub record Gains (device : Device) (text : List ℕ) : Type 0 where
+  pub faults : device.faults_after ≡ device.faults
+  pub written : IsTrue device.tells → device.written_after ≡ device.written ++ text
+
+-- the sink gained a first part of this text
+abbrev pub GainsPart : Device → List ℕ → Type 0
+GainsPart device text = IsTrue device.tells → AppendsPart device.written device.written_after text
+
 -- the sink gained a line, or, where a write to it failed, a first part of the line
 abbrev pub GainsLine : Device → List ℕ → Type 0
 GainsLine err line =

@@ -2,8 +2,13 @@ pub mod Words
 pub mod Orders
 pub mod Devices
 pub mod Lines
-pub mod Planning
-pub mod Texts
+pub mod Said
 pub mod Opening
+pub mod Rounds
+pub mod Standing
+pub mod Turns
+pub mod Hands
+pub mod Routings
+pub mod Texts
 pub mod Outcomes
 pub mod Ends

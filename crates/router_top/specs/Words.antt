@@ -1,9 +1,11 @@
-use Rattle.std.specs.Prelude.{ℕ, Bool, false, ◌&&◌, ◌==◌, not, List, [], ◌∷◌, Option, Some, None, if◌then◌else◌, codes}
+use Rattle.std.specs.Prelude.{ℕ, ◌+◌, ◌-◌, ◌*◌, Bool, false, ◌&&◌, ◌||◌, ◌==◌, nat_le, List, [], ◌∷◌, length, fold, Option, Some, None, if◌then◌else◌, codes}
+use Rattle.std.specs.List.{list_all}
+use Rattle.std.specs.Option.{option_map}
 use Rattle.std.specs.Str.{bytes_eq}
 
 -- what the words ask for, with the names of the texts that it needs
 pub data Order : Type 0 where
-  Route : (design : List ℕ) → Order
+  Route : (design : List ℕ) → (rounds : ℕ) → Order
   Evaluate : (design solution : List ℕ) → Order
 
 -- a word that begins with a hyphen
@@ -11,10 +13,29 @@ abbrev pub is_option : List ℕ → Bool
 is_option [] = false
 is_option (byte ∷ rest) = byte == 45
 
--- the order that the words give: `route` and one name, or `evaluate` and two; other words give none
+abbrev pub is_digit : ℕ → Bool
+is_digit byte = nat_le 48 byte && nat_le byte 57
+
+abbrev pub with_digit : ℕ → ℕ → ℕ
+with_digit value byte = 10 * value + (byte - 48)
+
+-- the value of digits
+abbrev pub value_of : List ℕ → ℕ
+value_of digits = fold with_digit 0 digits
+
+-- a whole number of one to twenty digits, at most this great
+abbrev pub number_in : ℕ → List ℕ → Option ℕ
+number_in most word =
+    if nat_le 1 (length word) && nat_le (length word) 20 && list_all is_digit word && nat_le (value_of word) most then Some (value_of word) else None
+
+-- the most rounds that words may ask for
+abbrev pub most_rounds : ℕ
+most_rounds = 64
+
+-- the order that the words give: `route`, a name and a number of rounds, or `evaluate` and two names; other words give none
 abbrev pub order_of : List (List ℕ) → Option Order
-order_of (command ∷ design ∷ []) =
-    if bytes_eq command (codes "route") && not (is_option design) then Some (Route design) else None
-order_of (command ∷ design ∷ solution ∷ []) =
-    if bytes_eq command (codes "evaluate") && not (is_option design) && not (is_option solution) then Some (Evaluate design solution) else None
+order_of (command ∷ first ∷ second ∷ []) =
+    if is_option first || is_option second then None else
+    (if bytes_eq command (codes "route") then option_map (Route first) (number_in most_rounds second) else
+    (if bytes_eq command (codes "evaluate") then Some (Evaluate first second) else None))
 order_of words = None

@@ -1,8 +1,8 @@
 ghost use Rattle.std.specs.Prelude.{◌≡◌, ◌<◌, length, All, IfOk};
 ghost use Rattle.router_top.specs.Outcomes.{Leaves};
 ghost use Rattle.router_top.specs.Texts.{outcome_of, verdict_text};
-ghost use Rattle.router_top.specs.Words.{Evaluate};
 
+use crate::routes::VIA_COST;
 use crate::stop::{Outcome, Stop};
 use crate::texts::{open_design, open_solution};
 use gr_base::Design;
@@ -11,9 +11,6 @@ use gr_text::Text;
 use report_text::{report, unjoined};
 use route_evaluator::{Verdict, evaluate};
 use std::alloc::{AllocError, Global};
-
-/// As how many wire edges a via edge counts.
-const VIA_COST: u32 = 1;
 
 /// Reads the design and the solution of these names, judges the solution's routes, and writes the
 /// verdict on out.
@@ -24,7 +21,7 @@ pub(crate) fn judge<S: Shelf, O: Sink>(
     design: &str,
     solution: &str,
 ) -> Result<Outcome, Stop>
-    ensures { Leaves (Evaluate design.now solution.now)
+    ensures { Leaves design.now solution.now
         (record { tells = S.tells; held = S.held shelf.old; faults = S.faults shelf.old; faults_after = S.faults shelf.new; misses = S.misses shelf.old; misses_after = S.misses shelf.new })
         (record { tells = O.tells; faults = O.faults out.old; faults_after = O.faults out.new; written = O.written out.old; written_after = O.written out.new })
         result }

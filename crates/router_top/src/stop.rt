@@ -1,7 +1,7 @@
 ghost use Rattle.std.specs.Prelude.{◌≡◌, IfOk};
 ghost use Rattle.router_top.specs.Devices.{GainsLine};
 ghost use Rattle.router_top.specs.Lines.{status_done, status_of, fault_line};
-ghost use Rattle.router_top.specs.Outcomes.{IsTold};
+ghost use Rattle.router_top.specs.Outcomes.{Finishes, IsTold};
 
 use gr_io::{Sink, write_whole};
 use gr_text::Text;
@@ -35,7 +35,7 @@ pub(crate) enum Stop {
 }
 
 /// The status that the program ends with where a command was done.
-pub(crate) fn status_done(outcome: Outcome) -> u8
+fn status_done(outcome: Outcome) -> u8
     ensures { result ≡ status_done outcome }
 {
     match outcome {
@@ -45,7 +45,7 @@ pub(crate) fn status_done(outcome: Outcome) -> u8
 }
 
 /// The status that the program ends with where a command stopped.
-pub(crate) fn status(stop: Stop) -> u8
+fn status(stop: Stop) -> u8
     ensures { result ≡ status_of stop }
 {
     match stop {
@@ -58,9 +58,19 @@ pub(crate) fn status(stop: Stop) -> u8
     }
 }
 
+/// The status of a command, whose stop is told on err.
+pub(crate) fn finish<E: Sink>(alloc: Global, err: &mut E, done: Result<Outcome, Stop>) -> u8
+    ensures { Finishes (record { tells = E.tells; faults = E.faults err.old; faults_after = E.faults err.new; written = E.written err.old; written_after = E.written err.new }) done result }
+{
+    match done {
+        Ok(outcome) => status_done(outcome),
+        Err(stop) => status(tell(alloc, err, stop)),
+    }
+}
+
 /// Tells on err why a command stopped, and says what was told: want of memory where there is none
 /// for a line. A fault of out is not told.
-pub(crate) fn tell<E: Sink>(alloc: Global, err: &mut E, stop: Stop) -> Stop
+fn tell<E: Sink>(alloc: Global, err: &mut E, stop: Stop) -> Stop
     ensures { IsTold (record { tells = E.tells; faults = E.faults err.old; faults_after = E.faults err.new; written = E.written err.old; written_after = E.written err.new }) stop result }
 {
     match stop {

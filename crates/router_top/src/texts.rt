@@ -5,7 +5,7 @@ ghost use Rattle.gr_io.specs.declared.shelf.Slot.TheVariants.{Design as DesignSl
 ghost use Rattle.route_reader.specs.Solutions.{IsOf};
 ghost use Rattle.router_top.specs.Devices.{Reading};
 ghost use Rattle.router_top.specs.Opening.{Reaches, Opens, IsCovered};
-ghost use Rattle.router_top.specs.Texts.{design_said, solution_said};
+ghost use Rattle.router_top.specs.Said.{design_said, solution_said};
 ghost use Rattle.router_top.specs.declared.stop.Stop.TheVariants.{DesignFault, SolutionFault};
 
 use crate::stop::Stop;

@@ -1,42 +1,67 @@
-ghost use Rattle.std.specs.Prelude.{◌≡◌, ◌&&◌, not, map, string_bytes, codes};
+ghost use Rattle.std.specs.Prelude.{◌≡◌, ◌≤◌, IfSome, map, string_bytes};
 ghost use Rattle.std.specs.Option.{option_map};
-ghost use Rattle.std.specs.Str.{bytes_eq};
-ghost use Rattle.router_top.specs.Words.{is_option, order_of};
-ghost use Rattle.router_top.specs.Orders.{named};
+ghost use Rattle.router_top.specs.Words.{is_option, number_in as number_in_word, order_of};
+ghost use Rattle.router_top.specs.Orders.{named, HasFewRounds};
+
+/// The most rounds that words may ask for.
+const MOST_ROUNDS: u32 = 64;
+
+/// The most digits of a number in words.
+const MOST_DIGITS: usize = 20;
 
 /// What the words ask for, with the names of the texts that it needs.
 #[derive(Clone, Copy, Debug)]
 pub(crate) enum Order<'w> {
-    Route { design: &'w str },
+    Route { design: &'w str, rounds: u32 },
     Evaluate { design: &'w str, solution: &'w str },
 }
 
-/// The order that the words give: `route` and one name, or `evaluate` and two, where no name begins
-/// with `-`.
+/// The order that the words give: `route`, a name and a number of rounds from 0 to 64, or
+/// `evaluate` and two names, where neither word begins with `-`.
 pub(crate) fn read_order(words: &[String]) -> Option<Order<'_>>
-    ensures { option_map named result ≡ order_of (map string_bytes words.now) }
+    ensures order { option_map named result ≡ order_of (map string_bytes words.now) }
+    ensures rounds { IfSome result HasFewRounds }
 {
-    match words {
-        [command, design] => {
-            if command.as_str() == "route" && is_name(design) {
-                Some(Order::Route { design })
-            } else {
-                None
-            }
-        }
-        [command, design, solution] => {
-            if command.as_str() == "evaluate" && is_name(design) && is_name(solution) {
-                Some(Order::Evaluate { design, solution })
-            } else {
-                None
-            }
-        }
+    let [command, first, second] = words else {
+        return None;
+    };
+    if is_option(first) || is_option(second) {
+        return None;
+    }
+    match command.as_str() {
+        "route" => Some(Order::Route {
+            design: first,
+            rounds: number_in(MOST_ROUNDS, second)?,
+        }),
+        "evaluate" => Some(Order::Evaluate {
+            design: first,
+            solution: second,
+        }),
         _ => None,
     }
 }
 
-fn is_name(word: &str) -> bool
-    ensures { result ≡ not (is_option word.now) }
+fn is_option(word: &str) -> bool
+    ensures { result ≡ is_option word.now }
 {
-    !word.starts_with('-')
+    word.starts_with('-')
+}
+
+/// The number that a word of one to twenty digits spells, if it is at most this great.
+fn number_in(most: u32, word: &str) -> Option<u32>
+    requires { most ≤ 64 }
+    ensures { result ≡ number_in_word most word.now }
+{
+    let digits = word.as_bytes();
+    if digits.is_empty() || digits.len() > MOST_DIGITS {
+        return None;
+    }
+    let mut value = 0;
+    for &byte in digits {
+        if !byte.is_ascii_digit() || value > most {
+            return None;
+        }
+        value = 10 * value + u32::from(byte - b'0');
+    }
+    if value <= most { Some(value) } else { None }
 }

@@ -21,11 +21,13 @@ returns-in-Ok-write_whole g c =
     let held = c.in_ok-design.ensures.held Solution c.args.solution.now in
     record {
       reads = c.in_ok-solution.ensures.opens.0 ∙ c.in_ok-design.ensures.opens.0;
-      writes = c.in-Ok-write_whole.ensures.quiet;
       text = verdict_text d v;
-      written = λ tells.
-          c.in-Ok-write_whole.ensures.ok tells ∙
-          ap (λ (t : List ℕ). g.O.Sink.written c.args.out.now ++ t) (c.bytes.ensures ∙ c.in-Ok-verdict_text.ensures);
+      gains = record {
+        faults = c.in-Ok-write_whole.ensures.quiet;
+        written = λ tells.
+            c.in-Ok-write_whole.ensures.ok tells ∙
+            ap (λ (t : List ℕ). g.O.Sink.written c.args.out.now ++ t) (c.bytes.ensures ∙ c.in-Ok-verdict_text.ensures);
+      };
       says = is-judging _ c.args.design.now c.args.solution.now d s v c.outcome_of.result c.in_ok-design.ensures.opens.2
           (λ tells. ap (option_map (solution_of d)) (sym held) ∙ c.in_ok-solution.ensures.opens.2 tells)
           c.in-Ok.ensures
@@ -41,16 +43,14 @@ returns g c =
     let held = c.in_ok-design.ensures.held Solution c.args.solution.now in
     record {
       cause = c.in-Err.ensures.failed;
-      part = record {
-        outcome = outcome_of v.unjoined;
-        text = verdict_text d v;
-        part = λ tells.
-            subst (AppendsPart (g.O.Sink.written c.args.out.now) (g.O.Sink.written c.write_whole.new.sink)) (c.bytes.ensures ∙ c.in-Ok-verdict_text.ensures)
-            (c.in-Err.ensures.prefix tells);
-        says = is-judging _ c.args.design.now c.args.solution.now d s v (outcome_of v.unjoined) c.in_ok-design.ensures.opens.2
-            (λ tells. ap (option_map (solution_of d)) (sym held) ∙ c.in_ok-solution.ensures.opens.2 tells)
-            c.in-Ok.ensures
-            (λ tells. subst (λ (o : Option (List ℕ)). IsCovered d o s) held (c.in_ok-solution.ensures.covered tells))
-            refl;
-      };
+      outcome = outcome_of v.unjoined;
+      text = verdict_text d v;
+      part = λ tells.
+          subst (AppendsPart (g.O.Sink.written c.args.out.now) (g.O.Sink.written c.write_whole.new.sink)) (c.bytes.ensures ∙ c.in-Ok-verdict_text.ensures)
+          (c.in-Err.ensures.prefix tells);
+      says = is-judging _ c.args.design.now c.args.solution.now d s v (outcome_of v.unjoined) c.in_ok-design.ensures.opens.2
+          (λ tells. ap (option_map (solution_of d)) (sym held) ∙ c.in_ok-solution.ensures.opens.2 tells)
+          c.in-Ok.ensures
+          (λ tells. subst (λ (o : Option (List ℕ)). IsCovered d o s) held (c.in_ok-solution.ensures.covered tells))
+          refl;
     }

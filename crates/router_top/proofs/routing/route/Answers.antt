@@ -1,40 +1,27 @@
-use Rattle.std.proofs.Common.{inr, refl, subst}
-use Rattle.cost_rules.specs.declared.site.Formula.{Formula}
-use Rattle.router_top.specs.Planning.{IsPlanned}
+use Rattle.std.proofs.Common.{Some, refl, ap}
+use Rattle.std.specs.Option.{option_map}
 use Rattle.gr_base.specs.Trees.{route_edges}
+use Rattle.gr_io.specs.declared.shelf.Slot.TheVariants.{Design}
+use Rattle.ispd_reader.specs.DesignText.{design_of}
 use Rattle.solution_text.specs.WrittenText.{written_text}
-use Rattle.solution_text.proofs.LawLemmas.{written-text-covers}
-use Rattle.router_top.specs.declared.stop.Outcome.TheVariants.{Whole}
-use Rattle.router_top.proofs.RoutingLemmas.{are-routed, is-routing}
+use Rattle.router_top.specs.Words.{Route}
+use Rattle.router_top.proofs.EndLemmas.{ends-unopened, ends-routed, without-book}
+use Rattle.router_top.proofs.RoutingLemmas.{is-routing}
 use Rattle.router_top.proofs.routing.route.Goals as goal
 
-pub write_solution-requires : goal.write_solution-requires
-write_solution-requires g c = are-routed c.in_ok-design.design c.in-Ok.routes c.in-Ok.ensures.routes
+pub returns-in-Err-clause-ends : goal.returns-in-Err-clause-ends
+returns-in-Err-clause-ends g c =
+    without-book (Some (Route c.args.design.now c.args.rounds)) _ _ _ c.without_book.result.book c.without_book.result.hands.items c.finish.result c.without_book.result.status
+    c.without_book.ensures.book c.without_book.ensures.status
+    (ends-unopened c.args.design.now c.args.rounds _ _ _ (g.S.Shelf.held c.args.shelf.now Design c.args.design.now) c.in-Err.stop c.finish.result
+    (ap (option_map design_of)) c.in-Err.ensures.opens (record { faults = refl; written = λ tells. refl }) c.finish.ensures)
 
-pub returns-in-Ok-write_solution : goal.returns-in-Ok-write_solution
-returns-in-Ok-write_solution g c = record {
-  reads = c.in_ok-design.ensures.opens.0;
-  writes = c.in-Ok-write_solution.ensures.quiet;
-  text = written_text c.in_ok-design.design (route_edges c.in-Ok.routes);
-  written = c.in-Ok-write_solution.ensures.ok;
-  says = (refl, is-routing _ c.args.design.now c.in_ok-design.design c.in-Ok.routes written-text-covers c.in_ok-design.ensures.opens.2 c.in_ok-design.ensures.design c.in-Ok.ensures.routes c.in-Ok.ensures.trees (subst (λ (formula : Formula). IsPlanned c.in_ok-design.design formula c.in-Ok.routes) c.requires c.in-Ok.ensures.planned));
-}
-
-pub returns-in-Err-Failed : goal.returns-in-Err-Failed
-returns-in-Err-Failed g c = record {
-  cause = c.write_solution.ensures.failed (cc (c.in-Err-Failed.is, c.in-Err-Failed.field-0-is));
-  part = record {
-    outcome = Whole;
-    text = written_text c.in_ok-design.design (route_edges c.in-Ok.routes);
-    part = c.in-Err-Failed.ensures.prefix;
-    says = (refl, is-routing _ c.args.design.now c.in_ok-design.design c.in-Ok.routes written-text-covers c.in_ok-design.ensures.opens.2 c.in_ok-design.ensures.design c.in-Ok.ensures.routes c.in-Ok.ensures.trees (subst (λ (formula : Formula). IsPlanned c.in_ok-design.design formula c.in-Ok.routes) c.requires c.in-Ok.ensures.planned));
-  };
-}
-
-pub returns : goal.returns
-returns g c = inr (record {
-  outcome = Whole;
-  text = written_text c.in_ok-design.design (route_edges c.in-Ok.routes);
-  part = c.in-Err-NoMemory.ensures.prefix;
-  says = (refl, is-routing _ c.args.design.now c.in_ok-design.design c.in-Ok.routes written-text-covers c.in_ok-design.ensures.opens.2 c.in_ok-design.ensures.design c.in-Ok.ensures.routes c.in-Ok.ensures.trees (subst (λ (formula : Formula). IsPlanned c.in_ok-design.design formula c.in-Ok.routes) c.requires c.in-Ok.ensures.planned));
-})
+pub returns-clause-ends : goal.returns-clause-ends
+returns-clause-ends g c =
+    let r = c.in-Ok-routing_of.routing in
+    let sinks = g.E.Sink in
+    ends-routed c.args.design.now c.args.rounds _ _ sinks.tells (sinks.faults c.args.err.now) (sinks.faults c.write_routing-written.new.err) (sinks.faults c.finish-status.new.err)
+    (sinks.written c.args.err.now) (sinks.written c.write_routing-written.new.err) (sinks.written c.finish-status.new.err)
+    (record { book = r.book; hands = r.hands.items }) (written_text c.in-Ok.design (route_edges r.routes)) r.report c.write_routing-written.result c.finish-status.result
+    c.in-Ok.ensures.opens.0 (is-routing _ c.args.design.now c.in-Ok.design c.args.rounds r c.in-Ok.ensures.opens.2 c.in-Ok.ensures.design c.in-Ok-routing_of.ensures)
+    c.write_routing-written.ensures c.finish-status.ensures
