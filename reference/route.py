@@ -1,0 +1,651 @@
+#!/usr/bin/env python3
+"""A slow router for small designs, to compare the proved one with: reference/route.py DESIGN ROUNDS
+
+It was written without a look at the proved code, and follows the definitions as they are worded where
+that can be done in time: layers are found by trying all assignments while there are few. It writes the
+routes on standard output and their report on standard error.
+
+A cell is its number (layer * rows + y) * columns + x. An edge is a pair of cells, the lower first. A
+tile is (column, row).
+"""
+import heapq
+import re
+import sys
+from itertools import product
+
+VIA = 3
+TOP = 1048576
+if hasattr(sys, "set_int_max_str_digits"):
+    sys.set_int_max_str_digits(0)
+
+
+# Design text.
+
+class Fault(Exception):
+    def __init__(self, fault, token):
+        Exception.__init__(self, fault, token)
+        self.fault, self.token = fault, token
+
+
+class Net:
+    def __init__(self, name, id_, width, pins):
+        self.name, self.id, self.width, self.pins = name, id_, width, pins   # pins: (x, y, layer from 0)
+
+
+class Design:
+    pass
+
+
+def tokens_of(data):
+    return [t for t in re.split(rb"[ \t\r\n]+", data) if t]
+
+
+def read_design(data):
+    toks = tokens_of(data)
+    at = [0]                                  # tokens taken so far = number of the token in hand
+
+    def take():
+        if at[0] == len(toks):
+            raise Fault(1, len(toks) + 1)
+        at[0] += 1
+        return toks[at[0] - 1]
+
+    def check(ok, fault):
+        if not ok:
+            raise Fault(fault, at[0])
+
+    def word(w):
+        check(take() == w, 2)
+
+    def number(low, high):
+        t = take()
+        check(re.fullmatch(rb"-?[0-9]+", t) is not None, 3)
+        v = int(t)
+        check(low <= v <= high, 3)
+        return v
+
+    d = Design()
+    word(b"grid")
+    d.X = number(1, 8388608)
+    d.Y = number(1, 8388608)
+    d.L = number(1, 16)
+    check(d.X * d.Y * d.L <= 8388608, 4)
+
+    def row(w1, w2, high, among=False):
+        word(w1)
+        word(w2)
+        got = [number(0, high) for _ in range(d.L)]
+        if among:
+            check(any(got), 6)
+        return got
+
+    d.vertical = row(b"vertical", b"capacity", 1000000, d.Y > 1)
+    d.horizontal = row(b"horizontal", b"capacity", 1000000, d.X > 1)
+    d.width = row(b"minimum", b"width", 1000)
+    d.spacing = row(b"minimum", b"spacing", 1000)
+    row(b"via", b"spacing", 1000)
+    d.lx = number(-2**40, 2**40)
+    d.ly = number(-2**40, 2**40)
+    d.tw = number(0, 1000000)
+    check(d.tw != 0, 5)
+    d.th = number(0, 1000000)
+    check(d.th != 0, 5)
+    word(b"num")
+    word(b"net")
+    n = number(0, 4194304)
+    d.nets = []
+    ids = set()
+    pins_so_far = 0
+    for _ in range(n):
+        name = take()
+        id_ = number(0, 2147483647)
+        check(id_ not in ids, 10)
+        ids.add(id_)
+        p = number(0, 16777216)
+        pins_so_far += p
+        check(p != 0 and pins_so_far <= 16777216, 7)
+        width = number(0, 1000)
+        pins = []
+        for _ in range(p):
+            x = number(-2**44, 2**44)
+            check(d.lx <= x <= d.lx + d.X * d.tw, 8)
+            y = number(-2**44, 2**44)
+            check(d.ly <= y <= d.ly + d.Y * d.th, 8)
+            l = number(0, 2147483647)
+            check(1 <= l <= d.L, 9)
+            pins.append((min((x - d.lx) // d.tw, d.X - 1), min((y - d.ly) // d.th, d.Y - 1), l - 1))
+        d.nets.append(Net(name, id_, width, pins))
+    d.adjusted = {}
+    if at[0] < len(toks):
+        a = number(0, 16777216)
+        for _ in range(a):
+            ends = []
+            for end in range(2):
+                c = number(0, 2147483647)
+                check(c < d.X, 11)
+                r = number(0, 2147483647)
+                check(r < d.Y, 11)
+                l = number(0, 2147483647)
+                check(1 <= l <= d.L, 11)
+                ends.append((c, r, l - 1))
+            (c1, r1, l1), (c2, r2, l2) = ends
+            check(l1 == l2 and abs(c1 - c2) + abs(r1 - r2) == 1, 11)
+            cap = number(0, 1000000)
+            d.adjusted[edge(cell(d, *ends[0]), cell(d, *ends[1]))] = cap    # the last one counts
+        if at[0] < len(toks):
+            at[0] += 1
+            raise Fault(12, at[0])
+    return d
+
+
+# Cells, edges, capacity, need.
+
+def cell(d, x, y, layer):
+    return (layer * d.Y + y) * d.X + x
+
+
+def place(d, c):
+    return c % d.X, c // d.X % d.Y, c // (d.X * d.Y)
+
+
+def edge(a, b):
+    return (a, b) if a < b else (b, a)
+
+
+def way(d, e):
+    (x1, y1, l1), (x2, y2, l2) = place(d, e[0]), place(d, e[1])
+    diff = (x2 - x1, y2 - y1, l2 - l1)
+    return {(1, 0, 0): "East", (0, 1, 0): "North", (0, 0, 1): "Up"}[diff]
+
+
+def stated(d, layer, w):
+    return d.horizontal[layer] if w == "East" else d.vertical[layer]
+
+
+def usable(d, e):
+    w = way(d, e)
+    return w == "Up" or stated(d, place(d, e[0])[2], w) != 0
+
+
+def capacity(d, e):
+    if e in d.adjusted:
+        return d.adjusted[e]
+    return stated(d, place(d, e[0])[2], way(d, e))
+
+
+def need(d, net, e):
+    if way(d, e) == "Up":
+        return 0
+    layer = place(d, e[0])[2]
+    return max(d.nets[net].width, d.width[layer]) + d.spacing[layer]
+
+
+def first_cost(demand, cap, needed, marks):
+    over = max(0, demand + needed - cap)
+    return min(TOP, 1 + marks + 8 * over)
+
+
+class Book:
+    """Demand, marks and bookings."""
+
+    def __init__(self, d):
+        self.d = d
+        self.demand = {}
+        self.marks = {}
+        self.booked = {}            # net -> set of edges
+
+    def cost(self, net, e):
+        """Cost of an edge for a net; None where it isn't usable."""
+        d = self.d
+        if way(d, e) == "Up":
+            return VIA
+        if not usable(d, e):
+            return None
+        return first_cost(self.demand.get(e, 0), capacity(d, e), need(d, net, e), self.marks.get(e, 0))
+
+    def wires(self, edges):
+        return [e for e in edges if way(self.d, e) != "Up"]
+
+    def claim(self, net, edges, slack):
+        d = self.d
+        assert net not in self.booked
+        if slack is not None and any(
+                self.demand.get(e, 0) + need(d, net, e) > capacity(d, e) + slack for e in self.wires(edges)):
+            return False
+        self.booked[net] = edges
+        for e in self.wires(edges):
+            self.demand[e] = self.demand.get(e, 0) + need(d, net, e)
+        return True
+
+    def release(self, net):
+        for e in self.wires(self.booked.pop(net)):
+            self.demand[e] -= need(self.d, net, e)
+
+    def overs(self):
+        return [max(0, v - capacity(self.d, e)) for e, v in self.demand.items()]
+
+    def mark(self):
+        total = sum(self.overs())
+        for e, v in self.demand.items():
+            if v > capacity(self.d, e):
+                self.marks[e] = min(TOP, self.marks.get(e, 0) + 1)
+        return total
+
+    def victims(self):
+        over = {e for e, v in self.demand.items() if v > capacity(self.d, e)}
+        return [n for n in sorted(self.booked) if any(e in over for e in self.wires(self.booked[n]))]
+
+
+# Topology.
+
+def distance(a, b):
+    return abs(a[0] - b[0]) + abs(a[1] - b[1])
+
+
+def median(a, b, c):
+    return sorted((a, b, c))[1]
+
+
+def topology(points):
+    """Distinct tiles -> (tiles, parents); parent of point 0 is 0."""
+    tile = list(points)
+    k = len(tile)
+    parent = {0: 0}
+    joined = [0]
+    while len(joined) < k:
+        _, j, i = min((distance(tile[j], tile[i]), j, i)
+                      for j in range(k) if j not in joined for i in joined)
+        parent[j] = i
+        joined.append(j)
+    for j in joined[1:]:
+        i = parent[j]
+        neighbours = [q for q in parent if q != 0 and parent[q] == i]
+        if i != 0:
+            neighbours.append(parent[i])
+        best = None
+        for q in neighbours:
+            if q == j:
+                continue
+            m = (median(tile[j][0], tile[i][0], tile[q][0]), median(tile[j][1], tile[i][1], tile[q][1]))
+            key = (-distance(tile[i], m), q)
+            if best is None or key < best[0]:
+                best = (key, q, m)
+        if best is None or best[0][0] == 0:
+            continue
+        _, q, m = best
+        new = len(tile)
+        tile.append(m)
+        if i != 0 and q == parent[i]:
+            parent[new] = q
+            parent[i] = new
+            parent[j] = new
+        else:
+            assert parent[q] == i
+            parent[new] = i
+            parent[q] = new
+            parent[j] = new
+    return tile, [parent[p] for p in range(len(tile))]
+
+
+# Flat walks, flat tree.
+
+def straight(path, to):
+    """Extend a path of tiles in a straight line to the tile `to`."""
+    x, y = path[-1]
+    assert x == to[0] or y == to[1]
+    while (x, y) != to:
+        x += (to[0] > x) - (to[0] < x)
+        y += (to[1] > y) - (to[1] < y)
+        path.append((x, y))
+
+
+def step_by_step(a, b):
+    return list(range(a, b + 1)) if a <= b else list(range(a, b - 1, -1))
+
+
+def flat_walk(step_cost, a, b):
+    """step_cost(t, u) for neighbouring tiles; the first least walk of the list."""
+    walks = []
+    for x in step_by_step(a[0], b[0]):
+        w = [a]
+        for corner in ((x, a[1]), (x, b[1]), b):
+            straight(w, corner)
+        walks.append(w)
+    for y in step_by_step(a[1], b[1]):
+        w = [a]
+        for corner in ((a[0], y), (b[0], y), b):
+            straight(w, corner)
+        walks.append(w)
+    costs = [sum(step_cost(w[i], w[i + 1]) for i in range(len(w) - 1)) for w in walks]
+    return walks[costs.index(min(costs))]
+
+
+def flat_tree(step_cost, points):
+    """-> (tiles, parents) by node number."""
+    tile, up = topology(points)
+    nodes = [tile[0]]
+    parent = [0]
+    handled = {0}
+    while len(handled) < len(tile):
+        p = min(p for p in range(len(tile)) if p not in handled and up[p] in handled)
+        walk = flat_walk(step_cost, tile[p], tile[up[p]])
+        cut = next(i for i, t in enumerate(walk) if t in nodes)
+        attach(nodes, parent, walk[:cut + 1])
+        handled.add(p)
+    return nodes, parent
+
+
+def attach(nodes, parent, walk):
+    """The walk's last place alone is in the tree; the others are appended from the tree outwards."""
+    at = nodes.index(walk[-1])
+    for c in reversed(walk[:-1]):
+        assert c not in nodes
+        nodes.append(c)
+        parent.append(at)
+        at = len(nodes) - 1
+
+
+# Layers.
+
+def assignment_cost(nodes, parent, options, pin_layers, layers):
+    """layers[v] for node v from 1 on; options[v]: layer -> cost; pin_layers: tile -> list."""
+    meet = [list(pin_layers.get(t, ())) for t in nodes]
+    total = 0
+    for v in range(1, len(nodes)):
+        total += options[v][layers[v]]
+        meet[v].append(layers[v])
+        meet[parent[v]].append(layers[v])
+    return total + sum(VIA * (max(m) - min(m)) for m in meet if m)
+
+
+def assign_by_all(nodes, parent, options, pin_layers):
+    """By the definition: all assignments, in the order of their lists."""
+    best = None
+    for choice in product(*[sorted(options[v]) for v in range(1, len(nodes))]):
+        layers = (None,) + choice
+        cost = assignment_cost(nodes, parent, options, pin_layers, layers)
+        if best is None or cost < best[0]:
+            best = (cost, layers)
+    return best
+
+
+def least_completion(nodes, parent, options, pin_layers):
+    """Least cost of all assignments that use only the given options.
+
+    below[v][l]: least cost of v's edge on layer l, of all edges below v and of the vias in the tiles of v
+    and below. The tile of v sees only its own edge, its children's edges and its pins, and the parts
+    below different children have no tile and no edge in common; so the least over the children's layers
+    of a sum of their least parts is exact.
+    """
+    n = len(nodes)
+    children = [[] for _ in nodes]
+    for v in range(1, n):
+        children[parent[v]].append(v)
+    below = [None] * n
+
+    def least(v, own):
+        kids = children[v]
+        pins = pin_layers.get(nodes[v], [])
+        best = None
+        for choice in product(*[list(below[u]) for u in kids]):
+            meet = own + list(choice) + pins
+            c = sum(below[u][l] for u, l in zip(kids, choice))
+            if meet:
+                c += VIA * (max(meet) - min(meet))
+            if best is None or c < best:
+                best = c
+        return best
+
+    for v in range(n - 1, 0, -1):                # parents are earlier nodes
+        below[v] = {l: c + least(v, [l]) for l, c in options[v].items()}
+    return least(0, [])
+
+
+def assign_by_table(nodes, parent, options, pin_layers):
+    """Node by node in order: the least layer with which a least assignment is still possible."""
+    options = [None if o is None else dict(o) for o in options]
+    goal = least_completion(nodes, parent, options, pin_layers)
+    for v in range(1, len(nodes)):
+        whole = options[v]
+        for l in sorted(whole):
+            options[v] = {l: whole[l]}
+            if len(whole) == 1 or least_completion(nodes, parent, options, pin_layers) == goal:
+                break
+        else:
+            raise AssertionError("no layer keeps the least cost")
+    layers = (None,) + tuple(next(iter(options[v])) for v in range(1, len(nodes)))
+    assert assignment_cost(nodes, parent, options, pin_layers, layers) == goal
+    return goal, layers
+
+
+ALL = 2000        # so many assignments are tried one by one
+
+
+def assign(nodes, parent, options, pin_layers):
+    count = 1
+    for o in options[1:]:
+        count *= len(o)
+    if count <= ALL:
+        return assign_by_all(nodes, parent, options, pin_layers)
+    return assign_by_table(nodes, parent, options, pin_layers)
+
+
+def raised(nodes, parent, layers, pin_layers, cell_at):
+    """Edges of the raised tree; cell_at(tile, layer)."""
+    edges = set()
+    meet = {t: list(pin_layers.get(t, ())) for t in nodes}
+    for v in range(1, len(nodes)):
+        l = layers[v]
+        t, u = nodes[v], nodes[parent[v]]
+        edges.add(edge(cell_at(t, l), cell_at(u, l)))
+        meet[t].append(l)
+        meet[u].append(l)
+    for t, m in meet.items():
+        if m:
+            for l in range(min(m), max(m)):
+                edges.add(edge(cell_at(t, l), cell_at(t, l + 1)))
+    return edges
+
+
+def check_tree(edges, cells):
+    """The edges and the net's cells are one tree."""
+    ends = set(cells)
+    near = {}
+    for a, b in edges:
+        ends |= {a, b}
+        near.setdefault(a, []).append(b)
+        near.setdefault(b, []).append(a)
+    seen = {cells[0]}
+    todo = [cells[0]]
+    while todo:
+        for u in near.get(todo.pop(), ()):
+            if u not in seen:
+                seen.add(u)
+                todo.append(u)
+    assert seen == ends and len(edges) == len(ends) - 1, "not a tree"
+
+
+def pattern_plan(book, net):
+    d = book.d
+    pins = d.nets[net].pins
+    points = []
+    pin_layers = {}
+    for x, y, l in pins:
+        if (x, y) not in points:
+            points.append((x, y))
+        pin_layers.setdefault((x, y), []).append(l)
+    pin_layers = {t: sorted(set(ls)) for t, ls in pin_layers.items()}
+
+    def layer_costs(t, u):
+        got = {}
+        for l in range(d.L):
+            c = book.cost(net, edge(cell(d, t[0], t[1], l), cell(d, u[0], u[1], l)))
+            if c is not None:
+                got[l] = c
+        return got
+
+    nodes, parent = flat_tree(lambda t, u: min(layer_costs(t, u).values()), points)
+    options = [None] + [layer_costs(nodes[v], nodes[parent[v]]) for v in range(1, len(nodes))]
+    _, layers = assign(nodes, parent, options, pin_layers)
+    edges = raised(nodes, parent, layers, pin_layers, lambda t, l: cell(d, t[0], t[1], l))
+    check_tree(edges, [cell(d, *p) for p in pins])
+    return edges
+
+
+# Maze plans.
+
+def least_walk(steps, tree, goals):
+    """steps(v) gives (u, cost) for the usable edges of v inside the window."""
+    dist = {c: 0 for c in tree}
+    heap = [(0, c) for c in tree]
+    while heap:
+        dv, v = heapq.heappop(heap)
+        if dv > dist[v]:
+            continue
+        for u, c in steps(v):
+            if u not in dist or dv + c < dist[u]:
+                dist[u] = dv + c
+                heapq.heappush(heap, (dv + c, u))
+    v = min(goals, key=lambda g: (dist[g], g))
+    walk = [v]
+    while v not in tree:
+        v = min(u for u, c in steps(v) if u in dist and dist[u] + c == dist[v])
+        walk.append(v)
+    return walk
+
+
+def maze_plan(book, net, margin):
+    d = book.d
+    pins = d.nets[net].pins
+    x0 = max(0, min(p[0] for p in pins) - margin)
+    x1 = min(d.X - 1, max(p[0] for p in pins) + margin)
+    y0 = max(0, min(p[1] for p in pins) - margin)
+    y1 = min(d.Y - 1, max(p[1] for p in pins) + margin)
+    known = {}
+
+    def steps(v):
+        if v not in known:
+            x, y, l = place(d, v)
+            got = []
+            for x2, y2, l2 in ((x - 1, y, l), (x + 1, y, l), (x, y - 1, l), (x, y + 1, l), (x, y, l - 1), (x, y, l + 1)):
+                if x0 <= x2 <= x1 and y0 <= y2 <= y1 and 0 <= l2 < d.L:
+                    u = cell(d, x2, y2, l2)
+                    c = book.cost(net, edge(v, u))
+                    if c is not None:
+                        got.append((u, c))
+            known[v] = got
+        return known[v]
+
+    pin_cells = [cell(d, *p) for p in pins]
+    nodes = [pin_cells[0]]
+    parent = [0]
+    while True:
+        goals = sorted({c for c in pin_cells if c not in nodes})
+        if not goals:
+            break
+        attach(nodes, parent, least_walk(steps, set(nodes), goals))
+    edges = {edge(nodes[v], nodes[parent[v]]) for v in range(1, len(nodes))}
+    check_tree(edges, pin_cells)
+    return edges
+
+
+# The rounds.
+
+def route(d, rounds):
+    """The edges of each routed net at the first mark of least overflow."""
+    book = Book(d)
+    routed = [n for n in range(len(d.nets)) if 1 <= len(d.nets[n].pins) <= 1000]
+    for n in routed:
+        book.claim(n, pattern_plan(book, n), None)
+    best = (book.mark(), dict(book.booked))
+    r = 0
+    while r < rounds:
+        due = book.victims()
+        if not due:
+            break
+        r += 1
+        for n in due:
+            book.release(n)
+            # A refused claim changes neither demand nor marks, so the second plan is the first plan again,
+            # and the third too: the tree is planned once.
+            tree = maze_plan(book, n, 4 * r)
+            book.claim(n, tree, 0) or book.claim(n, tree, 0) or book.claim(n, tree, None)
+        total = book.mark()
+        if total < best[0]:
+            best = (total, dict(book.booked))
+    return best[1]
+
+
+# Texts.
+
+def centre(d, c):
+    x, y, l = place(d, c)
+    return b"(%d,%d,%d)" % (d.lx + x * d.tw + d.tw // 2, d.ly + y * d.th + d.th // 2, l + 1)
+
+
+def runs(d, edges):
+    out = []
+    for w in ("East", "North", "Up"):
+        mine = {e for e in edges if way(d, e) == w}
+        dx, dy, dl = {"East": (1, 0, 0), "North": (0, 1, 0), "Up": (0, 0, 1)}[w]
+
+        def next_cell(c, sign):
+            x, y, l = place(d, c)
+            x, y, l = x + sign * dx, y + sign * dy, l + sign * dl
+            return cell(d, x, y, l) if 0 <= x < d.X and 0 <= y < d.Y and 0 <= l < d.L else None
+
+        for low, high in sorted(mine):
+            before = next_cell(low, -1)
+            if before is not None and (before, low) in mine:
+                continue
+            while next_cell(high, 1) is not None and (high, next_cell(high, 1)) in mine:
+                high = next_cell(high, 1)
+            out.append((low, high))
+    return out
+
+
+def solution_text(d, trees):
+    lines = []
+    for n in sorted(trees):
+        lines.append(d.nets[n].name + b" %d" % d.nets[n].id)
+        for low, high in runs(d, trees[n]):
+            lines.append(centre(d, low) + b"-" + centre(d, high))
+        lines.append(b"!")
+    return b"".join(l + b"\n" for l in lines)
+
+
+def report_text(d, trees):
+    demand = {}
+    wires = vias = 0
+    for n, edges in trees.items():
+        for e in edges:
+            if way(d, e) == "Up":
+                vias += 1
+            else:
+                wires += 1
+                demand[e] = demand.get(e, 0) + need(d, n, e)
+    over = [max(0, v - capacity(d, e)) for e, v in demand.items()]
+    return b"routed %d\noverflow %d\nmaximum %d\nwirelength %d\nvias %d\n" % (
+        len(trees), sum(over), max(over, default=0), wires + vias, vias)
+
+
+def program(data, rounds):
+    """The status, standard output and standard error for a design's bytes."""
+    try:
+        d = read_design(data)
+    except Fault as f:
+        return 3, b"", b"groute: design fault %d at token %d\n" % (f.fault, f.token)
+    trees = route(d, rounds)
+    return 0, solution_text(d, trees), report_text(d, trees)
+
+
+def main():
+    with open(sys.argv[1], "rb") as file:
+        status, out, err = program(file.read(), int(sys.argv[2]))
+    sys.stdout.buffer.write(out)
+    sys.stderr.buffer.write(err)
+    return status
+
+
+if __name__ == "__main__":
+    sys.exit(main())
