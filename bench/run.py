@@ -1,11 +1,11 @@
 #!/usr/bin/env python3
 """Times the built programs and writes a table: bench/run.py [DESIGN ..]
 
-Each command is run three times, and the least time counts. Each design is routed, and its routes
-are judged. Beside the files named, designs are made: nets of 2, 3 or 12 pins near one another, on
-layers that go one way each. The text is read whole before the first route is written, so a design
-with the same nets of more than 1,000 pins, which are read and not routed, tells what reading alone
-costs. A solution with a wrong last token is read whole and not judged, so it tells what reading a
+Each command is run three times, and the least time counts. Each design is routed without rounds,
+and its routes are judged; then it, and crowded designs, are routed with some numbers of rounds.
+Beside the files named, designs are made: nets of 2, 3 or 12 pins near one another, on layers that
+go one way each. The text is read whole before the first route is written, so a design with the same
+nets of more than 1,000 pins, which are read and not routed, tells what reading alone costs. A solution with a wrong last token is read whole and not judged, so it tells what reading a
 design and its solution costs. Least walks are compared with those of a plain program in Rust, which
 cargo builds: both have to find walks of one sum.
 """
@@ -27,6 +27,8 @@ PLANS = [
 PLAIN = os.path.join(HERE, "plain_maze")
 MAZES = [("20 by 20", 20, 1_000), ("300 by 300", 300, 100)]
 SIZES = [(50, 50, 4, 2_000), (100, 100, 6, 10_000), (300, 300, 6, 100_000)]
+CROWDED = [(50, 50, 4, 8_000), (100, 100, 6, 40_000)]
+ROUNDS = [0, 3, 10]
 
 
 def draws(seed):
@@ -89,16 +91,31 @@ def timed(command, status=0):
 def row(name, path, folder):
     with open(path, "rb") as text:
         tokens = len(text.read().split())
-    seconds, memory = timed([ROUTER, "route", path])
+    seconds, memory = timed([ROUTER, "route", path, "0"])
     solution, faulty = os.path.join(folder, "solution"), os.path.join(folder, "faulty")
     with open(solution, "wb") as out:
-        subprocess.run([ROUTER, "route", path], stdout=out, check=True)
+        subprocess.run([ROUTER, "route", path, "0"], stdout=out, stderr=subprocess.DEVNULL, check=True)
     with open(solution, "rb") as text, open(faulty, "wb") as out:
         out.write(text.read() + b"none -1\n")
     judged, most = timed([ROUTER, "evaluate", path, solution])
     read, _ = timed([ROUTER, "evaluate", path, faulty], status=5)
     return (f"| {name} | {tokens:,} | {seconds:.3f} | {memory:,} "
             f"| {read:.3f} | {judged:.3f} | {judged / read:.2f} | {most:,} |\n")
+
+
+def overflow(path, rounds):
+    """The overflow of the routes that so many rounds give."""
+    done = subprocess.run([ROUTER, "route", path, str(rounds)], stdout=subprocess.DEVNULL, stderr=subprocess.PIPE,
+                          check=True, text=True)
+    return int(done.stderr.split()[3])
+
+
+def rounds_row(name, path):
+    """Times of some numbers of rounds, and the least overflow after each round."""
+    times = [timed([ROUTER, "route", path, str(rounds)]) for rounds in ROUNDS]
+    spent = " | ".join(f"{seconds:.3f}" for seconds, _ in times)
+    over = ", ".join(str(overflow(path, rounds)) for rounds in range(ROUNDS[-1] + 1))
+    return f"| {name} | {spent} | {times[-1][1]:,} | {over} |\n"
 
 
 def mazes():
@@ -126,13 +143,21 @@ def main():
              "|---|---|---|---|---|---|---|---|\n"]
     for path in sys.argv[1:]:
         table.append(row(os.path.basename(path), path, folder.name))
+    path = os.path.join(folder.name, "design")
     texts = [(f"made {x} by {y} by {l}, {n:,} nets", made(x, y, l, n)) for x, y, l, n in SIZES]
     texts.append(("read alone", only_read(1_400_000)))
     for name, text in texts:
-        path = os.path.join(folder.name, "design")
         with open(path, "w") as file:
             file.write(text)
         table.append(row(name, path, folder.name))
+    counts = " | ".join(f"{rounds} rounds, s" for rounds in ROUNDS)
+    table += ["\n", f"| design | {counts} | KiB | least overflow after 0 to {ROUNDS[-1]} rounds |\n", "|---|---|---|---|---|---|\n"]
+    for given in sys.argv[1:]:
+        table.append(rounds_row(os.path.basename(given), given))
+    for x, y, l, n in CROWDED:
+        with open(path, "w") as file:
+            file.write(made(x, y, l, n))
+        table.append(rounds_row(f"made {x} by {y} by {l}, {n:,} nets", path))
     table += ["\n", "| plans | seconds | microseconds a plan |\n", "|---|---|---|\n"]
     for name, words, count in PLANS:
         seconds, _ = timed([PLANNERS, *words])
