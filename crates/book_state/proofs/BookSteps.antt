@@ -7,7 +7,8 @@ use Rattle.gr_base.specs.Limits.{most_width, most_nets}
 use Rattle.gr_base.specs.Trees.{TreeView, edges_or_none}
 use Rattle.gr_base.specs.declared.grid.Edge.{Edge}
 use Rattle.grid_demand.proofs.OperationLemmas.{need-most}
-use Rattle.grid_demand.specs.LoadSums.{most_marks, mark_of}
+use Rattle.gr_base.specs.Limits.{most_marks}
+use Rattle.grid_demand.specs.LoadSums.{mark_of}
 use Rattle.grid_demand.specs.Tables.{CapacityView, capacity_at, IsCapacity}
 use Rattle.book_state.proofs.RangeSums.{sum-same, sum-change, sum-most, sum-part, count-same, count-more}
 use Rattle.book_state.specs.Books.{nets_of, booked_by, booked_after, booked, share_of, demand, marks_over, marks}

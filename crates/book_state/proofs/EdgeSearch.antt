@@ -9,7 +9,7 @@ use Rattle.gr_base.specs.declared.grid.Shape.{Shape}
 use Rattle.gr_base.specs.declared.tree.Node.{Node}
 use Rattle.grid_demand.proofs.LoadSteps.{node-at, next-wire}
 use Rattle.grid_demand.specs.Tables.{CapacityView}
-use Rattle.grid_demand.specs.WireParents.{wire_only, wire_to_parent}
+use Rattle.gr_base.specs.ParentEdges.{wire_only, wire_to_parent}
 use Rattle.book_state.specs.Books.{is_full, is_over}
 
 -- the edges to their parents of a tree's nodes from one on

@@ -4,7 +4,8 @@ use Rattle.gr_base.specs.Grid.{has_edge, is_wire}
 use Rattle.gr_base.specs.Sums.{total_overflow}
 use Rattle.gr_base.specs.Trees.{TreeView, tree_edges, edges_or_none}
 use Rattle.gr_base.specs.declared.grid.Edge.{Edge}
-use Rattle.grid_demand.specs.LoadSums.{LoadsView, demand_at, marks_at, most_marks}
+use Rattle.grid_demand.specs.LoadSums.{LoadsView, demand_at, marks_at}
+use Rattle.gr_base.specs.Limits.{most_marks}
 use Rattle.grid_demand.specs.Tables.{CapacityView, capacity_at, need_at}
 use Rattle.book_state.specs.Entries.{AtEach, is_mark_at}
 use Rattle.book_state.specs.declared.entry.Call.{Call}

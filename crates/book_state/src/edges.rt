@@ -7,7 +7,7 @@ ghost use Rattle.book_state.specs.Books.{is_full as full_edge, is_over as over_e
 
 use crate::entry::{Claim, Reply};
 use gr_base::{Edge, RouteTree};
-use grid_demand::{Capacity, Loads, wire_to_parent};
+use grid_demand::{Capacity, Loads};
 
 /// The reply to a claim of a net that isn't booked.
 pub(crate) fn reply_to_free(capacity: &Capacity, loads: &Loads, claim: &Claim) -> Reply
@@ -40,7 +40,7 @@ fn first_full(capacity: &Capacity, loads: &Loads, claim: &Claim, slack: u32) -> 
 {
     let tree = &claim.tree;
     for node in 0..tree.len() {
-        let Some(e) = wire_to_parent(tree, node) else {
+        let Some(e) = tree.wire_to_parent(node) else {
             continue;
         };
         if is_full(capacity, loads, claim.net, slack, e) {
@@ -58,7 +58,7 @@ pub(crate) fn is_crowded(capacity: &Capacity, loads: &Loads, tree: &RouteTree) -
     ensures tree { IsTree tree.now }
 {
     for node in 0..tree.len() {
-        let Some(edge) = wire_to_parent(tree, node) else {
+        let Some(edge) = tree.wire_to_parent(node) else {
             continue;
         };
         if is_over(capacity, loads, edge) {

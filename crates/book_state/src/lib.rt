@@ -18,5 +18,3 @@ pub use laws::replies_make_bookings;
 pub use past::Past;
 pub use replica::Replica;
 
-#[cfg(test)]
-mod tests;

@@ -1,4 +1,7 @@
+-- The sites of edges, and what an edge costs a net by each formula.
 use Rattle.std.specs.Prelude.{ℕ, ◌+◌, ◌-◌, ◌*◌, ◌^◌, ◌≤◌, min}
+use Rattle.gr_base.specs.Limits.{most_capacity, most_width, most_marks}
+use Rattle.cost_rules.specs.declared.formula.TheConstants.{MOST_COST, VIA_COST}
 use Rattle.cost_rules.specs.declared.site.Site.{Site}
 use Rattle.cost_rules.specs.declared.site.Formula.{Formula}
 use Rattle.cost_rules.specs.declared.site.Formula.TheVariants.{First, Steep, Flat}
@@ -6,17 +9,20 @@ use Rattle.cost_rules.specs.declared.site.Formula.TheVariants.{First, Steep, Fla
 -- the site's numbers are within the limits of a design
 pub record IsInRange (site : Site) : Type 0 where
   pub demand : site.demand ≤ 2 ^ 62
-  pub capacity : site.capacity ≤ 1000000
-  pub need : site.need ≤ 2000
-  pub marks : site.marks ≤ 1048576
+  pub capacity : site.capacity ≤ most_capacity
+  pub need : site.need ≤ 2 * most_width
+  pub marks : site.marks ≤ most_marks
 
 -- by how much the edge would be over its capacity with the net on it
 abbrev pub overflow_at : Site → ℕ
 overflow_at site = site.demand + site.need - site.capacity
 
--- the greatest cost of an edge
+-- the greatest cost of an edge, and what a via edge costs in plans
 abbrev pub most_cost : ℕ
-most_cost = 1048576
+most_cost = MOST_COST
+
+abbrev pub via_cost : ℕ
+via_cost = VIA_COST
 
 -- what the edge costs the net by each formula
 abbrev pub cost_at : Formula → Site → ℕ

@@ -1,3 +1,4 @@
+-- What watches say.
 use Rattle.std.specs.Prelude.{◌≡◌, ℕ, ◌^◌, ◌<◌, Option, Some, None, nat_le, if◌then◌else◌}
 use Rattle.cost_rules.specs.declared.sight.Going.{Going}
 use Rattle.cost_rules.specs.declared.sight.Going.TheVariants.{On, Stop}

@@ -4,6 +4,7 @@ ghost use Rattle.gr_base.specs.declared.grid.Shape.{Shape};
 ghost use Rattle.gr_base.specs.declared.grid.Way.{Way};
 ghost use Rattle.gr_base.specs.declared.grid.Way.TheVariants.{Up};
 ghost use Rattle.gr_base.specs.Grid.{has_edge};
+ghost use Rattle.cost_rules.specs.Formulas.{most_cost};
 ghost use Rattle.cost_rules.specs.Prices.{layer_of, ArePrices};
 
 use gr_base::{Edge, Way};
@@ -31,7 +32,7 @@ pub trait Costs {
         ensures price { result ≡ price self.now e }
         ensures some { IsSome result ↔ IsTrue (ways self.now (layer_of (grid self.now) e) e.way) }
         ensures least { IfSome result (λ cost. 1 ≤ cost) }
-        ensures most { IfSome result (λ cost. cost ≤ 1048576) };
+        ensures most { IfSome result (λ cost. cost ≤ most_cost) };
 
     ghost prices: { (costs : Self) → ArePrices (grid costs) (ways costs) (price costs) };
 }

@@ -1,3 +1,4 @@
+//! The cost formulas.
 ghost use Rattle.std.specs.Prelude.{◌≡◌, ◌+◌, ◌*◌, ◌^◌, ◌≤◌, min};
 ghost use Rattle.cost_rules.specs.declared.site.Formula.TheVariants.{First, Steep, Flat};
 ghost use Rattle.cost_rules.specs.Formulas.{IsInRange, overflow_at, most_cost, cost_at};
@@ -5,7 +6,10 @@ ghost use Rattle.cost_rules.specs.Formulas.{IsInRange, overflow_at, most_cost, c
 use crate::site::Site;
 
 /// The greatest cost of an edge, at which each formula stops.
-const MOST_COST: u64 = 1_048_576;
+pub const MOST_COST: u64 = 1_048_576;
+
+/// What a via edge costs where routes are planned. Wire edges cost from 1 on.
+pub const VIA_COST: u64 = 3;
 
 /// The cost by the first formula: 1, the marks, and 8 for each unit of overflow.
 pub fn first_cost(site: Site) -> u64

@@ -9,12 +9,10 @@ mod rule;
 mod rules;
 mod sight;
 mod site;
-#[cfg(test)]
-mod tests;
 mod watcher;
 
 pub use costs::Costs;
-pub use formula::{first_cost, flat_cost, steep_cost};
+pub use formula::{MOST_COST, VIA_COST, first_cost, flat_cost, steep_cost};
 pub use look::{goal, never, still};
 pub use rule::CostRule;
 pub use rules::Rules;

@@ -1,7 +1,7 @@
 ghost use Rattle.std.specs.Prelude.{◌≡◌, ℕ, ◌≤◌};
 ghost use Rattle.cost_rules.specs.declared.site.Formula.{Formula};
 ghost use Rattle.cost_rules.specs.declared.site.Site.{Site};
-ghost use Rattle.cost_rules.specs.Formulas.{IsInRange, cost_at, at_demand};
+ghost use Rattle.cost_rules.specs.Formulas.{IsInRange, most_cost, cost_at, at_demand};
 
 use crate::site::{Formula, Site};
 use std::marker::Model;
@@ -12,14 +12,16 @@ pub struct CostRule {
     formula: Formula,
     rule: fn(Site) -> u64,
     ghost callable: { (site : Site) → IsInRange site → pre rule site },
-    ghost gives: { (site : Site) (cost : ℕ) → IsInRange site → post rule site cost → cost ≡ cost_at formula site },
+    ghost gives: { (site : Site) (cost : ℕ) → IsInRange site → post rule site cost →
+        cost ≡ cost_at formula site },
 }
 
 impl CostRule {
     /// A rule of the caller's: its function, and the formula that it computes on sites in range.
     pub fn new(formula: Formula, rule: fn(Site) -> u64) -> CostRule
         requires callable { (site : Site) → IsInRange site → pre rule site }
-        requires gives { (site : Site) (cost : ℕ) → IsInRange site → post rule site cost → cost ≡ cost_at formula site }
+        requires gives { (site : Site) (cost : ℕ) → IsInRange site → post rule site cost →
+        cost ≡ cost_at formula site }
         ensures { result.formula ≡ formula }
     {
         CostRule { formula, rule }
@@ -30,9 +32,10 @@ impl CostRule {
         requires { IsInRange site }
         ensures value { result ≡ cost_at self.now.formula site }
         ensures least { 1 ≤ result }
-        ensures most { result ≤ 1048576 }
+        ensures most { result ≤ most_cost }
         // A cost never falls as demand rises.
-        ensures rises { (demand : ℕ) → site.demand ≤ demand → result ≤ cost_at self.now.formula (at_demand site demand) }
+        ensures rises { (demand : ℕ) → site.demand ≤ demand →
+            result ≤ cost_at self.now.formula (at_demand site demand) }
     {
         (self.rule)(site)
     }

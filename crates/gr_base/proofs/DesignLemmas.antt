@@ -1,3 +1,4 @@
+-- Nets and their ids.
 use Rattle.std.proofs.Common.{◌≡◌, ℕ, ◌+◌, ◌<◌, ◌≤◌, ◌⊎◌, inl, inr, true, false, ◌==◌, nat_eq, cond, List, [], ◌∷◌, ◌++◌, length, map, Some, None, refl, sym, ap, subst, ◌∙◌, arith, length-append, zero, suc, if◌then◌else◌}
 use Rattle.std.specs.List.{position_from, slice_get, list_any, position}
 use Rattle.std.proofs.lemmas.Bool.{cases_Bool}

@@ -1,6 +1,7 @@
-use Rattle.std.proofs.Common.{◌≡◌, ℕ, ◌+◌, ◌*◌, ◌/◌, ◌%◌, ◌<◌, ◌≤◌, ◌⊎◌, inl, inr, Bool, true, false, ◌&&◌, ◌==◌, nat_lt, min, Option, Some, None, IfSome, if◌then◌else◌, IsTrue, refl, sym, ap, subst, ◌∙◌, arith}
+-- Cells by number, and the edges between them.
+use Rattle.std.proofs.Common.{◌≡◌, ℕ, ◌+◌, ◌*◌, ◌/◌, ◌%◌, ◌<◌, ◌≤◌, ◌⊎◌, inl, inr, true, false, ◌==◌, nat_lt, min, Option, Some, None, IfSome, if◌then◌else◌, IsTrue, refl, sym, ap, subst, ◌∙◌, arith}
 use Rattle.std.proofs.lemmas.Nat.{mod_below, div_below, div-add-mod', div-mul-add, mod-mul-add, mul-add-lt}
-use Rattle.std.proofs.lemmas.Bool.{cases_lt, cases_eq}
+use Rattle.std.proofs.lemmas.Bool.{cases_lt, cases_eq, and_from}
 use Rattle.std.proofs.lemmas.Bool.Decides.{nat_tests}
 use Rattle.gr_base.specs.declared.grid.Cell.{Cell}
 use Rattle.gr_base.specs.declared.grid.Edge.{Edge}
@@ -9,12 +10,15 @@ use Rattle.gr_base.specs.declared.grid.Way.{Way}
 use Rattle.gr_base.specs.declared.grid.Way.TheVariants.{East, North, Up}
 use Rattle.gr_base.specs.Grid.{cells_of, number_of, IsInside, place_at, gap, steps_between, AreNeighbours, way_between, edge_at, edge_of, stride, high_of, beyond, has_room, has_edge, Joins}
 
--- a grid has columns and rows
+-- a grid has columns, rows and layers
 pub some_columns : (g : Shape) → 0 < g.columns
 some_columns g = let v = g.valid in grind (arith, nat_tests)
 
 pub some_rows : (g : Shape) → 0 < g.rows
 some_rows g = let v = g.valid in grind (arith, nat_tests)
+
+pub some_layers : (g : Shape) → 0 < g.layers
+some_layers g = let v = g.valid in grind (arith, nat_tests)
 
 pub number-place : (g : Shape) (n : ℕ) → number_of g (place_at g n) ≡ n
 number-place g n = rw (div-add-mod' (n / g.columns) g.rows) (div-add-mod' n g.columns)
@@ -128,9 +132,6 @@ room-beyond g cell East inside = let h = inside.column in grind (arith, nat_test
 room-beyond g cell North inside = let h = inside.row in grind (arith, nat_tests)
 room-beyond g cell Up inside = let h = inside.layer in grind (arith, nat_tests)
 
-both : (p q : Bool) → IsTrue p → IsTrue q → IsTrue (p && q)
-both p q yes_p yes_q = grind (arith, nat_tests)
-
 -- a cell and the one beyond it are joined by the edge that way
 pub edge-of-beyond : (g : Shape) (a b : ℕ) (way : Way) → a < cells_of g → b < cells_of g →
     place_at g b ≡ beyond (place_at g a) way → IsTrue (has_edge g (edge_at a way)) × (high_of g (edge_at a way) ≡ b)
@@ -138,7 +139,7 @@ edge-of-beyond g a b way a_in b_in place =
     let P : Cell → Type 0 = λ cell. IsInside g cell in
     let inside : IsInside g (beyond (place_at g a) way) = subst P place (place-inside g b b_in) in
     let f : Cell → ℕ = λ cell. number_of g cell in (
-      both (nat_lt a (cells_of g)) (has_room g (place_at g a) way) (grind (arith, nat_tests)) (room-beyond g (place_at g a) way inside),
+      and_from (nat_lt a (cells_of g)) (has_room g (place_at g a) way) (grind (arith, nat_tests)) (room-beyond g (place_at g a) way inside),
       high-number g a way ∙ ap f (sym place) ∙ number-place g b,
     )
 

@@ -1,3 +1,4 @@
+pub mod General
 pub mod GridLemmas
 pub mod ChipLemmas
 pub mod DesignLemmas
@@ -5,3 +6,5 @@ pub mod TreeLemmas
 pub mod TreeEdges
 pub mod TreeGrowth
 pub mod TreeDistinct
+pub mod ParentEdgeLemmas
+pub mod NodeIndexLemmas

@@ -1,3 +1,4 @@
+-- No edge of a tree stands twice.
 use Rattle.std.proofs.Common.{◌≡◌, ℕ, suc, zero, ◌<◌, ◌≤◌, inl, inr, Bool, true, false, ◌||◌, ◌==◌, List, [], ◌∷◌, ◌++◌, length, take, Option, Some, None, is_some, slice_get, IfSome, if◌then◌else◌, refl, sym, ap, subst, ◌∙◌, append_assoc, arith}
 use Rattle.std.proofs.Math.Seq.{take-append_seam}
 use Rattle.std.proofs.lemmas.Bool.{cases_Bool, eqb-true, both_ways, and_parts, or_cases}
@@ -20,7 +21,7 @@ use Rattle.gr_base.proofs.TreeLemmas.{cell_at-take, cell-inside, hangs-at, read-
 use Rattle.gr_base.proofs.TreeEdges.{found-at}
 use Rattle.gr_base.proofs.TreeGrowth.{parent-held}
 
-is_way-same : (v w : Way) → is_way v w ≡ true → v ≡ w
+pub is_way-same : (v w : Way) → is_way v w ≡ true → v ≡ w
 is_way-same East East is = refl
 is_way-same North North is = refl
 is_way-same Up Up is = refl
@@ -39,10 +40,10 @@ is_edge-same e f is =
     ap by_low (eqb-true e.low f.low parts.0) ∙ ap by_way (is_way-same e.way f.way parts.1)
 
 -- a node of the list gives the edge
-abbrev Gives : (Node → Option Edge) → Edge → List Node → Type 0
+abbrev pub Gives : (Node → Option Edge) → Edge → List Node → Type 0
 Gives f e xs = (k : ℕ) × ((x : Node) × ((slice_get xs k ≡ Some x) × (f x ≡ Some e)))
 
-gives_either : (f : Node → Option Edge) (e : Edge) (x : Node) (xs : List Node) (o : Option Edge) → f x ≡ o →
+pub gives_either : (f : Node → Option Edge) (e : Edge) (x : Node) (xs : List Node) (o : Option Edge) → f x ≡ o →
     list_any (is_edge e) (cons_option o (filter_map f xs)) ≡ true → (set_of (filter_map f xs) e ≡ true → Gives f e xs) → Gives f e (x ∷ xs)
 gives_either f e x xs None at is later = let rest = later is in (suc rest.0, (rest.1.0, rest.1.1))
 gives_either f e x xs (Some other) at is later =
@@ -51,7 +52,8 @@ gives_either f e x xs (Some other) at is later =
       | inr more ↦ let rest = later more in (suc rest.0, (rest.1.0, rest.1.1))
     ]
 
-gives : (f : Node → Option Edge) (e : Edge) (xs : List Node) → set_of (filter_map f xs) e ≡ true → Gives f e xs
+-- an edge of the list is one that some node gives
+pub gives : (f : Node → Option Edge) (e : Edge) (xs : List Node) → set_of (filter_map f xs) e ≡ true → Gives f e xs
 gives f e [] is = absurd (both_ways false refl is)
 gives f e (x ∷ xs) is = gives_either f e x xs (f x) refl is (λ later. gives f e xs later)
 
@@ -61,8 +63,9 @@ edge-parts : (g : Shape) (node : Node) (o : Option ℕ) (e : Edge) → option_an
 edge-parts g node None e is = absurd (none-some e is)
 edge-parts g node (Some c) e is = (c, (refl, is))
 
-joins : (g : Shape) (a b : ℕ) (e : Edge) → a < cells_of g → b < cells_of g → edge_of g a b ≡ Some e → Joins g e a b
-joins g a b e first second is =
+-- the edge between two cells joins them
+pub joins-of : (g : Shape) (a b : ℕ) (e : Edge) → a < cells_of g → b < cells_of g → edge_of g a b ≡ Some e → Joins g e a b
+joins-of g a b e first second is =
     let P : Option Edge → Type 0 = λ o. IfSome o (λ d. Joins g d a b) in subst P is (edge_of-joins g a b first second)
 
 -- the first nodes of a tree hang on those before them
@@ -117,7 +120,7 @@ edge-held g nodes k e hanging is =
     let P : ℕ → Type 0 = λ c. is_some (node_with (take k nodes) c) ≡ true in
     let inside = cell-inside g nodes j x.cell hanging (cell_at-take nodes k j x.cell own) in
     let other = cell-inside g nodes x.parent parts.0 hanging parts.1.0 in
-    held-from g (take k nodes) e x.cell parts.0 (joins g x.cell parts.0 e inside other parts.1.1)
+    held-from g (take k nodes) e x.cell parts.0 (joins-of g x.cell parts.0 e inside other parts.1.1)
     (found-at (take k nodes) j x.cell own) (subst P same (found-at (take k nodes) x.parent parent.0 parent.1))
 
 -- the edge of a node is none of those of the nodes before it
@@ -130,7 +133,7 @@ edge-new g nodes k node e hanging at is =
           let hangs = hangs-at g nodes k node hanging at in
           let parts = edge-parts g node (cell_at nodes node.parent) e is in
           let own = read-cell nodes k node at in
-          let joined = joins g node.cell parts.0 e (cell-inside g nodes k node.cell hanging own) (cell-inside g nodes node.parent parts.0 hanging parts.1.0) parts.1.1 in
+          let joined = joins-of g node.cell parts.0 e (cell-inside g nodes k node.cell hanging own) (cell-inside g nodes node.parent parts.0 hanging parts.1.0) parts.1.1 in
           let held = held-end g (take k nodes) e node.cell parts.0 joined (edge-held g nodes k e hanging old) in
           let none : is_some (node_with (take k nodes) node.cell) ≡ false = ap (λ (o : Option ℕ). is_some o) hangs.fresh in
           absurd (both_ways (is_some (node_with (take k nodes) node.cell)) none held)

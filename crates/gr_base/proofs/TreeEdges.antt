@@ -1,5 +1,6 @@
-use Rattle.std.proofs.Common.{◌≡◌, ℕ, suc, zero, ◌<◌, inl, inr, Bool, true, false, ◌&&◌, ◌||◌, ◌==◌, min, List, [], ◌∷◌, ◌++◌, length, get_or, All, Option, Some, None, is_some, slice_get, IfSome, if◌then◌else◌, IsTrue, refl, sym, ap, subst, ◌∙◌, append_assoc, arith}
-use Rattle.std.proofs.lemmas.Bool.{cases_Bool, eqb-true, eq-eqb, or_cases, both_ways}
+-- The edges of trees: they are the grid's, and join all cells.
+use Rattle.std.proofs.Common.{◌≡◌, ℕ, suc, zero, ◌<◌, inl, inr, Bool, true, false, ◌||◌, ◌==◌, min, List, [], ◌∷◌, ◌++◌, length, get_or, All, Option, Some, None, is_some, slice_get, IfSome, if◌then◌else◌, IsTrue, refl, sym, ap, subst, ◌∙◌, append_assoc, arith}
+use Rattle.std.proofs.lemmas.Bool.{cases_Bool, cases_eq, eqb-true, eq-eqb, and_from, or_cases, or_right, both_ways}
 use Rattle.std.proofs.lemmas.Bool.Decides.{nat_tests}
 use Rattle.std.proofs.lemmas.List.{append-nil, length-append}
 use Rattle.std.proofs.lemmas.List.Elements.{filter_map-append, All-cons}
@@ -16,6 +17,7 @@ use Rattle.gr_base.specs.declared.grid.Shape.{Shape}
 use Rattle.gr_base.specs.declared.grid.Way.{Way}
 use Rattle.gr_base.specs.declared.grid.Way.TheVariants.{East, North, Up}
 use Rattle.gr_base.specs.declared.tree.Node.{Node}
+use Rattle.gr_base.proofs.General.{eqb-swap}
 use Rattle.gr_base.proofs.GridLemmas.{edge_of-joins}
 use Rattle.gr_base.proofs.TreeLemmas.{node_from_cell, cell_at-append, parent-of, found-any, found-append, cell-inside, hangs-at}
 
@@ -23,9 +25,6 @@ use Rattle.gr_base.proofs.TreeLemmas.{node_from_cell, cell_at-append, parent-of,
 alike : (s t l m : ℕ) (v w : Way) → s ≡ t → l ≡ m → v ≡ w →
     (if s == 1 then Some (edge_at l v) else None) ≡ (if t == 1 then Some (edge_at m w) else None)
 alike s t l m v w steps low way = rw (steps, low, way) refl
-
-eqb-swap : (a b : ℕ) → (a == b) ≡ (b == a)
-eqb-swap a b = grind (arith, nat_tests)
 
 by_tests : (x y p q : Bool) → x ≡ p → y ≡ q →
     (if x then (if y then Up else North) else East) ≡ (if p then (if q then Up else North) else East)
@@ -54,25 +53,29 @@ edge_of-some g a b one = (
   alike (steps_between g a b) 1 (min a b) (min a b) (way_between g a b) (way_between g a b) one refl refl,
 )
 
+-- cells that an edge joins are neighbours
+pub near-from : (g : Shape) (a b : ℕ) (e : Edge) → edge_of g a b ≡ Some e → AreNeighbours g a b
+near-from g a b e is =
+    elim (cases_eq (steps_between g a b) 1) [
+      | inl one ↦ one
+      | inr other ↦
+          let test : (steps_between g a b == 1) ≡ false = grind (arith, nat_tests) in
+          let none : edge_of g a b ≡ None = rw test refl in
+          absurd (none-some e (sym none ∙ is))
+    ]
+
 -- walks one after the other
 pub Leads-join : {g : Shape} {set : Edges} {a b c : ℕ} → Leads g set a b → Leads g set b c → Leads g set a c
 Leads-join first Stays = first
 Leads-join {g = g} {set = set} first (Goes_on walk edge inside) = Goes_on (Leads-join first walk) edge inside
 
-is_way-refl : (way : Way) → is_way way way ≡ true
+pub is_way-refl : (way : Way) → is_way way way ≡ true
 is_way-refl East = refl
 is_way-refl North = refl
 is_way-refl Up = refl
 
-both_true : (p q : Bool) → p ≡ true → q ≡ true → (p && q) ≡ true
-both_true p q first second = rw (first, second) refl
-
 pub is_edge-refl : (e : Edge) → is_edge e e ≡ true
-is_edge-refl e = both_true (e.low == e.low) (is_way e.way e.way) (eq-eqb e.low e.low refl) (is_way-refl e.way)
-
-either_true : (p q : Bool) → q ≡ true → (p || q) ≡ true
-either_true true q is = refl
-either_true false q is = is
+is_edge-refl e = and_from (e.low == e.low) (is_way e.way e.way) (eq-eqb e.low e.low refl) (is_way-refl e.way)
 
 -- what an item gives is among what the list gives
 given : (f : Node → Option Edge) (before after : List Node) (node : Node) (e : Edge) → f node ≡ Some e →
@@ -84,7 +87,7 @@ given f before after node e is =
     let head : set_of (filter_map f (node ∷ after)) e ≡ true =
     ap (λ (o : Option Edge). list_any (is_edge e) (cons_option o (filter_map f after))) is
     ∙ ap (λ (b : Bool). b || list_any (is_edge e) (filter_map f after)) (is_edge-refl e) in
-    whole ∙ either_true (set_of (filter_map f before) e) (set_of (filter_map f (node ∷ after)) e) head
+    whole ∙ or_right (set_of (filter_map f before) e) (set_of (filter_map f (node ∷ after)) e) head
 
 -- walks lead from a cell to each cell of some nodes, and back
 Reached : Shape → Edges → ℕ → List Node → Type 0
@@ -97,7 +100,7 @@ any-at : (xs : List Node) (k cell : ℕ) → cell_at xs k ≡ Some cell → list
 any-at [] k cell is = absurd (none-some cell is)
 any-at (x ∷ xs) zero cell is =
     ap (λ (b : Bool). b || list_any (has_cell cell) xs) (eq-eqb x.cell cell (same_Some x.cell cell is))
-any-at (x ∷ xs) (suc k) cell is = either_true (x.cell == cell) (list_any (has_cell cell) xs) (any-at xs k cell is)
+any-at (x ∷ xs) (suc k) cell is = or_right (x.cell == cell) (list_any (has_cell cell) xs) (any-at xs k cell is)
 
 -- the cell of a node is found
 pub found-at : (xs : List Node) (k cell : ℕ) → cell_at xs k ≡ Some cell → is_some (node_with xs cell) ≡ true

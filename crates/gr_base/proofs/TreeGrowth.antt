@@ -1,6 +1,8 @@
+-- Trees that walks are hung on.
 use Rattle.std.proofs.Common.{◌≡◌, ℕ, suc, zero, ◌+◌, ◌<◌, ◌≤◌, inl, inr, Bool, true, false, ◌||◌, ◌==◌, List, [], ◌∷◌, ◌++◌, length, take, drop, get_or, Option, Some, None, is_some, unwrap_or, slice_get, IsSomeAnd, refl, sym, ap, subst, ◌∙◌, append_assoc, arith}
 use Rattle.std.proofs.Math.Seq.{drop-cons}
-use Rattle.std.proofs.lemmas.Bool.{cases_Bool, eqb-true, eq-eqb}
+use Rattle.std.proofs.lemmas.Bool.{cases_Bool, eqb-true, eq-eqb, or_left, or_right, or_from}
+use Rattle.std.proofs.Math.Bool.{or-false}
 use Rattle.std.proofs.lemmas.List.{append-nil, length-append, drop_all}
 use Rattle.std.proofs.lemmas.List.Elements.{filter_map-append}
 use Rattle.std.proofs.lemmas.List.Folds.{list_any-append}
@@ -27,16 +29,6 @@ regroup false true false = refl
 regroup false false true = refl
 regroup false false false = refl
 
-or_true : (p q : Bool) → p ≡ true → (p || q) ≡ true
-or_true p q is = rw is refl
-
-or_true_right : (p q : Bool) → q ≡ true → (p || q) ≡ true
-or_true_right true q is = refl
-or_true_right false q is = is
-
-or_false : (p q : Bool) → p ≡ false → q ≡ false → (p || q) ≡ false
-or_false p q first second = rw (first, second) refl
-
 -- the cells of a grown tree are the old ones and the walk's
 pub grown-cells : (t : TreeView) (walk : List ℕ) (c : ℕ) → IsWalkTo t walk →
     is_some (node_with (grown t.nodes walk) c) ≡ (is_some (node_with t.nodes c) || is_among walk c)
@@ -46,7 +38,7 @@ grown-cells t (last ∷ []) c leads =
       | inl same ↦
           let P : ℕ → Type 0 = λ n. is_some (node_with t.nodes n) ≡ true in
           let held : is_some (node_with t.nodes c) ≡ true = subst P (eqb-true last c same) leads in
-          held ∙ sym (or_true (is_some (node_with t.nodes c)) ((last == c) || false) held)
+          held ∙ sym (or_left (is_some (node_with t.nodes c)) ((last == c) || false) held)
       | inr other ↦ rw other (either_false (is_some (node_with t.nodes c)))
     ]
 grown-cells t (cell ∷ next ∷ after) c leads =
@@ -66,8 +58,8 @@ pub grown-first : (t : TreeView) (next : ℕ) (after : List ℕ) → IsWalkTo t 
     is_some (node_with (grown t.nodes (next ∷ after)) next) ≡ true
 grown-first t next after leads =
     grown-cells t (next ∷ after) next leads
-    ∙ or_true_right (is_some (node_with t.nodes next)) (is_among (next ∷ after) next)
-    (or_true (next == next) (is_among after next) (eq-eqb next next refl))
+    ∙ or_right (is_some (node_with t.nodes next)) (is_among (next ∷ after) next)
+    (or_left (next == next) (is_among after next) (eq-eqb next next refl))
 
 -- a step's first cell isn't in the tree that the rest of the walk was attached to
 pub grown-fresh : (t : TreeView) (cell next : ℕ) (after : List ℕ) → IsWalkTo t (cell ∷ next ∷ after) →
@@ -75,7 +67,7 @@ pub grown-fresh : (t : TreeView) (cell next : ℕ) (after : List ℕ) → IsWalk
 grown-fresh t cell next after leads =
     none_from (node_with (grown t.nodes (next ∷ after)) cell)
     (grown-cells t (next ∷ after) cell leads.1
-    ∙ or_false (is_some (node_with t.nodes cell)) (is_among (next ∷ after) cell) leads.0.outside leads.0.once)
+    ∙ or_from (is_some (node_with t.nodes cell)) (is_among (next ∷ after) cell) leads.0.outside leads.0.once)
 
 -- a node whose parent is a neighbour hangs on the nodes
 pub is-parent : (g : Shape) (before : List Node) (node : Node) (c : ℕ) → cell_at before node.parent ≡ Some c →
@@ -280,14 +272,10 @@ either-way false true false = refl
 either-way false false true = refl
 either-way false false false = refl
 
-no_more : (h : Bool) → h ≡ (h || false)
-no_more true = refl
-no_more false = refl
-
 -- the edges of a grown tree are the old ones and the walk's
 pub adds-edges : (t : TreeView) (walk : List ℕ) → IsTree t → IsWalkTo t walk → AddsEdges t walk (attached t walk)
 adds-edges t [] tree leads = absurd leads
-adds-edges t (last ∷ []) tree leads = λ e. no_more (edges_of t e)
+adds-edges t (last ∷ []) tree leads = λ e. sym (or-false (edges_of t e))
 adds-edges t (cell ∷ next ∷ after) tree leads = λ e.
     let nodes = grown t.nodes (next ∷ after) in
     let old : List Edge = filter_map (edge_to_parent t.shape nodes) nodes in

@@ -1,3 +1,4 @@
+-- The nodes of trees, by their numbers and cells.
 use Rattle.std.proofs.Common.{◌≡◌, ℕ, suc, zero, ◌+◌, ◌<◌, ◌≤◌, Bool, true, false, ◌||◌, ◌==◌, List, [], ◌∷◌, ◌++◌, map, length, take, drop, get_or, Option, Some, None, is_some, slice_get, IsSomeAnd, IsSome, ◌↔◌, if◌then◌else◌, IsTrue, refl, sym, ap, subst, ◌∙◌, append_assoc, arith}
 use Rattle.std.proofs.lemmas.Bool.{eqb-true, eq-eqb, both_ways}
 use Rattle.std.proofs.lemmas.Bool.Decides.{Decides-eqb}
@@ -149,6 +150,11 @@ pub node_from_cell : (nodes : List Node) (k cell : ℕ) → cell_at nodes k ≡ 
 node_from_cell [] k cell is = absurd (none-some cell is)
 node_from_cell (x ∷ xs) zero cell is = (x, (refl, same_Some x.cell cell is))
 node_from_cell (x ∷ xs) (suc k) cell is = node_from_cell xs k cell is
+
+-- the first node's cell
+pub root-cell : (nodes : List Node) → 0 < length nodes → (c : ℕ) × (cell_at nodes 0 ≡ Some c)
+root-cell [] some = absurd (omega arith)
+root-cell (root ∷ others) some = (root.cell, refl)
 
 -- each cell of a tree is inside the grid
 pub cell-inside : (g : Shape) (nodes : List Node) (k cell : ℕ) → AllHang g [] nodes → cell_at nodes k ≡ Some cell → cell < cells_of g

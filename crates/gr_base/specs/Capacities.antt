@@ -1,3 +1,4 @@
+-- Capacity, usable edges, and what nets need of edges.
 use Rattle.std.specs.Prelude.{ℕ, ◌+◌, ◌==◌, Bool, true, not, max, List, map, reverse, find, slice_get, Option, Some, None, option_map, unwrap_or}
 use Rattle.gr_base.specs.Designs.{DesignView}
 use Rattle.gr_base.specs.EdgeSets.{is_edge}

@@ -1,3 +1,4 @@
+-- What the fields of a design keep.
 use Rattle.std.specs.Prelude.{◌≡◌, map}
 use Rattle.gr_base.specs.Designs.{DesignView, IsDesign}
 use Rattle.gr_base.specs.declared.design.Design.TheInside.{Inside}

@@ -1,4 +1,5 @@
-use Rattle.std.specs.Prelude.{◌≡◌, ℕ, ◌+◌, ◌-◌, ◌*◌, ◌/◌, ◌<◌, ◌≤◌, ℤ, pos, negsuc, ◌+ℤ◌, ◌-ℤ◌, ◌≤ℤ◌, Bool, false, ◌&&◌, ◌==◌, nat_lt, nat_le, min, List, [], ◌∷◌, length, slice_get, sum_by, take, All, Any, Option, Some, None, if◌then◌else◌, option_and_then, IsTrue}
+-- Designs, and where the tiles of a chip lie.
+use Rattle.std.specs.Prelude.{◌≡◌, ℕ, ◌+◌, ◌-◌, ◌*◌, ◌/◌, ◌<◌, ◌≤◌, ℤ, pos, negsuc, ◌+ℤ◌, ◌-ℤ◌, ◌≤ℤ◌, Bool, false, ◌&&◌, ◌==◌, nat_lt, nat_le, min, List, [], ◌∷◌, ◌++◌, length, slice_get, sum_by, take, All, Any, Option, Some, None, if◌then◌else◌, option_and_then, IsTrue}
 use Rattle.gr_base.specs.Limits.{most_nets, most_pins, most_adjustments, most_id, most_capacity, most_width, most_tile, most_lower, most_routed_pins}
 use Rattle.gr_base.specs.Names.{is_token}
 use Rattle.gr_base.specs.Grid.{cells_of, has_edge, is_wire, place_at}
@@ -51,6 +52,13 @@ pub record IsAdjustment (g : Shape) (adjustment : Adjustment) : Type 0 where
   pub edge : IsTrue (has_edge g adjustment.edge)
   pub wire : IsTrue (is_wire adjustment.edge)
   pub capacity : adjustment.capacity ≤ most_capacity
+
+-- the design with one more net, and with one more adjustment
+abbrev pub with_net : Net → DesignView → DesignView
+with_net net d = record { frame = d.frame; nets = d.nets ++ net ∷ []; adjustments = d.adjustments }
+
+abbrev pub with_adjustment : Adjustment → DesignView → DesignView
+with_adjustment adjustment d = record { frame = d.frame; nets = d.nets; adjustments = d.adjustments ++ adjustment ∷ [] }
 
 -- the number of the first net with this id, where the first of the list has the number given
 abbrev pub net_from : ℕ → ℕ → List Net → Option ℕ

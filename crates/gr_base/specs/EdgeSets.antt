@@ -1,3 +1,4 @@
+-- Sets of edges, and the walks along them.
 use Rattle.std.specs.Prelude.{◌≡◌, ℕ, Bool, ◌&&◌, ◌==◌, true, false, List, [], ◌∷◌, All, Some, IsTrue}
 use Rattle.std.specs.List.{list_any}
 use Rattle.gr_base.specs.Grid.{edge_of}

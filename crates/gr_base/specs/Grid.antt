@@ -1,3 +1,4 @@
+-- The cells and the edges of a grid, by their numbers.
 use Rattle.std.specs.Prelude.{◌≡◌, ℕ, ◌+◌, ◌-◌, ◌*◌, ◌/◌, ◌%◌, ◌<◌, ◌⊎◌, Bool, true, false, ◌&&◌, ◌==◌, nat_lt, min, Option, Some, None, if◌then◌else◌, IsTrue}
 use Rattle.gr_base.specs.declared.grid.Cell.{Cell}
 use Rattle.gr_base.specs.declared.grid.Edge.{Edge}
@@ -49,6 +50,10 @@ edge_at low way = record { low = low; way = way }
 -- the edge between two cells, if they are neighbours
 abbrev pub edge_of : Shape → ℕ → ℕ → Option Edge
 edge_of g a b = if steps_between g a b == 1 then Some (edge_at (min a b) (way_between g a b)) else None
+
+-- the edge on a layer over an edge of the grid of one layer
+abbrev pub on_layer : Shape → ℕ → Edge → Edge
+on_layer g layer flat = edge_at (layer * (g.columns * g.rows) + flat.low) flat.way
 
 -- by how much the number grows along a way
 abbrev pub stride : Shape → Way → ℕ

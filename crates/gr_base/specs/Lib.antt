@@ -3,6 +3,8 @@ pub mod Names
 pub mod Grid
 pub mod EdgeSets
 pub mod Trees
+pub mod ParentEdges
+pub mod NodeIndexes
 pub mod Designs
 pub mod DesignStore
 pub mod Capacities

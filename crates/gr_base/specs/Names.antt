@@ -1,3 +1,4 @@
+-- Names: the tokens of a text.
 use Rattle.std.specs.Prelude.{ℕ, Bool, ◌&&◌, ◌||◌, ◌==◌, not, nat_lt, List, length}
 use Rattle.std.specs.List.{list_all}
 

@@ -1,3 +1,4 @@
+-- Sums over the nets and edges of a design: demand, overflow, wirelength and vias.
 use Rattle.std.specs.Prelude.{ℕ, ◌+◌, ◌-◌, ◌*◌, ◌/◌, ◌%◌, ◌==◌, max, List, map, filter, fold, sum_by, count_by, length, if◌then◌else◌}
 use Rattle.std.specs.List.{range_with_len}
 use Rattle.gr_base.specs.Capacities.{need, capacity}

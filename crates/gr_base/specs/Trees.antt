@@ -1,3 +1,4 @@
+-- Trees of cells, and the walks that are hung on them.
 use Rattle.std.specs.Prelude.{◌≡◌, ℕ, ◌+◌, ◌<◌, ◌≤◌, Bool, false, ◌||◌, ◌==◌, List, [], ◌∷◌, ◌++◌, length, All, Option, Some, None, is_some, unwrap_or, slice_get, IsSomeAnd, if◌then◌else◌, IsTrue}
 use Rattle.std.specs.List.{list_any, filter_map, count_by}
 use Rattle.std.specs.Option.{option_map, option_and_then, option_to_list}

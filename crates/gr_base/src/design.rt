@@ -1,10 +1,12 @@
+//! Designs: a frame, nets and adjustments.
 ghost use Rattle.std.specs.Prelude.{◌≡◌, ℕ, ◌+◌, ◌<◌, ◌≤◌, ◌++◌, ◌∷◌, [], ℤ, length, slice_get, Some, None, IfOk, IfErr, OnOk, OnErr};
 ghost use Rattle.gr_base.specs.Limits.{most_nets, most_pins, most_adjustments};
 ghost use Rattle.gr_base.specs.Grid.{cells_of};
-ghost use Rattle.gr_base.specs.Designs.{IsFrame, IsNet, IsAdjustment, IsDesign, net_with_id, pins_of, is_routed, tile_of, centre_of};
+ghost use Rattle.gr_base.specs.Designs.{IsFrame, IsNet, IsAdjustment, IsDesign, with_net, with_adjustment, net_with_id, pins_of, is_routed, tile_of, centre_of};
 
 use crate::chip::{middle, tile_at};
 use crate::frame::{Adjustment, Frame, Net, Point};
+use crate::limits::MOST_ROUTED_PINS;
 use indexmap::IndexSet;
 use std::alloc::{AllocError, Global};
 use std::marker::Model;
@@ -56,7 +58,7 @@ impl Design {
         requires fresh { net_with_id self.old net.id ≡ None }
         requires room { length self.old.nets < most_nets }
         requires pins { pins_of self.old.nets + length net.pins ≤ most_pins }
-        ensures ok { OnOk result (self.new ≡ record { frame = self.old.frame; nets = self.old.nets ++ net ∷ []; adjustments = self.old.adjustments }) }
+        ensures ok { OnOk result (self.new ≡ with_net net self.old) }
         ensures err { OnErr result (self.new ≡ self.old) }
         ensures back { IfErr result (λ refused. refused.net ≡ net) }
     {
@@ -74,7 +76,7 @@ impl Design {
     pub fn push_adjustment(&mut self, adjustment: Adjustment) -> Result<(), AllocError>
         requires adjustment { IsAdjustment self.old.frame.shape adjustment }
         requires room { length self.old.adjustments < most_adjustments }
-        ensures ok { OnOk result (self.new ≡ record { frame = self.old.frame; nets = self.old.nets; adjustments = self.old.adjustments ++ adjustment ∷ [] }) }
+        ensures ok { OnOk result (self.new ≡ with_adjustment adjustment self.old) }
         ensures err { OnErr result (self.new ≡ self.old) }
     {
         self.adjustments.push(adjustment)?;
@@ -136,7 +138,7 @@ impl Design {
         ensures { result ≡ is_routed self.now net }
     {
         let pins = self.net(net).pins.as_slice().len();
-        0 < pins && pins <= 1000
+        0 < pins && pins <= MOST_ROUTED_PINS as usize
     }
 
     /// The column of a coordinate, which on the upper border is the last one. None exactly outside

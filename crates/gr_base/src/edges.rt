@@ -1,8 +1,10 @@
+//! Cells by number, and the edges between them.
 ghost use Rattle.std.specs.Prelude.{◌≡◌, ◌≢◌, ℕ, ◌+◌, ◌*◌, ◌<◌, ◌≤◌, ◌↔◌, IsTrue, IsSome, IsNone, IfSome};
 ghost use Rattle.gr_base.specs.Limits.{is_grid, most_cells, most_layers};
-ghost use Rattle.gr_base.specs.Grid.{cells_of, number_of, IsInside, place_at, AreNeighbours, edge_of, stride, high_of, beyond, has_edge, Joins};
+ghost use Rattle.gr_base.specs.Grid.{cells_of, number_of, IsInside, place_at, AreNeighbours, way_between, edge_of, on_layer, stride, high_of, beyond, has_edge, Joins};
 
 use crate::grid::{Cell, Edge, Shape, Way};
+use crate::limits::{MOST_CELLS, MOST_LAYERS};
 
 impl Shape {
     /// None exactly where a number is 0, there are more than 16 layers, or more than 8,388,608 cells.
@@ -13,7 +15,12 @@ impl Shape {
         ensures layers { IfSome result (λ shape. shape.layers ≡ layers) }
     {
         let cells = u128::from(columns) * u128::from(rows) * u128::from(layers);
-        if columns > 0 && rows > 0 && layers > 0 && layers <= 16 && cells <= 8_388_608 {
+        if columns > 0
+            && rows > 0
+            && layers > 0
+            && layers <= MOST_LAYERS
+            && cells <= u128::from(MOST_CELLS)
+        {
             Some(Shape {
                 columns,
                 rows,
@@ -104,14 +111,38 @@ impl Shape {
         if steps != 1 {
             return None;
         }
-        let way = if from.x != to.x {
+        let way = self.way_between(a, b);
+        Some(Edge { low: a.min(b), way })
+    }
+
+    /// The way of a line between two cells: East where their columns differ, else North where their
+    /// rows differ, else Up.
+    pub fn way_between(self, a: u32, b: u32) -> Way
+        requires a { a < cells_of self }
+        requires b { b < cells_of self }
+        ensures { result ≡ way_between self a b }
+    {
+        let from = self.place_of(a);
+        let to = self.place_of(b);
+        if from.x != to.x {
             Way::East
         } else if from.y != to.y {
             Way::North
         } else {
             Way::Up
-        };
-        Some(Edge { low: a.min(b), way })
+        }
+    }
+
+    /// The edge on a layer over an edge of the grid of one layer of this grid's columns and rows.
+    pub fn edge_over(self, layer: u32, flat: Edge) -> Edge
+        requires layer { layer < self.layers }
+        requires tile { flat.low < self.columns * self.rows }
+        ensures { result ≡ on_layer self layer flat }
+    {
+        Edge {
+            low: layer * (self.columns * self.rows) + flat.low,
+            way: flat.way,
+        }
     }
 
     /// The end of higher number of one of the grid's edges.
@@ -134,40 +165,5 @@ impl Shape {
             Way::North => self.columns,
             Way::Up => self.columns * self.rows,
         }
-    }
-}
-
-#[cfg(test)]
-mod tests {
-    use super::*;
-    use std::test::Fail;
-
-    #[test]
-    fn cells_and_edges_of_a_small_grid(rt: HostRuntime) -> Result<(), Fail> {
-        assert_eq!(rt; Shape::new(0, 1, 1), None);
-        assert_eq!(rt; Shape::new(1, 1, 17), None);
-        assert_eq!(rt; Shape::new(3000, 3000, 1), None);
-        let shape = Shape::new(3, 2, 2).expect(&rt, "a grid of twelve cells");
-        assert_eq!(rt; shape.cells(), 12);
-        for (a, b, want) in [
-            (0, 1, Some((0, Way::East))),
-            (4, 1, Some((1, Way::North))),
-            (5, 11, Some((5, Way::Up))),
-            (2, 3, None),
-            (0, 4, None),
-            (7, 7, None),
-        ] {
-            let edge = if a < shape.cells() && b < shape.cells() {
-                shape.edge_between(a, b)
-            } else {
-                None
-            };
-            assert_eq!(rt;
-                edge,
-                want.map(|(low, way)| Edge { low, way }),
-                "{a} and {b}"
-            );
-        }
-        Ok(())
     }
 }

@@ -1,3 +1,4 @@
+//! The parts of a design.
 use crate::cells::Cells;
 use crate::grid::{Edge, Shape};
 use crate::name::Name;

@@ -1,3 +1,4 @@
+//! The grid of a design.
 ghost use Rattle.std.specs.Prelude.{IsTrue};
 ghost use Rattle.gr_base.specs.Limits.{is_grid};
 

@@ -7,7 +7,9 @@ mod design;
 mod edges;
 mod frame;
 mod grid;
+mod limits;
 mod name;
+mod node_index;
 mod routes;
 mod tree;
 
@@ -15,6 +17,12 @@ pub use cells::Cells;
 pub use design::{Design, NetRefused};
 pub use frame::{Adjustment, Frame, Layer, Net, Point};
 pub use grid::{Cell, Edge, Shape, Way};
+pub use limits::{
+    MOST_ADJUSTMENTS, MOST_BYTES, MOST_CAPACITY, MOST_CELLS, MOST_COORDINATE, MOST_ID, MOST_LAYERS,
+    MOST_LOWER, MOST_MARKS, MOST_NETS, MOST_PINS, MOST_ROUNDS, MOST_ROUTED_PINS, MOST_TILE,
+    MOST_WIDTH,
+};
 pub use name::Name;
+pub use node_index::NodeIndex;
 pub use routes::Routes;
 pub use tree::RouteTree;

@@ -1,3 +1,4 @@
+//! Names of nets.
 ghost use Rattle.std.specs.Prelude.{◌≡◌, ℕ, List, IfOk};
 
 use std::alloc::{AllocError, Global};

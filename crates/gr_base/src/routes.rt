@@ -1,3 +1,4 @@
+//! The routes of a design.
 ghost use Rattle.std.specs.Prelude.{◌≡◌, ℕ, ◌<◌, length, Some, None, IfOk, replicate, slice_set};
 ghost use Rattle.std.specs.Option.{option_copied};
 ghost use Rattle.gr_base.specs.Trees.{tree_at};
@@ -46,28 +47,5 @@ impl Routes {
         ensures { option_copied result ≡ tree_at self.now net }
     {
         self.trees.get(net as usize)?.as_ref()
-    }
-}
-
-#[cfg(test)]
-mod tests {
-    use super::*;
-    use crate::grid::Shape;
-    use std::test::Fail;
-
-    #[test]
-    fn a_second_tree_takes_the_place_of_the_first(rt: HostRuntime) -> Result<(), Fail> {
-        let alloc = rt.alloc();
-        let shape = Shape::new(3, 2, 2).expect(&rt, "a grid of twelve cells");
-        let mut routes = Routes::new(alloc, 3)?;
-        routes.set(1, RouteTree::start(alloc, shape, 4)?);
-        routes.set(1, RouteTree::start(alloc, shape, 7)?);
-        for (net, is_set) in [(0, false), (1, true), (2, false), (3, false)] {
-            assert_eq!(rt; routes.get(net).is_some(), is_set, "net {net}");
-        }
-        let tree = routes.get(1).expect(&rt, "a tree was set");
-        assert_eq!(rt; tree.node_at(7), Some(0));
-        assert_eq!(rt; tree.node_at(4), None);
-        Ok(())
     }
 }

@@ -1,9 +1,11 @@
-ghost use Rattle.std.specs.Prelude.{◌≡◌, ℕ, ◌<◌, ◌≤◌, ◌∷◌, [], length, Some, IfOk, IfSome, OnOk, OnErr, IsSome, IsTrue, ◌↔◌};
+//! Trees of cells: the routes of nets.
+ghost use Rattle.std.specs.Prelude.{◌≡◌, ℕ, ◌-◌, ◌<◌, ◌≤◌, ◌∷◌, [], length, slice_get, Some, IfOk, IfSome, OnOk, OnErr, IsSome, IsTrue, ◌↔◌};
 ghost use Rattle.std.specs.List.{position};
-ghost use Rattle.gr_base.specs.Grid.{cells_of};
+ghost use Rattle.gr_base.specs.Grid.{cells_of, has_edge};
+ghost use Rattle.gr_base.specs.ParentEdges.{parent_edge, edge_apart as apart_edge, wire_to_parent as parent_wire};
 ghost use Rattle.gr_base.specs.Trees.{TreeView, node_of, cell_at, parent_at, node_with, has_cell, holds, IsTree, HasGridEdges, HasDistinctEdges, IsConnected, IsWalkTo, attached, Begins, AddsCells, AddsEdges};
 
-use crate::grid::Shape;
+use crate::grid::{Edge, Shape, Way};
 use std::alloc::{AllocError, Global};
 use std::marker::Model;
 
@@ -87,6 +89,33 @@ impl RouteTree {
         self.nodes[node as usize].parent
     }
 
+    /// The edge from a node's cell to its parent's. None exactly for node 0.
+    pub fn edge_to_parent(&self, node: u32) -> Option<Edge>
+        requires { node < length self.now.nodes }
+        ensures edge { result ≡ parent_edge self.now node }
+        ensures some { IsSome result ↔ 0 < node }
+        ensures inside { IfSome result (λ e. IsTrue (has_edge self.now.shape e)) }
+        ensures tree { IsTree self.now }
+    {
+        let cell = self.cell(node);
+        let parent = self.cell(self.parent(node));
+        edge_apart(self.shape, cell.min(parent), cell.abs_diff(parent))
+    }
+
+    /// The wire edge from a node's cell to its parent's. None exactly where there is no edge or a
+    /// via edge.
+    pub fn wire_to_parent(&self, node: u32) -> Option<Edge>
+        requires { node < length self.now.nodes }
+        ensures edge { result ≡ parent_wire self.now node }
+        ensures tree { IsTree self.now }
+    {
+        let edge = self.edge_to_parent(node)?;
+        match edge.way {
+            Way::East | Way::North => Some(edge),
+            Way::Up => None,
+        }
+    }
+
     /// The node with this cell. None exactly where no node has it. It looks at each node in turn.
     pub fn node_at(&self, cell: u32) -> Option<u32>
         ensures node { result ≡ node_with self.now.nodes cell }
@@ -110,8 +139,24 @@ impl RouteTree {
         ensures edges { OnOk result (AddsEdges self.old walk.now self.new) }
         ensures tree { IsTree self.new }
     {
+        let parent = self.node_at(walk[walk.len() - 1]).unwrap();
+        self.hang(parent, walk)
+    }
+
+    /// Hangs a walk on the tree as `attach` does, under the node of its last cell, whose number is
+    /// known: no node is looked at. The only error is want of memory, and leaves the tree as it was.
+    pub fn hang(&mut self, parent: u32, walk: &[u32]) -> Result<(), AllocError>
+        requires walk { IsWalkTo self.old walk.now }
+        requires parent { cell_at self.old.nodes parent ≡ slice_get walk.now (length walk.now - 1) }
+        ensures ok { OnOk result (self.new ≡ attached self.old walk.now) }
+        ensures err { OnErr result (self.new ≡ self.old) }
+        ensures begins { Begins self.old self.new }
+        ensures cells { OnOk result (AddsCells self.old walk.now self.new) }
+        ensures edges { OnOk result (AddsEdges self.old walk.now self.new) }
+        ensures tree { IsTree self.new }
+    {
         let last = walk.len() - 1;
-        let mut parent = self.node_at(walk[last]).unwrap();
+        let mut parent = parent;
         self.nodes.reserve(last)?;
         for at in (0..last).rev() {
             let number = self.nodes.len() as u32;
@@ -143,26 +188,20 @@ fn position_of(nodes: &[Node], cell: u32) -> Option<usize>
     nodes.iter().position(|node| node.cell == cell)
 }
 
-#[cfg(test)]
-mod tests {
-    use super::*;
-    use std::test::Fail;
-
-    #[test]
-    fn a_walk_hangs_on_a_tree_from_its_end(rt: HostRuntime) -> Result<(), Fail> {
-        let alloc = rt.alloc();
-        let shape = Shape::new(3, 2, 2).expect(&rt, "a grid of twelve cells");
-        let mut tree = RouteTree::start(alloc, shape, 0)?;
-        tree.attach(&[11, 5, 4, 1, 0])?;
-        let copy = tree.copy(alloc)?;
-        assert_eq!(rt; copy.len(), 5);
-        assert_eq!(rt; copy.shape(), shape);
-        assert_eq!(rt; copy.node_at(2), None);
-        for (node, cell, parent) in [(0, 0, 0), (1, 1, 0), (2, 4, 1), (3, 5, 2), (4, 11, 3)] {
-            assert!(rt; node < copy.len());
-            assert_eq!(rt; (copy.cell(node), copy.parent(node)), (cell, parent));
-            assert_eq!(rt; copy.node_at(cell), Some(node));
-        }
-        Ok(())
-    }
+/// The edge from a cell to the one whose number is greater by `apart`, where the two are one or
+/// neighbours. It takes no division: the numbers are apart by 1 where the edge goes East, by the
+/// number of columns where it goes North, and else by the number of tiles.
+fn edge_apart(shape: Shape, low: u32, apart: u32) -> Option<Edge>
+    ensures { result ≡ apart_edge shape low apart }
+{
+    let way = if apart == 0 {
+        return None;
+    } else if apart == 1 && shape.columns() > 1 {
+        Way::East
+    } else if apart == shape.columns() && shape.rows() > 1 {
+        Way::North
+    } else {
+        Way::Up
+    };
+    Some(Edge { low, way })
 }

@@ -1,3 +1,4 @@
+-- Loads that one edge is charged to.
 use Rattle.std.proofs.Common.{◌≡◌, ℕ, ◌+◌, Bool, true, false, List, slice_index, slice_set, if◌then◌else◌, IsTrue, refl, sym, ap, subst, ◌∙◌, arith}
 use Rattle.std.proofs.lemmas.Bool.{both_ways}
 use Rattle.gr_base.proofs.TreeDistinct.{is_edge-same}

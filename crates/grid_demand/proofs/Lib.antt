@@ -1,7 +1,6 @@
 pub mod WireLemmas
 pub mod CapacityLemmas
 pub mod TreeTimes
-pub mod WireParentLemmas
 pub mod LoadSteps
 pub mod LoadLemmas
 pub mod OperationLemmas

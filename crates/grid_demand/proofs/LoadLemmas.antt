@@ -1,3 +1,4 @@
+-- Loads as sums of tables.
 use Rattle.std.proofs.Common.{◌≡◌, ℕ, suc, zero, ◌+◌, ◌-◌, ◌*◌, ◌<◌, ◌≤◌, inl, inr, max, Bool, true, false, nat_lt, List, [], ◌∷◌, map, filter, fold, zip, sum_by, length, get_or, All, slice_index, IsTrue, refl, sym, ap, subst, ◌∙◌, arith}
 use Rattle.std.proofs.lemmas.Bool.{cases_Bool, both_ways}
 use Rattle.std.proofs.lemmas.List.Elements.{All-head, All-tail, All-map}
@@ -14,7 +15,8 @@ use Rattle.gr_base.specs.declared.grid.Shape.{Shape}
 use Rattle.grid_demand.proofs.CapacityLemmas.{capacity-table}
 use Rattle.grid_demand.proofs.LoadSteps.{tree-edge}
 use Rattle.grid_demand.proofs.WireLemmas.{table-at, table-is, table-self, length-table, length-wires, number-wire_at, wire-wire_at}
-use Rattle.grid_demand.specs.LoadSums.{LoadsView, demand_at, marks_at, share, added, taken, most_marks, mark_of, marked, AreLoads}
+use Rattle.gr_base.specs.Limits.{most_marks}
+use Rattle.grid_demand.specs.LoadSums.{LoadsView, demand_at, marks_at, share, added, taken, mark_of, marked, AreLoads}
 use Rattle.grid_demand.specs.Tables.{CapacityView, capacity_of, capacity_at, IsCapacity}
 
 -- an edge that leaves the grid has no demand

@@ -1,4 +1,5 @@
-use Rattle.std.proofs.Common.{◌≡◌, ℕ, suc, zero, ◌+◌, ◌-◌, ◌*◌, ◌<◌, inl, inr, Bool, true, false, List, [], ◌∷◌, ◌++◌, map, length, take, get_or, slice_index, slice_set, slice_get, Option, Some, None, if◌then◌else◌, IsTrue, refl, sym, ap, subst, ◌∙◌, arith}
+-- Demands that change node by node along a tree.
+use Rattle.std.proofs.Common.{◌≡◌, ℕ, suc, zero, ◌+◌, ◌*◌, ◌<◌, inl, inr, Bool, true, false, List, [], ◌∷◌, ◌++◌, map, length, take, get_or, slice_index, slice_set, slice_get, Option, Some, None, if◌then◌else◌, IsTrue, refl, sym, ap, subst, ◌∙◌, arith}
 use Rattle.std.proofs.lemmas.Bool.{cases_Bool, both_ways}
 use Rattle.std.proofs.lemmas.Option.{none-some, same_Some}
 use Rattle.std.specs.List.{filter_map}
@@ -14,36 +15,28 @@ use Rattle.gr_base.specs.declared.grid.Shape.{Shape}
 use Rattle.gr_base.specs.declared.tree.Node.{Node}
 use Rattle.grid_demand.proofs.CapacityLemmas.{take-next}
 use Rattle.grid_demand.proofs.TreeTimes.{times, times-append, times-one, one_if-true, one_if-false, times-set, edges_before, edges_before-more, edge-next}
-use Rattle.grid_demand.proofs.WireLemmas.{table-same, table-self, table-set, table-edge, length-table}
-use Rattle.grid_demand.specs.WireParents.{wire_only, wire_to_parent}
+use Rattle.grid_demand.proofs.WireLemmas.{number-below, table-same, table-self, table-set, table-edge, length-table}
+use Rattle.grid_demand.specs.LoadSums.{changed_by}
+use Rattle.grid_demand.specs.declared.loads.Change.{Change}
+use Rattle.grid_demand.specs.declared.loads.Change.TheVariants.{Gain, Lose}
+use Rattle.gr_base.specs.ParentEdges.{wire_only, wire_to_parent}
 
--- demands changed by the needs of the edges of a list: grown by them, or shrunk
-abbrev pub Change : Type 0
-Change = ℕ → ℕ → ℕ
-
-abbrev pub grow : Change
-grow base more = base + more
-
-abbrev pub shrink : Change
-shrink base less = base - less
-
-abbrev pub changed : Shape → Change → List ℕ → (Edge → ℕ) → List Edge → List ℕ
+-- demands changed by the needs of the edges of a list
+abbrev pub changed : Shape → (ℕ → ℕ → ℕ) → List ℕ → (Edge → ℕ) → List Edge → List ℕ
 changed g change base need edges =
     map (λ e. change (slice_index base (wire_number e)) (need e * times e edges)) (wires_from_cells g)
 
 -- a change of nothing, and one change after another
-pub record Adds (change : Change) : Type 0 where
+pub record Adds (change : ℕ → ℕ → ℕ) : Type 0 where
   pub none : (base : ℕ) → change base 0 ≡ base
   pub next : (base need n : ℕ) → change (change base (need * n)) need ≡ change base (need * (n + 1))
 
-pub adds-grow : Adds grow
-adds-grow = record { none = λ base. omega arith; next = λ base need n. omega arith }
-
-pub adds-shrink : Adds shrink
-adds-shrink = record { none = λ base. omega arith; next = λ base need n. let e : need * (n + 1) ≡ need * n + need = omega arith in omega (arith, e) }
+pub adds : (change : Change) → Adds (changed_by change)
+adds Gain = record { none = λ base. omega arith; next = λ base need n. omega arith }
+adds Lose = record { none = λ base. omega arith; next = λ base need n. let e : need * (n + 1) ≡ need * n + need = omega arith in omega (arith, e) }
 
 -- no edges change nothing
-pub changed-none : (g : Shape) (change : Change) (base : List ℕ) (need : Edge → ℕ) → Adds change → length base ≡ 2 * cells_of g →
+pub changed-none : (g : Shape) (change : ℕ → ℕ → ℕ) (base : List ℕ) (need : Edge → ℕ) → Adds change → length base ≡ 2 * cells_of g →
     base ≡ changed g change base need []
 changed-none g change base need adds long =
     table-self g base long
@@ -66,14 +59,14 @@ wire-kept e (Some via) edges none wire =
     not_wire true is_none is = none-some via (sym is_none)
     not_wire false is_none is = both_ways false refl is
 
-pub changed-via : (g : Shape) (change : Change) (base : List ℕ) (need : Edge → ℕ) (edges : List Edge) (o : Option Edge) → wire_only o ≡ None →
+pub changed-via : (g : Shape) (change : ℕ → ℕ → ℕ) (base : List ℕ) (need : Edge → ℕ) (edges : List Edge) (o : Option Edge) → wire_only o ≡ None →
     changed g change base need edges ≡ changed g change base need (edges ++ option_to_list o)
 changed-via g change base need edges o none =
     table-same g (λ e. change (slice_index base (wire_number e)) (need e * times e edges)) (λ e. change (slice_index base (wire_number e)) (need e * times e (edges ++ option_to_list o)))
     (λ e wire. ap (λ (n : ℕ). change (slice_index base (wire_number e)) (need e * n)) (sym (wire-kept e o edges none wire)))
 
 -- one more wire edge changes its own demand alone
-pub changed-wire : (g : Shape) (change : Change) (base : List ℕ) (need : Edge → ℕ) (edges : List Edge) (a : Edge) → Adds change →
+pub changed-wire : (g : Shape) (change : ℕ → ℕ → ℕ) (base : List ℕ) (need : Edge → ℕ) (edges : List Edge) (a : Edge) → Adds change →
     IsTrue (has_edge g a) → IsTrue (is_wire a) →
     slice_set (changed g change base need edges) (wire_number a) (change (slice_index (changed g change base need edges) (wire_number a)) (need a))
     ≡ changed g change base need (edges ++ a ∷ [])
@@ -151,7 +144,7 @@ next-wire t k a tree below is =
     }
 
 -- a node without a wire edge changes nothing
-pub next-via : (t : TreeView) (k : ℕ) (change : Change) (base : List ℕ) (need : Edge → ℕ) → k < length t.nodes → wire_to_parent t k ≡ None →
+pub next-via : (t : TreeView) (k : ℕ) (change : ℕ → ℕ → ℕ) (base : List ℕ) (need : Edge → ℕ) → k < length t.nodes → wire_to_parent t k ≡ None →
     changed t.shape change base need (edges_before t k) ≡ changed t.shape change base need (edges_before t (k + 1))
 next-via t k change base need below is =
     let node = node-at t k below in
@@ -161,7 +154,7 @@ next-via t k change base need below is =
     ∙ ap (changed t.shape change base need) (sym (edges_before-more t k node.0 node.1 (take-next t.nodes k node.0 node.1)))
 
 -- the demands after the next node's wire edge
-pub next-changed : (t : TreeView) (k : ℕ) (change : Change) (base old : List ℕ) (need : Edge → ℕ) (a : Edge) → Adds change → IsNext t k a →
+pub next-changed : (t : TreeView) (k : ℕ) (change : ℕ → ℕ → ℕ) (base old : List ℕ) (need : Edge → ℕ) (a : Edge) → Adds change → IsNext t k a →
     old ≡ changed t.shape change base need (edges_before t k) →
     slice_set old (wire_number a) (change (slice_index old (wire_number a)) (need a)) ≡ changed t.shape change base need (edges_before t (k + 1))
 next-changed t k change base old need a adds next is =
@@ -170,7 +163,7 @@ next-changed t k change base old need a adds next is =
     ∙ ap (changed t.shape change base need) (sym next.more)
 
 -- the demand of the next node's wire edge is still what it was
-pub next-before : (t : TreeView) (k : ℕ) (change : Change) (base old : List ℕ) (need : Edge → ℕ) (a : Edge) → Adds change → IsNext t k a →
+pub next-before : (t : TreeView) (k : ℕ) (change : ℕ → ℕ → ℕ) (base old : List ℕ) (need : Edge → ℕ) (a : Edge) → Adds change → IsNext t k a →
     old ≡ changed t.shape change base need (edges_before t k) → slice_index old (wire_number a) ≡ slice_index base (wire_number a)
 next-before t k change base old need a adds next is =
     let nothing : need a * times a (edges_before t k) ≡ 0 = rw next.first (omega arith) in
@@ -189,7 +182,7 @@ take-all (x ∷ xs) zero is = absurd (omega arith)
 take-all (x ∷ xs) (suc n) is = ap (λ (ns : List Node). x ∷ ns) (take-all xs n (omega arith))
 
 -- after all nodes each edge of the tree has changed by its need once
-pub changed-all : (t : TreeView) (k : ℕ) (change : Change) (base : List ℕ) (need : Edge → ℕ) → IsTree t → k ≡ length t.nodes →
+pub changed-all : (t : TreeView) (k : ℕ) (change : ℕ → ℕ → ℕ) (base : List ℕ) (need : Edge → ℕ) → IsTree t → k ≡ length t.nodes →
     changed t.shape change base need (edges_before t k)
     ≡ map (λ e. change (slice_index base (wire_number e)) (if edges_of t e then need e else 0)) (wires_from_cells t.shape)
 changed-all t k change base need tree all =
@@ -202,5 +195,38 @@ changed-all t k change base need tree all =
     (ap (λ (n : ℕ). need e * n) (times-set e (tree_edges t) (tree-distinct_edges t tree e)) ∙ needed (edges_of t e) (need e)))
 
 -- a length of demands that have changed
-pub length-changed : (g : Shape) (change : Change) (base : List ℕ) (need : Edge → ℕ) (edges : List Edge) → length (changed g change base need edges) ≡ 2 * cells_of g
+pub length-changed : (g : Shape) (change : ℕ → ℕ → ℕ) (base : List ℕ) (need : Edge → ℕ) (edges : List Edge) → length (changed g change base need edges) ≡ 2 * cells_of g
 length-changed g change base need edges = length-table g (λ e. change (slice_index base (wire_number e)) (need e * times e edges))
+
+-- a turn of the loop over a tree's nodes that comes to a wire edge
+pub record IsTurn (t : TreeView) (k : ℕ) (base now : List ℕ) (e : Edge) (number : ℕ) : Type 0 where
+  pub next : IsNext t k e
+  pub at : number ≡ wire_number e
+  pub within : number < length now
+  pub before : slice_index now number ≡ slice_index base (wire_number e)
+
+pub turn : (t : TreeView) (k : ℕ) (change : ℕ → ℕ → ℕ) (base now : List ℕ) (need : Edge → ℕ) (e : Edge) (number : ℕ) → Adds change →
+    now ≡ changed t.shape change base need (edges_before t k) → IsTree t → k < length t.nodes → wire_to_parent t k ≡ Some e →
+    number ≡ wire_number e → IsTurn t k base now e number
+turn t k change base now need e number all is tree below edge at =
+    let next = next-wire t k e tree below edge in
+    let long = ap length is ∙ length-changed t.shape change base need (edges_before t k) in
+    let inside = number-below t.shape e next.edge in
+    record {
+      next = next;
+      at = at;
+      within = omega (arith, at, long, inside);
+      before = ap (λ (n : ℕ). slice_index now n) at ∙ next-before t k change base now need e all next is;
+    }
+
+-- what is written in it
+pub turn-written : (t : TreeView) (k : ℕ) (change : ℕ → ℕ → ℕ) (base now : List ℕ) (need : Edge → ℕ) (e : Edge) (number read taken new : ℕ) → Adds change →
+    now ≡ changed t.shape change base need (edges_before t k) → IsTurn t k base now e number →
+    read ≡ slice_index now number → taken ≡ need e → new ≡ change read taken →
+    slice_set now number new ≡ changed t.shape change base need (edges_before t (k + 1))
+turn-written t k change base now need e number read taken new all is turn_is reads takes makes =
+    let value : new ≡ change (slice_index now (wire_number e)) (need e) =
+    makes ∙ ap (λ (n : ℕ). change n taken) (reads ∙ ap (λ (n : ℕ). slice_index now n) turn_is.at)
+    ∙ ap (λ (n : ℕ). change (slice_index now (wire_number e)) n) takes in
+    ap (λ (n : ℕ). slice_set now n new) turn_is.at ∙ ap (λ (n : ℕ). slice_set now (wire_number e) n) value
+    ∙ next-changed t k change base now need e all turn_is.next is

@@ -1,3 +1,4 @@
+-- Loads after a list of operations.
 use Rattle.std.proofs.Common.{◌≡◌, ℕ, ◌+◌, ◌-◌, ◌*◌, ◌^◌, ◌≤◌, inl, inr, min, nat_lt, List, [], ◌∷◌, ◌++◌, fold, get_or, All, slice_get, Option, Some, None, IfSome, unwrap_or, if◌then◌else◌, IsTrue, refl, ap, subst, ◌∙◌, arith}
 use Rattle.std.proofs.lemmas.Bool.{cases_Bool}
 use Rattle.std.proofs.lemmas.List.{get_or-replicate}
@@ -19,7 +20,8 @@ use Rattle.grid_demand.proofs.CapacityLemmas.{get-all}
 use Rattle.grid_demand.proofs.LoadLemmas.{index-most}
 use Rattle.grid_demand.proofs.LoadSteps.{tree-edge}
 use Rattle.grid_demand.proofs.WireLemmas.{number-below, table-edge}
-use Rattle.grid_demand.specs.LoadSums.{LoadsView, demand_at, marks_at, no_loads, share, added, taken, most_marks, mark_of, marked, HasRoom, HasShare}
+use Rattle.gr_base.specs.Limits.{most_marks}
+use Rattle.grid_demand.specs.LoadSums.{LoadsView, demand_at, marks_at, no_loads, share, added, taken, mark_of, marked, HasRoom, HasShare}
 use Rattle.grid_demand.specs.Operations.{Routed, Operation, after, after_all, Leaves, taken_of, marks_over}
 use Rattle.grid_demand.specs.Operations.Operation.{Add, Take, Mark}
 use Rattle.grid_demand.specs.Operations.Leaves.{Nothing_done, Then_add, Then_take, Then_mark}

@@ -1,3 +1,4 @@
+-- What the fields of a capacity keep.
 use Rattle.std.specs.Prelude.{◌≡◌}
 use Rattle.grid_demand.specs.Tables.{CapacityView, IsCapacity, cell_layers}
 use Rattle.grid_demand.specs.declared.capacity.Capacity.TheInside.{Inside}

@@ -1,6 +1,5 @@
 pub mod Tables
 pub mod CapacityStore
-pub mod WireParents
 pub mod LoadSums
 pub mod LoadsStore
 pub mod Operations

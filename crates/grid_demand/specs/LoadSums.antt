@@ -1,3 +1,4 @@
+-- The loads of a grid, and what becomes of them.
 use Rattle.std.specs.Prelude.{◌≡◌, ℕ, ◌+◌, ◌-◌, ◌*◌, ◌^◌, ◌<◌, ◌≤◌, min, false, nat_lt, List, All, length, map, replicate, slice_index, if◌then◌else◌, IsTrue}
 use Rattle.gr_base.specs.EdgeSets.{is_edge}
 use Rattle.gr_base.specs.Grid.{cells_of, has_edge, is_wire}
@@ -5,7 +6,10 @@ use Rattle.gr_base.specs.Sums.{wire_at, wire_number, wires_from_cells}
 use Rattle.gr_base.specs.Trees.{TreeView, edges_of}
 use Rattle.gr_base.specs.declared.grid.Edge.{Edge}
 use Rattle.gr_base.specs.declared.grid.Shape.{Shape}
+use Rattle.gr_base.specs.Limits.{most_marks}
 use Rattle.grid_demand.specs.Tables.{CapacityView, capacity_at, need_at}
+use Rattle.grid_demand.specs.declared.loads.Change.{Change}
+use Rattle.grid_demand.specs.declared.loads.Change.TheVariants.{Gain, Lose}
 
 -- the demand and the marks of the wire edges of a grid, by number
 pub record LoadsView : Type 0 where
@@ -26,6 +30,16 @@ no_loads g = record { shape = g; demands = replicate (2 * cells_of g) 0; marks =
 -- what a net takes of an edge by a tree
 abbrev pub share : CapacityView → ℕ → TreeView → Edge → ℕ
 share c net t e = if edges_of t e then need_at c net e else 0
+
+-- a demand that gains a need, or loses it
+abbrev pub changed_by : Change → ℕ → ℕ → ℕ
+changed_by Gain demand need = demand + need
+changed_by Lose demand need = demand - need
+
+-- the demand has room for the need, or has it
+abbrev pub Fits : Change → ℕ → ℕ → Type 0
+Fits Gain demand need = demand ≤ 2 ^ 62
+Fits Lose demand need = need ≤ demand
 
 -- one edge gains the net's need
 abbrev pub charged : CapacityView → ℕ → Edge → LoadsView → LoadsView
@@ -50,10 +64,6 @@ taken c net t l = record {
   demands = map (λ e. demand_at l e - share c net t e) (wires_from_cells l.shape);
   marks = l.marks;
 }
-
--- the most marks of an edge
-abbrev pub most_marks : ℕ
-most_marks = 1048576
 
 -- the marks of an edge after a mark: one more where its demand is above its capacity
 abbrev pub mark_of : ℕ → ℕ → ℕ → ℕ

@@ -1,3 +1,4 @@
+-- What the fields of loads keep.
 use Rattle.grid_demand.specs.LoadSums.{LoadsView, AreLoads}
 use Rattle.grid_demand.specs.declared.loads.Loads.TheInside.{Inside}
 

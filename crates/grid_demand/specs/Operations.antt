@@ -1,3 +1,4 @@
+-- What is done to loads, and what that comes to.
 use Rattle.std.specs.Prelude.{ℕ, ◌+◌, nat_lt, List, [], ◌∷◌, ◌++◌, fold, sum_by, if◌then◌else◌}
 use Rattle.gr_base.specs.Trees.{TreeView}
 use Rattle.gr_base.specs.declared.grid.Edge.{Edge}

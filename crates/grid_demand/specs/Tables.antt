@@ -1,10 +1,12 @@
+-- The tables of a capacity.
 use Rattle.std.specs.Prelude.{◌≡◌, ℕ, ◌*◌, ◌≤◌, Bool, List, All, length, map, slice_get, slice_index}
 use Rattle.std.specs.List.{range_with_len}
-use Rattle.gr_base.specs.Capacities.{capacity, usable_along, need_along, width_in, widths_of}
+use Rattle.gr_base.specs.Capacities.{stated, capacity, usable_along, need_along, width_in, widths_of}
 use Rattle.gr_base.specs.Designs.{DesignView, IsLayer}
 use Rattle.gr_base.specs.Grid.{cells_of, place_at}
 use Rattle.gr_base.specs.Limits.{most_capacity, most_width}
 use Rattle.gr_base.specs.Sums.{wire_number, wires_from_cells}
+use Rattle.gr_base.specs.declared.frame.Frame.{Frame}
 use Rattle.gr_base.specs.declared.frame.Layer.{Layer}
 use Rattle.gr_base.specs.declared.grid.Edge.{Edge}
 use Rattle.gr_base.specs.declared.grid.Shape.{Shape}
@@ -16,13 +18,20 @@ pub record CapacityView : Type 0 where
   pub widths : List ℕ
   pub capacities : List ℕ
 
+-- what the layers state for the wire edges, and the capacities of the wire edges, by number
+abbrev pub stated_table : Frame → List ℕ
+stated_table frame = map (stated frame) (wires_from_cells frame.shape)
+
+abbrev pub capacity_table : DesignView → List ℕ
+capacity_table d = map (capacity d) (wires_from_cells d.frame.shape)
+
 -- the capacity of a design
 abbrev pub capacity_of : DesignView → CapacityView
 capacity_of d = record {
   shape = d.frame.shape;
   layers = d.frame.layers;
   widths = widths_of d;
-  capacities = map (capacity d) (wires_from_cells d.frame.shape);
+  capacities = capacity_table d;
 }
 
 -- the capacity of a wire edge, whether an edge is usable, and what a net takes of it

@@ -1,10 +1,11 @@
+//! The capacity of wire edges, and what nets need of them.
 ghost use Rattle.std.specs.Prelude.{◌≡◌, ℕ, ◌*◌, ◌≤◌, IfOk, IsTrue, map, slice_get, Some};
 ghost use Rattle.gr_base.specs.Designs.{DesignView, IsFrame, IsLayer};
 ghost use Rattle.gr_base.specs.Capacities.{stated, capacity, usable, need, widths_of};
 ghost use Rattle.gr_base.specs.Grid.{place_at, has_edge, is_wire};
 ghost use Rattle.gr_base.specs.Limits.{most_capacity, most_width};
 ghost use Rattle.gr_base.specs.Sums.{wires_from_cells};
-ghost use Rattle.grid_demand.specs.Tables.{capacity_of, capacity_at, usable_at, need_at, cell_layers, IsCapacity};
+ghost use Rattle.grid_demand.specs.Tables.{capacity_of, stated_table, capacity_table, capacity_at, usable_at, need_at, cell_layers, IsCapacity};
 
 use crate::wires::wire_number;
 use gr_base::{Design, Edge, Frame, Layer, Shape, Way};
@@ -145,7 +146,7 @@ fn widths_by_net(alloc: Global, design: &Design) -> Result<Vec<u32>, AllocError>
 /// What the layers state for the wire edges, by number.
 fn stated_by_wire(alloc: Global, frame: &Frame) -> Result<Vec<u32>, AllocError>
     requires { IsFrame frame.now }
-    ensures { IfOk result (λ capacities. capacities.items ≡ map (stated frame.now) (wires_from_cells frame.now.shape)) }
+    ensures { IfOk result (λ capacities. capacities.items ≡ stated_table frame.now) }
 {
     let shape = frame.shape;
     let mut capacities = Vec::with_capacity(alloc, 2 * shape.cells() as usize)?;
@@ -159,7 +160,7 @@ fn stated_by_wire(alloc: Global, frame: &Frame) -> Result<Vec<u32>, AllocError>
 
 /// The capacities of the wire edges, by number.
 fn capacities_by_wire(alloc: Global, design: &Design) -> Result<Vec<u32>, AllocError>
-    ensures { IfOk result (λ capacities. capacities.items ≡ map (capacity design.now) (wires_from_cells design.now.frame.shape)) }
+    ensures { IfOk result (λ capacities. capacities.items ≡ capacity_table design.now) }
 {
     let mut capacities = stated_by_wire(alloc, design.frame())?;
     for at in 0..design.adjustments() {

@@ -4,11 +4,8 @@
 mod capacity;
 mod loads;
 mod sums;
-#[cfg(test)]
-mod tests;
 mod wires;
 
 pub use capacity::Capacity;
 pub use loads::Loads;
 pub use sums::loads_are_sums;
-pub use wires::wire_to_parent;

@@ -1,20 +1,19 @@
+//! The loads of a grid: the demand for each wire edge, and its marks.
 ghost use Rattle.std.specs.Prelude.{◌≡◌, ℕ, ◌+◌, ◌-◌, ◌*◌, ◌^◌, ◌<◌, ◌≤◌, length, map, fold, max, zip, sum_by, slice_index, IfOk, IsTrue};
 ghost use Rattle.gr_base.specs.Capacities.{capacity as capacity_in};
 ghost use Rattle.gr_base.specs.Designs.{DesignView};
 ghost use Rattle.gr_base.specs.Grid.{cells_of, has_edge, is_wire};
 ghost use Rattle.gr_base.specs.Sums.{wire_number as number_of, wires_from_cells, total_overflow, most_overflow};
+ghost use Rattle.gr_base.specs.Limits.{most_marks, most_width};
 ghost use Rattle.gr_base.specs.Trees.{IsTree, edges_of};
 ghost use Rattle.grid_demand.specs.Tables.{capacity_of, capacity_at, need_at};
-ghost use Rattle.grid_demand.specs.LoadSums.{no_loads, demand_at, marks_at, share, charged, added, taken, marked, mark_of, HasRoom, HasShare, AreLoads, most_marks};
+ghost use Rattle.grid_demand.specs.LoadSums.{no_loads, demand_at, marks_at, share, charged, added, taken, marked, mark_of, HasRoom, HasShare, AreLoads, Fits, changed_by};
 
 use crate::capacity::Capacity;
-use crate::wires::{wire_number, wire_to_parent};
-use gr_base::{Edge, RouteTree, Shape};
+use crate::wires::wire_number;
+use gr_base::{Edge, MOST_MARKS, RouteTree, Shape};
 use std::alloc::{AllocError, Global};
 use std::marker::Model;
-
-/// The most marks of an edge.
-const MOST_MARKS: u32 = 1_048_576;
 
 /// The demand for each wire edge of a grid, in units of width, and the marks of each: how often it
 /// was over its capacity when the loads were marked.
@@ -94,7 +93,7 @@ impl Loads {
         ensures whole { AreLoads self.new }
         ensures tree { IsTree tree.now }
     {
-        gain(&mut self.demands, capacity, net, tree);
+        change_along(&mut self.demands, capacity, net, tree, Change::Gain);
     }
 
     /// Takes a net's tree out: each wire edge of the tree loses the net's need.
@@ -105,7 +104,7 @@ impl Loads {
         ensures loads { self.new ≡ taken capacity.now net tree.now self.old }
         ensures whole { AreLoads self.new }
     {
-        lose(&mut self.demands, capacity, net, tree);
+        change_along(&mut self.demands, capacity, net, tree, Change::Lose);
     }
 
     /// Marks each wire edge whose demand is above its capacity. Marks stop at 1,048,576.
@@ -123,7 +122,8 @@ impl Loads {
     pub fn over_total(&self, capacity: &Capacity) -> u128
         requires { capacity.now.shape ≡ self.now.shape }
         ensures value { result ≡ total_overflow self.now.shape (demand_at self.now) (capacity_at capacity.now) }
-        ensures design { (d : DesignView) → capacity.now ≡ capacity_of d → result ≡ total_overflow self.now.shape (demand_at self.now) (capacity_in d) }
+        ensures design { (d : DesignView) → capacity.now ≡ capacity_of d →
+            result ≡ total_overflow self.now.shape (demand_at self.now) (capacity_in d) }
     {
         total_over(&self.demands, capacity.table())
     }
@@ -132,39 +132,55 @@ impl Loads {
     pub fn over_max(&self, capacity: &Capacity) -> u64
         requires { capacity.now.shape ≡ self.now.shape }
         ensures value { result ≡ most_overflow self.now.shape (demand_at self.now) (capacity_at capacity.now) }
-        ensures design { (d : DesignView) → capacity.now ≡ capacity_of d → result ≡ most_overflow self.now.shape (demand_at self.now) (capacity_in d) }
+        ensures design { (d : DesignView) → capacity.now ≡ capacity_of d →
+            result ≡ most_overflow self.now.shape (demand_at self.now) (capacity_in d) }
     {
         most_over(&self.demands, capacity.table())
     }
 }
 
-/// Adds a net's need to the demands of the wire edges of its tree.
-fn gain(demands: &mut Vec<u64>, capacity: &Capacity, net: u32, tree: &RouteTree)
+/// What a tree does to the demand for its wire edges.
+#[derive(Clone, Copy, Debug, PartialEq, Eq)]
+pub(crate) enum Change {
+    Gain,
+    Lose,
+}
+
+/// Changes the demands of the wire edges of a net's tree by the net's need.
+fn change_along(
+    demands: &mut Vec<u64>,
+    capacity: &Capacity,
+    net: u32,
+    tree: &RouteTree,
+    change: Change,
+)
     requires long { length demands.old.items ≡ 2 * cells_of tree.now.shape }
     requires shape { capacity.now.shape ≡ tree.now.shape }
-    requires room { (e : Edge) → IsTrue (edges_of tree.now e) → IsTrue (is_wire e) → slice_index demands.old.items (number_of e) ≤ 2 ^ 62 }
-    ensures demands { demands.new.items ≡ map (λ e. slice_index demands.old.items (number_of e) + share capacity.now net tree.now e) (wires_from_cells tree.now.shape) }
+    requires fits { (e : Edge) → IsTrue (edges_of tree.now e) → IsTrue (is_wire e) →
+        Fits change (slice_index demands.old.items (number_of e)) (need_at capacity.now net e) }
+    ensures demands { demands.new.items ≡
+        map (λ e. changed_by change (slice_index demands.old.items (number_of e)) (share capacity.now net tree.now e))
+        (wires_from_cells tree.now.shape) }
     ensures tree { IsTree tree.now }
 {
     for node in 0..tree.len() {
-        if let Some(e) = wire_to_parent(tree, node) {
-            demands[wire_number(e)] += capacity.need(net, e);
-        }
+        let Some(e) = tree.wire_to_parent(node) else {
+            continue;
+        };
+        let number = wire_number(e);
+        demands[number] = changed(change, demands[number], capacity.need(net, e));
     }
 }
 
-/// Takes a net's need from the demands of the wire edges of its tree.
-fn lose(demands: &mut Vec<u64>, capacity: &Capacity, net: u32, tree: &RouteTree)
-    requires long { length demands.old.items ≡ 2 * cells_of tree.now.shape }
-    requires shape { capacity.now.shape ≡ tree.now.shape }
-    requires share { (e : Edge) → IsTrue (edges_of tree.now e) → IsTrue (is_wire e) → need_at capacity.now net e ≤ slice_index demands.old.items (number_of e) }
-    ensures demands { demands.new.items ≡ map (λ e. slice_index demands.old.items (number_of e) - share capacity.now net tree.now e) (wires_from_cells tree.now.shape) }
-    ensures tree { IsTree tree.now }
+/// A demand that is changed by a need.
+fn changed(change: Change, demand: u64, need: u64) -> u64
+    requires fits { Fits change demand need }
+    requires need { need ≤ 2 * most_width }
+    ensures { result ≡ changed_by change demand need }
 {
-    for node in 0..tree.len() {
-        if let Some(e) = wire_to_parent(tree, node) {
-            demands[wire_number(e)] -= capacity.need(net, e);
-        }
+    match change {
+        Change::Gain => demand + need,
+        Change::Lose => demand - need,
     }
 }
 
@@ -173,7 +189,8 @@ fn mark_over(marks: &mut Vec<u32>, demands: &[u64], capacities: &[u32])
     requires demands { length demands.now ≡ length marks.old.items }
     requires capacities { length capacities.now ≡ length marks.old.items }
     ensures long { length marks.new.items ≡ length marks.old.items }
-    ensures each { (n : ℕ) → n < length marks.old.items → slice_index marks.new.items n ≡ mark_of (slice_index demands.now n) (slice_index capacities.now n) (slice_index marks.old.items n) }
+    ensures each { (n : ℕ) → n < length marks.old.items → slice_index marks.new.items n
+        ≡ mark_of (slice_index demands.now n) (slice_index capacities.now n) (slice_index marks.old.items n) }
 {
     for at in 0..marks.len() {
         if demands[at] > u64::from(capacities[at]) {

@@ -6,10 +6,10 @@ use Rattle.grid_demand.proofs.loads.Loads.take.Goals as goal
 
 pub invariant_of-self : goal.invariant_of-self
 invariant_of-self c =
-    taken-whole c.args.capacity.now c.args.net c.args.tree.now (seen c.self.inside) c.lose.new.demands.items c.self.invariant
-    (c.requires.tree ∙ sym (ap (λ (l : LoadsView). l.shape) c.self.view_is)) c.lose.ensures.demands
+    taken-whole c.args.capacity.now c.args.net c.args.tree.now (seen c.self.inside) c.change_along.new.demands.items c.self.invariant
+    (c.requires.tree ∙ sym (ap (λ (l : LoadsView). l.shape) c.self.view_is)) c.change_along.ensures.demands
 
 pub returns-clause-whole : goal.returns-clause-whole
 returns-clause-whole c =
-    taken-whole c.args.capacity.now c.args.net c.args.tree.now (seen c.self.inside) c.lose.new.demands.items c.self.invariant
-    (c.requires.tree ∙ sym (ap (λ (l : LoadsView). l.shape) c.self.view_is)) c.lose.ensures.demands
+    taken-whole c.args.capacity.now c.args.net c.args.tree.now (seen c.self.inside) c.change_along.new.demands.items c.self.invariant
+    (c.requires.tree ∙ sym (ap (λ (l : LoadsView). l.shape) c.self.view_is)) c.change_along.ensures.demands

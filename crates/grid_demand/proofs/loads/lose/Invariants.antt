@@ -1,9 +1,0 @@
-use Rattle.std.proofs.Common.{◌≡◌}
-use Rattle.grid_demand.specs.Tables.{need_at}
-use Rattle.grid_demand.proofs.LoadSteps.{changed, shrink}
-use Rattle.grid_demand.proofs.TreeTimes.{edges_before}
-use Rattle.grid_demand.proofs.loads.lose.Given as goal
-
-abbrev pub invariant-loop-node : goal.invariant-loop-node
-invariant-loop-node l =
-    l.demands.items ≡ changed l.tree.shape shrink l.fn.demands.items (need_at l.capacity l.net) (edges_before l.tree l.node)
