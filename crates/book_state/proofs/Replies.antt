@@ -1,6 +1,7 @@
+-- Replies, as the code finds them.
 use Rattle.std.proofs.Common.{◌≡◌, ℕ, ◌+◌, inl, inr, Bool, true, false, ◌&&◌, ◌||◌, nat_lt, cond, List, [], ◌∷◌, All, Option, Some, None, IsSome, IsTrue, refl, sym, ap, subst, ◌∙◌}
 use Rattle.std.specs.List.{find, list_any}
-use Rattle.std.proofs.lemmas.Bool.{cases_Bool, both_ways}
+use Rattle.std.proofs.lemmas.Bool.{cases_Bool, and_parts}
 use Rattle.std.proofs.lemmas.List.Elements.{All-head, All-tail}
 use Rattle.gr_base.proofs.TreeEdges.{tree-grid_edges}
 use Rattle.gr_base.specs.Grid.{has_edge, is_wire}
@@ -38,10 +39,6 @@ over-same c h l e of edge =
     wire-test (is_wire e) (nat_lt (capacity_at c e) (demand_at l e)) (nat_lt (capacity_at c e) (demand c h e))
     (λ wire. ap (λ (n : ℕ). nat_lt (capacity_at c e) n) (of.demand e edge wire))
 
-is-wire : (b x : Bool) → (b && x) ≡ true → b ≡ true
-is-wire true x both = refl
-is-wire false x both = absurd (both_ways false refl both)
-
 reply-find : (c : CapacityView) (h : List Entry) (l : LoadsView) (net slack : ℕ) (edges : List Edge) → AreLoadsOf c h l → All (λ e. IsTrue (has_edge c.shape e)) edges →
     reply_by_full (demand_at l) (find (is_full c (demand_at l) net slack) edges) ≡ reply_by_full (demand c h) (find (is_full c (demand c h) net slack) edges)
 reply-find c h l net slack [] of all = refl
@@ -51,7 +48,7 @@ reply-find c h l net slack (e ∷ edges) of all =
     let same = full-same c h l net slack e of edge in
     elim (cases_Bool (is_full c (demand_at l) net slack e)) [
       | inl full ↦
-          let wire = is-wire (is_wire e) (nat_lt (capacity_at c e + slack) (demand_at l e + need_at c net e)) full in
+          let wire = (and_parts (is_wire e) (nat_lt (capacity_at c e + slack) (demand_at l e + need_at c net e)) full).0 in
           ap (λ (b : Bool). reply_by_full (demand_at l) (cond b (Some e) (find (is_full c (demand_at l) net slack) edges))) full
           ∙ ap (λ (n : ℕ). Full e n) (of.demand e edge wire)
           ∙ sym (ap (λ (b : Bool). reply_by_full (demand c h) (cond b (Some e) (find (is_full c (demand c h) net slack) edges))) (sym same ∙ full))

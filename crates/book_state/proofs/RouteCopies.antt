@@ -1,3 +1,4 @@
+-- Copies of the booked trees.
 use Rattle.std.proofs.Common.{◌≡◌, ℕ, ◌+◌, ◌<◌, ◌≤◌, inl, inr, List, map, length, get_or, replicate, Option, Some, None, slice_set, sym, ap, subst, ◌∙◌, arith, length-set}
 use Rattle.std.specs.List.{range_with_len}
 use Rattle.std.proofs.lemmas.Bool.{cases_eq}

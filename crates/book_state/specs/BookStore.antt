@@ -1,3 +1,4 @@
+-- What the fields of a book keep.
 use Rattle.book_state.specs.Books.{IsLegal}
 use Rattle.book_state.specs.Replicas.{StandsFor}
 use Rattle.book_state.specs.Views.{BookView}

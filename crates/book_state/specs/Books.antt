@@ -1,4 +1,5 @@
-use Rattle.std.specs.Prelude.{◌≡◌, ℕ, ◌+◌, ◌<◌, ◌≤◌, Bool, false, ◌&&◌, ◌==◌, nat_lt, min, List, length, take, Option, Some, None, is_some, if◌then◌else◌, IsTrue}
+-- The book: bookings, demand and marks of a history, and the replies to calls.
+use Rattle.std.specs.Prelude.{◌≡◌, ℕ, ◌+◌, ◌<◌, ◌≤◌, Bool, false, ◌&&◌, ◌==◌, nat_lt, min, List, length, map, take, Option, Some, None, is_some, if◌then◌else◌, IsTrue}
 use Rattle.std.specs.List.{fold, filter, find, list_any, sum_by, count_by, range_with_len}
 use Rattle.gr_base.specs.Grid.{has_edge, is_wire}
 use Rattle.gr_base.specs.Sums.{total_overflow}
@@ -31,6 +32,10 @@ booked_after net tree e = booked_by net tree e.call e.reply
 -- the booked tree of a net: that of its last claim that was answered Claimed, unless it was released since
 unfoldable pub booked : List Entry → ℕ → Option TreeView
 booked h net = fold (booked_after net) None h
+
+-- the booked tree of each net, in the order of the design's nets
+abbrev pub booked_routes : CapacityView → List Entry → List (Option TreeView)
+booked_routes c h = map (booked h) (range_with_len 0 (nets_of c))
 
 -- what a net takes of an edge by the tree that it has, if any
 abbrev pub share_of : CapacityView → ℕ → Option TreeView → Edge → ℕ
@@ -77,11 +82,14 @@ reply_to_release h net = if is_some (booked h net) then Released else NotBooked
 abbrev pub overflow_after : CapacityView → List Entry → ℕ
 overflow_after c h = total_overflow c.shape (demand c h) (capacity_at c)
 
+abbrev pub reply_to_mark : CapacityView → List Entry → Reply
+reply_to_mark c h = Marked (overflow_after c h)
+
 -- the reply to a call after a history
 abbrev pub reply_to : CapacityView → List Entry → Call → Reply
 reply_to c h (Claims claim) = reply_to_claim c h claim
 reply_to c h (Release net) = reply_to_release h net
-reply_to c h Mark = Marked (overflow_after c h)
+reply_to c h Mark = reply_to_mark c h
 
 -- a claim is of a net of the design with a tree in its grid, planned from a part of a history of this length
 pub record IsClaim (c : CapacityView) (length : ℕ) (claim : Claim) : Type 0 where

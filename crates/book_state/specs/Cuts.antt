@@ -1,3 +1,4 @@
+-- Histories, cut at their marks.
 use Rattle.std.specs.Prelude.{ℕ, ◌+◌, List, [], ◌∷◌, ◌++◌, if◌then◌else◌}
 use Rattle.std.specs.List.{fold}
 use Rattle.book_state.specs.Entries.{is_mark}

@@ -1,5 +1,5 @@
-use Rattle.std.specs.Prelude.{◌≡◌, ℕ, ◌-◌, Bool, true, false, ◌==◌, List, length, reverse, take, Option, Some, None, slice_get}
-use Rattle.std.specs.List.{filter, position_or_len}
+-- The entries of histories.
+use Rattle.std.specs.Prelude.{◌≡◌, ℕ, Bool, true, false, List, take, Option, Some, None, slice_get}
 use Rattle.book_state.specs.declared.entry.Call.{Call}
 use Rattle.book_state.specs.declared.entry.Call.TheVariants.{Claim as Claims, Mark}
 use Rattle.book_state.specs.declared.entry.Entry.{Entry}
@@ -15,17 +15,6 @@ is_mark e = is_mark_call e.call
 abbrev pub is_claim_call : Call → Bool
 is_claim_call (Claims claim) = true
 is_claim_call _ = false
-
--- the entries of a caller
-abbrev pub has_number : ℕ → Entry → Bool
-has_number number e = e.number == number
-
-abbrev pub calls_of : ℕ → List Entry → List Entry
-calls_of number h = filter (has_number number) h
-
--- the length of the history up to and with a caller's last entry, or 0 where there is none
-abbrev pub since : ℕ → List Entry → ℕ
-since number h = length h - position_or_len (has_number number) (reverse h)
 
 -- P holds of each entry and the history before it
 abbrev pub AtEach : (List Entry → Entry → Type 0) → List Entry → Type 0

@@ -1,3 +1,4 @@
+-- What the blocks of a history keep.
 use Rattle.std.specs.Prelude.{◌≡◌, ℕ, ◌^◌, ◌<◌, ◌≤◌, List, ◌++◌, All, map, length, Vec}
 use Rattle.std.specs.Global.{Global}
 use Rattle.std.specs.Arc.{arc_value}

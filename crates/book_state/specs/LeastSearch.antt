@@ -1,3 +1,4 @@
+-- The search for the first mark of least overflow.
 use Rattle.std.specs.Prelude.{◌≡◌, ℕ, ◌+◌, ◌<◌, ◌≤◌, nat_le, List, Option, Some, None, slice_get, if◌then◌else◌}
 use Rattle.book_state.specs.Marks.{overflow_of}
 use Rattle.book_state.specs.declared.entry.Entry.{Entry}

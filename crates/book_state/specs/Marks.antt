@@ -1,3 +1,4 @@
+-- The marks of a history, and the first of least overflow.
 use Rattle.std.specs.Prelude.{ℕ, ◌+◌, Bool, true, false, nat_le, List, Option, Some, None, option_map}
 use Rattle.std.specs.List.{list_all, position}
 use Rattle.book_state.specs.declared.entry.Entry.{Entry}

@@ -1,3 +1,4 @@
+-- What the fields of a replica keep.
 use Rattle.std.specs.Prelude.{◌≤◌, length}
 use Rattle.gr_base.specs.Limits.{most_nets}
 use Rattle.book_state.specs.Replicas.{ReplicaView}

@@ -1,3 +1,4 @@
+-- Replicas: what stands for a history.
 use Rattle.std.specs.Prelude.{◌≡◌, ℕ, List, length, Option, Some, None, is_some, slice_get}
 use Rattle.std.specs.Option.{option_and_then}
 use Rattle.gr_base.specs.Trees.{TreeView}

@@ -1,3 +1,4 @@
+-- Books as contracts see them.
 use Rattle.std.specs.Prelude.{ℕ, List, [], ◌∷◌, ◌++◌}
 use Rattle.grid_demand.specs.Tables.{CapacityView}
 use Rattle.book_state.specs.declared.entry.Call.{Call}
@@ -15,3 +16,6 @@ entry_of number call reply = record { number = number; call = call; reply = repl
 -- the book with one more entry
 abbrev pub with_entry : BookView → Entry → BookView
 with_entry b e = record { capacity = b.capacity; history = b.history ++ e ∷ [] }
+
+abbrev pub with_call : BookView → ℕ → Call → Reply → BookView
+with_call b number call reply = with_entry b (entry_of number call reply)

@@ -1,12 +1,12 @@
-ghost use Rattle.std.specs.Prelude.{◌≡◌, ℕ, ◌+◌, ◌<◌, ◌≤◌, [], length, map, take, Some, IfOk, IfErr, OnOk, OnErr, IsTrue};
-ghost use Rattle.std.specs.List.{range_with_len};
+//! The book: calls, their replies, and what can be asked of it.
+ghost use Rattle.std.specs.Prelude.{◌≡◌, ℕ, ◌+◌, ◌<◌, ◌≤◌, [], length, take, Some, IfOk, IfErr, OnOk, OnErr, IsTrue};
 ghost use Rattle.std.specs.Option.{option_copied};
 ghost use Rattle.grid_demand.specs.Tables.{capacity_of};
-ghost use Rattle.book_state.specs.Books.{nets_of, booked as booked_tree, demand, reply_to_free as free_reply, reply_to_claim, reply_to_release, overflow_after, IsClaim, IsRight, IsLegal, AreLoadsOf, victims as victims_of, is_victim as victim_net};
+ghost use Rattle.book_state.specs.Books.{nets_of, booked as booked_tree, demand, reply_to_free as free_reply, reply_to_claim, reply_to_release, reply_to_mark, booked_routes, IsClaim, IsRight, IsLegal, AreLoadsOf, victims as victims_of, is_victim as victim_net};
 ghost use Rattle.book_state.specs.Entries.{is_claim_call};
 ghost use Rattle.book_state.specs.Marks.{least_mark as least_mark_of};
 ghost use Rattle.book_state.specs.Replicas.{StandsFor};
-ghost use Rattle.book_state.specs.Views.{entry_of, with_entry};
+ghost use Rattle.book_state.specs.Views.{with_entry, with_call};
 
 use crate::edges::{is_crowded, reply_to_free};
 use crate::entry::{Call, Claim, Entry, Reply};
@@ -100,7 +100,7 @@ impl BookState {
     pub fn claim(&mut self, number: u32, claim: Claim) -> Result<Reply, ClaimRefused>
         requires { IsClaim self.old.capacity (length self.old.history) claim }
         ensures reply { IfOk result (λ reply. reply ≡ reply_to_claim self.old.capacity self.old.history claim) }
-        ensures entry { IfOk result (λ reply. self.new ≡ with_entry self.old (entry_of number (Call.Claim claim) reply)) }
+        ensures entry { IfOk result (λ reply. self.new ≡ with_call self.old number (Call.Claim claim) reply) }
         ensures err { OnErr result (self.new ≡ self.old) }
         ensures back { IfErr result (λ refused. refused.claim ≡ claim) }
         ensures legal { IsLegal self.new.capacity self.new.history }
@@ -124,7 +124,7 @@ impl BookState {
     pub fn release(&mut self, number: u32, net: u32) -> Result<Reply, AllocError>
         requires { net < nets_of self.old.capacity }
         ensures reply { IfOk result (λ reply. reply ≡ reply_to_release self.old.history net) }
-        ensures entry { IfOk result (λ reply. self.new ≡ with_entry self.old (entry_of number (Call.Release net) reply)) }
+        ensures entry { IfOk result (λ reply. self.new ≡ with_call self.old number (Call.Release net) reply) }
         ensures err { OnErr result (self.new ≡ self.old) }
         ensures legal { IsLegal self.new.capacity self.new.history }
     {
@@ -143,8 +143,8 @@ impl BookState {
     /// Marks the edges whose demand is above their capacity. The answer carries the total overflow.
     /// The only error is want of memory, and leaves the book as it was.
     pub fn mark(&mut self, number: u32) -> Result<Reply, AllocError>
-        ensures reply { IfOk result (λ reply. reply ≡ Reply.Marked (overflow_after self.old.capacity self.old.history)) }
-        ensures entry { IfOk result (λ reply. self.new ≡ with_entry self.old (entry_of number Call.Mark reply)) }
+        ensures reply { IfOk result (λ reply. reply ≡ reply_to_mark self.old.capacity self.old.history) }
+        ensures entry { IfOk result (λ reply. self.new ≡ with_call self.old number Call.Mark reply) }
         ensures err { OnErr result (self.new ≡ self.old) }
         ensures legal { IsLegal self.new.capacity self.new.history }
     {
@@ -172,7 +172,8 @@ impl BookState {
     /// The reply to a claim of a net that isn't booked.
     fn reply_to_free(&self, claim: &Claim) -> Reply
         requires { IsClaim self.now.capacity (length self.now.history) claim.now }
-        ensures { result ≡ free_reply self.now.capacity (demand self.now.capacity self.now.history) claim.now claim.now.slack }
+        ensures { result ≡ free_reply self.now.capacity (demand self.now.capacity self.now.history) claim.now
+            claim.now.slack }
     {
         reply_to_free(&self.capacity, self.replica.loads(), claim)
     }
@@ -188,7 +189,7 @@ impl BookState {
     }
 
     fn reply_to_mark(&self) -> Reply
-        ensures { result ≡ Reply.Marked (overflow_after self.now.capacity self.now.history) }
+        ensures { result ≡ reply_to_mark self.now.capacity self.now.history }
     {
         Reply::Marked {
             overflow: self.replica.loads().over_total(&self.capacity),
@@ -231,7 +232,7 @@ impl BookState {
     /// of memory.
     pub fn routes_at(&self, front: u64) -> Result<Routes, AllocError>
         requires { front ≤ length self.now.history }
-        ensures { IfOk result (λ routes. routes ≡ map (booked_tree (take front self.now.history)) (range_with_len 0 (nets_of self.now.capacity))) }
+        ensures { IfOk result (λ routes. routes ≡ booked_routes self.now.capacity (take front self.now.history)) }
     {
         let alloc = self.history.alloc();
         let replica = self.replica_at(&self.capacity, front)?;

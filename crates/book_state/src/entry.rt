@@ -1,3 +1,4 @@
+//! The entries of a history.
 use gr_base::{Edge, RouteTree};
 
 /// How the tree of a claim was planned: by patterns, or by a maze search in the window of the net's

@@ -1,3 +1,4 @@
+//! The history, in blocks that are shared.
 ghost use Rattle.std.specs.Prelude.{◌≡◌, ℕ, ◌+◌, ◌*◌, ◌^◌, ◌<◌, ◌≤◌, [], ◌∷◌, ◌++◌, length, take, slice_get, Some, OnOk, OnErr, IfErr};
 ghost use Rattle.book_state.specs.HistoryStore.{block_size, entries_of, entries_in, AreFull};
 

@@ -1,3 +1,4 @@
+//! The first mark of least overflow.
 ghost use Rattle.std.specs.Prelude.{◌≡◌, ℕ};
 ghost use Rattle.book_state.specs.Marks.{least_mark as least_mark_of};
 ghost use Rattle.book_state.specs.LeastSearch.{lesser};

@@ -17,4 +17,3 @@ pub use history::History;
 pub use laws::replies_make_bookings;
 pub use past::Past;
 pub use replica::Replica;
-

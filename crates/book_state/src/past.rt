@@ -1,3 +1,4 @@
+//! A caller's own hold on the first part of a history.
 ghost use Rattle.std.specs.Prelude.{◌≡◌, [], length, take, OnOk, OnErr};
 
 use crate::history::History;

@@ -1,3 +1,4 @@
+//! Bookings, demand and marks of a history that is read entry by entry.
 ghost use Rattle.std.specs.Prelude.{◌≡◌, ℕ, ◌+◌, ◌^◌, ◌<◌, ◌≤◌, [], length, take, slice_get, Some, IfOk, IsTrue};
 ghost use Rattle.std.specs.Option.{option_copied};
 ghost use Rattle.gr_base.specs.Limits.{most_nets};
