@@ -4,11 +4,15 @@
 use cost_rules::{
     CostRule, Formula, Rules, Watch, Watcher, first_cost, flat_cost, goal, never, steep_cost, still,
 };
-use gr_io::{HostShelf, HostSink};
+use gr_io::{HostShelf, HostSink, write_whole};
 use router_top::run;
 use std::env::Env;
+use std::io::ErrorKind;
 use std::process::ExitCode;
 use std::{env, io};
+
+/// The status where memory is wanting for the words.
+const NO_MEMORY: u8 = 8;
 
 /// The words after the program's name.
 fn words<R: Env + AllocGlobal>(rt: &R) -> io::Result<Vec<String>> {
@@ -20,11 +24,18 @@ fn words<R: Env + AllocGlobal>(rt: &R) -> io::Result<Vec<String>> {
 }
 
 fn main(rt: HostRuntime) -> ExitCode {
-    // Words that are no text give no order.
-    let words = words(&rt).unwrap_or(Vec::new(rt.alloc()));
     let mut shelf = HostShelf::new(&rt);
     let mut out = HostSink::new(rt.stdout());
     let mut err = HostSink::new(rt.stderr());
+    let words = match words(&rt) {
+        Ok(words) => words,
+        Err(error) if error.kind() == ErrorKind::OutOfMemory => {
+            let _ = write_whole(&mut err, b"groute: out of memory\n");
+            return ExitCode::from(NO_MEMORY);
+        }
+        // Words that are no text give no order.
+        Err(_) => Vec::new(rt.alloc()),
+    };
     // Functions are made here and handed in, so that their contracts go with them.
     let rules = Rules::new(
         CostRule::new(Formula::First, first_cost),

@@ -1,0 +1,107 @@
+//! The texts and devices that commands are run over.
+use crate::devices::Devices;
+use cost_rules::Rules;
+use gr_io::{MemoryShelf, MemorySink};
+use router_top::{Ended, run};
+use std::alloc::{AllocError, Global};
+
+/// A text under a name.
+#[derive(Debug, Drop)]
+pub(crate) struct Held {
+    pub name: String,
+    pub bytes: Vec<u8>,
+}
+
+/// The texts that are held, the one that is written, and the devices.
+#[derive(Debug, Drop)]
+pub(crate) struct Bench {
+    pub texts: Vec<Held>,
+    pub devices: Devices,
+}
+
+/// What a run left.
+#[derive(Drop)]
+pub(crate) struct Left {
+    pub ended: Ended,
+    pub out: MemorySink,
+    pub err: MemorySink,
+}
+
+impl Bench {
+    pub(crate) fn new(alloc: Global) -> Bench {
+        Bench {
+            texts: Vec::new(alloc),
+            devices: Devices::ample(),
+        }
+    }
+
+    /// Begins a text, in place of an earlier one of that name. It is the last one from then on.
+    pub(crate) fn begin(&mut self, alloc: Global, name: &str) -> Result<(), AllocError> {
+        self.texts.retain(|held| held.name.as_str() != name);
+        self.texts.push(Held {
+            name: String::from_str(alloc, name)?,
+            bytes: Vec::new(alloc),
+        })
+    }
+
+    /// Adds a part to the text that was begun last.
+    pub(crate) fn add(&mut self, part: &str) -> Result<(), AllocError> {
+        match self.texts.last_mut() {
+            Some(held) => held.bytes.extend_from_slice(part.as_bytes()),
+            None => Ok(()),
+        }
+    }
+
+    /// How many bytes the text of a name has, or 0.
+    pub(crate) fn size_of(&self, name: &str) -> usize {
+        match self.texts.iter().find(|held| held.name.as_str() == name) {
+            Some(held) => held.bytes.len(),
+            None => 0,
+        }
+    }
+
+    /// Runs these words over the texts, of which one may be cut to its first bytes.
+    pub(crate) fn run<R: AllocGlobal>(
+        &self,
+        rt: &R,
+        rules: &Rules,
+        devices: Devices,
+        cut: Option<(&str, usize)>,
+        words: &[String],
+    ) -> Result<Left, AllocError> {
+        let alloc = rt.alloc();
+        let mut shelf = self.shelf(alloc, devices, cut)?;
+        let write = devices.write.max(1);
+        let fails = |call| vec![in alloc; call];
+        let mut out = MemorySink::new(alloc, devices.room, write, fails(devices.out)?)?;
+        let mut err = MemorySink::new(alloc, devices.room, write, fails(devices.err)?)?;
+        let ended = run(rt, alloc, words, &mut shelf, &mut out, &mut err, rules);
+        Ok(Left { ended, out, err })
+    }
+
+    fn shelf(
+        &self,
+        alloc: Global,
+        devices: Devices,
+        cut: Option<(&str, usize)>,
+    ) -> Result<MemoryShelf, AllocError> {
+        let mut shelf = MemoryShelf::new(alloc, vec![in alloc; devices.shelf]?);
+        for held in &self.texts {
+            let name = held.name.as_str();
+            let bytes = match cut {
+                Some((cut_name, size)) if cut_name == name => first_bytes(&held.bytes, size),
+                _ => &held.bytes,
+            };
+            if !shelf.holds(name) {
+                shelf.hold(alloc, name, bytes)?;
+            }
+        }
+        shelf.piece(devices.read.max(1));
+        Ok(shelf)
+    }
+}
+
+/// The first bytes of a text, at most so many.
+fn first_bytes(bytes: &[u8], size: usize) -> &[u8] {
+    &bytes[..size.min(bytes.len())]
+}

@@ -1,0 +1,45 @@
+//! Runs the router's command over texts and devices in memory, case by case, as standard input says.
+//!
+//! A line of standard input is one of these; each other line is printed as it stands.
+//!
+//! - `text NAME` begins a text, in place of an earlier one of that name;
+//! - `| PART` adds a line to it, `& PART` a part without a line's end, `times N PART` so many parts;
+//! - `set DEVICE N` sets a bound of the devices, or the call of one that fails (0: none); `ample`
+//!   sets all back;
+//! - `run WORD ..` runs the command, and prints its status, what out and err gained, and the book;
+//! - `each DEVICE N WORD ..` runs it with each call from 1 to N of that device failing, and prints
+//!   a line for each;
+//! - `cut NAME WORD ..` runs it with each first part of that text in its place, likewise.
+#![tactic(auto)]
+
+mod bench;
+mod devices;
+mod lines;
+mod told;
+
+use crate::bench::Bench;
+use cost_rules::{
+    CostRule, Formula, Rules, Watch, Watcher, first_cost, flat_cost, goal, never, steep_cost, still,
+};
+use gr_io::{HostSink, write_whole};
+use std::io;
+
+fn main(rt: HostRuntime) -> io::Result<()> {
+    let rules = Rules::new(
+        CostRule::new(Formula::First, first_cost),
+        CostRule::new(Formula::Steep, steep_cost),
+        CostRule::new(Formula::Flat, flat_cost),
+        Watcher::new(Watch::Never, never),
+        Watcher::new(Watch::Still, still),
+        Watcher::new(Watch::Goal, goal),
+    );
+    let mut out = HostSink::new(rt.stdout());
+    let mut bench = Bench::new(rt.alloc());
+    for line in rt.lines(rt.alloc()) {
+        let told = lines::carry_out(&rt, &mut bench, &rules, &line?)?;
+        if write_whole(&mut out, told.bytes()).is_err() {
+            break;
+        }
+    }
+    Ok(())
+}

@@ -1,0 +1,148 @@
+//! What is told of a run.
+use crate::bench::Left;
+use book_state::{BookState, Call, Reply};
+use gr_text::Text;
+use router_top::HandLog;
+use std::alloc::{AllocError, Global};
+
+/// The most bytes of a text that is printed whole.
+const MOST_PRINTED: usize = 2_000;
+
+/// The whole of what a run left.
+pub(crate) fn whole(alloc: Global, left: &Left) -> Result<Text, AllocError> {
+    let mut told = Text::new(alloc);
+    told.put(b"status ")?;
+    told.put_number(i128::from(left.ended.status))?;
+    told.put(b"\n")?;
+    put_text(&mut told, b"out", left.out.bytes())?;
+    put_text(&mut told, b"err", left.err.bytes())?;
+    if let Some(book) = &left.ended.book {
+        put_book(&mut told, book)?;
+    }
+    for log in &left.ended.hands {
+        put_hand(&mut told, log)?;
+    }
+    Ok(told)
+}
+
+/// A line on what a run left, beside what one that was done leaves.
+pub(crate) fn line(
+    alloc: Global,
+    number: usize,
+    left: &Left,
+    done: &Left,
+) -> Result<Text, AllocError> {
+    let mut told = Text::new(alloc);
+    told.put_number(number as i128)?;
+    told.put(b": status ")?;
+    told.put_number(i128::from(left.ended.status))?;
+    put_share(&mut told, b", out", left.out.bytes(), done.out.bytes())?;
+    put_share(&mut told, b", err", left.err.bytes(), done.err.bytes())?;
+    told.put(b"\n")?;
+    Ok(told)
+}
+
+/// How much of a text a sink gained, or what else.
+fn put_share(told: &mut Text, name: &[u8], gained: &[u8], text: &[u8]) -> Result<(), AllocError> {
+    told.put(name)?;
+    if gained.is_empty() {
+        told.put(b" nothing")
+    } else if gained == text {
+        told.put(b" whole")
+    } else if text.starts_with(gained) {
+        told.put(b" the first ")?;
+        told.put_number(gained.len() as i128)
+    } else {
+        for part in gained.split(|&byte| byte == b'\n') {
+            told.put(b" ")?;
+            told.put(part)?;
+        }
+        Ok(())
+    }
+}
+
+/// A text, line by line, or how long it is.
+fn put_text(told: &mut Text, name: &[u8], text: &[u8]) -> Result<(), AllocError> {
+    told.put(name)?;
+    told.put(b" ")?;
+    told.put_number(text.len() as i128)?;
+    told.put(b"\n")?;
+    if text.is_empty() || text.len() > MOST_PRINTED {
+        return Ok(());
+    }
+    for part in text
+        .strip_suffix(b"\n")
+        .unwrap_or(text)
+        .split(|&byte| byte == b'\n')
+    {
+        told.put(b"| ")?;
+        told.put(part)?;
+        told.put(b"\n")?;
+    }
+    Ok(())
+}
+
+/// The entries of a book, a line for each, and the length up to its first mark of least overflow.
+fn put_book(told: &mut Text, book: &BookState) -> Result<(), AllocError> {
+    let history = book.history();
+    for place in 0..history.len() {
+        let entry = history.entry(place);
+        told.put(b"entry ")?;
+        told.put_number(i128::from(entry.number))?;
+        put_call(told, &entry.call)?;
+        put_reply(told, entry.reply)?;
+    }
+    if let Some(chosen) = book.least_mark() {
+        told.put(b"chosen ")?;
+        told.put_number(i128::from(chosen))?;
+        told.put(b"\n")?;
+    }
+    Ok(())
+}
+
+fn put_call(told: &mut Text, call: &Call) -> Result<(), AllocError> {
+    match call {
+        Call::Claim(claim) => {
+            told.put(b" claims ")?;
+            told.put_number(i128::from(claim.net))?;
+            told.put(b" from ")?;
+            told.put_number(i128::from(claim.front))
+        }
+        Call::Release { net } => {
+            told.put(b" releases ")?;
+            told.put_number(i128::from(*net))
+        }
+        Call::Mark => told.put(b" marks"),
+    }
+}
+
+fn put_reply(told: &mut Text, reply: Reply) -> Result<(), AllocError> {
+    match reply {
+        Reply::Claimed => told.put(b": claimed")?,
+        Reply::Taken => told.put(b": taken")?,
+        Reply::Full { edge, demand } => {
+            told.put(b": full at ")?;
+            told.put_number(i128::from(edge.low))?;
+            told.put(b" with ")?;
+            told.put_number(i128::from(demand))?;
+        }
+        Reply::Released => told.put(b": released")?,
+        Reply::NotBooked => told.put(b": not booked")?,
+        Reply::Marked { overflow } => {
+            told.put(b": overflow ")?;
+            told.put_number(overflow as i128)?;
+        }
+    }
+    told.put(b"\n")
+}
+
+fn put_hand(told: &mut Text, log: &HandLog) -> Result<(), AllocError> {
+    told.put(b"hand ")?;
+    told.put_number(i128::from(log.number))?;
+    told.put(b":")?;
+    for place in log.places.as_slice() {
+        told.put(b" ")?;
+        told.put_number(i128::from(*place))?;
+    }
+    told.put(b"\n")
+}
