@@ -33,18 +33,6 @@ pub struct BookState {
     replica: Replica,
 }
 
-impl Model for BookState {
-    ghost use Rattle.book_state.specs.Views.{BookView};
-
-    ghost Value = { BookView };
-
-    ghost use Rattle.book_state.specs.BookStore.{seen, Keeps};
-
-    ghost view = { seen };
-
-    ghost invariant = { Keeps };
-}
-
 impl BookState {
     /// A book of a design without entries. The only error is want of memory.
     pub fn new(alloc: Global, design: &Design) -> Result<BookState, AllocError>
@@ -281,6 +269,18 @@ impl BookState {
         self.replica.follow(&self.capacity, &self.history);
         Ok(())
     }
+}
+
+impl Model for BookState {
+    ghost use Rattle.book_state.specs.Views.{BookView};
+
+    ghost Value = { BookView };
+
+    ghost use Rattle.book_state.specs.BookStore.{seen, Keeps};
+
+    ghost view = { seen };
+
+    ghost invariant = { Keeps };
 }
 
 /// The claim of a call that is one.

@@ -22,18 +22,6 @@ pub struct Replica {
     loads: Loads,
 }
 
-impl Model for Replica {
-    ghost use Rattle.book_state.specs.Replicas.{ReplicaView};
-
-    ghost Value = { ReplicaView };
-
-    ghost use Rattle.book_state.specs.ReplicaStore.{seen, Keeps};
-
-    ghost view = { seen };
-
-    ghost invariant = { Keeps };
-}
-
 impl Replica {
     /// A replica of the empty history of a design. The only error is want of memory.
     pub fn new(alloc: Global, design: &Design) -> Result<Replica, AllocError>
@@ -210,6 +198,18 @@ impl Replica {
     {
         self.front = place + 1;
     }
+}
+
+impl Model for Replica {
+    ghost use Rattle.book_state.specs.Replicas.{ReplicaView};
+
+    ghost Value = { ReplicaView };
+
+    ghost use Rattle.book_state.specs.ReplicaStore.{seen, Keeps};
+
+    ghost view = { seen };
+
+    ghost invariant = { Keeps };
 }
 
 /// The tree of the claim at a place.

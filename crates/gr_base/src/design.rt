@@ -26,18 +26,6 @@ pub struct Design {
     adjustments: Vec<Adjustment>,
 }
 
-impl Model for Design {
-    ghost use Rattle.gr_base.specs.Designs.{DesignView};
-
-    ghost Value = { DesignView };
-
-    ghost use Rattle.gr_base.specs.DesignStore.{seen, Keeps};
-
-    ghost view = { seen };
-
-    ghost invariant = { Keeps };
-}
-
 impl Design {
     /// A design without nets and adjustments.
     pub fn new(alloc: Global, frame: Frame) -> Result<Self, AllocError>
@@ -172,4 +160,16 @@ impl Design {
             layer: place.layer + 1,
         }
     }
+}
+
+impl Model for Design {
+    ghost use Rattle.gr_base.specs.Designs.{DesignView};
+
+    ghost Value = { DesignView };
+
+    ghost use Rattle.gr_base.specs.DesignStore.{seen, Keeps};
+
+    ghost view = { seen };
+
+    ghost invariant = { Keeps };
 }

@@ -17,14 +17,6 @@ pub struct NodeIndex {
     nodes: Vec<u32>,
 }
 
-impl Model for NodeIndex {
-    ghost use Rattle.std.specs.Prelude.{ℕ, List};
-
-    ghost Value = { List ℕ };
-
-    ghost view = { λ index. index.nodes.items };
-}
-
 impl NodeIndex {
     /// An index for trees of a grid of so many cells. The only error is want of memory.
     pub fn new(alloc: Global, cells: u32) -> Result<NodeIndex, AllocError>
@@ -63,4 +55,12 @@ impl NodeIndex {
             self.nodes[tree.cell(node) as usize] = node;
         }
     }
+}
+
+impl Model for NodeIndex {
+    ghost use Rattle.std.specs.Prelude.{ℕ, List};
+
+    ghost Value = { List ℕ };
+
+    ghost view = { λ index. index.nodes.items };
 }

@@ -24,18 +24,6 @@ pub struct Capacity {
     capacities: Vec<u32>,
 }
 
-impl Model for Capacity {
-    ghost use Rattle.grid_demand.specs.Tables.{CapacityView};
-
-    ghost Value = { CapacityView };
-
-    ghost use Rattle.grid_demand.specs.CapacityStore.{seen, Keeps};
-
-    ghost view = { seen };
-
-    ghost invariant = { Keeps };
-}
-
 impl Capacity {
     /// The capacity of a design. The only error is want of memory.
     pub fn of(alloc: Global, design: &Design) -> Result<Capacity, AllocError>
@@ -119,6 +107,18 @@ impl Capacity {
     {
         &self.capacities
     }
+}
+
+impl Model for Capacity {
+    ghost use Rattle.grid_demand.specs.Tables.{CapacityView};
+
+    ghost Value = { CapacityView };
+
+    ghost use Rattle.grid_demand.specs.CapacityStore.{seen, Keeps};
+
+    ghost view = { seen };
+
+    ghost invariant = { Keeps };
 }
 
 /// The layer of each cell.

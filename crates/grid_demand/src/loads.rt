@@ -24,18 +24,6 @@ pub struct Loads {
     marks: Vec<u32>,
 }
 
-impl Model for Loads {
-    ghost use Rattle.grid_demand.specs.LoadSums.{LoadsView};
-
-    ghost Value = { LoadsView };
-
-    ghost use Rattle.grid_demand.specs.LoadsStore.{seen, Keeps};
-
-    ghost view = { seen };
-
-    ghost invariant = { Keeps };
-}
-
 impl Loads {
     /// Loads without demand and marks. The only error is want of memory.
     pub fn new(alloc: Global, capacity: &Capacity) -> Result<Loads, AllocError>
@@ -137,6 +125,18 @@ impl Loads {
     {
         most_over(&self.demands, capacity.table())
     }
+}
+
+impl Model for Loads {
+    ghost use Rattle.grid_demand.specs.LoadSums.{LoadsView};
+
+    ghost Value = { LoadsView };
+
+    ghost use Rattle.grid_demand.specs.LoadsStore.{seen, Keeps};
+
+    ghost view = { seen };
+
+    ghost invariant = { Keeps };
 }
 
 /// What a tree does to the demand for its wire edges.

@@ -1,18 +1,12 @@
-use Rattle.std.proofs.Common.{◌≡◌, ◌∙◌}
-use Rattle.gr_base.specs.Sums.{most_overflow}
-use Rattle.grid_demand.specs.LoadSums.{demand_at}
+use Rattle.std.proofs.Common.{◌∙◌}
 use Rattle.grid_demand.specs.LoadsStore.{seen}
-use Rattle.grid_demand.specs.Tables.{capacity_at}
 use Rattle.grid_demand.proofs.LoadLemmas.{most-of, most-design}
 use Rattle.grid_demand.proofs.loads.Loads.over_max.Goals as goal
 
-value : (c : goal.After-most_over) → c.most_over.result ≡ most_overflow c.args.self.now.shape (demand_at c.args.self.now) (capacity_at c.args.capacity.now)
-value c =
+pub returns-clause-value : goal.returns-clause-value
+returns-clause-value c =
     most-of (seen c.self.inside) c.args.self.now c.args.capacity.now c.deref.result.now c.table.result.now c.most_over.result
     c.self.invariant c.table.ensures.tables c.self.view_is c.requires c.deref.ensures.value c.table.ensures.table c.most_over.ensures
 
-pub returns-clause-value : goal.returns-clause-value
-returns-clause-value c = value c
-
 pub returns-clause-design : goal.returns-clause-design
-returns-clause-design c d is = value c ∙ most-design c.args.self.now c.args.capacity.now d c.requires is
+returns-clause-design c d is = returns-clause-value c ∙ most-design c.args.self.now c.args.capacity.now d c.requires is
