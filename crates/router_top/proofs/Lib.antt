@@ -2,9 +2,5 @@ pub mod DemandLemmas
 pub mod RoutingLemmas
 pub mod JudgingLemmas
 pub mod EndLemmas
-pub mod HandLemmas
 pub mod RouteLemmas
-pub mod StandLemmas
-pub mod TurnLemmas
-pub mod RoundSteps
 pub mod WordLemmas

@@ -19,9 +19,9 @@ use Rattle.solution_text.specs.Runs.{LieIn}
 use Rattle.solution_text.specs.WrittenText.{written_text}
 use Rattle.solution_text.proofs.LawLemmas.{written-text-covers}
 use Rattle.router_top.specs.Devices.{Reading}
-use Rattle.router_top.specs.Routings.{booked_edges, AllJoined, AreTrees, IsRoutingOf, IsRouting}
+use Rattle.router_top.specs.Routings.{booked_edges, AllJoined, AreTrees, IsRoutedDesign, IsRouting}
 use Rattle.router_top.specs.Said.{design_said}
-use Rattle.router_top.specs.declared.routes.Routing.{Routing}
+use Rattle.router_top.specs.declared.routes.RoutedDesign.{RoutedDesign}
 use Rattle.router_top.proofs.DemandLemmas.{booked-demand}
 
 -- the edges of the trees lie in the grid
@@ -69,24 +69,24 @@ joined-same : (d : DesignView) (sets others : ℕ → Edges) → ((net : ℕ) (e
 joined-same d sets others same joined = subst (λ (s : ℕ → Edges). AllJoined d s) (fun_ext (λ net. fun_ext (λ e. same net e))) joined
 
 -- routes of a design that was read, and their report, are a routing
-pub is-routing : (shelf : Reading) (name : List ℕ) (d : DesignView) (rounds : ℕ) (r : Routing) → (IsTrue shelf.tells → design_said shelf name ≡ Some (Ok d)) →
-    IsDesign d → IsRoutingOf d rounds r → IsRouting shelf name rounds r.book r.hands.items (written_text d (route_edges r.routes)) r.report
+pub is-routing : (shelf : Reading) (name : List ℕ) (d : DesignView) (rounds : ℕ) (r : RoutedDesign) → (IsTrue shelf.tells → design_said shelf name ≡ Some (Ok d)) →
+    IsDesign d → IsRoutedDesign d rounds r → IsRouting shelf name rounds r.rounds.book r.rounds.hands.items (written_text d (route_edges r.routes)) r.report
 is-routing shelf name d rounds r said design is = record {
   design = d;
   said = said;
   made = is.made;
-  chosen = is.chosen;
+  chosen = r.rounds.chosen;
   least = is.routes.least;
   says = ap (written_text d) (fun_ext (λ net. fun_ext (λ e. booked-same d h r.routes is.routes.booked net e)));
   joined = joined-same d (route_edges r.routes) (cover d (written_text d (route_edges r.routes))) same is.routes.joined;
-  demand = λ e edge wire. demand-same d r.book.capacity h r.routes design is.made.capacity is.trees is.routes.booked is.routes.free e;
+  demand = λ e edge wire. demand-same d r.rounds.book.capacity h r.routes design is.made.capacity is.trees is.routes.booked is.routes.free e;
   verdict = is.verdict;
   judged = verdict-same d 1 (route_edges r.routes) (cover d (written_text d (route_edges r.routes))) is.verdict same is.judged;
   reports = is.reports;
 }
   where
     h : List Entry
-    h = take is.chosen r.book.history
+    h = take r.rounds.chosen r.rounds.book.history
 
     same : (net : ℕ) (e : Edge) → route_edges r.routes net e ≡ cover d (written_text d (route_edges r.routes)) net e
     same = text-same d r.routes design is.trees is.routes.free

@@ -4,10 +4,6 @@ pub mod Devices
 pub mod Lines
 pub mod Said
 pub mod Opening
-pub mod Rounds
-pub mod Standing
-pub mod Turns
-pub mod Hands
 pub mod Routings
 pub mod Texts
 pub mod Outcomes

@@ -21,11 +21,11 @@ use Rattle.route_writer.specs.Routed.{AreRouted}
 use Rattle.solution_text.specs.Cover.{cover}
 use Rattle.solution_text.specs.WrittenText.{written_text}
 use Rattle.router_top.specs.Devices.{Reading}
-use Rattle.router_top.specs.Hands.{ArePartedTo}
-use Rattle.router_top.specs.Rounds.{IsRun}
+use Rattle.round_core.specs.Hands.{ArePartedTo}
+use Rattle.round_core.specs.Rounds.{AreRoundsUpTo}
 use Rattle.router_top.specs.Said.{design_said}
-use Rattle.router_top.specs.declared.hands.HandLog.{HandLog}
-use Rattle.router_top.specs.declared.routes.Routing.{Routing}
+use Rattle.round_core.specs.declared.hands.HandLog.{HandLog}
+use Rattle.router_top.specs.declared.routes.RoutedDesign.{RoutedDesign}
 
 -- the edges of each net's booked tree
 abbrev pub booked_edges : List Entry → ℕ → Edges
@@ -46,16 +46,16 @@ IsBookedDemand d book front sets =
 abbrev pub report_of : Verdict → List ℕ
 report_of v = report_text v.routed v.total v.max v.wirelength v.vias
 
--- the book of a run of the rounds: each call stands in its history once, with the reply that the rules give, and the callers'
--- logs part it
+-- the book of a design's rounds: each entry of its history has the reply that the rules give, the history is that of the rounds,
+-- and the callers' logs part it
 pub record IsBookOf (d : DesignView) (rounds : ℕ) (book : BookView) (hands : List HandLog) : Type 0 where
   pub capacity : book.capacity ≡ capacity_of d
   pub legal : IsLegal book.capacity book.history
-  pub run : IsRun d First rounds book.history
+  pub run : AreRoundsUpTo d First rounds book.history
   pub parted : ArePartedTo 1 book.history hands
 
 -- a design's routes: the trees booked at the first mark of least overflow; exactly the routed nets have one, and it joins their pins
-pub record AreRoutesAt (d : DesignView) (book : BookView) (front : ℕ) (trees : List (Option TreeView)) : Type 0 where
+pub record AreChosenRoutes (d : DesignView) (book : BookView) (front : ℕ) (trees : List (Option TreeView)) : Type 0 where
   pub least : least_mark book.history ≡ Some front
   pub booked : (net : ℕ) → tree_at trees net ≡ booked (take front book.history) net
   pub routed : AreRouted d trees
@@ -66,11 +66,10 @@ pub record AreRoutesAt (d : DesignView) (book : BookView) (front : ℕ) (trees :
 abbrev pub AreTrees : Shape → List (Option TreeView) → Type 0
 AreTrees g trees = (net : ℕ) → (t : TreeView) → tree_at trees net ≡ Some t → IsTree t × (t.shape ≡ g)
 
--- a design's routes and their report, with the book that they are from
-pub record IsRoutingOf (d : DesignView) (rounds : ℕ) (r : Routing) : Type 0 where
-  pub made : IsBookOf d rounds r.book r.hands.items
-  pub chosen : ℕ
-  pub routes : AreRoutesAt d r.book chosen r.routes
+-- a design's routes and their report, with the rounds that they are from
+pub record IsRoutedDesign (d : DesignView) (rounds : ℕ) (r : RoutedDesign) : Type 0 where
+  pub made : IsBookOf d rounds r.rounds.book r.rounds.hands.items
+  pub routes : AreChosenRoutes d r.rounds.book r.rounds.chosen r.routes
   pub trees : AreTrees d.frame.shape r.routes
   pub verdict : Verdict
   pub judged : IsVerdict d 1 (route_edges r.routes) verdict

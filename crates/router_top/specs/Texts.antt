@@ -13,7 +13,7 @@ use Rattle.router_top.specs.Devices.{Reading}
 use Rattle.router_top.specs.Routings.{IsRouting, report_of}
 use Rattle.router_top.specs.Said.{design_said, solution_said}
 use Rattle.router_top.specs.Words.{Order, Route, Evaluate}
-use Rattle.router_top.specs.declared.hands.HandLog.{HandLog}
+use Rattle.round_core.specs.declared.hands.HandLog.{HandLog}
 use Rattle.router_top.specs.declared.stop.Outcome.{Outcome}
 use Rattle.router_top.specs.declared.stop.Outcome.TheVariants.{Whole, Open}
 

@@ -9,7 +9,7 @@ ghost use Rattle.router_top.specs.Texts.{kept_of};
 ghost use Rattle.router_top.specs.Words.{Route};
 ghost use Rattle.router_top.specs.Ends.{Ends};
 
-use crate::routes::{Routing, routing_of};
+use crate::routes::{RoutedDesign, route_design};
 use crate::stop::{Outcome, Stop, finish};
 use crate::texts::open_design;
 use crate::top::Ended;
@@ -43,38 +43,38 @@ pub(crate) fn route<S: Shelf, O: Sink, E: Sink>(
         Ok(design) => design,
         Err(stop) => return Ended::without_book(alloc, finish(alloc, err, Err(stop))),
     };
-    let Ok(routing) = routing_of(alloc, &design, rounds, rule) else {
+    let Ok(routed) = route_design(alloc, &design, rounds, rule) else {
         return Ended::without_book(alloc, finish(alloc, err, Err(Stop::NoMemory)));
     };
-    let written = write_routing(alloc, out, err, &design, &routing);
+    let written = write_routes(alloc, out, err, &design, &routed);
     let status = finish(alloc, err, written);
     Ended {
         status,
-        book: Some(routing.book),
-        hands: routing.hands,
+        book: Some(routed.rounds.book),
+        hands: routed.rounds.hands,
     }
 }
 
 /// Writes the routes on out, and their report on err.
-fn write_routing<O: Sink, E: Sink>(
+fn write_routes<O: Sink, E: Sink>(
     alloc: Global,
     out: &mut O,
     err: &mut E,
     design: &Design,
-    routing: &Routing,
+    routed: &RoutedDesign,
 ) -> Result<Outcome, Stop>
-    requires { AreRouted design.now routing.now.routes }
-    ensures { IsWritten (written_text design.now (route_edges routing.now.routes)) routing.now.report
+    requires { AreRouted design.now routed.now.routes }
+    ensures { IsWritten (written_text design.now (route_edges routed.now.routes)) routed.now.report
         (record { tells = O.tells; faults = O.faults out.old; faults_after = O.faults out.new; written = O.written out.old; written_after = O.written out.new })
         (record { tells = E.tells; faults = E.faults err.old; faults_after = E.faults err.new; written = E.written err.old; written_after = E.written err.new })
         result }
 {
-    match write_solution(alloc, out, design, &routing.routes) {
+    match write_solution(alloc, out, design, &routed.routes) {
         Ok(()) => {}
         Err(WriteError::Failed) => return Err(Stop::WriteFailed),
         Err(WriteError::NoMemory) => return Err(Stop::NoMemory),
     }
-    match write_whole(err, routing.report.bytes()) {
+    match write_whole(err, routed.report.bytes()) {
         Ok(()) => Ok(Outcome::Whole),
         Err(_) => Err(Stop::WriteFailed),
     }

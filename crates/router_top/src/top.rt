@@ -3,7 +3,6 @@ ghost use Rattle.router_top.specs.Words.{order_of};
 ghost use Rattle.router_top.specs.Texts.{kept_of};
 ghost use Rattle.router_top.specs.Ends.{Ends};
 
-use crate::hands::HandLog;
 use crate::judging::judge;
 use crate::routing::route;
 use crate::stop::{Stop, finish};
@@ -11,6 +10,7 @@ use crate::words::{Order, read_order};
 use book_state::BookState;
 use cost_rules::Rules;
 use gr_io::{Shelf, Sink};
+use round_core::HandLog;
 use std::alloc::Global;
 
 /// How a run ended.

@@ -18,10 +18,10 @@ returns-in-Err-clause-ends g c =
 
 pub returns-clause-ends : goal.returns-clause-ends
 returns-clause-ends g c =
-    let r = c.in-Ok-routing_of.routing in
+    let r = c.in-Ok-route_design.routed in
     let sinks = g.E.Sink in
-    ends-routed c.args.design.now c.args.rounds _ _ sinks.tells (sinks.faults c.args.err.now) (sinks.faults c.write_routing-written.new.err) (sinks.faults c.finish-status.new.err)
-    (sinks.written c.args.err.now) (sinks.written c.write_routing-written.new.err) (sinks.written c.finish-status.new.err)
-    (record { book = r.book; hands = r.hands.items }) (written_text c.in-Ok.design (route_edges r.routes)) r.report c.write_routing-written.result c.finish-status.result
-    c.in-Ok.ensures.opens.0 (is-routing _ c.args.design.now c.in-Ok.design c.args.rounds r c.in-Ok.ensures.opens.2 c.in-Ok.ensures.design c.in-Ok-routing_of.ensures)
-    c.write_routing-written.ensures c.finish-status.ensures
+    ends-routed c.args.design.now c.args.rounds _ _ sinks.tells (sinks.faults c.args.err.now) (sinks.faults c.write_routes-written.new.err) (sinks.faults c.finish-status.new.err)
+    (sinks.written c.args.err.now) (sinks.written c.write_routes-written.new.err) (sinks.written c.finish-status.new.err)
+    (record { book = r.rounds.book; hands = r.rounds.hands.items }) (written_text c.in-Ok.design (route_edges r.routes)) r.report c.write_routes-written.result c.finish-status.result
+    c.in-Ok.ensures.opens.0 (is-routing _ c.args.design.now c.in-Ok.design c.args.rounds r c.in-Ok.ensures.opens.2 c.in-Ok.ensures.design c.in-Ok-route_design.ensures)
+    c.write_routes-written.ensures c.finish-status.ensures
