@@ -18,7 +18,7 @@ use Rattle.book_state.specs.Books.{nets_of, booked}
 use Rattle.book_state.specs.declared.entry.Entry.{Entry}
 use Rattle.route_writer.specs.Routed.{AreRouted}
 use Rattle.round_core.specs.Rounds.{IsRouteOfNet}
-use Rattle.router_top.specs.Routings.{AllJoined, AreTrees}
+use Rattle.router_top.specs.Routing.{AllJoined, AreTrees}
 use Rattle.round_core.specs.Standing.{Stands}
 
 past-unrouted : (d : DesignView) (net : ℕ) → length d.nets ≤ net → is_routed d net ≡ false

@@ -1,10 +1,11 @@
 pub mod Words
 pub mod Orders
-pub mod Devices
-pub mod Lines
 pub mod Said
 pub mod Opening
-pub mod Routings
-pub mod Texts
-pub mod Outcomes
+pub mod Stops
+pub mod Commands
+pub mod Leaving
+pub mod Routing
+pub mod Judging
 pub mod Ends
+pub mod Statuses

@@ -5,7 +5,7 @@ use Rattle.gr_base.specs.declared.grid.Edge.{Edge}
 use Rattle.gr_io.specs.Counts.{Rose}
 use Rattle.route_reader.specs.Solutions.{SolutionView, edges_by}
 use Rattle.solution_text.specs.Cover.{cover}
-use Rattle.router_top.specs.Devices.{Reading}
+use Rattle.gr_io.specs.Devices.{Reading}
 use Rattle.router_top.specs.declared.stop.Stop.{Stop}
 use Rattle.router_top.specs.declared.stop.Stop.TheVariants.{ReadFailed, NoMemory}
 

@@ -2,10 +2,10 @@
 #![tactic(auto)]
 
 mod judging;
-mod routes;
+mod left;
+mod opening;
 mod routing;
 mod stop;
-mod texts;
 mod top;
 mod words;
 

@@ -1,6 +1,5 @@
--- What a routing of a design is: the book of its rounds, the text of its routes, and their report.
-use Rattle.std.specs.Prelude.{◌≡◌, ℕ, false, List, Option, Some, None, Ok, slice_get, take, IsTrue}
-use Rattle.cost_rules.specs.declared.site.Formula.TheVariants.{First}
+-- The command `route`: the book of its rounds, the text of its routes, and their report.
+use Rattle.std.specs.Prelude.{◌≡◌, ℕ, true, false, List, Option, Some, None, Ok, slice_get, take, IsTrue, IsSomeAnd}
 use Rattle.gr_base.specs.Designs.{DesignView, is_routed, is_routed_net}
 use Rattle.gr_base.specs.EdgeSets.{Edges, IsJoined}
 use Rattle.gr_base.specs.Grid.{has_edge, is_wire}
@@ -14,18 +13,21 @@ use Rattle.book_state.specs.Books.{booked, demand as demand_after, IsLegal}
 use Rattle.book_state.specs.Marks.{least_mark}
 use Rattle.book_state.specs.Views.{BookView}
 use Rattle.book_state.specs.declared.entry.Entry.{Entry}
-use Rattle.report_text.specs.Texts.{report_text}
 use Rattle.route_evaluator.specs.Verdicts.{IsVerdict}
 use Rattle.route_evaluator.specs.declared.verdict.Verdict.{Verdict}
 use Rattle.route_writer.specs.Routed.{AreRouted}
 use Rattle.solution_text.specs.Cover.{cover}
 use Rattle.solution_text.specs.WrittenText.{written_text}
-use Rattle.router_top.specs.Devices.{Reading}
+use Rattle.gr_io.specs.Devices.{Reading}
 use Rattle.round_core.specs.Hands.{ArePartedTo}
-use Rattle.round_core.specs.Rounds.{AreRoundsUpTo}
-use Rattle.router_top.specs.Said.{design_said}
+use Rattle.round_core.specs.Rounds.{hand, AreRoundsUpTo}
+use Rattle.router_top.specs.Commands.{Command, checked}
+use Rattle.router_top.specs.Said.{design_said, report_of}
 use Rattle.round_core.specs.declared.hands.HandLog.{HandLog}
-use Rattle.router_top.specs.declared.routes.RoutedDesign.{RoutedDesign}
+use Rattle.router_top.specs.declared.routing.RoutedDesign.{RoutedDesign}
+use Rattle.router_top.specs.declared.stop.Outcome.TheVariants.{Whole}
+use Rattle.router_top.specs.declared.stop.Stop.TheVariants.{DesignFault}
+use Rattle.router_top.specs.declared.words.Options.{Options}
 
 -- the edges of each net's booked tree
 abbrev pub booked_edges : List Entry → ℕ → Edges
@@ -42,17 +44,13 @@ abbrev pub IsBookedDemand : DesignView → BookView → ℕ → (ℕ → Edges) 
 IsBookedDemand d book front sets =
     (e : Edge) → IsTrue (has_edge d.frame.shape e) → IsTrue (is_wire e) → demand_after book.capacity (take front book.history) e ≡ demand_by d sets e
 
--- the report of a verdict
-abbrev pub report_of : Verdict → List ℕ
-report_of v = report_text v.routed v.total v.max v.wirelength v.vias
-
 -- the book of a design's rounds: each entry of its history has the reply that the rules give, the history is that of the rounds,
 -- and the callers' logs part it
-pub record IsBookOf (d : DesignView) (rounds : ℕ) (book : BookView) (hands : List HandLog) : Type 0 where
+pub record IsBookOf (d : DesignView) (options : Options) (book : BookView) (hands : List HandLog) : Type 0 where
   pub capacity : book.capacity ≡ capacity_of d
   pub legal : IsLegal book.capacity book.history
-  pub run : AreRoundsUpTo d First rounds book.history
-  pub parted : ArePartedTo 1 book.history hands
+  pub run : AreRoundsUpTo d options.formula options.rounds book.history
+  pub parted : ArePartedTo hand book.history hands
 
 -- a design's routes: the trees booked at the first mark of least overflow; exactly the routed nets have one, and it joins their pins
 pub record AreChosenRoutes (d : DesignView) (book : BookView) (front : ℕ) (trees : List (Option TreeView)) : Type 0 where
@@ -67,26 +65,35 @@ abbrev pub AreTrees : Shape → List (Option TreeView) → Type 0
 AreTrees g trees = (net : ℕ) → (t : TreeView) → tree_at trees net ≡ Some t → IsTree t × (t.shape ≡ g)
 
 -- a design's routes and their report, with the rounds that they are from
-pub record IsRoutedDesign (d : DesignView) (rounds : ℕ) (r : RoutedDesign) : Type 0 where
-  pub made : IsBookOf d rounds r.rounds.book r.rounds.hands.items
+pub record IsRoutedDesign (d : DesignView) (options : Options) (r : RoutedDesign) : Type 0 where
+  pub made : IsBookOf d options r.rounds.book r.rounds.hands.items
   pub routes : AreChosenRoutes d r.rounds.book r.rounds.chosen r.routes
   pub trees : AreTrees d.frame.shape r.routes
   pub verdict : Verdict
-  pub judged : IsVerdict d 1 (route_edges r.routes) verdict
+  pub judged : IsVerdict d options.via_cost (route_edges r.routes) verdict
   pub reports : r.report ≡ report_of verdict
 
--- a routing of the design that was read: the text is that of the trees booked at the first mark of least overflow; by what it
--- covers, each routed net is joined, booked demand is that of the text, and the five numbers of the report are the text's, with
--- vias that count 1
-pub record IsRouting (shelf : Reading) (name : List ℕ) (rounds : ℕ) (book : BookView) (hands : List HandLog) (text report : List ℕ) : Type 0 where
+-- the text and the report of routes of the design that was read: the text is that of the trees booked at the first mark of least
+-- overflow; by what it covers, each routed net is joined, booked demand is that of the text, and the five numbers of the report
+-- are the text's
+pub record IsRouting (shelf : Reading) (name : List ℕ) (options : Options) (book : BookView) (hands : List HandLog) (text report : List ℕ) : Type 0 where
   pub design : DesignView
-  pub said : IsTrue shelf.tells → design_said shelf name ≡ Some (Ok design)
-  pub made : IsBookOf design rounds book hands
+  pub said : IsTrue shelf.tells → design_said shelf.held name ≡ Some (Ok design)
+  pub made : IsBookOf design options book hands
   pub chosen : ℕ
   pub least : least_mark book.history ≡ Some chosen
   pub says : text ≡ written_text design (booked_edges (take chosen book.history))
   pub joined : AllJoined design (cover design text)
   pub demand : IsBookedDemand design book chosen (cover design text)
   pub verdict : Verdict
-  pub judged : IsVerdict design 1 (cover design text) verdict
+  pub judged : IsVerdict design options.via_cost (cover design text) verdict
   pub reports : report ≡ report_of verdict
+
+abbrev pub routing : (name : List ℕ) → Options → Command
+routing name options = record {
+  files = λ shelf. checked (design_said shelf.held name) DesignFault (λ d. Some (Ok tt));
+  says = λ shelf kept outcome text report.
+      (outcome ≡ Whole) × IsSomeAnd kept (λ k. IsRouting shelf name options k.book k.hands text report);
+  reports = true;
+  is_open = λ shelf. ⊥;
+}

@@ -1,3 +1,4 @@
+-- Devices before a call and after it, as contracts see them.
 use Rattle.std.specs.Prelude.{◌≡◌, ℕ, ◌⊎◌, Bool, List, ◌++◌, Option, IsTrue}
 use Rattle.gr_io.specs.Counts.{Rose}
 use Rattle.gr_io.specs.Parts.{AppendsPart}
@@ -19,6 +20,28 @@ pub record Reading : Type 0 where
   pub faults_after : ℕ
   pub misses : ℕ
   pub misses_after : ℕ
+
+-- a sink of any type, by the words of its trait
+abbrev pub device_of : {T : Type 0} → Bool → (faults : T → ℕ) → (written : T → List ℕ) → (old new : T) → Device
+device_of tells faults written old new = record {
+  tells = tells;
+  faults = faults old;
+  faults_after = faults new;
+  written = written old;
+  written_after = written new;
+}
+
+-- a shelf of any type, likewise
+abbrev pub reading_of : {T : Type 0} → Bool → (held : T → Slot → List ℕ → Option (List ℕ)) → (faults misses : T → ℕ) →
+    (old new : T) → Reading
+reading_of tells held faults misses old new = record {
+  tells = tells;
+  held = held old;
+  faults = faults old;
+  faults_after = faults new;
+  misses = misses old;
+  misses_after = misses new;
+}
 
 -- the sink gained nothing, and no call of it failed
 pub record IsUntouched (device : Device) : Type 0 where

@@ -2,7 +2,7 @@ use Rattle.std.proofs.Common.{take, subst}
 use Rattle.cost_rules.specs.declared.site.Formula.{Formula}
 use Rattle.round_core.specs.Rounds.{AreRoundsUpTo}
 use Rattle.router_top.proofs.RouteLemmas.{routes-booked, routes-routed, routes-free, routes-trees, routes-joined}
-use Rattle.router_top.proofs.routes.route_design.Goals as goal
+use Rattle.router_top.proofs.routing.route_design.Goals as goal
 
 pub evaluate_routes-requires-clause-routes : goal.evaluate_routes-requires-clause-routes
 evaluate_routes-requires-clause-routes g c =
@@ -25,7 +25,7 @@ returns g c =
       made = record {
         capacity = made.capacity;
         legal = made.legal;
-        run = subst (λ (formula : Formula). AreRoundsUpTo d formula c.args.rounds rounds.book.history) c.requires.rule made.run;
+        run = subst (λ (formula : Formula). AreRoundsUpTo d formula c.args.options.rounds rounds.book.history) c.requires.rule made.run;
         parted = made.parted;
       };
       routes = record {

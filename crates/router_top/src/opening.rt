@@ -1,9 +1,10 @@
+//! The texts of a command, as they are opened and read.
 ghost use Rattle.std.specs.Prelude.{◌≡◌, ℕ, List, IsTrue, IfOk, OnOk};
 ghost use Rattle.gr_base.specs.Designs.{IsDesign};
 ghost use Rattle.gr_io.specs.declared.shelf.Slot.{Slot};
 ghost use Rattle.gr_io.specs.declared.shelf.Slot.TheVariants.{Design as DesignSlot, Solution as SolutionSlot};
 ghost use Rattle.route_reader.specs.Solutions.{IsOf};
-ghost use Rattle.router_top.specs.Devices.{Reading};
+ghost use Rattle.gr_io.specs.Devices.{reading_of};
 ghost use Rattle.router_top.specs.Opening.{Reaches, Opens, IsCovered};
 ghost use Rattle.router_top.specs.Said.{design_said, solution_said};
 ghost use Rattle.router_top.specs.declared.stop.Stop.TheVariants.{DesignFault, SolutionFault};
@@ -21,8 +22,8 @@ pub(crate) fn open_design<S: Shelf>(
     shelf: &mut S,
     name: &str,
 ) -> Result<Design, Stop>
-    ensures opens { let reading : Reading = record { tells = S.tells; held = S.held shelf.old; faults = S.faults shelf.old; faults_after = S.faults shelf.new; misses = S.misses shelf.old; misses_after = S.misses shelf.new } in
-        Opens reading (S.held shelf.old DesignSlot name.now) (design_said reading name.now) DesignFault result }
+    ensures opens { Opens (reading_of S.tells S.held S.faults S.misses shelf.old shelf.new)
+        (S.held shelf.old DesignSlot name.now) (design_said (S.held shelf.old) name.now) DesignFault result }
     ensures held { (slot : Slot) → (other : List ℕ) → S.held shelf.new slot other ≡ S.held shelf.old slot other }
     ensures design { IfOk result IsDesign }
 {
@@ -42,10 +43,11 @@ pub(crate) fn open_solution<S: Shelf>(
     design: &Design,
     name: &str,
 ) -> Result<Solution, Stop>
-    ensures opens { let reading : Reading = record { tells = S.tells; held = S.held shelf.old; faults = S.faults shelf.old; faults_after = S.faults shelf.new; misses = S.misses shelf.old; misses_after = S.misses shelf.new } in
-        Opens reading (S.held shelf.old SolutionSlot name.now) (solution_said reading name.now design.now) SolutionFault result }
+    ensures opens { Opens (reading_of S.tells S.held S.faults S.misses shelf.old shelf.new)
+        (S.held shelf.old SolutionSlot name.now) (solution_said (S.held shelf.old) name.now design.now) SolutionFault
+        result }
     ensures solution { IfOk result (IsOf design.now) }
-    ensures covered { IfOk result (λ solution. IsTrue S.tells → IsCovered design.now (S.held shelf.old SolutionSlot name.now) solution) }
+    ensures covered { IfOk result (λ s. IsTrue S.tells → IsCovered design.now (S.held shelf.old SolutionSlot name.now) s) }
 {
     reach(alloc, shelf, Slot::Solution, name)?;
     match read_solution(alloc, shelf, design) {
@@ -58,8 +60,7 @@ pub(crate) fn open_solution<S: Shelf>(
 
 /// Opens the text that is held under a name.
 fn reach<S: Shelf>(alloc: Global, shelf: &mut S, slot: Slot, name: &str) -> Result<(), Stop>
-    ensures reaches { Reaches
-        (record { tells = S.tells; held = S.held shelf.old; faults = S.faults shelf.old; faults_after = S.faults shelf.new; misses = S.misses shelf.old; misses_after = S.misses shelf.new })
+    ensures reaches { Reaches (reading_of S.tells S.held S.faults S.misses shelf.old shelf.new)
         (S.held shelf.old slot name.now) (S.left shelf.new slot) result }
     ensures reached { OnOk result (IsTrue (S.reached shelf.new slot)) }
     ensures held { (other : Slot) → (bytes : List ℕ) → S.held shelf.new other bytes ≡ S.held shelf.old other bytes }
