@@ -40,13 +40,13 @@ pattern-after d formula c v h l net t is same of plan = record {
 }
 
 pub first-get : (d : DesignView) (formula : Formula) (b new : BookView) (net : ℕ) (t : TreeView) → IsFirstRound d formula net b.history → IsTrue (is_routed d net) →
-    IsPlanAfter d formula b.history net Pattern t → IsRouteOfNet d net t → new ≡ with_entry b (hand_claim b.capacity b.history net t None Pattern) → IsFirstRound d formula (net + 1) new.history
+    IsPlanAfter d formula b.history net Pattern t → IsRouteOfNet d net t → new ≡ with_entry b (hand_claim b net t None Pattern) → IsFirstRound d formula (net + 1) new.history
 first-get d formula b new net t first routed plan routes is =
     let free : booked b.history net ≡ None = (first-stands d formula net b.history first).free net (inl (omega arith)) in
     let claimed = unbounded-claimed b.capacity b.history (claim_of net t None (length b.history) Pattern) free refl in
     subst (λ (n : ℕ). IsFirstRound d formula n new.history) (next-number net)
     (subst (λ (v : BookView). IsFirstRound d formula (suc net) v.history) (sym is)
-    (Gets first routed (claim-tries d formula b.capacity b.history net t None Pattern plan routes) claimed))
+    (Gets first routed (claim-tries d formula b net t None Pattern plan routes) claimed))
 
 -- the first net that is left
 pub drop-here : (nets : List ℕ) (k net : ℕ) → slice_get nets k ≡ Some net → drop k nets ≡ net ∷ drop (k + 1) nets

@@ -6,8 +6,7 @@ use Rattle.std.proofs.lemmas.List.Elements.{All-nil, All-cons, All-head, All-tai
 use Rattle.std.proofs.lemmas.List.Quantifiers.{position-Some}
 use Rattle.std.proofs.lemmas.Option.{none-some, same_Some, slice_get_within, slice_get-get_or, slice_get_cases}
 use Rattle.cost_rules.specs.declared.site.Formula.{Formula}
-use Rattle.gr_base.specs.Designs.{DesignView, is_routed, is_routed_net}
-use Rattle.gr_base.specs.declared.frame.Net.{Net}
+use Rattle.gr_base.specs.Designs.{DesignView, is_routed}
 use Rattle.gr_base.specs.Trees.{TreeView}
 use Rattle.gr_base.specs.declared.grid.Edge.{Edge}
 use Rattle.grid_demand.specs.Tables.{CapacityView, capacity_of}
@@ -30,6 +29,7 @@ use Rattle.book_state.specs.declared.entry.PlanKind.TheVariants.{Pattern, Maze}
 use Rattle.book_state.specs.declared.entry.Reply.{Reply}
 use Rattle.book_state.specs.declared.entry.Reply.TheVariants.{Claimed, Taken, Full, Released, NotBooked, Marked}
 use Rattle.round_core.specs.Rounds.{marker, hand, IsRouteOfNet, claim_of, Tries, IsFirstRound, Begins, Skips, Gets, IsFull, ClaimsUntilGot, slacks_of_turn, IsTurn, AreTurns, AreRounds, FirstRound, Reroutes}
+use Rattle.round_core.proofs.TurnLemmas.{routed-below}
 use Rattle.round_core.specs.Standing.{IsHeld, StandsBelow, Stands, StandsBut}
 
 -- a net that stays booked by the same tree stays held
@@ -186,15 +186,7 @@ first-stand d formula (Gets {net = net} {h = h} {e = e} first on tries claimed) 
 pub first-stands : (d : DesignView) (formula : Formula) (n : ℕ) (h : List Entry) → IsFirstRound d formula n h → StandsBelow d n h
 first-stands d formula n h first = first-stand d formula first
 
--- a net that is routed is one of the design's
-routed-below : (d : DesignView) (net : ℕ) → IsTrue (is_routed d net) → net < length d.nets
-routed-below d net routed = by (slice_get d.nets net) refl
-  where
-    by : (o : Option Net) → slice_get d.nets net ≡ o → net < length d.nets
-    by None is = absurd (both_ways false refl (sym (ap is_routed_net is) ∙ routed))
-    by (Some value) is = slice_get_within d.nets net value is
-
--- so a net past the design's isn't
+-- a net past the design's isn't routed
 pub below-all : (d : DesignView) (h : List Entry) → StandsBelow d (length d.nets) h → Stands d h
 below-all d h below = record {
   held = λ net on. below.held net (routed-below d net on) on;

@@ -101,39 +101,36 @@ last-claimed h e claim call =
 
 -- a net that didn't get its claim is free to be claimed again
 pub refused-free : (b new : BookView) (net : ℕ) (t : TreeView) (slack : Option ℕ) (kind : PlanKind) → IsFree b.capacity b.history net t →
-    new ≡ with_entry b (hand_claim b.capacity b.history net t slack kind) → ((hand_claim b.capacity b.history net t slack kind).reply ≡ Claimed → ⊥) →
+    new ≡ with_entry b (hand_claim b net t slack kind) → ((hand_claim b net t slack kind).reply ≡ Claimed → ⊥) →
     IsFree new.capacity new.history net t
 refused-free b new net t slack kind free is refused =
     subst (λ (v : BookView). IsFree v.capacity v.history net t) (sym is) (record {
       within = free.within;
       shape = free.shape;
-      free = refused-booked b.history (hand_claim b.capacity b.history net t slack kind) (claim_of net t slack (length b.history) kind) refl refused net ∙ free.free;
+      free = refused-booked b.history (hand_claim b net t slack kind) (claim_of net t slack (length b.history) kind) refl refused net ∙ free.free;
     })
 
 pub refused-last : (b new : BookView) (net : ℕ) (t : TreeView) (slack : Option ℕ) (kind : PlanKind) →
-    new ≡ with_entry b (hand_claim b.capacity b.history net t slack kind) → last_tree new.history ≡ Some t
+    new ≡ with_entry b (hand_claim b net t slack kind) → last_tree new.history ≡ Some t
 refused-last b new net t slack kind is =
     ap (λ (v : BookView). last_tree v.history) is
-    ∙ last-claimed b.history (hand_claim b.capacity b.history net t slack kind) (claim_of net t slack (length b.history) kind) refl
-
-pub some-and : (P : TreeView → Type 0) (o : Option TreeView) (t : TreeView) → o ≡ Some t → P t → IsSomeAnd o P
-some-and P o t is holds = subst (λ (x : Option TreeView). IsSomeAnd x P) (sym is) holds
+    ∙ last-claimed b.history (hand_claim b net t slack kind) (claim_of net t slack (length b.history) kind) refl
 
 -- one more entry keeps the capacity
 pub capacity-kept : (b new : BookView) (e : Entry) (c : CapacityView) → new ≡ with_entry b e → b.capacity ≡ c → new.capacity ≡ c
 capacity-kept b new e c is same = ap (λ (v : BookView). v.capacity) is ∙ same
 
 -- a claim for a plan over the whole history is one of the tries of a turn
-pub claim-tries : (d : DesignView) (formula : Formula) (c : CapacityView) (h : List Entry) (net : ℕ) (t : TreeView) (slack : Option ℕ) (kind : PlanKind) →
-    IsPlanAfter d formula h net kind t → IsRouteOfNet d net t → Tries d formula net kind slack h (hand_claim c h net t slack kind)
-claim-tries d formula c h net t slack kind plan routes = record { number = refl; tree = t; call = refl; plan = plan; routes = routes }
+pub claim-tries : (d : DesignView) (formula : Formula) (b : BookView) (net : ℕ) (t : TreeView) (slack : Option ℕ) (kind : PlanKind) →
+    IsPlanAfter d formula b.history net kind t → IsRouteOfNet d net t → Tries d formula net kind slack b.history (hand_claim b net t slack kind)
+claim-tries d formula b net t slack kind plan routes = record { number = refl; tree = t; call = refl; plan = plan; routes = routes }
 
 -- claims end with the one that is answered Claimed
 pub claims-claimed : (d : DesignView) (formula : Formula) (b new : BookView) (net : ℕ) (t : TreeView) (slack : Option ℕ) (kind : PlanKind) (slacks : List (Option ℕ)) →
-    IsPlanAfter d formula b.history net kind t → IsRouteOfNet d net t → new ≡ with_entry b (hand_claim b.capacity b.history net t slack kind) →
-    (hand_claim b.capacity b.history net t slack kind).reply ≡ Claimed → ClaimsUntilGot d formula net kind (slack ∷ slacks) b.history new.history
+    IsPlanAfter d formula b.history net kind t → IsRouteOfNet d net t → new ≡ with_entry b (hand_claim b net t slack kind) →
+    (hand_claim b net t slack kind).reply ≡ Claimed → ClaimsUntilGot d formula net kind (slack ∷ slacks) b.history new.history
 claims-claimed d formula b new net t slack kind slacks plan routes is got =
-    (hand_claim b.capacity b.history net t slack kind, claim-tries d formula b.capacity b.history net t slack kind plan routes, inl (got, ap (λ (v : BookView). v.history) is))
+    (hand_claim b net t slack kind, claim-tries d formula b net t slack kind plan routes, inl (got, ap (λ (v : BookView). v.history) is))
 
 -- and go on after one that isn't
 either-full : (r : Reply) → (r ≡ Claimed) ⊎ IsFull r → (r ≡ Claimed → ⊥) → IsFull r
@@ -141,20 +138,20 @@ either-full r (inl got) refused = absurd (refused got)
 either-full r (inr full) refused = full
 
 pub claims-refused : (d : DesignView) (formula : Formula) (b new : BookView) (net : ℕ) (t : TreeView) (slack : Option ℕ) (kind : PlanKind) (slacks : List (Option ℕ)) (after : List Entry) →
-    IsFree b.capacity b.history net t → IsPlanAfter d formula b.history net kind t → IsRouteOfNet d net t → new ≡ with_entry b (hand_claim b.capacity b.history net t slack kind) →
-    ((hand_claim b.capacity b.history net t slack kind).reply ≡ Claimed → ⊥) → ClaimsUntilGot d formula net kind slacks new.history after →
+    IsFree b.capacity b.history net t → IsPlanAfter d formula b.history net kind t → IsRouteOfNet d net t → new ≡ with_entry b (hand_claim b net t slack kind) →
+    ((hand_claim b net t slack kind).reply ≡ Claimed → ⊥) → ClaimsUntilGot d formula net kind slacks new.history after →
     ClaimsUntilGot d formula net kind (slack ∷ slacks) b.history after
 claims-refused d formula b new net t slack kind slacks after free plan routes is refused rest =
-    let e : Entry = hand_claim b.capacity b.history net t slack kind in
+    let e : Entry = hand_claim b net t slack kind in
     let full = either-full e.reply (claim-answered b.capacity b.history (claim_of net t slack (length b.history) kind) free.free) refused in
-    (e, claim-tries d formula b.capacity b.history net t slack kind plan routes, inr (full, subst (λ (v : BookView). ClaimsUntilGot d formula net kind slacks v.history after) is rest))
+    (e, claim-tries d formula b net t slack kind plan routes, inr (full, subst (λ (v : BookView). ClaimsUntilGot d formula net kind slacks v.history after) is rest))
 
 pub plan-again : (d : DesignView) (formula : Formula) (b new : BookView) (net : ℕ) (t : TreeView) (slack : Option ℕ) (kind : PlanKind) →
-    IsPlanAfter d formula b.history net kind t → new ≡ with_entry b (hand_claim b.capacity b.history net t slack kind) →
-    ((hand_claim b.capacity b.history net t slack kind).reply ≡ Claimed → ⊥) → IsPlanAfter d formula new.history net kind t
+    IsPlanAfter d formula b.history net kind t → new ≡ with_entry b (hand_claim b net t slack kind) →
+    ((hand_claim b net t slack kind).reply ≡ Claimed → ⊥) → IsPlanAfter d formula new.history net kind t
 plan-again d formula b new net t slack kind plan is refused =
     subst (λ (v : BookView). IsPlanAfter d formula v.history net kind t) (sym is)
-    (refused-plan d formula b.history (hand_claim b.capacity b.history net t slack kind) (claim_of net t slack (length b.history) kind) net kind t refl refused plan)
+    (refused-plan d formula b.history (hand_claim b net t slack kind) (claim_of net t slack (length b.history) kind) net kind t refl refused plan)
 
 -- a claim that isn't got isn't answered Claimed
 pub not-got : (got : Bool) (reply : Reply) → IsTrue got ↔ (reply ≡ Claimed) → got ≡ false → reply ≡ Claimed → ⊥
@@ -172,10 +169,14 @@ routed-net d number routed = by_net (slice_get d.nets number) refl
     by_net None is = absurd (both_ways false refl (sym (ap is_routed_net is) ∙ routed))
     by_net (Some net) is = record { net = net; there = is }
 
+pub routed-below : (d : DesignView) (number : ℕ) → IsTrue (is_routed d number) → number < length d.nets
+routed-below d number routed =
+    let one = routed-net d number routed in
+    slice_get_within d.nets number one.net one.there
+
 pub routed-within : (d : DesignView) (c : CapacityView) (number : ℕ) → c ≡ capacity_of d → IsTrue (is_routed d number) → number < nets_of c
 routed-within d c number is routed =
-    let one = routed-net d number routed in
-    let below = slice_get_within d.nets number one.net one.there in
+    let below = routed-below d number routed in
     let long = length-map d.nets (λ (net : Net). net.width) in
     let nets : nets_of c ≡ length (capacity_of d).widths = ap nets_of is in
     omega (arith, below, long, nets)

@@ -16,7 +16,8 @@ places_of h number = filter (λ p. is_by number (slice_get h p)) (range_with_len
 abbrev pub log_of : List Entry → ℕ → HandLog
 log_of h number = record { number = number; places = places_of h number }
 
--- the logs part a history among the callers of numbers 0 to the last: each has its caller's places, and every entry is one of theirs
+-- the logs part a history among the callers of numbers 0 to the last: each has its caller's places, and every entry is
+-- one of theirs
 pub record ArePartedTo (last : ℕ) (h : List Entry) (hands : List HandLog) : Type 0 where
   pub logs : hands ≡ map (log_of h) (range_with_len 0 (last + 1))
   pub all : AtEach (λ before e. e.number ≤ last) h

@@ -2,7 +2,7 @@
 use Rattle.std.specs.Prelude.{◌≡◌, ℕ, zero, suc, ◌*◌, ◌<◌, ◌≤◌, ◌⊎◌, false, List, [], ◌∷◌, ◌++◌, Option, Some, None, length, slice_get, IsTrue}
 use Rattle.cost_rules.specs.declared.site.Formula.{Formula}
 use Rattle.gr_base.specs.Designs.{DesignView, is_routed, pins_at}
-use Rattle.gr_base.specs.Plans.{Routes}
+use Rattle.gr_base.specs.Plans.{IsRouteOf}
 use Rattle.gr_base.specs.Trees.{TreeView}
 use Rattle.gr_base.specs.declared.frame.Net.{Net}
 use Rattle.grid_demand.specs.LoadSums.{LoadsView}
@@ -31,31 +31,36 @@ IsPlan c l formula net pins Pattern t = IsPattern c l formula net pins t
 IsPlan c l formula net pins (Maze margin) t = IsMaze c l formula net pins margin t
 
 -- a net's plan of a kind over the demand and the marks of a history
-pub record IsPlanAfter (d : DesignView) (formula : Formula) (h : List Entry) (net : ℕ) (kind : PlanKind) (t : TreeView) : Type 0 where
+pub record IsPlanAfter (d : DesignView) (formula : Formula) (h : List Entry) (net : ℕ) (kind : PlanKind)
+    (t : TreeView) : Type 0 where
   pub loads : LoadsView
   pub there : AreLoadsOf (capacity_of d) h loads
   pub plan : IsPlan (capacity_of d) loads formula net (pins_at d net) kind t
 
 -- the tree starts at the net's driver and holds the cell of each of its pins
 abbrev pub IsRouteOfNet : DesignView → ℕ → TreeView → Type 0
-IsRouteOfNet d net t = (value : Net) → slice_get d.nets net ≡ Some value → Routes d.frame.shape value t
+IsRouteOfNet d net t = (value : Net) → slice_get d.nets net ≡ Some value → IsRouteOf d.frame.shape value t
 
 abbrev pub claim_of : ℕ → TreeView → Option ℕ → ℕ → PlanKind → Claim
 claim_of net tree slack front kind = record { net = net; tree = tree; slack = slack; front = front; kind = kind }
 
 -- the hand claims a net for a plan of this kind over the whole history before, at this slack
-pub record Tries (d : DesignView) (formula : Formula) (net : ℕ) (kind : PlanKind) (slack : Option ℕ) (h : List Entry) (e : Entry) : Type 0 where
+pub record Tries (d : DesignView) (formula : Formula) (net : ℕ) (kind : PlanKind) (slack : Option ℕ) (h : List Entry)
+    (e : Entry) : Type 0 where
   pub number : e.number ≡ hand
   pub tree : TreeView
   pub call : e.call ≡ Claims (claim_of net tree slack (length h) kind)
   pub plan : IsPlanAfter d formula h net kind tree
   pub routes : IsRouteOfNet d net tree
 
--- round 0 for the nets below a number: in order, each routed net is claimed for its pattern plan at any demand, and gets it
+-- round 0 for the nets below a number: in order, each routed net is claimed for its pattern plan at any demand, and gets
+-- it
 pub data IsFirstRound (d : DesignView) (formula : Formula) : ℕ → List Entry → Type 0 where
   Begins : IsFirstRound d formula zero []
-  Skips : {net : ℕ} {h : List Entry} → IsFirstRound d formula net h → is_routed d net ≡ false → IsFirstRound d formula (suc net) h
-  Gets : {net : ℕ} {h : List Entry} {e : Entry} → IsFirstRound d formula net h → IsTrue (is_routed d net) → Tries d formula net Pattern None h e → e.reply ≡ Claimed → IsFirstRound d formula (suc net) (h ++ e ∷ [])
+  Skips : {net : ℕ} {h : List Entry} → IsFirstRound d formula net h → is_routed d net ≡ false →
+      IsFirstRound d formula (suc net) h
+  Gets : {net : ℕ} {h : List Entry} {e : Entry} → IsFirstRound d formula net h → IsTrue (is_routed d net) →
+      Tries d formula net Pattern None h e → e.reply ≡ Claimed → IsFirstRound d formula (suc net) (h ++ e ∷ [])
 
 abbrev pub IsFull : Reply → Type 0
 IsFull (Full edge demand) = Unit {0}
@@ -66,7 +71,8 @@ abbrev pub ClaimsUntilGot : DesignView → Formula → ℕ → PlanKind → List
 ClaimsUntilGot d formula net kind [] h after = ⊥
 ClaimsUntilGot d formula net kind (slack ∷ slacks) h after =
     (e : Entry) × Tries d formula net kind slack h e ×
-    (((e.reply ≡ Claimed) × (after ≡ h ++ e ∷ [])) ⊎ (IsFull e.reply × ClaimsUntilGot d formula net kind slacks (h ++ e ∷ []) after))
+    (((e.reply ≡ Claimed) × (after ≡ h ++ e ∷ [])) ⊎
+    (IsFull e.reply × ClaimsUntilGot d formula net kind slacks (h ++ e ∷ []) after))
 
 -- two claims ask for room within capacity; the third always gets it
 abbrev pub slacks_of_turn : List (Option ℕ)
@@ -91,12 +97,14 @@ pub record IsMarking (e : Entry) : Type 0 where
   pub number : e.number ≡ marker
   pub call : e.call ≡ Mark
 
--- round 0 and so many rounds more, each ended by a mark: round r has a turn of each victim of the history before it, of which
--- there is at least one, with margin 4 r
+-- round 0 and so many rounds more, each ended by a mark: round r has a turn of each victim of the history before it, of
+-- which there is at least one, with margin 4 r
 pub data AreRounds (d : DesignView) (formula : Formula) : ℕ → List Entry → Type 0 where
-  FirstRound : {h : List Entry} {e : Entry} → IsFirstRound d formula (length d.nets) h → IsMarking e → AreRounds d formula zero (h ++ e ∷ [])
-  Reroutes : {r : ℕ} {h : List Entry} {e : Entry} (after : List Entry) → AreRounds d formula r h → 0 < length (victims (capacity_of d) h) →
-      AreTurns d formula (4 * suc r) (victims (capacity_of d) h) h after → IsMarking e → AreRounds d formula (suc r) (after ++ e ∷ [])
+  FirstRound : {h : List Entry} {e : Entry} → IsFirstRound d formula (length d.nets) h → IsMarking e →
+      AreRounds d formula zero (h ++ e ∷ [])
+  Reroutes : {r : ℕ} {h : List Entry} {e : Entry} (after : List Entry) → AreRounds d formula r h →
+      0 < length (victims (capacity_of d) h) → AreTurns d formula (4 * suc r) (victims (capacity_of d) h) h after →
+      IsMarking e → AreRounds d formula (suc r) (after ++ e ∷ [])
 
 -- a run of at most so many rounds after round 0: it ends with the last of them, or earlier once there are no victims
 pub record AreRoundsUpTo (d : DesignView) (formula : Formula) (rounds : ℕ) (h : List Entry) : Type 0 where

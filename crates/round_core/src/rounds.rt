@@ -1,6 +1,7 @@
 //! The rounds of one hand.
 ghost use Rattle.std.specs.Prelude.{◌≡◌, ◌+◌, ◌*◌, ◌<◌, ◌≤◌, [], length, All, IfOk, OnOk, IsTrue, if◌then◌else◌};
 ghost use Rattle.gr_base.specs.Designs.{IsDesign, is_routed};
+ghost use Rattle.gr_base.specs.Limits.{most_rounds};
 ghost use Rattle.grid_demand.specs.Tables.{capacity_of};
 ghost use Rattle.round_core.specs.Results.{IsMade, IsMadeBook, IsRoundOrEnd};
 ghost use Rattle.round_core.specs.Rounds.{IsFirstRound, AreRounds, AreTurns};
@@ -27,7 +28,7 @@ pub struct Rounds {
     pub chosen: u64,
 }
 
-/// Books each routed net by its pattern plan, and then, in up to `rounds` rounds (0 to 64), gives a
+/// Books each routed net by its pattern plan, and then, in up to `rounds` rounds (at most 64), gives a
 /// turn to each net that lies on an edge over its capacity. Each round ends with a mark. The rounds
 /// end once no net lies on such an edge. The only error is want of memory.
 pub fn route_rounds(
@@ -36,7 +37,7 @@ pub fn route_rounds(
     rounds: u32,
     rule: &CostRule,
 ) -> Result<Rounds, AllocError>
-    requires { rounds ≤ 64 }
+    requires { rounds ≤ most_rounds }
     ensures { IfOk result (IsMade design.now rule.now.formula rounds) }
 {
     let book = book_of_rounds(alloc, design, rounds, rule)?;
@@ -56,7 +57,7 @@ fn book_of_rounds(
     rounds: u32,
     rule: &CostRule,
 ) -> Result<BookState, AllocError>
-    requires { rounds ≤ 64 }
+    requires { rounds ≤ most_rounds }
     ensures { IfOk result (IsMadeBook design.now rule.now.formula rounds) }
 {
     let mut book = BookState::new(alloc, design)?;
@@ -104,10 +105,10 @@ fn next_round(
     book: &mut BookState,
 ) -> Result<bool, AllocError>
     requires design { IsDesign design.now }
-    requires done { done < 64 }
+    requires done { done < most_rounds }
     requires rounds { AreRounds design.now rule.now.formula done book.old.history }
     requires capacity { book.old.capacity ≡ capacity_of design.now }
-    ensures round { IfOk result (λ goes_on. IsRoundOrEnd design.now rule.now.formula done book.old.history book.new.history goes_on) }
+    ensures round { IfOk result (IsRoundOrEnd design.now rule.now.formula done book.old.history book.new.history) }
     ensures capacity { OnOk result (book.new.capacity ≡ capacity_of design.now) }
 {
     let victims = book.victims()?;
@@ -122,7 +123,7 @@ fn next_round(
 
 /// The margin of the windows, in tiles, in the round after so many.
 fn margin_after(done: u32) -> u32
-    requires { done < 64 }
+    requires { done < most_rounds }
     ensures { result ≡ 4 * (done + 1) }
 {
     MARGIN * (done + 1)
@@ -141,7 +142,8 @@ fn reroute(
     requires capacity { book.old.capacity ≡ capacity_of design.now }
     requires stands { Stands design.now book.old.history }
     requires nets { All (λ net. IsTrue (is_routed design.now net)) nets.now }
-    ensures turns { OnOk result (AreTurns design.now rule.now.formula margin nets.now book.old.history book.new.history) }
+    ensures turns { OnOk result
+        (AreTurns design.now rule.now.formula margin nets.now book.old.history book.new.history) }
     ensures capacity { OnOk result (book.new.capacity ≡ capacity_of design.now) }
 {
     for &net in nets {

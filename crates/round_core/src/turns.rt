@@ -9,7 +9,7 @@ ghost use Rattle.book_state.specs.Books.{nets_of};
 ghost use Rattle.book_state.specs.Views.{with_entry};
 ghost use Rattle.round_core.specs.Rounds.{IsPlanAfter, IsRouteOfNet, ClaimsUntilGot, slacks_of_turn, IsTurn};
 ghost use Rattle.round_core.specs.Standing.{Stands};
-ghost use Rattle.round_core.specs.Turns.{last_tree, hand_claim, IsFree};
+ghost use Rattle.round_core.specs.Turns.{last_tree, hand_claim, IsFree, BooksPlan};
 
 use crate::hands::HAND;
 use book_state::{BookState, Call, Claim, PlanKind, Reply};
@@ -58,7 +58,7 @@ fn claim_until_got(
     book: &mut BookState,
 ) -> Result<(), AllocError>
     requires { IsFree book.old.capacity book.old.history net tree }
-    ensures until { (d : DesignView) → (formula : Formula) → book.old.capacity ≡ capacity_of d → IsPlanAfter d formula book.old.history net kind tree → IsRouteOfNet d net tree → OnOk result (ClaimsUntilGot d formula net kind slacks_of_turn book.old.history book.new.history) }
+    ensures until { OnOk result (BooksPlan book.old net kind tree book.new.history) }
     ensures capacity { OnOk result (book.new.capacity ≡ book.old.capacity) }
 {
     if claim(book, net, tree, kind, Some(0))? {
@@ -82,8 +82,10 @@ fn claim_again(
     book: &mut BookState,
 ) -> Result<bool, AllocError>
     requires { IsSomeAnd (last_tree book.old.history) (IsFree book.old.capacity book.old.history net) }
-    ensures entry { (t : TreeView) → last_tree book.old.history ≡ Some t → OnOk result (book.new ≡ with_entry book.old (hand_claim book.old.capacity book.old.history net t slack kind)) }
-    ensures got { (t : TreeView) → last_tree book.old.history ≡ Some t → IfOk result (λ got. IsTrue got ↔ (hand_claim book.old.capacity book.old.history net t slack kind).reply ≡ Reply.Claimed) }
+    ensures entry { (t : TreeView) → last_tree book.old.history ≡ Some t →
+        OnOk result (book.new ≡ with_entry book.old (hand_claim book.old net t slack kind)) }
+    ensures got { (t : TreeView) → last_tree book.old.history ≡ Some t →
+        IfOk result (λ got. IsTrue got ↔ (hand_claim book.old net t slack kind).reply ≡ Reply.Claimed) }
 {
     let tree = last_claimed(book).unwrap().copy(alloc)?;
     claim(book, net, tree, kind, slack)
@@ -100,8 +102,8 @@ pub(crate) fn claim(
 ) -> Result<bool, AllocError>
     requires net { net < nets_of book.old.capacity }
     requires shape { tree.shape ≡ book.old.capacity.shape }
-    ensures entry { OnOk result (book.new ≡ with_entry book.old (hand_claim book.old.capacity book.old.history net tree slack kind)) }
-    ensures got { IfOk result (λ got. IsTrue got ↔ (hand_claim book.old.capacity book.old.history net tree slack kind).reply ≡ Reply.Claimed) }
+    ensures entry { OnOk result (book.new ≡ with_entry book.old (hand_claim book.old net tree slack kind)) }
+    ensures got { IfOk result (λ got. IsTrue got ↔ (hand_claim book.old net tree slack kind).reply ≡ Reply.Claimed) }
 {
     let front = book.history().len();
     let wanted = Claim {

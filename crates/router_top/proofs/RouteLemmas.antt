@@ -8,15 +8,17 @@ use Rattle.std.proofs.lemmas.List.FromFn.{length-map-range_with_len, get_or-map-
 use Rattle.std.proofs.lemmas.Option.{slice_get-get_or, slice_get_past}
 use Rattle.gr_base.specs.Designs.{DesignView, is_routed, is_routed_net}
 use Rattle.gr_base.specs.EdgeSets.{IsJoined}
-use Rattle.gr_base.specs.Plans.{Routes}
+use Rattle.gr_base.specs.Plans.{IsRouteOf}
 use Rattle.gr_base.specs.Trees.{TreeView, IsTree, edges_of, edges_or_none, route_edges, tree_at}
 use Rattle.gr_base.specs.declared.frame.Net.{Net}
 use Rattle.gr_base.specs.declared.grid.Shape.{Shape}
+use Rattle.gr_base.proofs.General.{and-some}
 use Rattle.gr_base.proofs.TreeEdges.{joins-pins}
 use Rattle.grid_demand.specs.Tables.{CapacityView, capacity_of}
 use Rattle.book_state.specs.Books.{nets_of, booked}
 use Rattle.book_state.specs.declared.entry.Entry.{Entry}
 use Rattle.route_writer.specs.Routed.{AreRouted}
+use Rattle.round_core.proofs.TurnLemmas.{routed-net}
 use Rattle.round_core.specs.Rounds.{IsRouteOfNet}
 use Rattle.router_top.specs.Routing.{AllJoined, AreTrees}
 use Rattle.round_core.specs.Standing.{Stands}
@@ -40,19 +42,9 @@ routes-booked d c h trees capacity stands is net =
           ∙ sym (stands.free net (past-unrouted d net (omega (arith, past, count))))
     ]
 
-some-net : (d : DesignView) (net : ℕ) → IsTrue (is_routed d net) → (value : Net) × (slice_get d.nets net ≡ Some value)
-some-net d net routed = by (slice_get d.nets net) refl
-  where
-    by : (o : Option Net) → slice_get d.nets net ≡ o → (value : Net) × (slice_get d.nets net ≡ Some value)
-    by None is = absurd (both_ways (is_routed d net) (ap is_routed_net is) routed)
-    by (Some value) is = (value, is)
-
 some-weaken : (P Q : TreeView → Type 0) (o : Option TreeView) → ((t : TreeView) → P t → Q t) → IsSomeAnd o P → IsSomeAnd o Q
 some-weaken P Q None all some = some
 some-weaken P Q (Some t) all some = all t some
-
-some-is : (P : TreeView → Type 0) (o : Option TreeView) (t : TreeView) → o ≡ Some t → IsSomeAnd o P → P t
-some-is P o t is some = subst (λ (x : Option TreeView). IsSomeAnd x P) is some
 
 -- each routed net has a tree that routes it
 held-tree : (d : DesignView) (h : List Entry) (trees : List (Option TreeView)) → Stands d h → ((net : ℕ) → tree_at trees net ≡ booked h net) →
@@ -62,8 +54,8 @@ held-tree d h trees stands same net routed = subst (λ (o : Option TreeView). Is
 -- so it has one in the design's grid
 pub routes-routed : (d : DesignView) (h : List Entry) (trees : List (Option TreeView)) → Stands d h → ((net : ℕ) → tree_at trees net ≡ booked h net) → AreRouted d trees
 routes-routed d h trees stands same net routed =
-    let value = some-net d net routed in
-    some-weaken (IsRouteOfNet d net) (λ tree. tree.shape ≡ d.frame.shape) (tree_at trees net) (λ t r. (r value.0 value.1).shape) (held-tree d h trees stands same net routed)
+    let one = routed-net d net routed in
+    some-weaken (IsRouteOfNet d net) (λ tree. tree.shape ≡ d.frame.shape) (tree_at trees net) (λ t r. (r one.net one.there).shape) (held-tree d h trees stands same net routed)
 
 pub routes-free : (d : DesignView) (h : List Entry) (trees : List (Option TreeView)) → Stands d h → ((net : ℕ) → tree_at trees net ≡ booked h net) →
     (net : ℕ) → is_routed d net ≡ false → tree_at trees net ≡ None
@@ -75,7 +67,7 @@ pub routes-trees : (d : DesignView) (h : List Entry) (trees : List (Option TreeV
 routes-trees d h trees stands same are net t is =
     elim (cases_Bool (is_routed d net)) [
       | inl routed ↦
-          (are net t routed is, some-is (λ (tree : TreeView). tree.shape ≡ d.frame.shape) (tree_at trees net) t is (routes-routed d h trees stands same net routed))
+          (are net t routed is, and-some (λ (tree : TreeView). tree.shape ≡ d.frame.shape) (tree_at trees net) t is (routes-routed d h trees stands same net routed))
       | inr unrouted ↦ (let none = routes-free d h trees stands same net unrouted in cc)
     ]
 
@@ -90,7 +82,7 @@ routes-joined d h trees stands same are number net is routed = by (tree_at trees
     by : (o : Option TreeView) → tree_at trees number ≡ o → IsJoined d.frame.shape (route_edges trees number) net.pins
     by None there = absurd (subst (λ (o : Option TreeView). IsSomeAnd o (IsRouteOfNet d number)) there (held-tree d h trees stands same number has))
     by (Some t) there =
-        let r : Routes d.frame.shape net t = some-is (IsRouteOfNet d number) (tree_at trees number) t there (held-tree d h trees stands same number has) net is in
+        let r : IsRouteOf d.frame.shape net t = and-some (IsRouteOfNet d number) (tree_at trees number) t there (held-tree d h trees stands same number has) net is in
         let joined : IsJoined t.shape (edges_of t) net.pins = joins-pins t net.pins (are number t has there) r.pins in
         subst (λ (o : Option TreeView). IsJoined d.frame.shape (edges_or_none o) net.pins) (sym there)
         (subst (λ (g : Shape). IsJoined g (edges_of t) net.pins) r.shape joined)

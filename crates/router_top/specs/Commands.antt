@@ -20,8 +20,8 @@ abbrev pub rounds_back : Option Rounds → Option HandedBack
 rounds_back rounds = option_map (λ (r : Rounds). record { book = r.book; hands = r.hands.items }) rounds
 
 pub record Command : Type 1 where
-  -- what its files say, in the order in which they are read: all is well, or the first fault; None where the file that is wanted
-  -- isn't held
+  -- what its files say, in the order in which they are read: all is well, or the first fault; None where the file that
+  -- is wanted isn't held
   pub files : Reading → Option (Result (Unit {0}) Stop)
   -- what out and err gain where it is carried out, and what is handed back
   pub says : Reading → Option HandedBack → Outcome → (text report : List ℕ) → Type 0

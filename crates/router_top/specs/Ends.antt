@@ -35,7 +35,8 @@ onward device faults written = record {
 }
 
 -- a run comes to an end with this status: the order left what it says, and then err was told of it
-pub record Ends (order : Option Order) (shelf : Reading) (out err : Device) (kept : Option HandedBack) (status : ℕ) : Type 0 where
+pub record Ends (order : Option Order) (shelf : Reading) (out err : Device) (kept : Option HandedBack)
+    (status : ℕ) : Type 0 where
   pub end : Result Outcome Stop
   -- err's count of faults and its bytes before it was told
   pub faults : ℕ

@@ -27,9 +27,10 @@ verdict_text d v = report_of v ++ unjoined_text d.nets v.unjoined
 abbrev pub IsCoverVerdict : DesignView → (via_cost : ℕ) → Option (List ℕ) → Verdict → Type 0
 IsCoverVerdict d via_cost held v = IsSomeAnd held (λ bytes. IsVerdict d via_cost (cover d bytes) v)
 
--- a verdict on the solution that was read, for the design that was read, and its text; where the shelf tells, it is the verdict on
--- what the solution's bytes cover
-pub record IsJudging (shelf : Reading) (design_name solution_name : List ℕ) (via_cost : ℕ) (outcome : Outcome) (text : List ℕ) : Type 0 where
+-- a verdict on the solution that was read, for the design that was read, and its text; where the shelf tells, it is the
+-- verdict on what the solution's bytes cover
+pub record IsJudging (shelf : Reading) (design_name solution_name : List ℕ) (via_cost : ℕ)
+    (outcome : Outcome) (text : List ℕ) : Type 0 where
   pub design : DesignView
   pub said : IsTrue shelf.tells → design_said shelf.held design_name ≡ Some (Ok design)
   pub solution : SolutionView
@@ -53,7 +54,8 @@ abbrev pub judging : (design solution : List ℕ) → (via_cost : ℕ) → Comma
 judging design solution via_cost = record {
   files = λ shelf. checked (design_said shelf.held design) DesignFault
       (λ d. checked (solution_said shelf.held solution d) SolutionFault (λ s. Some (Ok tt)));
-  says = λ shelf kept outcome text report. (kept ≡ None) × (report ≡ []) × IsJudging shelf design solution via_cost outcome text;
+  says = λ shelf kept outcome text report.
+      (kept ≡ None) × (report ≡ []) × IsJudging shelf design solution via_cost outcome text;
   reports = false;
   is_open = λ shelf. HasOpenNet shelf design solution;
 }

@@ -9,7 +9,8 @@ use Rattle.router_top.specs.declared.stop.Stop.{Stop}
 use Rattle.router_top.specs.declared.stop.Stop.TheVariants.{Usage, DesignFault, SolutionFault, ReadFailed, WriteFailed, NoMemory}
 
 -- out and err gained their whole texts
-pub record IsDone (command : Command) (shelf : Reading) (out err : Device) (kept : Option HandedBack) (outcome : Outcome) : Type 0 where
+pub record IsDone (command : Command) (shelf : Reading) (out err : Device) (kept : Option HandedBack)
+    (outcome : Outcome) : Type 0 where
   pub reads : shelf.faults_after ≡ shelf.faults
   pub text : List ℕ
   pub report : List ℕ

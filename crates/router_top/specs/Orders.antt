@@ -1,11 +1,12 @@
 -- The orders of the code, and the commands that they are.
 use Rattle.std.specs.Prelude.{◌≤◌}
+use Rattle.gr_base.specs.Limits.{most_rounds}
 use Rattle.router_top.specs.declared.words.Options.{Options}
 use Rattle.router_top.specs.declared.words.Order.{Order as Given}
 use Rattle.router_top.specs.Commands.{Command}
 use Rattle.router_top.specs.Judging.{judging}
 use Rattle.router_top.specs.Routing.{routing}
-use Rattle.router_top.specs.Words.{Order, Route, Evaluate, most_rounds}
+use Rattle.router_top.specs.Words.{Order, Route, Evaluate}
 
 -- the order that was read from the words
 abbrev pub named : Given → Order

@@ -42,18 +42,21 @@ AllJoined d sets =
 -- the demand that is booked for each wire edge is the demand of these sets of edges
 abbrev pub IsBookedDemand : DesignView → BookView → ℕ → (ℕ → Edges) → Type 0
 IsBookedDemand d book front sets =
-    (e : Edge) → IsTrue (has_edge d.frame.shape e) → IsTrue (is_wire e) → demand_after book.capacity (take front book.history) e ≡ demand_by d sets e
+    (e : Edge) → IsTrue (has_edge d.frame.shape e) → IsTrue (is_wire e) →
+    demand_after book.capacity (take front book.history) e ≡ demand_by d sets e
 
--- the book of a design's rounds: each entry of its history has the reply that the rules give, the history is that of the rounds,
--- and the callers' logs part it
+-- the book of a design's rounds: each entry of its history has the reply that the rules give, the history is that of
+-- the rounds, and the callers' logs part it
 pub record IsBookOf (d : DesignView) (options : Options) (book : BookView) (hands : List HandLog) : Type 0 where
   pub capacity : book.capacity ≡ capacity_of d
   pub legal : IsLegal book.capacity book.history
   pub run : AreRoundsUpTo d options.formula options.rounds book.history
   pub parted : ArePartedTo hand book.history hands
 
--- a design's routes: the trees booked at the first mark of least overflow; exactly the routed nets have one, and it joins their pins
-pub record AreChosenRoutes (d : DesignView) (book : BookView) (front : ℕ) (trees : List (Option TreeView)) : Type 0 where
+-- a design's routes: the trees booked at the first mark of least overflow; exactly the routed nets have one, and it
+-- joins their pins
+pub record AreChosenRoutes (d : DesignView) (book : BookView) (front : ℕ) (trees : List
+    (Option TreeView)) : Type 0 where
   pub least : least_mark book.history ≡ Some front
   pub booked : (net : ℕ) → tree_at trees net ≡ booked (take front book.history) net
   pub routed : AreRouted d trees
@@ -73,10 +76,11 @@ pub record IsRoutedDesign (d : DesignView) (options : Options) (r : RoutedDesign
   pub judged : IsVerdict d options.via_cost (route_edges r.routes) verdict
   pub reports : r.report ≡ report_of verdict
 
--- the text and the report of routes of the design that was read: the text is that of the trees booked at the first mark of least
--- overflow; by what it covers, each routed net is joined, booked demand is that of the text, and the five numbers of the report
--- are the text's
-pub record IsRouting (shelf : Reading) (name : List ℕ) (options : Options) (book : BookView) (hands : List HandLog) (text report : List ℕ) : Type 0 where
+-- the text and the report of routes of the design that was read: the text is that of the trees booked at the first mark
+-- of least overflow; by what it covers, each routed net is joined, booked demand is that of the text, and the five
+-- numbers of the report are the text's
+pub record IsRouting (shelf : Reading) (name : List ℕ) (options : Options) (book : BookView)
+    (hands : List HandLog) (text report : List ℕ) : Type 0 where
   pub design : DesignView
   pub said : IsTrue shelf.tells → design_said shelf.held name ≡ Some (Ok design)
   pub made : IsBookOf design options book hands

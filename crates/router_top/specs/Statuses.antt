@@ -38,7 +38,8 @@ SomeWriteFails command out err =
 
 -- the answer to accepted files, over sinks that don't fail, and to files at fault
 abbrev pub IsAnswer : Command → Result (Unit {0}) Stop → (out err : Device) → ℕ → Type 0
-IsAnswer command (Ok accepted) out err status = (SomeWriteFails command out err → ⊥) → (status ≡ 0) ⊎ (status ≡ 1) ⊎ (status ≡ 8)
+IsAnswer command (Ok accepted) out err status =
+    (SomeWriteFails command out err → ⊥) → (status ≡ 0) ⊎ (status ≡ 1) ⊎ (status ≡ 8)
 IsAnswer command (Err stop) out err status = (status ≡ status_of stop) ⊎ (status ≡ 8)
 
 -- what holds of the command of an order, where the words give one
@@ -47,7 +48,8 @@ OfCommand None P = Unit {0}
 OfCommand (Some order) P = P (command_of order)
 
 -- how a run ends, by its status, and what it hands back
-pub record IsByStatus (order : Option Order) (shelf : Reading) (out err : Device) (kept : Option HandedBack) (status : ℕ) : Type 0 where
+pub record IsByStatus (order : Option Order) (shelf : Reading) (out err : Device)
+    (kept : Option HandedBack) (status : ℕ) : Type 0 where
   pub known : IsTrue (is_status status)
   -- the words give no order
   pub usage : (status ≡ 2) ↔ (order ≡ None)
@@ -61,15 +63,18 @@ pub record IsByStatus (order : Option Order) (shelf : Reading) (out err : Device
   -- the design is accepted, and the solution's text has a fault
   pub solution_fault : status ≡ 5 → OfCommand order (λ command. ReportsSolutionFault command shelf out err)
   -- a read failed, or a name of the order is missing
-  pub read_failed : status ≡ 6 → OfCommand order (λ command. FailsToRead command shelf out × GainsLine err (line_of ReadFailed))
+  pub read_failed : status ≡ 6 →
+      OfCommand order (λ command. FailsToRead command shelf out × GainsLine err (line_of ReadFailed))
   -- a write failed
   pub write_failed : status ≡ 7 → OfCommand order (λ command. FailsToWrite command shelf out err kept)
   -- memory was wanting
-  pub no_memory : status ≡ 8 → OfCommand order (λ command. WantsMemory command shelf out kept × GainsLine err (line_of NoMemory))
+  pub no_memory : status ≡ 8 →
+      OfCommand order (λ command. WantsMemory command shelf out kept × GainsLine err (line_of NoMemory))
   -- no book is handed back where no route was made
   pub unkept : (status ≡ 0 → ⊥) → (status ≡ 7 → ⊥) → (status ≡ 8 → ⊥) → kept ≡ None
   -- over devices that don't fail, held files are answered by what they say, if memory serves
   pub completes : OfCommand order (λ command. IsTrue shelf.tells → (Rose shelf.faults shelf.faults_after → ⊥) →
       (said : Result (Unit {0}) Stop) → command.files shelf ≡ Some said → IsAnswer command said out err status)
   -- of the commands that are done those end with 1 by whose files some routed net isn't joined
-  pub opens : OfCommand order (λ command. IsTrue shelf.tells → (status ≡ 1 → command.is_open shelf) × (status ≡ 0 → command.is_open shelf → ⊥))
+  pub opens : OfCommand order (λ command. IsTrue shelf.tells →
+      (status ≡ 1 → command.is_open shelf) × (status ≡ 0 → command.is_open shelf → ⊥))

@@ -39,7 +39,8 @@ line_of NoMemory = codes "groute: out of memory\n"
 
 -- err is told why a command stopped, or, where memory is wanting for the line, that
 abbrev pub IsToldOrNot : Device → Stop → Stop → Type 0
-IsToldOrNot err stop told = ((told ≡ stop) × GainsLine err (line_of stop)) ⊎ ((told ≡ NoMemory) × GainsLine err (line_of NoMemory))
+IsToldOrNot err stop told =
+    ((told ≡ stop) × GainsLine err (line_of stop)) ⊎ ((told ≡ NoMemory) × GainsLine err (line_of NoMemory))
 
 -- err is told why a command stopped; a write that failed isn't told
 abbrev pub IsTold : Device → Stop → Stop → Type 0

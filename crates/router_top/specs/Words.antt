@@ -4,6 +4,7 @@ use Rattle.std.specs.List.{list_all}
 use Rattle.std.specs.Option.{option_map}
 use Rattle.std.specs.Str.{bytes_eq}
 use Rattle.cost_rules.specs.declared.site.Formula.TheVariants.{First}
+use Rattle.gr_base.specs.Limits.{most_rounds}
 use Rattle.router_top.specs.declared.words.Options.{Options}
 
 -- what the words ask for, with the names of the texts that it needs
@@ -29,11 +30,8 @@ value_of digits = fold with_digit 0 digits
 -- a whole number of one to twenty digits, at most this great
 abbrev pub number_in : ℕ → List ℕ → Option ℕ
 number_in most word =
-    if nat_le 1 (length word) && nat_le (length word) 20 && list_all is_digit word && nat_le (value_of word) most then Some (value_of word) else None
-
--- the most rounds that words may ask for
-abbrev pub most_rounds : ℕ
-most_rounds = 64
+    if nat_le 1 (length word) && nat_le (length word) 20 && list_all is_digit word && nat_le (value_of word) most
+    then Some (value_of word) else None
 
 -- as how many wire edges a via edge counts in a report, where the words don't say
 abbrev pub plain_via_cost : ℕ
@@ -46,7 +44,8 @@ plain_options rounds = record { rounds = rounds; via_cost = plain_via_cost; form
 abbrev pub route_of : (design : List ℕ) → (rounds : ℕ) → Order
 route_of design rounds = Route design (plain_options rounds)
 
--- the order that the words give: `route`, a name and a number of rounds, or `evaluate` and two names; other words give none
+-- the order that the words give: `route`, a name and a number of rounds, or `evaluate` and two names; other words give
+-- none
 abbrev pub order_of : List (List ℕ) → Option Order
 order_of (command ∷ first ∷ second ∷ []) =
     if is_option first || is_option second then None else

@@ -47,7 +47,8 @@ pub(crate) fn open_solution<S: Shelf>(
         (S.held shelf.old SolutionSlot name.now) (solution_said (S.held shelf.old) name.now design.now) SolutionFault
         result }
     ensures solution { IfOk result (IsOf design.now) }
-    ensures covered { IfOk result (λ s. IsTrue S.tells → IsCovered design.now (S.held shelf.old SolutionSlot name.now) s) }
+    ensures covered { IfOk result
+        (λ s. IsTrue S.tells → IsCovered design.now (S.held shelf.old SolutionSlot name.now) s) }
 {
     reach(alloc, shelf, Slot::Solution, name)?;
     match read_solution(alloc, shelf, design) {

@@ -1,13 +1,13 @@
 //! What the words ask for.
 ghost use Rattle.std.specs.Prelude.{◌≡◌, ◌≤◌, IfSome, map, string_bytes};
 ghost use Rattle.std.specs.Option.{option_map};
-ghost use Rattle.router_top.specs.Words.{is_option, number_in as number_in_word, order_of, plain_options as plain_options_of};
+ghost use Rattle.router_top.specs.Words.{is_option, number_in as number_in_word, order_of};
+ghost use Rattle.router_top.specs.Words.{plain_options as plain_options_of};
+ghost use Rattle.gr_base.specs.Limits.{most_rounds};
 ghost use Rattle.router_top.specs.Orders.{named, IsInRange};
 
 use cost_rules::Formula;
-
-/// The most rounds that words may ask for.
-const MOST_ROUNDS: u32 = 64;
+use gr_base::MOST_ROUNDS;
 
 /// The most digits of a number in words.
 const MOST_DIGITS: usize = 20;
@@ -85,7 +85,7 @@ fn is_option(word: &str) -> bool
 
 /// The number that a word of one to twenty digits spells, if it is at most this great.
 fn number_in(most: u32, word: &str) -> Option<u32>
-    requires { most ≤ 64 }
+    requires { most ≤ most_rounds }
     ensures { result ≡ number_in_word most word.now }
 {
     let digits = word.as_bytes();

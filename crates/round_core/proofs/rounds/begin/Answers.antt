@@ -33,5 +33,5 @@ loop-net-preserved g c =
           (pattern-after d formula b.capacity c.capacity.result.now b.history c.loads.result.now c.loop-net.net t c.loop-net.invariant.capacity c.capacity.ensures.capacity c.loads.ensures.loads
           c.in_ok-tree.ensures.plan)
           c.in_ok-tree.ensures.routes c.in_ok-claim.ensures.entry;
-      capacity = capacity-kept b c.claim.new.book (hand_claim b.capacity b.history c.loop-net.net t None Pattern) (capacity_of d) c.in_ok-claim.ensures.entry c.loop-net.invariant.capacity;
+      capacity = capacity-kept b c.claim.new.book (hand_claim b c.loop-net.net t None Pattern) (capacity_of d) c.in_ok-claim.ensures.entry c.loop-net.invariant.capacity;
     }

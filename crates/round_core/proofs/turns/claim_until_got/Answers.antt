@@ -1,7 +1,8 @@
 use Rattle.std.proofs.Common.{[], ◌∷◌, length, Some, None, refl}
+use Rattle.gr_base.proofs.General.{some-and}
 use Rattle.round_core.specs.Rounds.{claim_of}
 use Rattle.round_core.specs.Turns.{last_tree, hand_claim, IsFree}
-use Rattle.round_core.proofs.TurnLemmas.{claims-claimed, claims-refused, plan-again, refused-free, refused-last, some-and, not-got, unbounded-claimed, capacity-kept}
+use Rattle.round_core.proofs.TurnLemmas.{claims-claimed, claims-refused, plan-again, refused-free, refused-last, not-got, unbounded-claimed, capacity-kept}
 use Rattle.round_core.proofs.turns.claim_until_got.Goals as goal
 
 pub returns-then-branch-clause-until : goal.returns-then-branch-clause-until
@@ -14,7 +15,7 @@ claim_again-requires c =
     let b = c.args.book.now in
     let one = c.claim.new.book in
     let t = c.args.tree in
-    let refused = not-got c.in_ok-claim.field-0 (hand_claim b.capacity b.history c.args.net t (Some 0) c.args.kind).reply c.in_ok-claim.ensures.got c.if-branch.false in
+    let refused = not-got c.in_ok-claim.field-0 (hand_claim b c.args.net t (Some 0) c.args.kind).reply c.in_ok-claim.ensures.got c.if-branch.false in
     some-and (IsFree one.capacity one.history c.args.net) (last_tree one.history) t
     (refused-last b one c.args.net t (Some 0) c.args.kind c.in_ok-claim.ensures.entry)
     (refused-free b one c.args.net t (Some 0) c.args.kind c.requires c.in_ok-claim.ensures.entry refused)
@@ -25,7 +26,7 @@ returns-then-branch-2-clause-until c = λ d formula is plan routes.
     let one = c.claim.new.book in
     let two = c.claim_again.new.book in
     let t = c.args.tree in
-    let refused = not-got c.in_ok-claim.field-0 (hand_claim b.capacity b.history c.args.net t (Some 0) c.args.kind).reply c.in_ok-claim.ensures.got c.if-branch.false in
+    let refused = not-got c.in_ok-claim.field-0 (hand_claim b c.args.net t (Some 0) c.args.kind).reply c.in_ok-claim.ensures.got c.if-branch.false in
     let last = refused-last b one c.args.net t (Some 0) c.args.kind c.in_ok-claim.ensures.entry in
     claims-refused d formula b one c.args.net t (Some 0) c.args.kind (Some 0 ∷ None ∷ []) two.history c.requires plan routes c.in_ok-claim.ensures.entry refused
     (claims-claimed d formula one two c.args.net t (Some 0) c.args.kind (None ∷ [])
@@ -37,9 +38,9 @@ returns-then-branch-2-clause-capacity c =
     let b = c.args.book.now in
     let one = c.claim.new.book in
     let t = c.args.tree in
-    capacity-kept one c.claim_again.new.book (hand_claim one.capacity one.history c.args.net t (Some 0) c.args.kind) b.capacity
+    capacity-kept one c.claim_again.new.book (hand_claim one c.args.net t (Some 0) c.args.kind) b.capacity
     (c.in_ok-claim_again.ensures.entry t (refused-last b one c.args.net t (Some 0) c.args.kind c.in_ok-claim.ensures.entry))
-    (capacity-kept b one (hand_claim b.capacity b.history c.args.net t (Some 0) c.args.kind) b.capacity c.in_ok-claim.ensures.entry refl)
+    (capacity-kept b one (hand_claim b c.args.net t (Some 0) c.args.kind) b.capacity c.in_ok-claim.ensures.entry refl)
 
 pub claim_again-requires-2 : goal.claim_again-requires-2
 claim_again-requires-2 c =
@@ -47,10 +48,10 @@ claim_again-requires-2 c =
     let one = c.claim.new.book in
     let two = c.claim_again.new.book in
     let t = c.args.tree in
-    let refused = not-got c.in_ok-claim.field-0 (hand_claim b.capacity b.history c.args.net t (Some 0) c.args.kind).reply c.in_ok-claim.ensures.got c.if-branch.false in
+    let refused = not-got c.in_ok-claim.field-0 (hand_claim b c.args.net t (Some 0) c.args.kind).reply c.in_ok-claim.ensures.got c.if-branch.false in
     let last = refused-last b one c.args.net t (Some 0) c.args.kind c.in_ok-claim.ensures.entry in
     let entry = c.in_ok-claim_again.ensures.entry t last in
-    let again = not-got c.in_ok-claim_again.field-0 (hand_claim one.capacity one.history c.args.net t (Some 0) c.args.kind).reply (c.in_ok-claim_again.ensures.got t last) c.if-branch-2.false in
+    let again = not-got c.in_ok-claim_again.field-0 (hand_claim one c.args.net t (Some 0) c.args.kind).reply (c.in_ok-claim_again.ensures.got t last) c.if-branch-2.false in
     some-and (IsFree two.capacity two.history c.args.net) (last_tree two.history) t
     (refused-last one two c.args.net t (Some 0) c.args.kind entry)
     (refused-free one two c.args.net t (Some 0) c.args.kind (refused-free b one c.args.net t (Some 0) c.args.kind c.requires c.in_ok-claim.ensures.entry refused) entry again)
@@ -62,10 +63,10 @@ returns-clause-until c = λ d formula is plan routes.
     let two = c.claim_again.new.book in
     let three = c.claim_again-2.new.book in
     let t = c.args.tree in
-    let refused = not-got c.in_ok-claim.field-0 (hand_claim b.capacity b.history c.args.net t (Some 0) c.args.kind).reply c.in_ok-claim.ensures.got c.if-branch.false in
+    let refused = not-got c.in_ok-claim.field-0 (hand_claim b c.args.net t (Some 0) c.args.kind).reply c.in_ok-claim.ensures.got c.if-branch.false in
     let last = refused-last b one c.args.net t (Some 0) c.args.kind c.in_ok-claim.ensures.entry in
     let entry = c.in_ok-claim_again.ensures.entry t last in
-    let again = not-got c.in_ok-claim_again.field-0 (hand_claim one.capacity one.history c.args.net t (Some 0) c.args.kind).reply (c.in_ok-claim_again.ensures.got t last) c.if-branch-2.false in
+    let again = not-got c.in_ok-claim_again.field-0 (hand_claim one c.args.net t (Some 0) c.args.kind).reply (c.in_ok-claim_again.ensures.got t last) c.if-branch-2.false in
     let free = refused-free b one c.args.net t (Some 0) c.args.kind c.requires c.in_ok-claim.ensures.entry refused in
     let free_again = refused-free one two c.args.net t (Some 0) c.args.kind free entry again in
     let plan_one = plan-again d formula b one c.args.net t (Some 0) c.args.kind plan c.in_ok-claim.ensures.entry refused in
@@ -84,7 +85,7 @@ returns-clause-capacity c =
     let t = c.args.tree in
     let last = refused-last b one c.args.net t (Some 0) c.args.kind c.in_ok-claim.ensures.entry in
     let entry = c.in_ok-claim_again.ensures.entry t last in
-    capacity-kept two c.claim_again-2.new.book (hand_claim two.capacity two.history c.args.net t None c.args.kind) b.capacity
+    capacity-kept two c.claim_again-2.new.book (hand_claim two c.args.net t None c.args.kind) b.capacity
     (c.in_ok-claim_again-2.ensures.entry t (refused-last one two c.args.net t (Some 0) c.args.kind entry))
-    (capacity-kept one two (hand_claim one.capacity one.history c.args.net t (Some 0) c.args.kind) b.capacity entry
-    (capacity-kept b one (hand_claim b.capacity b.history c.args.net t (Some 0) c.args.kind) b.capacity c.in_ok-claim.ensures.entry refl))
+    (capacity-kept one two (hand_claim one c.args.net t (Some 0) c.args.kind) b.capacity entry
+    (capacity-kept b one (hand_claim b c.args.net t (Some 0) c.args.kind) b.capacity c.in_ok-claim.ensures.entry refl))
