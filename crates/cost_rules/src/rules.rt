@@ -3,6 +3,7 @@ ghost use Rattle.cost_rules.specs.declared.site.Formula.TheVariants.{First, Stee
 ghost use Rattle.cost_rules.specs.declared.sight.Watch.TheVariants.{Never, Still, Goal};
 
 use crate::rule::CostRule;
+use crate::site::Formula;
 use crate::watcher::Watcher;
 
 /// The rule of each formula and the watcher of each watch.
@@ -52,6 +53,17 @@ impl Rules {
             never,
             still,
             goal,
+        }
+    }
+
+    /// The rule of a formula.
+    pub fn of(&self, formula: Formula) -> &CostRule
+        ensures { result.now.formula ≡ formula }
+    {
+        match formula {
+            Formula::First => self.first(),
+            Formula::Steep => self.steep(),
+            Formula::Flat => self.flat(),
         }
     }
 

@@ -1,5 +1,6 @@
 pub mod Calls
 pub mod Counts
+pub mod Devices
 pub mod Host
 pub mod Memory
 pub mod Parts

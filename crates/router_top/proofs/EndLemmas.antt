@@ -1,397 +1,318 @@
-use Rattle.std.proofs.Common.{◌≡◌, ℕ, ◌⊎◌, inl, inr, Bool, List, ◌++◌, [], Option, Some, None, Result, Ok, Err, IsTrue, refl, sym, ap, subst, ◌∙◌, append-nil, arith}
-use Rattle.gr_base.specs.Designs.{DesignView}
-use Rattle.book_state.specs.Views.{BookView}
+-- What each status says, of how a command ended and what err was told.
+use Rattle.std.proofs.Common.{◌≡◌, ℕ, inl, inr, Bool, true, false, ◌==◌, List, ◌++◌, Option, Some, None, Result, Ok, Err, IsTrue, refl, sym, ap, subst, ◌∙◌}
 use Rattle.gr_io.specs.Counts.{Rose}
+use Rattle.gr_io.specs.Devices.{Device, Reading, IsUntouched, Gains, GainsPart, GainsLine}
 use Rattle.gr_io.specs.Parts.{AppendsPart}
 use Rattle.ispd_reader.specs.declared.fault.DesignFault.{DesignFault as DesignFaultKind}
-use Rattle.route_reader.specs.Solutions.{SolutionView}
 use Rattle.solution_text.specs.declared.fault.SolutionFault.{SolutionFault as SolutionFaultKind}
-use Rattle.router_top.specs.Devices.{Device, Reading, IsUntouched, Gains, GainsPart, GainsLine}
-use Rattle.router_top.specs.Ends.{IsAnswer, IsOpen, Ends}
-use Rattle.router_top.specs.Lines.{status_done, status_of, line_of}
-use Rattle.router_top.specs.Opening.{Opens, TellsFault}
-use Rattle.router_top.specs.Outcomes.{checked, files_say, IsDone, IsFaulty, FailsToRead, FailsToWrite, WantsMemory, Finishes, Leaves, IsWritten, SomeIsCut}
-use Rattle.router_top.specs.Routings.{IsRouting}
-use Rattle.router_top.specs.Said.{design_said, solution_said}
-use Rattle.router_top.specs.Texts.{Kept, kept_of, Says}
-use Rattle.router_top.specs.Words.{Order, Route, Evaluate}
-use Rattle.router_top.specs.declared.hands.HandLog.{HandLog}
+use Rattle.router_top.specs.Commands.{HandedBack, Command}
+use Rattle.router_top.specs.Ends.{LeavesFor, upto, onward, Ends}
+use Rattle.router_top.specs.Leaving.{IsDone, IsFaulty, FailsToRead, FailsToWrite, WantsMemory, IsSilent, Leaves}
+use Rattle.router_top.specs.Orders.{command_of}
+use Rattle.router_top.specs.Statuses.{is_status, ReportsDesignFault, ReportsSolutionFault, IsAnswer, IsByStatus}
+use Rattle.router_top.specs.Stops.{status_of, line_of, IsToldOrNot, Finishes}
+use Rattle.router_top.specs.Words.{Order}
 use Rattle.router_top.specs.declared.stop.Outcome.{Outcome}
 use Rattle.router_top.specs.declared.stop.Outcome.TheVariants.{Whole, Open}
 use Rattle.router_top.specs.declared.stop.Stop.{Stop}
 use Rattle.router_top.specs.declared.stop.Stop.TheVariants.{Usage, DesignFault, SolutionFault, ReadFailed, WriteFailed, NoMemory}
-use Rattle.router_top.proofs.JudgingLemmas.{judged-open, judged-whole}
+use Rattle.router_top.proofs.CommandLaws.{IsLawful, lawful}
 
--- the files of an order whose texts were made are accepted
-says-accepted : (order : Order) (shelf : Reading) (kept : Option Kept) (outcome : Outcome) (text report : List ℕ) → Says order shelf kept outcome text report → IsTrue shelf.tells →
-    files_say order shelf ≡ Some (Ok tt)
-says-accepted (Route name rounds) shelf None outcome text report says tells = absurd says.1
-says-accepted (Route name rounds) shelf (Some k) outcome text report says tells =
-    ap (λ (o : Option (Result DesignView (DesignFaultKind × ℕ))). checked o DesignFault (λ d. Some (Ok tt))) (says.1.said tells)
-says-accepted (Evaluate design solution) shelf kept outcome text report says tells =
-    ap (λ (o : Option (Result DesignView (DesignFaultKind × ℕ))). checked o DesignFault (λ d. checked (solution_said shelf solution d) SolutionFault (λ s. Some (Ok tt)))) (says.2.said tells) ∙
-    ap (λ (o : Option (Result SolutionView (SolutionFaultKind × ℕ))). checked o SolutionFault (λ s. Some (Ok tt))) (says.2.read tells)
+-- err up to the moment at which it is told, and from there on
+module _ (err : Device) (faults : ℕ) (written : List ℕ) where
+  untouched-both : IsUntouched (upto err faults written) → IsUntouched (onward err faults written) → IsUntouched err
+  untouched-both first second = record { faults = second.faults ∙ first.faults; written = λ tells. second.written tells ∙ first.written tells }
+
+  gains-then : (text : List ℕ) → Gains (upto err faults written) text → IsUntouched (onward err faults written) → Gains err text
+  gains-then text first second = record { faults = second.faults ∙ first.faults; written = λ tells. second.written tells ∙ first.written tells }
+
+  part-then : (text : List ℕ) → GainsPart (upto err faults written) text → IsUntouched (onward err faults written) → GainsPart err text
+  part-then text first second = λ tells. subst (λ (w : List ℕ). AppendsPart err.written w text) (sym (second.written tells)) (first tells)
+
+  line-then : (line : List ℕ) → IsUntouched (upto err faults written) → GainsLine (onward err faults written) line → GainsLine err line
+  line-then line first second =
+      elim second [
+        | inl whole ↦ inl (whole.0 ∙ first.faults, λ tells. whole.1 tells ∙ ap (λ (w : List ℕ). w ++ line) (first.written tells))
+        | inr part ↦
+            inr (
+              subst (λ (f : ℕ). Rose f err.faults_after) first.faults part.0,
+              λ tells. subst (λ (w : List ℕ). AppendsPart w err.written_after line) (first.written tells) (part.1 tells),
+            )
+      ]
+
+abbrev pick : Bool → Type 0 → Type 0 → Type 0
+pick true A B = A
+pick false A B = B
+
+-- what a status says of a command
+abbrev SaysAt : Command → Reading → (out err : Device) → Option HandedBack → ℕ → Type 0
+SaysAt command shelf out err kept status =
+    pick (status == 0) (IsDone command shelf out err kept Whole)
+    (pick (status == 1) (IsDone command shelf out err kept Open)
+    (pick (status == 3) (ReportsDesignFault command shelf out err)
+    (pick (status == 5) (ReportsSolutionFault command shelf out err)
+    (pick (status == 6) (FailsToRead command shelf out × GainsLine err (line_of ReadFailed))
+    (pick (status == 7) (FailsToWrite command shelf out err kept)
+    (pick (status == 8) (WantsMemory command shelf out kept × GainsLine err (line_of NoMemory)) ⊥))))))
+
+-- a status, what it says, and how it answers what the files say
+record IsShown (command : Command) (shelf : Reading) (out err : Device) (kept : Option HandedBack) (status : ℕ) : Type 0 where
+  known : IsTrue (is_status status)
+  says : SaysAt command shelf out err kept status
+  unkept : (status ≡ 0 → ⊥) → (status ≡ 7 → ⊥) → (status ≡ 8 → ⊥) → kept ≡ None
+  answers : IsTrue shelf.tells → (Rose shelf.faults shelf.faults_after → ⊥) → (said : Result (Unit {0}) Stop) →
+      command.files shelf ≡ Some said → IsAnswer command said out err status
 
 -- files say one thing
 one_answer : (o : Option (Result (Unit {0}) Stop)) (a b : Result (Unit {0}) Stop) → o ≡ Some a → o ≡ Some b → a ≡ b
 one_answer o a b first second = cc
 
--- a command whose texts were made answers accepted files
-done-answers : (order : Order) (shelf : Reading) (out err : Device) (kept : Option Kept) (outcome : Outcome) (text report : List ℕ) (status : ℕ) →
-    Says order shelf kept outcome text report → IsAnswer order (Ok tt) out err status →
-    IsTrue shelf.tells → (Rose shelf.faults shelf.faults_after → ⊥) → (said : Result (Unit {0}) Stop) → files_say order shelf ≡ Some said → IsAnswer order said out err status
-done-answers order shelf out err kept outcome text report status says answer tells quiet said is =
-    subst (λ (r : Result (Unit {0}) Stop). IsAnswer order r out err status)
-    (one_answer (files_say order shelf) (Ok tt) said (says-accepted order shelf kept outcome text report says tells) is) answer
+module _ (command : Command) (law : IsLawful command) (shelf : Reading) (out err : Device) (kept : Option HandedBack) where
+  -- a command whose texts were made answers accepted files
+  done-answers : (outcome : Outcome) (text report : List ℕ) (status : ℕ) → command.says shelf kept outcome text report →
+      IsAnswer command (Ok tt) out err status → IsTrue shelf.tells → (said : Result (Unit {0}) Stop) →
+      command.files shelf ≡ Some said → IsAnswer command said out err status
+  done-answers outcome text report status says answer tells said is =
+      subst (λ (r : Result (Unit {0}) Stop). IsAnswer command r out err status)
+      (one_answer (command.files shelf) (Ok tt) said (law.accepts shelf kept outcome text report says tells) is) answer
 
--- no routes are open
-routes-whole : (outcome : Outcome) → Open ≡ outcome → outcome ≡ Whole → ⊥
-routes-whole outcome is whole = cc
+  shown-whole : IsDone command shelf out err kept Whole → IsShown command shelf out err kept 0
+  shown-whole done = record {
+    known = refl;
+    says = done;
+    unkept = λ no no_write no_memory. absurd (no refl);
+    answers = λ tells quiet. done-answers Whole done.text done.report 0 done.says (λ writes. inl refl) tells;
+  }
 
-open-opens : (order : Order) (shelf : Reading) (kept : Option Kept) (text report : List ℕ) → Says order shelf kept Open text report → IsTrue shelf.tells → IsOpen order shelf
-open-opens (Route name rounds) shelf kept text report says tells = absurd (routes-whole Open refl says.0)
-open-opens (Evaluate design solution) shelf kept text report says tells = judged-open shelf design solution text says.2 tells
+  shown-open : IsDone command shelf out err kept Open → IsShown command shelf out err kept 1
+  shown-open done = record {
+    known = refl;
+    says = done;
+    unkept = λ no no_write no_memory. law.unkept shelf kept done.text done.report done.says;
+    answers = λ tells quiet. done-answers Open done.text done.report 1 done.says (λ writes. inr (inl refl)) tells;
+  }
 
-whole-closes : (order : Order) (shelf : Reading) (kept : Option Kept) (text report : List ℕ) → Says order shelf kept Whole text report → IsTrue shelf.tells → IsOpen order shelf → ⊥
-whole-closes (Route name rounds) shelf kept text report says tells left = left
-whole-closes (Evaluate design solution) shelf kept text report says tells left = judged-whole shelf design solution text says.2 tells left
+  -- a fault answers files that say it
+  fault-answers : (stop : Stop) → IsFaulty command shelf out stop → IsTrue shelf.tells → (said : Result (Unit {0}) Stop) →
+      command.files shelf ≡ Some said → IsAnswer command said out err (status_of stop)
+  fault-answers stop faulty tells said is =
+      subst (λ (r : Result (Unit {0}) Stop). IsAnswer command r out err (status_of stop))
+      (one_answer (command.files shelf) (Err stop) said (faulty.said tells) is) (inl refl)
 
-open-unkept : (order : Order) (shelf : Reading) (kept : Option Kept) (text report : List ℕ) → Says order shelf kept Open text report → kept ≡ None
-open-unkept (Route name rounds) shelf kept text report says = absurd (routes-whole Open refl says.0)
-open-unkept (Evaluate design solution) shelf kept text report says = says.0
+  shown-design : (fault : DesignFaultKind) (token : ℕ) → IsFaulty command shelf out (DesignFault fault token) →
+      GainsLine err (line_of (DesignFault fault token)) → kept ≡ None → IsShown command shelf out err kept 3
+  shown-design fault token faulty line none = record {
+    known = refl;
+    says = record { fault = fault; token = token; faulty = faulty; line = line };
+    unkept = λ no no_write no_memory. none;
+    answers = λ tells quiet. fault-answers (DesignFault fault token) faulty tells;
+  }
+
+  shown-solution : (fault : SolutionFaultKind) (token : ℕ) → IsFaulty command shelf out (SolutionFault fault token) →
+      GainsLine err (line_of (SolutionFault fault token)) → kept ≡ None → IsShown command shelf out err kept 5
+  shown-solution fault token faulty line none = record {
+    known = refl;
+    says = record { fault = fault; token = token; faulty = faulty; line = line };
+    unkept = λ no no_write no_memory. none;
+    answers = λ tells quiet. fault-answers (SolutionFault fault token) faulty tells;
+  }
+
+  -- a cause of a failed read that is no fault of the shelf is a name that isn't held
+  excused : (said : Result (Unit {0}) Stop) → FailsToRead command shelf out → IsTrue shelf.tells →
+      command.files shelf ≡ Some said → (Rose shelf.faults shelf.faults_after → ⊥) → ⊥
+  excused said fails tells is quiet =
+      elim fails.cause [
+        | inl rose ↦ quiet rose
+        | inr missing ↦ (let none = missing.1 tells in cc)
+      ]
+
+  shown-read : FailsToRead command shelf out → GainsLine err (line_of ReadFailed) → kept ≡ None → IsShown command shelf out err kept 6
+  shown-read fails line none = record {
+    known = refl;
+    says = (fails, line);
+    unkept = λ no no_write no_memory. none;
+    answers = λ tells quiet said is. absurd (excused said fails tells is quiet);
+  }
+
+  -- a failed write is one that may fail
+  write-answers : FailsToWrite command shelf out err kept → IsTrue shelf.tells → (said : Result (Unit {0}) Stop) →
+      command.files shelf ≡ Some said → IsAnswer command said out err 7
+  write-answers (inl fails) tells said is =
+      done-answers fails.part.outcome fails.part.text fails.part.report 7 fails.part.says
+      (λ quiet. absurd (quiet (inl fails.cause))) tells said is
+  write-answers (inr half) tells said is =
+      done-answers half.outcome half.text half.report 7 half.says
+      (λ quiet. absurd (quiet (inr (half.reports, half.cause)))) tells said is
+
+  shown-write : FailsToWrite command shelf out err kept → IsShown command shelf out err kept 7
+  shown-write fails = record {
+    known = refl;
+    says = fails;
+    unkept = λ no no_write no_memory. absurd (no_write refl);
+    answers = λ tells quiet. write-answers fails tells;
+  }
+
+  any-answer : (said : Result (Unit {0}) Stop) → IsAnswer command said out err 8
+  any-answer (Ok done) = λ writes. inr (inr refl)
+  any-answer (Err stop) = inr refl
+
+  shown-memory : WantsMemory command shelf out kept → GainsLine err (line_of NoMemory) → IsShown command shelf out err kept 8
+  shown-memory wants line = record {
+    known = refl;
+    says = (wants, line);
+    unkept = λ no no_write no_memory. absurd (no_memory refl);
+    answers = λ tells quiet said is. any-answer said;
+  }
+
+  -- what was told decides the status
+  shown-told : (stop told : Stop) (status : ℕ) → told ≡ stop → status ≡ status_of told →
+      IsShown command shelf out err kept (status_of stop) → IsShown command shelf out err kept status
+  shown-told stop told status is by shown = subst (IsShown command shelf out err kept) (sym (by ∙ ap status_of is)) shown
+
+  -- a fault that was told, or memory wanted for its line
+  shown-fault : (stop : Stop) (faults : ℕ) (written : List ℕ) (told : Stop) (status : ℕ) → IsFaulty command shelf out stop →
+      IsSilent (upto err faults written) kept → IsToldOrNot (onward err faults written) stop told → status ≡ status_of told →
+      (GainsLine err (line_of stop) → IsShown command shelf out err kept (status_of stop)) → IsShown command shelf out err kept status
+  shown-fault stop faults written told status faulty silent is_told by shown =
+      elim is_told [
+        | inl h ↦ shown-told stop told status h.0 by (shown (line-then err faults written (line_of stop) silent.0 h.1))
+        | inr h ↦
+            shown-told NoMemory told status h.0 by
+            (shown-memory (inl (faulty.unwritten, silent.1)) (line-then err faults written (line_of NoMemory) silent.0 h.1))
+      ]
+
+  -- an end, with what was told of it
+  shown : (end : Result Outcome Stop) (faults : ℕ) (written : List ℕ) (status : ℕ) →
+      Leaves command shelf out (upto err faults written) kept end → Finishes (onward err faults written) end status →
+      IsShown command shelf out err kept status
+  shown (Ok Whole) faults written status leaves told =
+      subst (IsShown command shelf out err kept) (sym told.0)
+      (shown-whole (record {
+        reads = leaves.reads;
+        text = leaves.text;
+        report = leaves.report;
+        out_gains = leaves.out_gains;
+        err_gains = gains-then err faults written leaves.report leaves.err_gains told.1;
+        says = leaves.says;
+      }))
+  shown (Ok Open) faults written status leaves told =
+      subst (IsShown command shelf out err kept) (sym told.0)
+      (shown-open (record {
+        reads = leaves.reads;
+        text = leaves.text;
+        report = leaves.report;
+        out_gains = leaves.out_gains;
+        err_gains = gains-then err faults written leaves.report leaves.err_gains told.1;
+        says = leaves.says;
+      }))
+  shown (Err Usage) faults written status leaves told = absurd leaves
+  shown (Err (DesignFault fault token)) faults written status leaves told =
+      shown-fault (DesignFault fault token) faults written told.0 status leaves.0 leaves.1 told.1 told.2
+      (λ line. shown-design fault token leaves.0 line leaves.1.1)
+  shown (Err (SolutionFault fault token)) faults written status leaves told =
+      shown-fault (SolutionFault fault token) faults written told.0 status leaves.0 leaves.1 told.1 told.2
+      (λ line. shown-solution fault token leaves.0 line leaves.1.1)
+  shown (Err ReadFailed) faults written status leaves told =
+      shown-told ReadFailed told.0 status told.1.0 told.2
+      (shown-read leaves.0 (line-then err faults written (line_of ReadFailed) leaves.1.0 told.1.1) leaves.1.1)
+  shown (Err WriteFailed) faults written status leaves told =
+      shown-told WriteFailed told.0 status told.1.0 told.2 (shown-write (fails leaves))
+    where
+      fails : FailsToWrite command shelf out (upto err faults written) kept → FailsToWrite command shelf out err kept
+      fails (inl first) =
+          inl (record { cause = first.cause; part = first.part; silent = untouched-both err faults written first.silent told.1.1 })
+      fails (inr second) =
+          inr (record {
+            outcome = second.outcome;
+            text = second.text;
+            report = second.report;
+            reports = second.reports;
+            out_gains = second.out_gains;
+            cause = subst (Rose err.faults) (sym told.1.1.faults) second.cause;
+            part = part-then err faults written second.report second.part told.1.1;
+            says = second.says;
+          })
+  shown (Err NoMemory) faults written status leaves told =
+      shown-told NoMemory told.0 status told.1.0 told.2
+      (shown-memory leaves.0 (line-then err faults written (line_of NoMemory) leaves.1 told.1.1))
+
+-- a status that is shown says what each status says
+by-shown : (order : Order) (shelf : Reading) (out err : Device) (kept : Option HandedBack) (status : ℕ) →
+    IsShown (command_of order) shelf out err kept status → IsByStatus (Some order) shelf out err kept status
+by-shown order shelf out err kept status is_shown = record {
+  known = is_shown.known;
+  usage = (λ is. absurd (subst says is is_shown.says), λ none. cc);
+  usage_line = λ is. absurd (subst says is is_shown.says);
+  whole = λ is. subst says is is_shown.says;
+  unjoined = λ is. subst says is is_shown.says;
+  design_fault = λ is. subst says is is_shown.says;
+  solution_fault = λ is. subst says is is_shown.says;
+  read_failed = λ is. subst says is is_shown.says;
+  write_failed = λ is. subst says is is_shown.says;
+  no_memory = λ is. subst says is is_shown.says;
+  unkept = is_shown.unkept;
+  completes = is_shown.answers;
+  opens = λ tells. (λ is. opened tells (subst says is is_shown.says), λ is. closed tells (subst says is is_shown.says));
+}
+  where
+    says : ℕ → Type 0
+    says = SaysAt (command_of order) shelf out err kept
+
+    law : IsLawful (command_of order)
+    law = lawful order
+
+    opened : IsTrue shelf.tells → IsDone (command_of order) shelf out err kept Open → (command_of order).is_open shelf
+    opened tells done = law.opens shelf kept done.text done.report done.says tells
+
+    closed : IsTrue shelf.tells → IsDone (command_of order) shelf out err kept Whole → (command_of order).is_open shelf → ⊥
+    closed tells done = law.closes shelf kept done.text done.report done.says tells
 
 -- a run whose words give no order
-pub ends-usage : (shelf : Reading) (out err : Device) → IsUntouched out → GainsLine err (line_of Usage) → Ends None shelf out err None 2
-ends-usage shelf out err untouched line = record {
+by-usage : (shelf : Reading) (out err : Device) (kept : Option HandedBack) → IsUntouched out → GainsLine err (line_of Usage) → kept ≡ None →
+    IsByStatus None shelf out err kept 2
+by-usage shelf out err kept untouched line none = record {
   known = refl;
   usage = (λ status. refl, λ order. refl);
   usage_line = λ status. (untouched, line);
-  whole = λ status. absurd (omega arith);
-  unjoined = λ status. absurd (omega arith);
-  design_fault = λ status. absurd (omega arith);
-  solution_fault = λ status. absurd (omega arith);
-  read_failed = λ status. absurd (omega arith);
-  write_failed = λ status. absurd (omega arith);
-  no_memory = λ status. absurd (omega arith);
-  unkept = λ no no_write no_memory. refl;
+  whole = λ status. tt;
+  unjoined = λ status. tt;
+  design_fault = λ status. tt;
+  solution_fault = λ status. tt;
+  read_failed = λ status. tt;
+  write_failed = λ status. tt;
+  no_memory = λ status. tt;
+  unkept = λ no no_write no_memory. none;
   completes = tt;
   opens = tt;
 }
 
--- a command that was done, and left nothing open
-ends-whole : (order : Order) (shelf : Reading) (out err : Device) (kept : Option Kept) → IsDone order shelf out err kept Whole → Ends (Some order) shelf out err kept 0
-ends-whole order shelf out err kept done = record {
-  known = refl;
-  usage = (λ status. absurd (omega arith), λ order. cc);
-  usage_line = λ status. absurd (omega arith);
-  whole = λ status. done;
-  unjoined = λ status. absurd (omega arith);
-  design_fault = λ status. absurd (omega arith);
-  solution_fault = λ status. absurd (omega arith);
-  read_failed = λ status. absurd (omega arith);
-  write_failed = λ status. absurd (omega arith);
-  no_memory = λ status. absurd (omega arith);
-  unkept = λ no no_write no_memory. absurd (no refl);
-  completes = done-answers order shelf out err kept Whole done.text done.report 0 done.says (λ writes. inl refl);
-  opens = λ tells. (λ status. absurd (omega arith), λ status left. whole-closes order shelf kept done.text done.report done.says tells left);
+usage-status : (err : Device) (end : Result Outcome Stop) (status : ℕ) → end ≡ Err Usage → Finishes err end status →
+    (status ≡ 2) × GainsLine err (line_of Usage)
+usage-status err end status is told =
+    let by : Finishes err (Err Usage) status = subst (λ (e : Result Outcome Stop). Finishes err e status) is told in
+    (by.2 ∙ ap status_of by.1.0, by.1.1)
+
+-- what the status of a run says
+pub by-status : (order : Option Order) (shelf : Reading) (out err : Device) (kept : Option HandedBack) (status : ℕ) →
+    Ends order shelf out err kept status → IsByStatus order shelf out err kept status
+by-status None shelf out err kept status ends =
+    let usage = usage-status (onward err ends.faults ends.written) ends.end status ends.leaves.0 ends.finishes in
+    let silent = ends.leaves.2 in
+    subst (IsByStatus None shelf out err kept) (sym usage.0)
+    (by-usage shelf out err kept ends.leaves.1 (line-then err ends.faults ends.written (line_of Usage) silent.0 usage.1) silent.1)
+by-status (Some order) shelf out err kept status ends =
+    by-shown order shelf out err kept status
+    (shown (command_of order) (lawful order) shelf out err kept ends.end ends.faults ends.written status ends.leaves ends.finishes)
+
+-- a run whose order left what it says, and whose end was told
+pub ends-with : (order : Option Order) (shelf : Reading) (out err : Device) (faults : ℕ) (written : List ℕ) (kept given : Option HandedBack)
+    (end : Result Outcome Stop) (status told : ℕ) → kept ≡ given → status ≡ told →
+    LeavesFor order shelf out (upto err faults written) given end → Finishes (onward err faults written) end told →
+    Ends order shelf out err kept status
+ends-with order shelf out err faults written kept given end status told same is leaves finishes = record {
+  end = end;
+  faults = faults;
+  written = written;
+  leaves = subst (λ (k : Option HandedBack). LeavesFor order shelf out (upto err faults written) k end) (sym same) leaves;
+  finishes = subst (Finishes (onward err faults written) end) (sym is) finishes;
 }
-
--- a command that was done, and left a net open
-ends-open : (order : Order) (shelf : Reading) (out err : Device) (kept : Option Kept) → IsDone order shelf out err kept Open → Ends (Some order) shelf out err kept 1
-ends-open order shelf out err kept done = record {
-  known = refl;
-  usage = (λ status. absurd (omega arith), λ order. cc);
-  usage_line = λ status. absurd (omega arith);
-  whole = λ status. absurd (omega arith);
-  unjoined = λ status. done;
-  design_fault = λ status. absurd (omega arith);
-  solution_fault = λ status. absurd (omega arith);
-  read_failed = λ status. absurd (omega arith);
-  write_failed = λ status. absurd (omega arith);
-  no_memory = λ status. absurd (omega arith);
-  unkept = λ no no_write no_memory. open-unkept order shelf kept done.text done.report done.says;
-  completes = done-answers order shelf out err kept Open done.text done.report 1 done.says (λ writes. inr (inl refl));
-  opens = λ tells. (λ status. open-opens order shelf kept done.text done.report done.says tells, λ status. absurd (omega arith));
-}
-
--- a fault answers files that say it
-fault-answers : (order : Order) (shelf : Reading) (out err : Device) (stop : Stop) → IsFaulty order shelf out stop → IsTrue shelf.tells →
-    (said : Result (Unit {0}) Stop) → files_say order shelf ≡ Some said → IsAnswer order said out err (status_of stop)
-fault-answers order shelf out err stop faulty tells said is =
-    subst (λ (r : Result (Unit {0}) Stop). IsAnswer order r out err (status_of stop)) (one_answer (files_say order shelf) (Err stop) said (faulty.said tells) is) (inl refl)
-
-ends-design_fault : (order : Order) (shelf : Reading) (out err : Device) (fault : DesignFaultKind) (token : ℕ) → IsFaulty order shelf out (DesignFault fault token) →
-    GainsLine err (line_of (DesignFault fault token)) → Ends (Some order) shelf out err None 3
-ends-design_fault order shelf out err fault token faulty line = record {
-  known = refl;
-  usage = (λ status. absurd (omega arith), λ order. cc);
-  usage_line = λ status. absurd (omega arith);
-  whole = λ status. absurd (omega arith);
-  unjoined = λ status. absurd (omega arith);
-  design_fault = λ status. record { fault = fault; token = token; faulty = faulty; line = line };
-  solution_fault = λ status. absurd (omega arith);
-  read_failed = λ status. absurd (omega arith);
-  write_failed = λ status. absurd (omega arith);
-  no_memory = λ status. absurd (omega arith);
-  unkept = λ no no_write no_memory. refl;
-  completes = λ tells quiet. fault-answers order shelf out err (DesignFault fault token) faulty tells;
-  opens = λ tells. (λ status. absurd (omega arith), λ status. absurd (omega arith));
-}
-
-ends-solution_fault : (order : Order) (shelf : Reading) (out err : Device) (fault : SolutionFaultKind) (token : ℕ) → IsFaulty order shelf out (SolutionFault fault token) →
-    GainsLine err (line_of (SolutionFault fault token)) → Ends (Some order) shelf out err None 5
-ends-solution_fault order shelf out err fault token faulty line = record {
-  known = refl;
-  usage = (λ status. absurd (omega arith), λ order. cc);
-  usage_line = λ status. absurd (omega arith);
-  whole = λ status. absurd (omega arith);
-  unjoined = λ status. absurd (omega arith);
-  design_fault = λ status. absurd (omega arith);
-  solution_fault = λ status. record { fault = fault; token = token; faulty = faulty; line = line };
-  read_failed = λ status. absurd (omega arith);
-  write_failed = λ status. absurd (omega arith);
-  no_memory = λ status. absurd (omega arith);
-  unkept = λ no no_write no_memory. refl;
-  completes = λ tells quiet. fault-answers order shelf out err (SolutionFault fault token) faulty tells;
-  opens = λ tells. (λ status. absurd (omega arith), λ status. absurd (omega arith));
-}
-
--- a cause of a failed read that is no fault of the shelf is a name that isn't held
-excused : (order : Order) (shelf : Reading) (out : Device) (said : Result (Unit {0}) Stop) → FailsToRead order shelf out → IsTrue shelf.tells →
-    files_say order shelf ≡ Some said → (Rose shelf.faults shelf.faults_after → ⊥) → ⊥
-excused order shelf out said fails tells is quiet =
-    elim fails.cause [
-      | inl rose ↦ quiet rose
-      | inr missing ↦ (let none = missing.1 tells in cc)
-    ]
-
-ends-read_failed : (order : Order) (shelf : Reading) (out err : Device) → FailsToRead order shelf out → GainsLine err (line_of ReadFailed) → Ends (Some order) shelf out err None 6
-ends-read_failed order shelf out err fails line = record {
-  known = refl;
-  usage = (λ status. absurd (omega arith), λ order. cc);
-  usage_line = λ status. absurd (omega arith);
-  whole = λ status. absurd (omega arith);
-  unjoined = λ status. absurd (omega arith);
-  design_fault = λ status. absurd (omega arith);
-  solution_fault = λ status. absurd (omega arith);
-  read_failed = λ status. (fails, line);
-  write_failed = λ status. absurd (omega arith);
-  no_memory = λ status. absurd (omega arith);
-  unkept = λ no no_write no_memory. refl;
-  completes = λ tells quiet said is. absurd (excused order shelf out said fails tells is quiet);
-  opens = λ tells. (λ status. absurd (omega arith), λ status. absurd (omega arith));
-}
-
--- a failed write is one that may fail
-write-answers : (order : Order) (shelf : Reading) (out err : Device) (kept : Option Kept) → FailsToWrite order shelf out err kept →
-    IsTrue shelf.tells → (Rose shelf.faults shelf.faults_after → ⊥) → (said : Result (Unit {0}) Stop) → files_say order shelf ≡ Some said → IsAnswer order said out err 7
-write-answers order shelf out err kept (inl first) =
-    done-answers order shelf out err kept first.part.outcome first.part.text first.part.report 7 first.part.says (λ writes. absurd (writes (inl first.cause)))
-write-answers order shelf out err kept (inr second) =
-    done-answers order shelf out err kept second.outcome second.text second.report 7 second.says (λ writes. absurd (writes (inr (second.reports, second.cause))))
-
-ends-write_failed : (order : Order) (shelf : Reading) (out err : Device) (kept : Option Kept) → FailsToWrite order shelf out err kept → Ends (Some order) shelf out err kept 7
-ends-write_failed order shelf out err kept fails = record {
-  known = refl;
-  usage = (λ status. absurd (omega arith), λ order. cc);
-  usage_line = λ status. absurd (omega arith);
-  whole = λ status. absurd (omega arith);
-  unjoined = λ status. absurd (omega arith);
-  design_fault = λ status. absurd (omega arith);
-  solution_fault = λ status. absurd (omega arith);
-  read_failed = λ status. absurd (omega arith);
-  write_failed = λ status. fails;
-  no_memory = λ status. absurd (omega arith);
-  unkept = λ no no_write no_memory. absurd (no_write refl);
-  completes = write-answers order shelf out err kept fails;
-  opens = λ tells. (λ status. absurd (omega arith), λ status. absurd (omega arith));
-}
-
-any-answer : (order : Order) (out err : Device) (said : Result (Unit {0}) Stop) → IsAnswer order said out err 8
-any-answer order out err (Ok done) = λ writes. inr (inr refl)
-any-answer order out err (Err stop) = inr refl
-
-ends-no_memory : (order : Order) (shelf : Reading) (out err : Device) (kept : Option Kept) → WantsMemory order shelf out kept → GainsLine err (line_of NoMemory) →
-    Ends (Some order) shelf out err kept 8
-ends-no_memory order shelf out err kept wants line = record {
-  known = refl;
-  usage = (λ status. absurd (omega arith), λ order. cc);
-  usage_line = λ status. absurd (omega arith);
-  whole = λ status. absurd (omega arith);
-  unjoined = λ status. absurd (omega arith);
-  design_fault = λ status. absurd (omega arith);
-  solution_fault = λ status. absurd (omega arith);
-  read_failed = λ status. absurd (omega arith);
-  write_failed = λ status. absurd (omega arith);
-  no_memory = λ status. (wants, line);
-  unkept = λ no no_write no_memory. absurd (no_memory refl);
-  completes = λ tells quiet said is. any-answer order out err said;
-  opens = λ tells. (λ status. absurd (omega arith), λ status. absurd (omega arith));
-}
-
--- what was told decides the status
-told : {order : Option Order} {shelf : Reading} {out err : Device} {kept : Option Kept} (stop is_told : Stop) (status : ℕ) → is_told ≡ stop → status ≡ status_of is_told →
-    Ends order shelf out err kept (status_of stop) → Ends order shelf out err kept status
-told {order} {shelf} {out} {err} {kept} stop is_told status is by ends = subst (Ends order shelf out err kept) (sym (by ∙ ap status_of is)) ends
-
--- a run whose words give no order, by what was told
-pub ends-unordered : (shelf : Reading) (out err : Device) (status : ℕ) → IsUntouched out → Finishes err (Err Usage) status → Ends None shelf out err None status
-ends-unordered shelf out err status untouched end = told Usage end.0 status end.1.0 end.2 (ends-usage shelf out err untouched end.1.1)
-
--- a fault that was told, or memory wanted for its line
-ends-design-told : (order : Order) (shelf : Reading) (out err : Device) (fault : DesignFaultKind) (token status : ℕ) → IsFaulty order shelf out (DesignFault fault token) →
-    Finishes err (Err (DesignFault fault token)) status → Ends (Some order) shelf out err None status
-ends-design-told order shelf out err fault token status faulty end =
-    elim end.1 [
-      | inl h ↦ told (DesignFault fault token) end.0 status h.0 end.2 (ends-design_fault order shelf out err fault token faulty h.1)
-      | inr h ↦ told NoMemory end.0 status h.0 end.2 (ends-no_memory order shelf out err None (inl (faulty.unwritten, refl)) h.1)
-    ]
-
-ends-solution-told : (order : Order) (shelf : Reading) (out err : Device) (fault : SolutionFaultKind) (token status : ℕ) → IsFaulty order shelf out (SolutionFault fault token) →
-    Finishes err (Err (SolutionFault fault token)) status → Ends (Some order) shelf out err None status
-ends-solution-told order shelf out err fault token status faulty end =
-    elim end.1 [
-      | inl h ↦ told (SolutionFault fault token) end.0 status h.0 end.2 (ends-solution_fault order shelf out err fault token faulty h.1)
-      | inr h ↦ told NoMemory end.0 status h.0 end.2 (ends-no_memory order shelf out err None (inl (faulty.unwritten, refl)) h.1)
-    ]
-
-ends-read-told : (order : Order) (shelf : Reading) (out err : Device) (status : ℕ) → FailsToRead order shelf out → Finishes err (Err ReadFailed) status →
-    Ends (Some order) shelf out err None status
-ends-read-told order shelf out err status fails end = told ReadFailed end.0 status end.1.0 end.2 (ends-read_failed order shelf out err fails end.1.1)
-
--- memory wanted before anything was written
-pub ends-unwritten : (order : Order) (shelf : Reading) (out err : Device) (status : ℕ) → IsUntouched out → Finishes err (Err NoMemory) status →
-    Ends (Some order) shelf out err None status
-ends-unwritten order shelf out err status untouched end =
-    told NoMemory end.0 status end.1.0 end.2 (ends-no_memory order shelf out err None (inl (untouched, refl)) end.1.1)
-
--- an untouched sink gained the empty text
-gains-nothing : (device : Device) → IsUntouched device → Gains device []
-gains-nothing device untouched = record { faults = untouched.faults; written = λ tells. untouched.written tells ∙ sym (append-nil device.written) }
-
--- a judging that was done, or stopped
-pub ends-judged : (design solution : List ℕ) (shelf : Reading) (out err : Device) (judged : Result Outcome Stop) (status : ℕ) → Leaves design solution shelf out judged →
-    Finishes err judged status → Ends (Some (Evaluate design solution)) shelf out err None status
-ends-judged design solution shelf out err (Ok Whole) status leaves end =
-    subst (Ends (Some (Evaluate design solution)) shelf out err None) (sym end.0)
-    (ends-whole (Evaluate design solution) shelf out err None
-    (record { reads = leaves.reads; text = leaves.text; report = []; out_gains = leaves.gains; err_gains = gains-nothing err end.1; says = (refl, refl, leaves.says) }))
-ends-judged design solution shelf out err (Ok Open) status leaves end =
-    subst (Ends (Some (Evaluate design solution)) shelf out err None) (sym end.0)
-    (ends-open (Evaluate design solution) shelf out err None
-    (record { reads = leaves.reads; text = leaves.text; report = []; out_gains = leaves.gains; err_gains = gains-nothing err end.1; says = (refl, refl, leaves.says) }))
-ends-judged design solution shelf out err (Err Usage) status leaves end = absurd leaves
-ends-judged design solution shelf out err (Err (DesignFault fault token)) status leaves end =
-    ends-design-told (Evaluate design solution) shelf out err fault token status leaves end
-ends-judged design solution shelf out err (Err (SolutionFault fault token)) status leaves end =
-    ends-solution-told (Evaluate design solution) shelf out err fault token status leaves end
-ends-judged design solution shelf out err (Err ReadFailed) status leaves end = ends-read-told (Evaluate design solution) shelf out err status leaves end
-ends-judged design solution shelf out err (Err WriteFailed) status leaves end =
-    told WriteFailed end.0 status end.1.0 end.2
-    (ends-write_failed (Evaluate design solution) shelf out err None
-    (inl (record { cause = leaves.cause; part = record { outcome = leaves.outcome; text = leaves.text; report = []; part = leaves.part; says = (refl, refl, leaves.says) }; silent = end.1.1 })))
-ends-judged design solution shelf out err (Err NoMemory) status leaves end = ends-unwritten (Evaluate design solution) shelf out err status leaves end
-
--- a fault of a text that was told, or memory wanted for its line: the text is the design's
-ends-opened-fault : (name : List ℕ) (rounds : ℕ) (shelf : Reading) (out err : Device) (stop : Stop) (status : ℕ) → TellsFault shelf (design_said shelf name) DesignFault stop → IsUntouched out →
-    Finishes err (Err stop) status → Ends (Some (Route name rounds)) shelf out err None status
-ends-opened-fault name rounds shelf out err stop status tells-fault untouched end =
-    ends-design-told (Route name rounds) shelf out err tells-fault.kind tells-fault.token status
-    (record {
-      reads = tells-fault.reads;
-      said = λ tells. ap (λ (o : Option (Result DesignView (DesignFaultKind × ℕ))). checked o DesignFault (λ d. Some (Ok tt))) (tells-fault.says tells);
-      unwritten = untouched;
-    })
-    (subst (λ (s : Stop). Finishes err (Err s) status) tells-fault.is end)
-
--- a design that was not opened, or whose text is at fault
-pub ends-unopened : (name : List ℕ) (rounds : ℕ) (shelf : Reading) (out err : Device) (held : Option (List ℕ)) (stop : Stop) (status : ℕ) →
-    (held ≡ None → design_said shelf name ≡ None) → Opens shelf held (design_said shelf name) DesignFault (Err stop) → IsUntouched out →
-    Finishes err (Err stop) status → Ends (Some (Route name rounds)) shelf out err None status
-ends-unopened name rounds shelf out err held ReadFailed status unsaid opens untouched end =
-    ends-read-told (Route name rounds) shelf out err status (record { cause = cause opens; unwritten = untouched }) end
-  where
-    cause : Rose shelf.faults shelf.faults_after ⊎ (Rose shelf.misses shelf.misses_after × (IsTrue shelf.tells → held ≡ None)) →
-        Rose shelf.faults shelf.faults_after ⊎ (Rose shelf.misses shelf.misses_after × (IsTrue shelf.tells → files_say (Route name rounds) shelf ≡ None))
-    cause (inl rose) = inl rose
-    cause (inr missing) =
-        inr (missing.0, λ tells. ap (λ (o : Option (Result DesignView (DesignFaultKind × ℕ))). checked o DesignFault (λ d. Some (Ok tt))) (unsaid (missing.1 tells)))
-ends-unopened name rounds shelf out err held NoMemory status unsaid opens untouched end = ends-unwritten (Route name rounds) shelf out err status untouched end
-ends-unopened name rounds shelf out err held Usage status unsaid opens untouched end = ends-opened-fault name rounds shelf out err Usage status opens untouched end
-ends-unopened name rounds shelf out err held WriteFailed status unsaid opens untouched end = ends-opened-fault name rounds shelf out err WriteFailed status opens untouched end
-ends-unopened name rounds shelf out err held (DesignFault fault token) status unsaid opens untouched end =
-    ends-opened-fault name rounds shelf out err (DesignFault fault token) status opens untouched end
-ends-unopened name rounds shelf out err held (SolutionFault fault token) status unsaid opens untouched end =
-    ends-opened-fault name rounds shelf out err (SolutionFault fault token) status opens untouched end
-
--- a sink over two calls
-abbrev sink : Bool → (faults faults_after : ℕ) → (written written_after : List ℕ) → Device
-sink tells faults faults_after written written_after =
-    record { tells = tells; faults = faults; faults_after = faults_after; written = written; written_after = written_after }
-
-untouched-both : (tells : Bool) (f0 f1 f2 : ℕ) (w0 w1 w2 : List ℕ) → IsUntouched (sink tells f0 f1 w0 w1) → IsUntouched (sink tells f1 f2 w1 w2) → IsUntouched (sink tells f0 f2 w0 w2)
-untouched-both tells f0 f1 f2 w0 w1 w2 first second = record { faults = second.faults ∙ first.faults; written = λ t. second.written t ∙ first.written t }
-
-gains-then : (tells : Bool) (f0 f1 f2 : ℕ) (w0 w1 w2 text : List ℕ) → Gains (sink tells f0 f1 w0 w1) text → IsUntouched (sink tells f1 f2 w1 w2) → Gains (sink tells f0 f2 w0 w2) text
-gains-then tells f0 f1 f2 w0 w1 w2 text first second = record { faults = second.faults ∙ first.faults; written = λ t. second.written t ∙ first.written t }
-
-part-then : (tells : Bool) (f0 f1 f2 : ℕ) (w0 w1 w2 text : List ℕ) → GainsPart (sink tells f0 f1 w0 w1) text → IsUntouched (sink tells f1 f2 w1 w2) → GainsPart (sink tells f0 f2 w0 w2) text
-part-then tells f0 f1 f2 w0 w1 w2 text first second = λ t. subst (λ (w : List ℕ). AppendsPart w0 w text) (sym (second.written t)) (first t)
-
-line-then : (tells : Bool) (f0 f1 f2 : ℕ) (w0 w1 w2 line : List ℕ) → IsUntouched (sink tells f0 f1 w0 w1) → GainsLine (sink tells f1 f2 w1 w2) line → GainsLine (sink tells f0 f2 w0 w2) line
-line-then tells f0 f1 f2 w0 w1 w2 line first second =
-    elim second [
-      | inl whole ↦ inl (whole.0 ∙ first.faults, λ t. whole.1 t ∙ ap (λ (w : List ℕ). w ++ line) (first.written t))
-      | inr part ↦ inr (subst (λ (f : ℕ). Rose f f2) first.faults part.0, λ t. subst (λ (w : List ℕ). AppendsPart w w2 line) (first.written t) (part.1 t))
-    ]
-
--- routes of a design that were made, and how the writing of them and of their report ended
-pub ends-routed : (name : List ℕ) (rounds : ℕ) (shelf : Reading) (out : Device) (tells : Bool) (f0 f1 f2 : ℕ) (w0 w1 w2 : List ℕ) (k : Kept) (text report : List ℕ)
-    (written : Result Outcome Stop) (status : ℕ) → shelf.faults_after ≡ shelf.faults → IsRouting shelf name rounds k.book k.hands text report →
-    IsWritten text report out (sink tells f0 f1 w0 w1) written → Finishes (sink tells f1 f2 w1 w2) written status →
-    Ends (Some (Route name rounds)) shelf out (sink tells f0 f2 w0 w2) (Some k) status
-ends-routed name rounds shelf out tells f0 f1 f2 w0 w1 w2 k text report (Ok outcome) status reads routing written end =
-    subst (Ends (Some (Route name rounds)) shelf out (sink tells f0 f2 w0 w2) (Some k)) (sym (end.0 ∙ ap status_done written.0))
-    (ends-whole (Route name rounds) shelf out (sink tells f0 f2 w0 w2) (Some k)
-    (record { reads = reads; text = text; report = report; out_gains = written.1; err_gains = gains-then tells f0 f1 f2 w0 w1 w2 report written.2 end.1; says = (refl, routing) }))
-ends-routed name rounds shelf out tells f0 f1 f2 w0 w1 w2 k text report (Err Usage) status reads routing written end = absurd written
-ends-routed name rounds shelf out tells f0 f1 f2 w0 w1 w2 k text report (Err (DesignFault fault token)) status reads routing written end = absurd written
-ends-routed name rounds shelf out tells f0 f1 f2 w0 w1 w2 k text report (Err (SolutionFault fault token)) status reads routing written end = absurd written
-ends-routed name rounds shelf out tells f0 f1 f2 w0 w1 w2 k text report (Err ReadFailed) status reads routing written end = absurd written
-ends-routed name rounds shelf out tells f0 f1 f2 w0 w1 w2 k text report (Err WriteFailed) status reads routing written end =
-    told WriteFailed end.0 status end.1.0 end.2 (ends-write_failed (Route name rounds) shelf out (sink tells f0 f2 w0 w2) (Some k) (fails written))
-  where
-    fails : SomeIsCut text report out (sink tells f0 f1 w0 w1) → FailsToWrite (Route name rounds) shelf out (sink tells f0 f2 w0 w2) (Some k)
-    fails (inl first) =
-        inl (record {
-          cause = first.0;
-          part = record { outcome = Whole; text = text; report = report; part = first.1; says = (refl, routing) };
-          silent = untouched-both tells f0 f1 f2 w0 w1 w2 first.2 end.1.1;
-        })
-    fails (inr second) =
-        inr (record {
-          outcome = Whole;
-          text = text;
-          report = report;
-          reports = tt;
-          out_gains = second.0;
-          cause = subst (Rose f0) (sym end.1.1.faults) second.1;
-          part = part-then tells f0 f1 f2 w0 w1 w2 report second.2 end.1.1;
-          says = (refl, routing);
-        })
-ends-routed name rounds shelf out tells f0 f1 f2 w0 w1 w2 k text report (Err NoMemory) status reads routing written end =
-    told NoMemory end.0 status end.1.0 end.2
-    (ends-no_memory (Route name rounds) shelf out (sink tells f0 f2 w0 w2) (Some k)
-    (inr (record { outcome = Whole; text = text; report = report; part = written.0; says = (refl, routing) }))
-    (line-then tells f0 f1 f2 w0 w1 w2 (line_of NoMemory) written.1 end.1.1))
-
--- a run that hands back no book
-pub without-book : (order : Option Order) (shelf : Reading) (out err : Device) (book : Option BookView) (hands : List HandLog) (status ended : ℕ) → book ≡ None → ended ≡ status →
-    Ends order shelf out err None status → Ends order shelf out err (kept_of book hands) ended
-without-book order shelf out err book hands status ended none is ends =
-    subst (λ (b : Option BookView). Ends order shelf out err (kept_of b hands) ended) (sym none) (subst (Ends order shelf out err None) (sym is) ends)
-
--- a run by the order that its words give
-pub as-ordered : (order given : Option Order) (shelf : Reading) (out err : Device) (kept : Option Kept) (status : ℕ) → order ≡ given → Ends order shelf out err kept status →
-    Ends given shelf out err kept status
-as-ordered order given shelf out err kept status same ends = subst (λ (o : Option Order). Ends o shelf out err kept status) same ends

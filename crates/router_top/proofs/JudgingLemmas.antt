@@ -1,4 +1,5 @@
-use Rattle.std.proofs.Common.{◌≡◌, ℕ, List, [], ◌∷◌, Contains, Option, Some, None, Result, Ok, IsTrue, IsSomeAnd, refl, subst, arith}
+-- A judging, and what the files of it say.
+use Rattle.std.proofs.Common.{◌≡◌, ℕ, List, [], ◌∷◌, Contains, Option, Some, None, Result, Ok, IsTrue, refl, subst, arith}
 use Rattle.gr_base.specs.Designs.{DesignView}
 use Rattle.gr_io.specs.declared.shelf.Slot.TheVariants.{Solution}
 use Rattle.ispd_reader.specs.declared.fault.DesignFault.{DesignFault as Fault}
@@ -9,9 +10,9 @@ use Rattle.route_reader.specs.Solutions.{SolutionView, edges_by}
 use Rattle.router_top.specs.Opening.{IsCovered}
 use Rattle.router_top.specs.declared.stop.Outcome.{Outcome}
 use Rattle.solution_text.specs.Cover.{cover}
-use Rattle.router_top.specs.Devices.{Reading}
+use Rattle.gr_io.specs.Devices.{Reading}
 use Rattle.router_top.specs.Said.{design_said, solution_said}
-use Rattle.router_top.specs.Texts.{IsJudging, outcome_of, verdict_text, HasOpenNet}
+use Rattle.router_top.specs.Judging.{IsJudging, IsCoverVerdict, outcome_of, verdict_text, HasOpenNet}
 use Rattle.router_top.specs.declared.stop.Outcome.TheVariants.{Whole, Open}
 
 -- the design is said in one way
@@ -28,10 +29,10 @@ none_open [] net is has = let below = has.1 in absurd (omega arith)
 none_open (first ∷ nets) net is has = cc
 
 -- where a judged text leaves a net open, the files leave it open
-pub judged-open : (shelf : Reading) (design solution text : List ℕ) → IsJudging shelf design solution Open text → IsTrue shelf.tells → HasOpenNet shelf design solution
-judged-open shelf design solution text judging tells = by_held (shelf.held Solution solution) refl (judging.covered tells)
+pub judged-open : (shelf : Reading) (design solution : List ℕ) (via_cost : ℕ) (text : List ℕ) → IsJudging shelf design solution via_cost Open text → IsTrue shelf.tells → HasOpenNet shelf design solution
+judged-open shelf design solution via_cost text judging tells = by_held (shelf.held Solution solution) refl (judging.covered tells)
   where
-    by_held : (o : Option (List ℕ)) → shelf.held Solution solution ≡ o → IsSomeAnd o (λ bytes. IsVerdict judging.design 1 (cover judging.design bytes) judging.verdict) →
+    by_held : (o : Option (List ℕ)) → shelf.held Solution solution ≡ o → IsCoverVerdict judging.design via_cost o judging.verdict →
         HasOpenNet shelf design solution
     by_held None is judged = absurd judged
     by_held (Some bytes) is judged =
@@ -46,13 +47,13 @@ judged-open shelf design solution text judging tells = by_held (shelf.held Solut
         }
 
 -- where it leaves none open, neither do the files
-pub judged-whole : (shelf : Reading) (design solution text : List ℕ) → IsJudging shelf design solution Whole text → IsTrue shelf.tells → HasOpenNet shelf design solution → ⊥
-judged-whole shelf design solution text judging tells left = by_held (shelf.held Solution solution) refl (judging.covered tells)
+pub judged-whole : (shelf : Reading) (design solution : List ℕ) (via_cost : ℕ) (text : List ℕ) → IsJudging shelf design solution via_cost Whole text → IsTrue shelf.tells → HasOpenNet shelf design solution → ⊥
+judged-whole shelf design solution via_cost text judging tells left = by_held (shelf.held Solution solution) refl (judging.covered tells)
   where
-    by_held : (o : Option (List ℕ)) → shelf.held Solution solution ≡ o → IsSomeAnd o (λ bytes. IsVerdict judging.design 1 (cover judging.design bytes) judging.verdict) → ⊥
+    by_held : (o : Option (List ℕ)) → shelf.held Solution solution ≡ o → IsCoverVerdict judging.design via_cost o judging.verdict → ⊥
     by_held None is judged = absurd judged
     by_held (Some bytes) is judged =
-        let same : left.design ≡ judging.design = one_design (design_said shelf design) left.design judging.design left.said (judging.said tells) in
+        let same : left.design ≡ judging.design = one_design (design_said shelf.held design) left.design judging.design left.said (judging.said tells) in
         let text_same : left.bytes ≡ bytes = cc in
         let unjoined : IsUnjoined judging.design (cover judging.design bytes) left.net =
         subst (λ (b : List ℕ). IsUnjoined judging.design (cover judging.design b) left.net) text_same
@@ -60,24 +61,24 @@ judged-whole shelf design solution text judging tells left = by_held (shelf.held
         none_open judging.verdict.unjoined left.net judging.ends ((judged.unjoined left.net).1 unjoined)
 
 -- a verdict by a solution's runs is one by what the held bytes cover
-covered-verdict : (d : DesignView) (s : SolutionView) (v : Verdict) → IsVerdict d 1 (edges_by s) v → (held : Option (List ℕ)) → IsCovered d held s →
-    IsSomeAnd held (λ bytes. IsVerdict d 1 (cover d bytes) v)
-covered-verdict d s v judged None covered = covered
-covered-verdict d s v judged (Some bytes) covered = verdict-same d 1 (edges_by s) (cover d bytes) v covered judged
+covered-verdict : (d : DesignView) (s : SolutionView) (via_cost : ℕ) (v : Verdict) → IsVerdict d via_cost (edges_by s) v →
+    (held : Option (List ℕ)) → IsCovered d held s → IsCoverVerdict d via_cost held v
+covered-verdict d s via_cost v judged None covered = covered
+covered-verdict d s via_cost v judged (Some bytes) covered = verdict-same d via_cost (edges_by s) (cover d bytes) v covered judged
 
 -- a verdict on what was read is a judgement
-pub is-judging : (shelf : Reading) (design_name solution_name : List ℕ) (d : DesignView) (s : SolutionView) (v : Verdict) (outcome : Outcome) →
-    (IsTrue shelf.tells → design_said shelf design_name ≡ Some (Ok d)) → (IsTrue shelf.tells → solution_said shelf solution_name d ≡ Some (Ok s)) →
-    IsVerdict d 1 (edges_by s) v → (IsTrue shelf.tells → IsCovered d (shelf.held Solution solution_name) s) → outcome ≡ outcome_of v.unjoined →
-    IsJudging shelf design_name solution_name outcome (verdict_text d v)
-is-judging shelf design_name solution_name d s v outcome said read judged covered ends = record {
+pub is-judging : (shelf : Reading) (design_name solution_name : List ℕ) (via_cost : ℕ) (d : DesignView) (s : SolutionView) (v : Verdict) (outcome : Outcome) →
+    (IsTrue shelf.tells → design_said shelf.held design_name ≡ Some (Ok d)) → (IsTrue shelf.tells → solution_said shelf.held solution_name d ≡ Some (Ok s)) →
+    IsVerdict d via_cost (edges_by s) v → (IsTrue shelf.tells → IsCovered d (shelf.held Solution solution_name) s) → outcome ≡ outcome_of v.unjoined →
+    IsJudging shelf design_name solution_name via_cost outcome (verdict_text d v)
+is-judging shelf design_name solution_name via_cost d s v outcome said read judged covered ends = record {
   design = d;
   said = said;
   solution = s;
   read = read;
   verdict = v;
   judged = judged;
-  covered = λ tells. covered-verdict d s v judged (shelf.held Solution solution_name) (covered tells);
+  covered = λ tells. covered-verdict d s via_cost v judged (shelf.held Solution solution_name) (covered tells);
   says = refl;
   ends = ends;
 }

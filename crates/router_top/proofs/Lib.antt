@@ -1,10 +1,8 @@
+pub mod WordLemmas
 pub mod DemandLemmas
+pub mod RouteLemmas
 pub mod RoutingLemmas
 pub mod JudgingLemmas
+pub mod LeavingLemmas
+pub mod CommandLaws
 pub mod EndLemmas
-pub mod HandLemmas
-pub mod RouteLemmas
-pub mod StandLemmas
-pub mod TurnLemmas
-pub mod RoundSteps
-pub mod WordLemmas

@@ -1,28 +1,27 @@
 -- The trees that a history leaves booked.
-use Rattle.std.proofs.Common.{◌≡◌, ℕ, ◌<◌, ◌≤◌, false, List, map, take, length, slice_get, get_or, Option, Some, None, IsSome, IsSomeAnd, IsTrue, inl, inr, refl, sym, ap, subst, ◌∙◌, arith}
+use Rattle.std.proofs.Common.{◌≡◌, ℕ, ◌<◌, ◌≤◌, false, List, map, length, slice_get, get_or, Option, Some, None, IsSomeAnd, IsTrue, inl, inr, refl, sym, ap, subst, ◌∙◌, arith}
 use Rattle.std.specs.List.{range_with_len}
 use Rattle.std.specs.Option.{option_and_then}
 use Rattle.std.proofs.lemmas.Bool.{cases_Bool, cases_lt, both_ways}
 use Rattle.std.proofs.lemmas.List.{length-map}
 use Rattle.std.proofs.lemmas.List.FromFn.{length-map-range_with_len, get_or-map-range_with_len}
 use Rattle.std.proofs.lemmas.Option.{slice_get-get_or, slice_get_past}
-use Rattle.cost_rules.specs.declared.site.Formula.{Formula}
 use Rattle.gr_base.specs.Designs.{DesignView, is_routed, is_routed_net}
 use Rattle.gr_base.specs.EdgeSets.{IsJoined}
-use Rattle.gr_base.specs.Plans.{Routes}
+use Rattle.gr_base.specs.Plans.{IsRouteOf}
 use Rattle.gr_base.specs.Trees.{TreeView, IsTree, edges_of, edges_or_none, route_edges, tree_at}
 use Rattle.gr_base.specs.declared.frame.Net.{Net}
 use Rattle.gr_base.specs.declared.grid.Shape.{Shape}
+use Rattle.gr_base.proofs.General.{and-some}
 use Rattle.gr_base.proofs.TreeEdges.{joins-pins}
 use Rattle.grid_demand.specs.Tables.{CapacityView, capacity_of}
-use Rattle.book_state.specs.Books.{nets_of, booked, IsLegal}
-use Rattle.book_state.specs.Marks.{least_mark}
+use Rattle.book_state.specs.Books.{nets_of, booked}
 use Rattle.book_state.specs.declared.entry.Entry.{Entry}
 use Rattle.route_writer.specs.Routed.{AreRouted}
-use Rattle.router_top.specs.Rounds.{RoutesNet, AreRounds}
-use Rattle.router_top.specs.Routings.{AllJoined, AreTrees}
-use Rattle.router_top.specs.Standing.{Stands}
-use Rattle.router_top.proofs.StandLemmas.{chosen-stands, some-mark}
+use Rattle.round_core.proofs.TurnLemmas.{routed-net}
+use Rattle.round_core.specs.Rounds.{IsRouteOfNet}
+use Rattle.router_top.specs.Routing.{AllJoined, AreTrees}
+use Rattle.round_core.specs.Standing.{Stands}
 
 past-unrouted : (d : DesignView) (net : ℕ) → length d.nets ≤ net → is_routed d net ≡ false
 past-unrouted d net past = ap is_routed_net (slice_get_past d.nets net past)
@@ -43,30 +42,20 @@ routes-booked d c h trees capacity stands is net =
           ∙ sym (stands.free net (past-unrouted d net (omega (arith, past, count))))
     ]
 
-some-net : (d : DesignView) (net : ℕ) → IsTrue (is_routed d net) → (value : Net) × (slice_get d.nets net ≡ Some value)
-some-net d net routed = by (slice_get d.nets net) refl
-  where
-    by : (o : Option Net) → slice_get d.nets net ≡ o → (value : Net) × (slice_get d.nets net ≡ Some value)
-    by None is = absurd (both_ways (is_routed d net) (ap is_routed_net is) routed)
-    by (Some value) is = (value, is)
-
 some-weaken : (P Q : TreeView → Type 0) (o : Option TreeView) → ((t : TreeView) → P t → Q t) → IsSomeAnd o P → IsSomeAnd o Q
 some-weaken P Q None all some = some
 some-weaken P Q (Some t) all some = all t some
 
-some-is : (P : TreeView → Type 0) (o : Option TreeView) (t : TreeView) → o ≡ Some t → IsSomeAnd o P → P t
-some-is P o t is some = subst (λ (x : Option TreeView). IsSomeAnd x P) is some
-
 -- each routed net has a tree that routes it
 held-tree : (d : DesignView) (h : List Entry) (trees : List (Option TreeView)) → Stands d h → ((net : ℕ) → tree_at trees net ≡ booked h net) →
-    (net : ℕ) → IsTrue (is_routed d net) → IsSomeAnd (tree_at trees net) (RoutesNet d net)
-held-tree d h trees stands same net routed = subst (λ (o : Option TreeView). IsSomeAnd o (RoutesNet d net)) (sym (same net)) (stands.held net routed)
+    (net : ℕ) → IsTrue (is_routed d net) → IsSomeAnd (tree_at trees net) (IsRouteOfNet d net)
+held-tree d h trees stands same net routed = subst (λ (o : Option TreeView). IsSomeAnd o (IsRouteOfNet d net)) (sym (same net)) (stands.held net routed)
 
 -- so it has one in the design's grid
 pub routes-routed : (d : DesignView) (h : List Entry) (trees : List (Option TreeView)) → Stands d h → ((net : ℕ) → tree_at trees net ≡ booked h net) → AreRouted d trees
 routes-routed d h trees stands same net routed =
-    let value = some-net d net routed in
-    some-weaken (RoutesNet d net) (λ tree. tree.shape ≡ d.frame.shape) (tree_at trees net) (λ t r. (r value.0 value.1).shape) (held-tree d h trees stands same net routed)
+    let one = routed-net d net routed in
+    some-weaken (IsRouteOfNet d net) (λ tree. tree.shape ≡ d.frame.shape) (tree_at trees net) (λ t r. (r one.net one.there).shape) (held-tree d h trees stands same net routed)
 
 pub routes-free : (d : DesignView) (h : List Entry) (trees : List (Option TreeView)) → Stands d h → ((net : ℕ) → tree_at trees net ≡ booked h net) →
     (net : ℕ) → is_routed d net ≡ false → tree_at trees net ≡ None
@@ -78,7 +67,7 @@ pub routes-trees : (d : DesignView) (h : List Entry) (trees : List (Option TreeV
 routes-trees d h trees stands same are net t is =
     elim (cases_Bool (is_routed d net)) [
       | inl routed ↦
-          (are net t routed is, some-is (λ (tree : TreeView). tree.shape ≡ d.frame.shape) (tree_at trees net) t is (routes-routed d h trees stands same net routed))
+          (are net t routed is, and-some (λ (tree : TreeView). tree.shape ≡ d.frame.shape) (tree_at trees net) t is (routes-routed d h trees stands same net routed))
       | inr unrouted ↦ (let none = routes-free d h trees stands same net unrouted in cc)
     ]
 
@@ -91,33 +80,9 @@ routes-joined d h trees stands same are number net is routed = by (tree_at trees
     has = ap is_routed_net is ∙ routed
 
     by : (o : Option TreeView) → tree_at trees number ≡ o → IsJoined d.frame.shape (route_edges trees number) net.pins
-    by None there = absurd (subst (λ (o : Option TreeView). IsSomeAnd o (RoutesNet d number)) there (held-tree d h trees stands same number has))
+    by None there = absurd (subst (λ (o : Option TreeView). IsSomeAnd o (IsRouteOfNet d number)) there (held-tree d h trees stands same number has))
     by (Some t) there =
-        let r : Routes d.frame.shape net t = some-is (RoutesNet d number) (tree_at trees number) t there (held-tree d h trees stands same number has) net is in
+        let r : IsRouteOf d.frame.shape net t = and-some (IsRouteOfNet d number) (tree_at trees number) t there (held-tree d h trees stands same number has) net is in
         let joined : IsJoined t.shape (edges_of t) net.pins = joins-pins t net.pins (are number t has there) r.pins in
         subst (λ (o : Option TreeView). IsJoined d.frame.shape (edges_or_none o) net.pins) (sym there)
         (subst (λ (g : Shape). IsJoined g (edges_of t) net.pins) r.shape joined)
-
-is-some : (o : Option ℕ) → IsSome o → (n : ℕ) × (o ≡ Some n)
-is-some None some = absurd (both_ways false refl some)
-is-some (Some n) some = (n, refl)
-
--- the trees that are booked at the first mark of least overflow
-pub record AreChosen (d : DesignView) (h : List Entry) (trees : List (Option TreeView)) : Type 0 where
-  pub front : ℕ
-  pub least : least_mark h ≡ Some front
-  pub stands : Stands d (take front h)
-  pub booked : (net : ℕ) → tree_at trees net ≡ booked (take front h) net
-
-pub are-chosen : (d : DesignView) (formula : Formula) (r : ℕ) (c : CapacityView) (h : List Entry) (trees : List (Option TreeView)) → c ≡ capacity_of d → IsLegal c h →
-    AreRounds d formula r h → ((front : ℕ) → least_mark h ≡ Some front → trees ≡ map (booked (take front h)) (range_with_len 0 (nets_of c))) → AreChosen d h trees
-are-chosen d formula r c h trees capacity legal made is =
-    let legal_of : IsLegal (capacity_of d) h = subst (λ (x : CapacityView). IsLegal x h) capacity legal in
-    let mark = is-some (least_mark h) (some-mark d formula r h legal_of made) in
-    let stands = chosen-stands d formula r h mark.0 legal_of made mark.1 in
-    record {
-      front = mark.0;
-      least = mark.1;
-      stands = stands;
-      booked = routes-booked d c (take mark.0 h) trees capacity stands (is mark.0 mark.1);
-    }

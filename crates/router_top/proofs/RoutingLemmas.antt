@@ -1,3 +1,4 @@
+-- A routing, by the text of its trees.
 use Rattle.std.proofs.Common.{◌≡◌, ℕ, ◌&&◌, Bool, false, List, take, Option, Some, None, Ok, IsTrue, inl, inr, refl, sym, ap, subst, ◌∙◌}
 use Rattle.std.proofs.Math.Path.{fun_ext}
 use Rattle.std.proofs.lemmas.Bool.{cases_Bool}
@@ -18,10 +19,11 @@ use Rattle.solution_text.specs.Cover.{cover}
 use Rattle.solution_text.specs.Runs.{LieIn}
 use Rattle.solution_text.specs.WrittenText.{written_text}
 use Rattle.solution_text.proofs.LawLemmas.{written-text-covers}
-use Rattle.router_top.specs.Devices.{Reading}
-use Rattle.router_top.specs.Routings.{booked_edges, AllJoined, AreTrees, IsRoutingOf, IsRouting}
+use Rattle.gr_io.specs.Devices.{Reading}
+use Rattle.router_top.specs.Routing.{booked_edges, AllJoined, AreTrees, IsRoutedDesign, IsRouting}
 use Rattle.router_top.specs.Said.{design_said}
-use Rattle.router_top.specs.declared.routes.Routing.{Routing}
+use Rattle.router_top.specs.declared.words.Options.{Options}
+use Rattle.router_top.specs.declared.routing.RoutedDesign.{RoutedDesign}
 use Rattle.router_top.proofs.DemandLemmas.{booked-demand}
 
 -- the edges of the trees lie in the grid
@@ -69,24 +71,24 @@ joined-same : (d : DesignView) (sets others : ℕ → Edges) → ((net : ℕ) (e
 joined-same d sets others same joined = subst (λ (s : ℕ → Edges). AllJoined d s) (fun_ext (λ net. fun_ext (λ e. same net e))) joined
 
 -- routes of a design that was read, and their report, are a routing
-pub is-routing : (shelf : Reading) (name : List ℕ) (d : DesignView) (rounds : ℕ) (r : Routing) → (IsTrue shelf.tells → design_said shelf name ≡ Some (Ok d)) →
-    IsDesign d → IsRoutingOf d rounds r → IsRouting shelf name rounds r.book r.hands.items (written_text d (route_edges r.routes)) r.report
-is-routing shelf name d rounds r said design is = record {
+pub is-routing : (shelf : Reading) (name : List ℕ) (d : DesignView) (options : Options) (r : RoutedDesign) → (IsTrue shelf.tells → design_said shelf.held name ≡ Some (Ok d)) →
+    IsDesign d → IsRoutedDesign d options r → IsRouting shelf name options r.rounds.book r.rounds.hands.items (written_text d (route_edges r.routes)) r.report
+is-routing shelf name d options r said design is = record {
   design = d;
   said = said;
   made = is.made;
-  chosen = is.chosen;
+  chosen = r.rounds.chosen;
   least = is.routes.least;
   says = ap (written_text d) (fun_ext (λ net. fun_ext (λ e. booked-same d h r.routes is.routes.booked net e)));
   joined = joined-same d (route_edges r.routes) (cover d (written_text d (route_edges r.routes))) same is.routes.joined;
-  demand = λ e edge wire. demand-same d r.book.capacity h r.routes design is.made.capacity is.trees is.routes.booked is.routes.free e;
+  demand = λ e edge wire. demand-same d r.rounds.book.capacity h r.routes design is.made.capacity is.trees is.routes.booked is.routes.free e;
   verdict = is.verdict;
-  judged = verdict-same d 1 (route_edges r.routes) (cover d (written_text d (route_edges r.routes))) is.verdict same is.judged;
+  judged = verdict-same d options.via_cost (route_edges r.routes) (cover d (written_text d (route_edges r.routes))) is.verdict same is.judged;
   reports = is.reports;
 }
   where
     h : List Entry
-    h = take is.chosen r.book.history
+    h = take r.rounds.chosen r.rounds.book.history
 
     same : (net : ℕ) (e : Edge) → route_edges r.routes net e ≡ cover d (written_text d (route_edges r.routes)) net e
     same = text-same d r.routes design is.trees is.routes.free

@@ -5,7 +5,7 @@ use Rattle.gr_base.specs.declared.grid.Edge.{Edge}
 use Rattle.gr_io.specs.Counts.{Rose}
 use Rattle.route_reader.specs.Solutions.{SolutionView, edges_by}
 use Rattle.solution_text.specs.Cover.{cover}
-use Rattle.router_top.specs.Devices.{Reading}
+use Rattle.gr_io.specs.Devices.{Reading}
 use Rattle.router_top.specs.declared.stop.Stop.{Stop}
 use Rattle.router_top.specs.declared.stop.Stop.TheVariants.{ReadFailed, NoMemory}
 
@@ -19,7 +19,8 @@ Reaches shelf held left (Err NoMemory) = Unit {0}
 Reaches shelf held left (Err stop) = ⊥
 
 -- the answer stands for a fault of a text, which its bytes say
-pub record TellsFault {V F : Type 0} (shelf : Reading) (said : Option (Result V (F × ℕ))) (fault : F → ℕ → Stop) (stop : Stop) : Type 0 where
+pub record TellsFault {V F : Type 0} (shelf : Reading) (said : Option (Result V (F × ℕ)))
+    (fault : F → ℕ → Stop) (stop : Stop) : Type 0 where
   pub kind : F
   pub token : ℕ
   pub is : stop ≡ fault kind token
@@ -27,9 +28,11 @@ pub record TellsFault {V F : Type 0} (shelf : Reading) (said : Option (Result V 
   pub says : IsTrue shelf.tells → said ≡ Some (Err (kind, token))
 
 -- a text that was opened and read: it says this value, or it is at fault, or a read failed, or the name is missing
-abbrev pub Opens : {V F : Type 0} → Reading → (held : Option (List ℕ)) → (said : Option (Result V (F × ℕ))) → (F → ℕ → Stop) → Result V Stop → Type 0
+abbrev pub Opens : {V F : Type 0} → Reading → (held : Option (List ℕ)) → (said : Option (Result V (F × ℕ))) →
+    (F → ℕ → Stop) → Result V Stop → Type 0
 Opens shelf held said fault (Ok value) =
-    (shelf.faults_after ≡ shelf.faults) × (shelf.misses_after ≡ shelf.misses) × (IsTrue shelf.tells → said ≡ Some (Ok value))
+    (shelf.faults_after ≡ shelf.faults) × (shelf.misses_after ≡ shelf.misses) ×
+    (IsTrue shelf.tells → said ≡ Some (Ok value))
 Opens shelf held said fault (Err ReadFailed) =
     Rose shelf.faults shelf.faults_after ⊎ (Rose shelf.misses shelf.misses_after × (IsTrue shelf.tells → held ≡ None))
 Opens shelf held said fault (Err NoMemory) = Unit {0}

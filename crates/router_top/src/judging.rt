@@ -1,10 +1,11 @@
-ghost use Rattle.std.specs.Prelude.{◌≡◌, ◌<◌, length, All, IfOk};
-ghost use Rattle.router_top.specs.Outcomes.{Leaves};
-ghost use Rattle.router_top.specs.Texts.{outcome_of, verdict_text};
+//! The command that judges a solution of a design.
+ghost use Rattle.std.specs.Prelude.{◌≡◌, ◌<◌, ◌≤◌, length, All, IfOk};
+ghost use Rattle.gr_io.specs.Devices.{device_of, reading_of};
+ghost use Rattle.router_top.specs.Judging.{judging, outcome_of, verdict_text};
+ghost use Rattle.router_top.specs.Leaving.{LeavesOut};
 
-use crate::routes::VIA_COST;
+use crate::opening::{open_design, open_solution};
 use crate::stop::{Outcome, Stop};
-use crate::texts::{open_design, open_solution};
 use gr_base::Design;
 use gr_io::{Shelf, Sink, write_whole};
 use gr_text::Text;
@@ -20,15 +21,17 @@ pub(crate) fn judge<S: Shelf, O: Sink>(
     out: &mut O,
     design: &str,
     solution: &str,
+    via_cost: u32,
 ) -> Result<Outcome, Stop>
-    ensures { Leaves design.now solution.now
-        (record { tells = S.tells; held = S.held shelf.old; faults = S.faults shelf.old; faults_after = S.faults shelf.new; misses = S.misses shelf.old; misses_after = S.misses shelf.new })
-        (record { tells = O.tells; faults = O.faults out.old; faults_after = O.faults out.new; written = O.written out.old; written_after = O.written out.new })
+    requires { via_cost ≤ 1000 }
+    ensures { LeavesOut (judging design.now solution.now via_cost)
+        (reading_of S.tells S.held S.faults S.misses shelf.old shelf.new)
+        (device_of O.tells O.faults O.written out.old out.new)
         result }
 {
     let design = open_design(alloc, shelf, design)?;
     let solution = open_solution(alloc, shelf, &design, solution)?;
-    let Ok(verdict) = evaluate(alloc, &design, &solution, VIA_COST) else {
+    let Ok(verdict) = evaluate(alloc, &design, &solution, via_cost) else {
         return Err(Stop::NoMemory);
     };
     let Ok(text) = verdict_text(alloc, &design, &verdict) else {

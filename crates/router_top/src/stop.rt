@@ -1,7 +1,7 @@
+//! Why a command stopped, and how it is told.
 ghost use Rattle.std.specs.Prelude.{◌≡◌, IfOk};
-ghost use Rattle.router_top.specs.Devices.{GainsLine};
-ghost use Rattle.router_top.specs.Lines.{status_done, status_of, fault_line};
-ghost use Rattle.router_top.specs.Outcomes.{Finishes, IsTold};
+ghost use Rattle.gr_io.specs.Devices.{device_of, GainsLine};
+ghost use Rattle.router_top.specs.Stops.{status_done, status_of, fault_line, IsTold, Finishes};
 
 use gr_io::{Sink, write_whole};
 use gr_text::Text;
@@ -60,7 +60,7 @@ fn status(stop: Stop) -> u8
 
 /// The status of a command, whose stop is told on err.
 pub(crate) fn finish<E: Sink>(alloc: Global, err: &mut E, done: Result<Outcome, Stop>) -> u8
-    ensures { Finishes (record { tells = E.tells; faults = E.faults err.old; faults_after = E.faults err.new; written = E.written err.old; written_after = E.written err.new }) done result }
+    ensures { Finishes (device_of E.tells E.faults E.written err.old err.new) done result }
 {
     match done {
         Ok(outcome) => status_done(outcome),
@@ -71,7 +71,7 @@ pub(crate) fn finish<E: Sink>(alloc: Global, err: &mut E, done: Result<Outcome, 
 /// Tells on err why a command stopped, and says what was told: want of memory where there is none
 /// for a line. A fault of out is not told.
 fn tell<E: Sink>(alloc: Global, err: &mut E, stop: Stop) -> Stop
-    ensures { IsTold (record { tells = E.tells; faults = E.faults err.old; faults_after = E.faults err.new; written = E.written err.old; written_after = E.written err.new }) stop result }
+    ensures { IsTold (device_of E.tells E.faults E.written err.old err.new) stop result }
 {
     match stop {
         Stop::Usage => write_line(err, b"groute: usage\n"),
@@ -98,7 +98,7 @@ fn tell<E: Sink>(alloc: Global, err: &mut E, stop: Stop) -> Stop
 
 /// Writes a line. A fault is err's own, and changes no status.
 fn write_line<E: Sink>(err: &mut E, line: &[u8])
-    ensures { GainsLine (record { tells = E.tells; faults = E.faults err.old; faults_after = E.faults err.new; written = E.written err.old; written_after = E.written err.new }) line.now }
+    ensures { GainsLine (device_of E.tells E.faults E.written err.old err.new) line.now }
 {
     let _ = write_whole(err, line);
 }

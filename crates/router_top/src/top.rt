@@ -1,16 +1,20 @@
+//! The public call.
 ghost use Rattle.std.specs.Prelude.{◌≡◌, [], None, map, string_bytes};
+ghost use Rattle.gr_io.specs.Devices.{device_of, reading_of};
+ghost use Rattle.router_top.specs.Commands.{handed_back, rounds_back};
+ghost use Rattle.router_top.specs.Ends.{LeavesFor, Ends};
+ghost use Rattle.router_top.specs.Statuses.{IsByStatus};
 ghost use Rattle.router_top.specs.Words.{order_of};
-ghost use Rattle.router_top.specs.Texts.{kept_of};
-ghost use Rattle.router_top.specs.Ends.{Ends};
 
-use crate::hands::HandLog;
 use crate::judging::judge;
+use crate::left::Left;
 use crate::routing::route;
 use crate::stop::{Stop, finish};
 use crate::words::{Order, read_order};
 use book_state::BookState;
 use cost_rules::Rules;
 use gr_io::{Shelf, Sink};
+use round_core::{HandLog, Rounds};
 use std::alloc::Global;
 
 /// How a run ended.
@@ -26,16 +30,23 @@ pub struct Ended {
 }
 
 impl Ended {
-    /// Ended with a status, and without a book.
-    pub(crate) fn without_book(alloc: Global, status: u8) -> Ended
+    /// Ended with a status, and with the book and the logs of these rounds.
+    fn of(alloc: Global, status: u8, rounds: Option<Rounds>) -> Ended
         ensures status { result.status ≡ status }
-        ensures book { result.book ≡ None }
-        ensures hands { result.hands.items ≡ [] }
+        ensures kept { handed_back result.book result.hands.items ≡ rounds_back rounds }
+        ensures hands { result.book ≡ None → result.hands.items ≡ [] }
     {
-        Ended {
-            status,
-            book: None,
-            hands: Vec::new(alloc),
+        match rounds {
+            Some(rounds) => Ended {
+                status,
+                book: Some(rounds.book),
+                hands: rounds.hands,
+            },
+            None => Ended {
+                status,
+                book: None,
+                hands: Vec::new(alloc),
+            },
         }
     }
 }
@@ -61,20 +72,49 @@ pub fn run<R, S: Shelf, O: Sink, E: Sink>(
     rules: &Rules,
 ) -> Ended
     ensures ends { Ends (order_of (map string_bytes words.now))
-        (record { tells = S.tells; held = S.held shelf.old; faults = S.faults shelf.old; faults_after = S.faults shelf.new; misses = S.misses shelf.old; misses_after = S.misses shelf.new })
-        (record { tells = O.tells; faults = O.faults out.old; faults_after = O.faults out.new; written = O.written out.old; written_after = O.written out.new })
-        (record { tells = E.tells; faults = E.faults err.old; faults_after = E.faults err.new; written = E.written err.old; written_after = E.written err.new })
-        (kept_of result.book result.hands.items) result.status }
+        (reading_of S.tells S.held S.faults S.misses shelf.old shelf.new)
+        (device_of O.tells O.faults O.written out.old out.new)
+        (device_of E.tells E.faults E.written err.old err.new)
+        (handed_back result.book result.hands.items) result.status }
+    ensures by_status { IsByStatus (order_of (map string_bytes words.now))
+        (reading_of S.tells S.held S.faults S.misses shelf.old shelf.new)
+        (device_of O.tells O.faults O.written out.old out.new)
+        (device_of E.tells E.faults E.written err.old err.new)
+        (handed_back result.book result.hands.items) result.status }
     ensures hands { result.book ≡ None → result.hands.items ≡ [] }
 {
+    let left = carry_out(alloc, words, shelf, out, err, rules);
+    let status = finish(alloc, err, left.end);
+    Ended::of(alloc, status, left.rounds)
+}
+
+/// Carries out the command that the words give, and tells no stop.
+fn carry_out<S: Shelf, O: Sink, E: Sink>(
+    alloc: Global,
+    words: &[String],
+    shelf: &mut S,
+    out: &mut O,
+    err: &mut E,
+    rules: &Rules,
+) -> Left
+    ensures { LeavesFor (order_of (map string_bytes words.now))
+        (reading_of S.tells S.held S.faults S.misses shelf.old shelf.new)
+        (device_of O.tells O.faults O.written out.old out.new)
+        (device_of E.tells E.faults E.written err.old err.new)
+        (rounds_back result.rounds) result.end }
+{
     match read_order(words) {
-        Some(Order::Route { design, rounds }) => {
-            route(alloc, shelf, out, err, design, rounds, rules.first())
+        Some(Order::Route { design, options }) => {
+            let rule = rules.of(options.formula);
+            route(alloc, shelf, out, err, design, options, rule)
         }
-        Some(Order::Evaluate { design, solution }) => {
-            let judged = judge(alloc, shelf, out, design, solution);
-            Ended::without_book(alloc, finish(alloc, err, judged))
-        }
-        None => Ended::without_book(alloc, finish(alloc, err, Err(Stop::Usage))),
+        Some(
+            Order::Evaluate {
+                design,
+                solution,
+                via_cost,
+            },
+        ) => Left::without_rounds(judge(alloc, shelf, out, design, solution, via_cost)),
+        None => Left::without_rounds(Err(Stop::Usage)),
     }
 }

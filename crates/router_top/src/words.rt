@@ -1,26 +1,50 @@
+//! What the words ask for.
 ghost use Rattle.std.specs.Prelude.{◌≡◌, ◌≤◌, IfSome, map, string_bytes};
 ghost use Rattle.std.specs.Option.{option_map};
 ghost use Rattle.router_top.specs.Words.{is_option, number_in as number_in_word, order_of};
-ghost use Rattle.router_top.specs.Orders.{named, HasFewRounds};
+ghost use Rattle.router_top.specs.Words.{plain_options as plain_options_of};
+ghost use Rattle.gr_base.specs.Limits.{most_rounds};
+ghost use Rattle.router_top.specs.Orders.{named, IsInRange};
 
-/// The most rounds that words may ask for.
-const MOST_ROUNDS: u32 = 64;
+use cost_rules::Formula;
+use gr_base::MOST_ROUNDS;
 
 /// The most digits of a number in words.
 const MOST_DIGITS: usize = 20;
 
+/// As how many wire edges a via edge counts in a report, where the words don't say.
+const PLAIN_VIA_COST: u32 = 1;
+
+/// How a design is routed.
+#[derive(Clone, Copy, Debug)]
+pub(crate) struct Options {
+    /// The most rounds of rip-up and reroute, from 0 to 64.
+    pub rounds: u32,
+    /// As how many wire edges a via edge counts in the report, at most 1,000.
+    pub via_cost: u32,
+    /// The formula of the edges' costs.
+    pub formula: Formula,
+}
+
 /// What the words ask for, with the names of the texts that it needs.
 #[derive(Clone, Copy, Debug)]
 pub(crate) enum Order<'w> {
-    Route { design: &'w str, rounds: u32 },
-    Evaluate { design: &'w str, solution: &'w str },
+    Route {
+        design: &'w str,
+        options: Options,
+    },
+    Evaluate {
+        design: &'w str,
+        solution: &'w str,
+        via_cost: u32,
+    },
 }
 
 /// The order that the words give: `route`, a name and a number of rounds from 0 to 64, or
 /// `evaluate` and two names, where neither word begins with `-`.
 pub(crate) fn read_order(words: &[String]) -> Option<Order<'_>>
     ensures order { option_map named result ≡ order_of (map string_bytes words.now) }
-    ensures rounds { IfSome result HasFewRounds }
+    ensures range { IfSome result IsInRange }
 {
     let [command, first, second] = words else {
         return None;
@@ -31,13 +55,25 @@ pub(crate) fn read_order(words: &[String]) -> Option<Order<'_>>
     match command.as_str() {
         "route" => Some(Order::Route {
             design: first,
-            rounds: number_in(MOST_ROUNDS, second)?,
+            options: plain_options(number_in(MOST_ROUNDS, second)?),
         }),
         "evaluate" => Some(Order::Evaluate {
             design: first,
             solution: second,
+            via_cost: PLAIN_VIA_COST,
         }),
         _ => None,
+    }
+}
+
+/// The options where the words give the rounds alone.
+fn plain_options(rounds: u32) -> Options
+    ensures { result ≡ plain_options_of rounds }
+{
+    Options {
+        rounds,
+        via_cost: PLAIN_VIA_COST,
+        formula: Formula::First,
     }
 }
 
@@ -49,7 +85,7 @@ fn is_option(word: &str) -> bool
 
 /// The number that a word of one to twenty digits spells, if it is at most this great.
 fn number_in(most: u32, word: &str) -> Option<u32>
-    requires { most ≤ 64 }
+    requires { most ≤ most_rounds }
     ensures { result ≡ number_in_word most word.now }
 {
     let digits = word.as_bytes();

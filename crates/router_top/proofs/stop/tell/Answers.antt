@@ -1,7 +1,6 @@
 use Rattle.std.proofs.Common.{◌≡◌, ℕ, sym, ap, subst, ◌∙◌, inl, refl, codes}
-use Rattle.router_top.specs.Devices.{Device, GainsLine}
-use Rattle.router_top.specs.Lines.{line_of, fault_line}
-use Rattle.router_top.specs.Outcomes.{IsTold}
+use Rattle.gr_io.specs.Devices.{Device, GainsLine}
+use Rattle.router_top.specs.Stops.{line_of, fault_line, IsTold}
 use Rattle.router_top.specs.declared.stop.Stop.{Stop}
 use Rattle.router_top.specs.declared.stop.Stop.TheVariants.{DesignFault}
 use Rattle.router_top.proofs.stop.tell.Goals as goal

@@ -1,0 +1,4 @@
+pub mod HandLemmas
+pub mod StandLemmas
+pub mod TurnLemmas
+pub mod RoundSteps

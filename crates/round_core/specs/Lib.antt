@@ -1,0 +1,5 @@
+pub mod Rounds
+pub mod Standing
+pub mod Turns
+pub mod Hands
+pub mod Results

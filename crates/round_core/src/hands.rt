@@ -1,0 +1,91 @@
+//! Which entries of a history are whose.
+ghost use Rattle.std.specs.Prelude.{◌≡◌, [], ◌∷◌, ◌++◌, map, IfOk, OnOk};
+ghost use Rattle.std.specs.List.{range_with_len};
+ghost use Rattle.round_core.specs.Hands.{log_of, places_of as places_in};
+
+use book_state::History;
+use std::alloc::{AllocError, Global};
+use std::marker::Model;
+
+/// The number under which the marks stand in a history.
+pub(crate) const MARKER: u32 = 0;
+
+/// The number under which the claims and releases stand there.
+pub(crate) const HAND: u32 = 1;
+
+/// The callers' numbers are below this.
+pub(crate) const CALLERS: u32 = HAND + 1;
+
+/// Places in a history, counted from 0 and rising.
+#[derive(Debug, Drop)]
+pub struct Places {
+    places: Vec<u64>,
+}
+
+impl Model for Places {
+    ghost use Rattle.std.specs.Prelude.{ℕ, List};
+
+    ghost Value = { List ℕ };
+
+    ghost view = { λ p. p.places.items };
+}
+
+impl Places {
+    fn new(alloc: Global) -> Places
+        ensures { result ≡ [] }
+    {
+        Places {
+            places: Vec::new(alloc),
+        }
+    }
+
+    /// The only error is want of memory.
+    fn push(&mut self, place: u64) -> Result<(), AllocError>
+        ensures { OnOk result (self.new ≡ self.old ++ place ∷ []) }
+    {
+        self.places.push(place)?;
+        Ok(())
+    }
+
+    pub fn as_slice(&self) -> &[u64]
+        ensures { result.now ≡ self.now }
+    {
+        &self.places
+    }
+}
+
+/// The places in a history of the entries of the caller with this number.
+#[derive(Debug, Drop)]
+pub struct HandLog {
+    pub number: u32,
+    pub places: Places,
+}
+
+/// The logs of the callers whose numbers are below this. The only error is want of memory.
+pub(crate) fn hands_of(
+    alloc: Global,
+    history: &History,
+    callers: u32,
+) -> Result<Vec<HandLog>, AllocError>
+    ensures { IfOk result (λ hands. hands.items ≡ map (log_of history.now) (range_with_len 0 callers)) }
+{
+    let mut hands = Vec::new(alloc);
+    for number in 0..callers {
+        let places = places_of(alloc, history, number)?;
+        hands.push(HandLog { number, places })?;
+    }
+    Ok(hands)
+}
+
+/// The places of the entries of the caller with this number.
+fn places_of(alloc: Global, history: &History, number: u32) -> Result<Places, AllocError>
+    ensures { IfOk result (λ places. places ≡ places_in history.now number) }
+{
+    let mut places = Places::new(alloc);
+    for place in 0..history.len() {
+        if history.entry(place).number == number {
+            places.push(place)?;
+        }
+    }
+    Ok(places)
+}

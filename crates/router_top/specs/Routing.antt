@@ -1,0 +1,103 @@
+-- The command `route`: the book of its rounds, the text of its routes, and their report.
+use Rattle.std.specs.Prelude.{◌≡◌, ℕ, true, false, List, Option, Some, None, Ok, slice_get, take, IsTrue, IsSomeAnd}
+use Rattle.gr_base.specs.Designs.{DesignView, is_routed, is_routed_net}
+use Rattle.gr_base.specs.EdgeSets.{Edges, IsJoined}
+use Rattle.gr_base.specs.Grid.{has_edge, is_wire}
+use Rattle.gr_base.specs.Sums.{demand as demand_by}
+use Rattle.gr_base.specs.Trees.{TreeView, IsTree, edges_or_none, route_edges, tree_at}
+use Rattle.gr_base.specs.declared.frame.Net.{Net}
+use Rattle.gr_base.specs.declared.grid.Edge.{Edge}
+use Rattle.gr_base.specs.declared.grid.Shape.{Shape}
+use Rattle.grid_demand.specs.Tables.{capacity_of}
+use Rattle.book_state.specs.Books.{booked, demand as demand_after, IsLegal}
+use Rattle.book_state.specs.Marks.{least_mark}
+use Rattle.book_state.specs.Views.{BookView}
+use Rattle.book_state.specs.declared.entry.Entry.{Entry}
+use Rattle.route_evaluator.specs.Verdicts.{IsVerdict}
+use Rattle.route_evaluator.specs.declared.verdict.Verdict.{Verdict}
+use Rattle.route_writer.specs.Routed.{AreRouted}
+use Rattle.solution_text.specs.Cover.{cover}
+use Rattle.solution_text.specs.WrittenText.{written_text}
+use Rattle.gr_io.specs.Devices.{Reading}
+use Rattle.round_core.specs.Hands.{ArePartedTo}
+use Rattle.round_core.specs.Rounds.{hand, AreRoundsUpTo}
+use Rattle.router_top.specs.Commands.{Command, checked}
+use Rattle.router_top.specs.Said.{design_said, report_of}
+use Rattle.round_core.specs.declared.hands.HandLog.{HandLog}
+use Rattle.router_top.specs.declared.routing.RoutedDesign.{RoutedDesign}
+use Rattle.router_top.specs.declared.stop.Outcome.TheVariants.{Whole}
+use Rattle.router_top.specs.declared.stop.Stop.TheVariants.{DesignFault}
+use Rattle.router_top.specs.declared.words.Options.{Options}
+
+-- the edges of each net's booked tree
+abbrev pub booked_edges : List Entry → ℕ → Edges
+booked_edges h net = edges_or_none (booked h net)
+
+-- each routed net is joined in its set of edges
+abbrev pub AllJoined : DesignView → (ℕ → Edges) → Type 0
+AllJoined d sets =
+    (number : ℕ) → (net : Net) → slice_get d.nets number ≡ Some net → IsTrue (is_routed_net (Some net)) →
+    IsJoined d.frame.shape (sets number) net.pins
+
+-- the demand that is booked for each wire edge is the demand of these sets of edges
+abbrev pub IsBookedDemand : DesignView → BookView → ℕ → (ℕ → Edges) → Type 0
+IsBookedDemand d book front sets =
+    (e : Edge) → IsTrue (has_edge d.frame.shape e) → IsTrue (is_wire e) →
+    demand_after book.capacity (take front book.history) e ≡ demand_by d sets e
+
+-- the book of a design's rounds: each entry of its history has the reply that the rules give, the history is that of
+-- the rounds, and the callers' logs part it
+pub record IsBookOf (d : DesignView) (options : Options) (book : BookView) (hands : List HandLog) : Type 0 where
+  pub capacity : book.capacity ≡ capacity_of d
+  pub legal : IsLegal book.capacity book.history
+  pub run : AreRoundsUpTo d options.formula options.rounds book.history
+  pub parted : ArePartedTo hand book.history hands
+
+-- a design's routes: the trees booked at the first mark of least overflow; exactly the routed nets have one, and it
+-- joins their pins
+pub record AreChosenRoutes (d : DesignView) (book : BookView) (front : ℕ) (trees : List
+    (Option TreeView)) : Type 0 where
+  pub least : least_mark book.history ≡ Some front
+  pub booked : (net : ℕ) → tree_at trees net ≡ booked (take front book.history) net
+  pub routed : AreRouted d trees
+  pub free : (net : ℕ) → is_routed d net ≡ false → tree_at trees net ≡ None
+  pub joined : AllJoined d (route_edges trees)
+
+-- each tree is one, in the grid
+abbrev pub AreTrees : Shape → List (Option TreeView) → Type 0
+AreTrees g trees = (net : ℕ) → (t : TreeView) → tree_at trees net ≡ Some t → IsTree t × (t.shape ≡ g)
+
+-- a design's routes and their report, with the rounds that they are from
+pub record IsRoutedDesign (d : DesignView) (options : Options) (r : RoutedDesign) : Type 0 where
+  pub made : IsBookOf d options r.rounds.book r.rounds.hands.items
+  pub routes : AreChosenRoutes d r.rounds.book r.rounds.chosen r.routes
+  pub trees : AreTrees d.frame.shape r.routes
+  pub verdict : Verdict
+  pub judged : IsVerdict d options.via_cost (route_edges r.routes) verdict
+  pub reports : r.report ≡ report_of verdict
+
+-- the text and the report of routes of the design that was read: the text is that of the trees booked at the first mark
+-- of least overflow; by what it covers, each routed net is joined, booked demand is that of the text, and the five
+-- numbers of the report are the text's
+pub record IsRouting (shelf : Reading) (name : List ℕ) (options : Options) (book : BookView)
+    (hands : List HandLog) (text report : List ℕ) : Type 0 where
+  pub design : DesignView
+  pub said : IsTrue shelf.tells → design_said shelf.held name ≡ Some (Ok design)
+  pub made : IsBookOf design options book hands
+  pub chosen : ℕ
+  pub least : least_mark book.history ≡ Some chosen
+  pub says : text ≡ written_text design (booked_edges (take chosen book.history))
+  pub joined : AllJoined design (cover design text)
+  pub demand : IsBookedDemand design book chosen (cover design text)
+  pub verdict : Verdict
+  pub judged : IsVerdict design options.via_cost (cover design text) verdict
+  pub reports : report ≡ report_of verdict
+
+abbrev pub routing : (name : List ℕ) → Options → Command
+routing name options = record {
+  files = λ shelf. checked (design_said shelf.held name) DesignFault (λ d. Some (Ok tt));
+  says = λ shelf kept outcome text report.
+      (outcome ≡ Whole) × IsSomeAnd kept (λ k. IsRouting shelf name options k.book k.hands text report);
+  reports = true;
+  is_open = λ shelf. ⊥;
+}

@@ -1,0 +1,80 @@
+-- What each status of a run says.
+use Rattle.std.specs.Prelude.{◌≡◌, ℕ, ◌⊎◌, ◌↔◌, Bool, nat_eq, [], ◌∷◌, Option, Some, None, Result, Ok, Err, IsTrue}
+use Rattle.std.specs.List.{list_any}
+use Rattle.gr_io.specs.Counts.{Rose}
+use Rattle.gr_io.specs.Devices.{Device, Reading, IsUntouched, GainsLine}
+use Rattle.ispd_reader.specs.declared.fault.DesignFault.{DesignFault as DesignFaultKind}
+use Rattle.solution_text.specs.declared.fault.SolutionFault.{SolutionFault as SolutionFaultKind}
+use Rattle.router_top.specs.Commands.{HandedBack, Command}
+use Rattle.router_top.specs.Leaving.{IsDone, IsFaulty, FailsToRead, FailsToWrite, WantsMemory}
+use Rattle.router_top.specs.Orders.{command_of}
+use Rattle.router_top.specs.Stops.{status_of, line_of}
+use Rattle.router_top.specs.Words.{Order}
+use Rattle.router_top.specs.declared.stop.Stop.{Stop}
+use Rattle.router_top.specs.declared.stop.Outcome.TheVariants.{Whole, Open}
+use Rattle.router_top.specs.declared.stop.Stop.TheVariants.{Usage, DesignFault, SolutionFault, ReadFailed, NoMemory}
+
+-- the statuses of a run
+abbrev pub is_status : ℕ → Bool
+is_status status = list_any (nat_eq status) (0 ∷ 1 ∷ 2 ∷ 3 ∷ 5 ∷ 6 ∷ 7 ∷ 8 ∷ [])
+
+-- the held texts have a first fault, which err was told
+pub record ReportsDesignFault (command : Command) (shelf : Reading) (out err : Device) : Type 0 where
+  pub fault : DesignFaultKind
+  pub token : ℕ
+  pub faulty : IsFaulty command shelf out (DesignFault fault token)
+  pub line : GainsLine err (line_of (DesignFault fault token))
+
+pub record ReportsSolutionFault (command : Command) (shelf : Reading) (out err : Device) : Type 0 where
+  pub fault : SolutionFaultKind
+  pub token : ℕ
+  pub faulty : IsFaulty command shelf out (SolutionFault fault token)
+  pub line : GainsLine err (line_of (SolutionFault fault token))
+
+-- a write that may fail failed: one to out, or, where the command writes a report, one to err
+abbrev pub SomeWriteFails : Command → (out err : Device) → Type 0
+SomeWriteFails command out err =
+    Rose out.faults out.faults_after ⊎ (IsTrue command.reports × Rose err.faults err.faults_after)
+
+-- the answer to accepted files, over sinks that don't fail, and to files at fault
+abbrev pub IsAnswer : Command → Result (Unit {0}) Stop → (out err : Device) → ℕ → Type 0
+IsAnswer command (Ok accepted) out err status =
+    (SomeWriteFails command out err → ⊥) → (status ≡ 0) ⊎ (status ≡ 1) ⊎ (status ≡ 8)
+IsAnswer command (Err stop) out err status = (status ≡ status_of stop) ⊎ (status ≡ 8)
+
+-- what holds of the command of an order, where the words give one
+abbrev pub OfCommand : Option Order → (Command → Type 0) → Type 0
+OfCommand None P = Unit {0}
+OfCommand (Some order) P = P (command_of order)
+
+-- how a run ends, by its status, and what it hands back
+pub record IsByStatus (order : Option Order) (shelf : Reading) (out err : Device)
+    (kept : Option HandedBack) (status : ℕ) : Type 0 where
+  pub known : IsTrue (is_status status)
+  -- the words give no order
+  pub usage : (status ≡ 2) ↔ (order ≡ None)
+  pub usage_line : status ≡ 2 → IsUntouched out × GainsLine err (line_of Usage)
+  -- the command was done, and no net that was judged is open
+  pub whole : status ≡ 0 → OfCommand order (λ command. IsDone command shelf out err kept Whole)
+  -- it was done, and some routed net isn't joined
+  pub unjoined : status ≡ 1 → OfCommand order (λ command. IsDone command shelf out err kept Open)
+  -- the design's text has a fault: the first one, and its token, are told
+  pub design_fault : status ≡ 3 → OfCommand order (λ command. ReportsDesignFault command shelf out err)
+  -- the design is accepted, and the solution's text has a fault
+  pub solution_fault : status ≡ 5 → OfCommand order (λ command. ReportsSolutionFault command shelf out err)
+  -- a read failed, or a name of the order is missing
+  pub read_failed : status ≡ 6 →
+      OfCommand order (λ command. FailsToRead command shelf out × GainsLine err (line_of ReadFailed))
+  -- a write failed
+  pub write_failed : status ≡ 7 → OfCommand order (λ command. FailsToWrite command shelf out err kept)
+  -- memory was wanting
+  pub no_memory : status ≡ 8 →
+      OfCommand order (λ command. WantsMemory command shelf out kept × GainsLine err (line_of NoMemory))
+  -- no book is handed back where no route was made
+  pub unkept : (status ≡ 0 → ⊥) → (status ≡ 7 → ⊥) → (status ≡ 8 → ⊥) → kept ≡ None
+  -- over devices that don't fail, held files are answered by what they say, if memory serves
+  pub completes : OfCommand order (λ command. IsTrue shelf.tells → (Rose shelf.faults shelf.faults_after → ⊥) →
+      (said : Result (Unit {0}) Stop) → command.files shelf ≡ Some said → IsAnswer command said out err status)
+  -- of the commands that are done those end with 1 by whose files some routed net isn't joined
+  pub opens : OfCommand order (λ command. IsTrue shelf.tells →
+      (status ≡ 1 → command.is_open shelf) × (status ≡ 0 → command.is_open shelf → ⊥))

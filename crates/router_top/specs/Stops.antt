@@ -1,0 +1,55 @@
+-- Why a command stopped: its status, and what is told of it.
+use Rattle.std.specs.Prelude.{◌≡◌, ℕ, ◌⊎◌, List, [], ◌++◌, Result, Ok, Err, codes}
+use Rattle.std.specs.Fmt.{decimal}
+use Rattle.gr_io.specs.Devices.{Device, IsUntouched, GainsLine}
+use Rattle.ispd_reader.specs.Faults.{fault_number as design_number}
+use Rattle.solution_text.specs.Faults.{fault_number as solution_number}
+use Rattle.router_top.specs.declared.stop.Outcome.{Outcome}
+use Rattle.router_top.specs.declared.stop.Outcome.TheVariants.{Whole, Open}
+use Rattle.router_top.specs.declared.stop.Stop.{Stop}
+use Rattle.router_top.specs.declared.stop.Stop.TheVariants.{Usage, DesignFault, SolutionFault, ReadFailed, WriteFailed, NoMemory}
+
+-- the status of a command that was done: another one where a net isn't joined
+abbrev pub status_done : Outcome → ℕ
+status_done Whole = 0
+status_done Open = 1
+
+-- the status of a command that stopped
+abbrev pub status_of : Stop → ℕ
+status_of Usage = 2
+status_of (DesignFault fault token) = 3
+status_of (SolutionFault fault token) = 5
+status_of ReadFailed = 6
+status_of WriteFailed = 7
+status_of NoMemory = 8
+
+-- the line of a fault of a text
+abbrev pub fault_line : (text : List ℕ) → (fault token : ℕ) → List ℕ
+fault_line text fault token =
+    codes "groute: " ++ text ++ codes " fault " ++ decimal fault ++ codes " at token " ++ decimal token ++ codes "\n"
+
+-- what is told of it on err
+abbrev pub line_of : Stop → List ℕ
+line_of Usage = codes "groute: usage\n"
+line_of (DesignFault fault token) = fault_line (codes "design") (design_number fault) token
+line_of (SolutionFault fault token) = fault_line (codes "solution") (solution_number fault) token
+line_of ReadFailed = codes "groute: a read failed\n"
+line_of WriteFailed = []
+line_of NoMemory = codes "groute: out of memory\n"
+
+-- err is told why a command stopped, or, where memory is wanting for the line, that
+abbrev pub IsToldOrNot : Device → Stop → Stop → Type 0
+IsToldOrNot err stop told =
+    ((told ≡ stop) × GainsLine err (line_of stop)) ⊎ ((told ≡ NoMemory) × GainsLine err (line_of NoMemory))
+
+-- err is told why a command stopped; a write that failed isn't told
+abbrev pub IsTold : Device → Stop → Stop → Type 0
+IsTold err WriteFailed told = (told ≡ WriteFailed) × IsUntouched err
+IsTold err (DesignFault fault token) told = IsToldOrNot err (DesignFault fault token) told
+IsTold err (SolutionFault fault token) told = IsToldOrNot err (SolutionFault fault token) told
+IsTold err stop told = (told ≡ stop) × GainsLine err (line_of stop)
+
+-- the status of a command, whose stop is told on err
+abbrev pub Finishes : (err : Device) → Result Outcome Stop → ℕ → Type 0
+Finishes err (Ok outcome) status = (status ≡ status_done outcome) × IsUntouched err
+Finishes err (Err stop) status = (told : Stop) × IsTold err stop told × (status ≡ status_of told)

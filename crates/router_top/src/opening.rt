@@ -1,0 +1,74 @@
+//! The texts of a command, as they are opened and read.
+ghost use Rattle.std.specs.Prelude.{◌≡◌, ℕ, List, IsTrue, IfOk, OnOk};
+ghost use Rattle.gr_base.specs.Designs.{IsDesign};
+ghost use Rattle.gr_io.specs.declared.shelf.Slot.{Slot};
+ghost use Rattle.gr_io.specs.declared.shelf.Slot.TheVariants.{Design as DesignSlot, Solution as SolutionSlot};
+ghost use Rattle.route_reader.specs.Solutions.{IsOf};
+ghost use Rattle.gr_io.specs.Devices.{reading_of};
+ghost use Rattle.router_top.specs.Opening.{Reaches, Opens, IsCovered};
+ghost use Rattle.router_top.specs.Said.{design_said, solution_said};
+ghost use Rattle.router_top.specs.declared.stop.Stop.TheVariants.{DesignFault, SolutionFault};
+
+use crate::stop::Stop;
+use gr_base::Design;
+use gr_io::{ReachError, Shelf, Slot};
+use ispd_reader::{DesignError, read_design};
+use route_reader::{Solution, SolutionError, read_solution};
+use std::alloc::Global;
+
+/// Reads the design that is held under a name.
+pub(crate) fn open_design<S: Shelf>(
+    alloc: Global,
+    shelf: &mut S,
+    name: &str,
+) -> Result<Design, Stop>
+    ensures opens { Opens (reading_of S.tells S.held S.faults S.misses shelf.old shelf.new)
+        (S.held shelf.old DesignSlot name.now) (design_said (S.held shelf.old) name.now) DesignFault result }
+    ensures held { (slot : Slot) → (other : List ℕ) → S.held shelf.new slot other ≡ S.held shelf.old slot other }
+    ensures design { IfOk result IsDesign }
+{
+    reach(alloc, shelf, Slot::Design, name)?;
+    match read_design(alloc, shelf) {
+        Ok(design) => Ok(design),
+        Err(DesignError::Fault { fault, token }) => Err(Stop::DesignFault { fault, token }),
+        Err(DesignError::Failed) => Err(Stop::ReadFailed),
+        Err(DesignError::NoMemory) => Err(Stop::NoMemory),
+    }
+}
+
+/// Reads the solution that is held under a name, for this design.
+pub(crate) fn open_solution<S: Shelf>(
+    alloc: Global,
+    shelf: &mut S,
+    design: &Design,
+    name: &str,
+) -> Result<Solution, Stop>
+    ensures opens { Opens (reading_of S.tells S.held S.faults S.misses shelf.old shelf.new)
+        (S.held shelf.old SolutionSlot name.now) (solution_said (S.held shelf.old) name.now design.now) SolutionFault
+        result }
+    ensures solution { IfOk result (IsOf design.now) }
+    ensures covered { IfOk result
+        (λ s. IsTrue S.tells → IsCovered design.now (S.held shelf.old SolutionSlot name.now) s) }
+{
+    reach(alloc, shelf, Slot::Solution, name)?;
+    match read_solution(alloc, shelf, design) {
+        Ok(solution) => Ok(solution),
+        Err(SolutionError::Fault { fault, token }) => Err(Stop::SolutionFault { fault, token }),
+        Err(SolutionError::Failed) => Err(Stop::ReadFailed),
+        Err(SolutionError::NoMemory) => Err(Stop::NoMemory),
+    }
+}
+
+/// Opens the text that is held under a name.
+fn reach<S: Shelf>(alloc: Global, shelf: &mut S, slot: Slot, name: &str) -> Result<(), Stop>
+    ensures reaches { Reaches (reading_of S.tells S.held S.faults S.misses shelf.old shelf.new)
+        (S.held shelf.old slot name.now) (S.left shelf.new slot) result }
+    ensures reached { OnOk result (IsTrue (S.reached shelf.new slot)) }
+    ensures held { (other : Slot) → (bytes : List ℕ) → S.held shelf.new other bytes ≡ S.held shelf.old other bytes }
+{
+    match shelf.reach(alloc, slot, name) {
+        Ok(()) => Ok(()),
+        Err(ReachError::NoMemory) => Err(Stop::NoMemory),
+        Err(ReachError::Missing | ReachError::Failed) => Err(Stop::ReadFailed),
+    }
+}
