@@ -118,7 +118,7 @@ priced (Some wire) false true x inside to from = absurd (both_ways false refl (t
 priced o way false x inside to from = absurd (both_ways false refl inside)
 
 -- a limb has a cost on the layers that its edge may have
-pub limb-cost : (g : Shape) (ways : ℕ → Way → Bool) (price : Edge → Option ℕ) (t : TreeView) (costs : List ℕ) (node : ℕ) (base : Span) (layer : ℕ) (e : Edge) →
+pub limb-cost : (g : Shape) (ways : ℕ → Way → Bool) (price : Edge → Option ℕ) (t : TreeView) (costs : List ℕ) (node : ℕ) (base : Option Span) (layer : ℕ) (e : Edge) →
     ArePrices g ways price → IsFlat g t.shape → edge_up t node ≡ Some e → IsTrue (has_edge t.shape e) → layer < g.layers →
     limb_cost g price t costs node base layer
     ≡ (if may_take g ways t node layer then Some (wire_cost g price t node layer + entry g.layers costs node (grown base layer)) else None)
@@ -136,7 +136,7 @@ limb-cost g ways price t costs node base layer e prices flat up edge below =
     subst P (sym up) (priced (price over) (ways layer e.way) (nat_lt layer g.layers) x test (subst W is some.0) (subst V is some.1))
 
 -- an offer from a limb's cost
-pub offer-limb : (g : Shape) (limbs : List (Option ℕ)) (costs : List ℕ) (up : ℕ) (s : Span) (layer : ℕ) (o : Option ℕ) (allowed : Bool) (limb : ℕ) (cost : ℕ) →
+pub offer-limb : (g : Shape) (limbs : List (Option ℕ)) (costs : List ℕ) (up : ℕ) (s : Option Span) (layer : ℕ) (o : Option ℕ) (allowed : Bool) (limb : ℕ) (cost : ℕ) →
     slice_get limbs layer ≡ Some o → o ≡ (if allowed then Some limb else None) → limb + entry g.layers costs up (grown s layer) ≡ cost →
     offer g limbs costs up s layer ≡ (if allowed then Some (record { layer = layer; cost = cost }) else None)
 offer-limb g limbs costs up s layer o true limb cost at is sum =

@@ -80,7 +80,7 @@ met g t pins a node = met_below g t pins a node (length t.nodes)
 abbrev pub cost_of : Shape → (Edge → Option ℕ) → TreeView → List ℕ → (ℕ → ℕ) → ℕ
 cost_of g price t pins a =
     sum_by (λ node. wire_cost g price t node (a node)) (range_with_len 0 (length t.nodes))
-    + sum_by (λ node. climb (span_of g (met g t pins a node))) (range_with_len 0 (length t.nodes))
+    + sum_by (λ node. climb (span_of (met g t pins a node))) (range_with_len 0 (length t.nodes))
 
 -- no assignment costs less
 abbrev pub IsLeast : Shape → (ℕ → Way → Bool) → (Edge → Option ℕ) → TreeView → List ℕ → (ℕ → ℕ) → Type 0

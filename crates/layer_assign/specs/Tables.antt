@@ -15,15 +15,15 @@ HasRows layers nodes table = length table ≡ nodes * spans_of layers
 
 -- the entries of a node's row are small
 abbrev pub IsSmall : ℕ → List ℕ → ℕ → Type 0
-IsSmall layers table node = (s : Span) → IsWithin layers s → entry layers table node s ≤ 2 ^ 50
+IsSmall layers table node = (s : Option Span) → IsWithin layers s → entry layers table node s ≤ 2 ^ 50
 
 -- what a node's edge on a layer and the limb below it cost, if the layer goes the edge's way
-abbrev pub limb_cost : Shape → (Edge → Option ℕ) → TreeView → List ℕ → ℕ → Span → ℕ → Option ℕ
+abbrev pub limb_cost : Shape → (Edge → Option ℕ) → TreeView → List ℕ → ℕ → Option Span → ℕ → Option ℕ
 limb_cost g price t costs node base layer =
     option_map (λ wire. wire + entry g.layers costs node (grown base layer)) (option_and_then (λ e. price (on_layer g layer e)) (edge_up t node))
 
 -- a layer with its cost, from what the limb costs on each layer and the row of the parent's costs
-abbrev pub offer : Shape → List (Option ℕ) → List ℕ → ℕ → Span → ℕ → Option Best
+abbrev pub offer : Shape → List (Option ℕ) → List ℕ → ℕ → Option Span → ℕ → Option Best
 offer g limbs costs up s layer =
     option_map (λ limb. record { layer = layer; cost = limb + entry g.layers costs up (grown s layer) }) (option_and_then (λ o. o) (slice_get limbs layer))
 

@@ -11,8 +11,6 @@ mod raised;
 mod span;
 mod spans;
 mod tables;
-#[cfg(test)]
-mod tests;
 mod tiles;
 
 pub use first_least::assign;

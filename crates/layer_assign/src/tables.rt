@@ -10,17 +10,18 @@ ghost use Rattle.layer_assign.specs.Tables.{HasRows, IsSmall, limb_cost, offer, 
 
 use crate::edges::{edge_on, edge_up_of};
 use crate::span::{Best, Span};
+use crate::spans::{climb, grown, next_span, span_number, spans_of};
 use cost_rules::Costs;
 use gr_base::{Edge, RouteTree, Shape};
 use std::alloc::{AllocError, Global};
 
 /// Where a table has the entry of a node and a span.
-pub(crate) fn place_in(shape: Shape, node: u32, span: Span) -> usize
+pub(crate) fn place_in(shape: Shape, node: u32, span: Option<Span>) -> usize
     requires node { node < 8388608 }
     requires within { IsWithin shape.layers span }
     ensures { result ≡ node * spans_of shape.layers + span_number shape.layers span }
 {
-    node as usize * Span::count(shape) + span.number(shape)
+    node as usize * spans_of(shape) + span_number(shape, span)
 }
 
 /// What a limb costs on one layer. None exactly where the layer doesn't go the edge's way.
@@ -31,7 +32,7 @@ fn limb_on<C: Costs>(
     least: &[u64],
     node: u32,
     edge: Edge,
-    base: Span,
+    base: Option<Span>,
     layer: u32,
 ) -> Option<u64>
     requires grid { C.grid costs.now ≡ shape }
@@ -48,7 +49,7 @@ fn limb_on<C: Costs>(
     ensures most { IfSome result (λ cost. cost ≤ 2 ^ 50 + 1048576) }
 {
     let wire = costs.cost(edge_on(shape, layer, edge))?;
-    Some(wire + least[place_in(shape, node, base.with(layer))])
+    Some(wire + least[place_in(shape, node, grown(base, layer))])
 }
 
 /// What a limb costs on each layer.
@@ -58,7 +59,7 @@ pub(crate) fn limb_costs<C: Costs>(
     flat: &RouteTree,
     least: &[u64],
     node: u32,
-    base: Span,
+    base: Option<Span>,
 ) -> [Option<u64>; 16]
     requires grid { C.grid costs.now ≡ shape }
     requires flat { IsFlat shape flat.now.shape }
@@ -87,7 +88,7 @@ fn offer_of(
     limbs: &[Option<u64>; 16],
     least: &[u64],
     up: u32,
-    span: Span,
+    span: Option<Span>,
     layer: u32,
 ) -> Option<Best>
     requires layer { layer < shape.layers }
@@ -100,7 +101,7 @@ fn offer_of(
     ensures { result ≡ offer shape limbs.now least.now up span layer }
 {
     let limb = limbs[layer as usize]?;
-    let cost = limb + least[place_in(shape, up, span.with(layer))];
+    let cost = limb + least[place_in(shape, up, grown(span, layer))];
     Some(Best { layer, cost })
 }
 
@@ -121,7 +122,7 @@ pub(crate) fn best_layer(
     limbs: &[Option<u64>; 16],
     least: &[u64],
     up: u32,
-    span: Span,
+    span: Option<Span>,
 ) -> Option<Best>
     requires span { IsWithin shape.layers span }
     requires up { up < 8388608 }
@@ -142,14 +143,15 @@ pub(crate) fn best_layer(
 pub(crate) fn climbs(alloc: Global, shape: Shape, nodes: u32) -> Result<Vec<u64>, AllocError>
     requires { nodes ≤ 8388608 }
     ensures rows { IfOk result (λ costs. HasRows shape.layers nodes costs.items) }
-    ensures climbs { IfOk result (λ costs. (node : ℕ) → (s : SpanView) → node < nodes → IsWithin shape.layers s →
+    ensures climbs { IfOk result (λ costs. (node : ℕ) → (s : Option SpanView) → node < nodes → IsWithin shape.layers s →
         entry shape.layers costs.items node s ≡ climb s) }
 {
-    let spans = Span::count(shape);
-    let places = nodes as usize * spans;
+    let places = nodes as usize * spans_of(shape);
     let mut costs = Vec::with_capacity(alloc, places)?;
-    for place in 0..places {
-        costs.push(Span::at(shape, place % spans).climb())?;
+    let mut span = None;
+    for _ in 0..places {
+        costs.push(climb(span))?;
+        span = next_span(shape, span);
     }
     Ok(costs)
 }

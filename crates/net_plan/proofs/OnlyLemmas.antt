@@ -120,9 +120,9 @@ edges-same : (g : Shape) (t : TreeView) (pins : List ℕ) (a b : ℕ → ℕ) (e
 edges-same g t pins a b e tree alike =
     let wires = any-same (λ node. is_wire_of g t a node e) (λ node. is_wire_of g t b node e) (length t.nodes) 0
     (λ node below. wire-same g t a b e node tree alike (omega arith)) in
-    let vias = any-same (λ node. is_via_of g (tile_at t node) (span_of g (met g t pins a node)) e) (λ node. is_via_of g (tile_at t node) (span_of g (met g t pins b node)) e)
-    (length t.nodes) 0 (λ node below. ap (λ (layers : List ℕ). is_via_of g (tile_at t node) (span_of g layers) e) (met-same g t pins a b node alike)) in
-    ap (λ (x : Bool). x || list_any (λ node. is_via_of g (tile_at t node) (span_of g (met g t pins a node)) e) (range_with_len 0 (length t.nodes))) wires ∙
+    let vias = any-same (λ node. is_via_of g (tile_at t node) (span_of (met g t pins a node)) e) (λ node. is_via_of g (tile_at t node) (span_of (met g t pins b node)) e)
+    (length t.nodes) 0 (λ node below. ap (λ (layers : List ℕ). is_via_of g (tile_at t node) (span_of layers) e) (met-same g t pins a b node alike)) in
+    ap (λ (x : Bool). x || list_any (λ node. is_via_of g (tile_at t node) (span_of (met g t pins a node)) e) (range_with_len 0 (length t.nodes))) wires ∙
     ap (λ (x : Bool). list_any (λ node. is_wire_of g t b node e) (range_with_len 0 (length t.nodes)) || x) vias
 
 -- two pattern plans have the same edges

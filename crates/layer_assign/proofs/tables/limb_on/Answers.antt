@@ -1,4 +1,4 @@
-use Rattle.std.proofs.Common.{◌+◌, ◌*◌, IsTrue, length, sym, ap, subst, ◌∙◌, arith}
+use Rattle.std.proofs.Common.{Option, ◌+◌, ◌*◌, IsTrue, length, sym, ap, subst, ◌∙◌, arith}
 use Rattle.gr_base.specs.Grid.{has_edge}
 use Rattle.gr_base.specs.declared.grid.Edge.{Edge}
 use Rattle.gr_base.specs.declared.grid.Shape.{Shape}
@@ -24,12 +24,12 @@ offset_bounds-least-place_in g c =
     let b = c.requires.node in
     let within = grown-within c.args.shape.layers c.args.base c.args.layer c.requires.base c.requires.layer in
     let small = place-small c.args.shape.layers c.args.node (grown c.args.base c.args.layer) (few_layers c.args.shape) (omega arith) within in
-    let at = c.place_in.ensures ∙ ap (λ (s : Span). c.args.node * spans_of c.args.shape.layers + span_number c.args.shape.layers s) c.with.ensures in
+    let at = c.place_in.ensures ∙ ap (λ (s : Option Span). c.args.node * spans_of c.args.shape.layers + span_number c.args.shape.layers s) c.grown.ensures in
     omega (arith, small, at)
 
 pub bounds-least-place_in : goal.bounds-least-place_in
 bounds-least-place_in g c =
     let within = grown-within c.args.shape.layers c.args.base c.args.layer c.requires.base c.requires.layer in
     let below = place-within c.args.shape.layers (length c.args.flat.now.nodes) c.args.node (grown c.args.base c.args.layer) c.args.least.now c.requires.rows c.requires.node within in
-    let at = c.place_in.ensures ∙ ap (λ (s : Span). c.args.node * spans_of c.args.shape.layers + span_number c.args.shape.layers s) c.with.ensures in
+    let at = c.place_in.ensures ∙ ap (λ (s : Option Span). c.args.node * spans_of c.args.shape.layers + span_number c.args.shape.layers s) c.grown.ensures in
     omega (arith, below, at)
