@@ -2,6 +2,7 @@ use Rattle.std.proofs.Common.{◌≡◌, ◌≢◌, ℕ, ◌+◌, ◌*◌, ◌<�
 use Rattle.std.proofs.lemmas.Bool.{cases_eq}
 use Rattle.std.proofs.lemmas.List.{length-set}
 use Rattle.cost_rules.specs.Prices.{ArePrices}
+use Rattle.gr_base.specs.ParentEdges.{parent_edge}
 use Rattle.gr_base.specs.Grid.{has_edge}
 use Rattle.gr_base.specs.Trees.{TreeView, IsTree}
 use Rattle.gr_base.specs.declared.grid.Edge.{Edge}
@@ -9,13 +10,13 @@ use Rattle.gr_base.specs.declared.grid.Shape.{Shape}
 use Rattle.gr_base.specs.declared.grid.Way.{Way}
 use Rattle.layer_assign.specs.declared.span.Best.{Best}
 use Rattle.layer_assign.specs.declared.span.Span.{Span}
-use Rattle.layer_assign.specs.Spans.{grown, IsWithin, span_number, spans_of}
-use Rattle.layer_assign.specs.Assignments.{IsFlat, parent_of, edge_up, may_take, wire_cost}
+use Rattle.layer_assign.specs.Spans.{widened, IsWithin, span_number, spans_of}
+use Rattle.layer_assign.specs.Assignments.{IsFlat, parent_of, may_take, wire_cost}
 use Rattle.layer_assign.specs.Choices.{IsBest, entry}
 use Rattle.layer_assign.specs.Tables.{HasRows, IsSmall, limb_cost, offer, best_below}
 use Rattle.layer_assign.specs.Chosen.{onward_cost, Chooses, Writes}
 use Rattle.layer_assign.proofs.ChoiceLemmas.{offered, limb-cost, offer-limb, best-some, best-is}
-use Rattle.layer_assign.proofs.Elimination.{grown-within}
+use Rattle.layer_assign.proofs.Elimination.{widened-within}
 use Rattle.layer_assign.proofs.FlatLemmas.{some_edge}
 use Rattle.layer_assign.proofs.Problems.{may-below}
 use Rattle.layer_assign.proofs.TableLemmas.{same_span, number-wider, number-within, entry-set_same, entry-set_other}
@@ -95,18 +96,18 @@ choosing-done g ways price t node base old before new after number all so_far = 
 -- the entries that are read for a span are still small
 pub still_small : (g : Shape) (ways : ℕ → Way → Bool) (price : Edge → Option ℕ) (t : TreeView) (node up : ℕ) (base : Option Span) (old before new after : List ℕ) (number : ℕ) (s : Option Span) (layer : ℕ) →
     up ≡ parent_of t node → Choosing g ways price t node base old before new after number → IsSmall g.layers old (parent_of t node) → IsWithin g.layers s →
-    layer < g.layers → span_number g.layers s ≡ number → entry g.layers new up (grown s layer) ≡ entry g.layers old (parent_of t node) (grown s layer)
+    layer < g.layers → span_number g.layers s ≡ number → entry g.layers new up (widened s layer) ≡ entry g.layers old (parent_of t node) (widened s layer)
 still_small g ways price t node up base old before new after number s layer parent so_far small within below is =
     let le = number-wider g.layers s layer within below in
-    ap (λ (k : ℕ). entry g.layers new k (grown s layer)) parent ∙ so_far.left (grown s layer) (grown-within g.layers s layer within below) (omega arith)
+    ap (λ (k : ℕ). entry g.layers new k (widened s layer)) parent ∙ so_far.left (widened s layer) (widened-within g.layers s layer within below) (omega arith)
 
 -- each layer is offered where the edge may have it, at what it costs
 pub offers : (g : Shape) (ways : ℕ → Way → Bool) (price : Edge → Option ℕ) (t : TreeView) (node up : ℕ) (base : Option Span) (old before new after : List ℕ) (number : ℕ) (s : Option Span) (layer : ℕ) →
-    (limbs : List (Option ℕ)) (e : Edge) → ArePrices g ways price → IsFlat g t.shape → edge_up t node ≡ Some e → IsTrue (has_edge t.shape e) → layer < g.layers →
-    slice_get limbs layer ≡ Some (limb_cost g price t old node base layer) → entry g.layers new up (grown s layer) ≡ entry g.layers old (parent_of t node) (grown s layer) →
+    (limbs : List (Option ℕ)) (e : Edge) → ArePrices g ways price → IsFlat g t.shape → parent_edge t node ≡ Some e → IsTrue (has_edge t.shape e) → layer < g.layers →
+    slice_get limbs layer ≡ Some (limb_cost g price t old node base layer) → entry g.layers new up (widened s layer) ≡ entry g.layers old (parent_of t node) (widened s layer) →
     offer g limbs new up s layer ≡ offered (may_take g ways t node) (onward_cost g price t old node base s) layer
 offers g ways price t node up base old before new after number s layer limbs e prices flat is edge below at kept =
-    let limb = wire_cost g price t node layer + entry g.layers old node (grown base layer) in
+    let limb = wire_cost g price t node layer + entry g.layers old node (widened base layer) in
     offer-limb g limbs new up s layer (limb_cost g price t old node base layer) (may_take g ways t node layer) limb (onward_cost g price t old node base s layer)
     at (limb-cost g ways price t old node base layer e prices flat is edge below) (ap (λ (k : ℕ). limb + k) kept)
 

@@ -2,7 +2,7 @@ use Rattle.std.proofs.Common.{Option, Some, None, ◌≡◌, ◌≢◌, ℕ, suc
 use Rattle.std.proofs.lemmas.Bool.{cases_eq, cases_Bool}
 use Rattle.std.proofs.lemmas.Bool.Decides.{nat_tests}
 use Rattle.layer_assign.specs.declared.span.Span.{Span}
-use Rattle.layer_assign.specs.Spans.{grown, climb, IsSpan, IsWithin, span_by}
+use Rattle.layer_assign.specs.Spans.{widened, climb, IsSpan, IsWithin, span_by}
 use Rattle.layer_assign.specs.Choices.{IsBest}
 use Rattle.layer_assign.proofs.Sums.{sums, sums-same, sums-changed, sums-at}
 
@@ -54,9 +54,9 @@ pub record Eliminates (p : Problem) (i : ℕ) (E choice : ℕ → Option Span �
       (v : ℕ) → i ≤ v → 0 < v → v < p.nodes → Alike a b v → a v ≤ b v
   pub allowed : (v : ℕ) → i ≤ v → 0 < v → v < p.nodes → (s : Option Span) → IsWithin p.layers s → IsTrue (p.may v (choice v s))
 
-pub grown-within : (layers : ℕ) (s : Option Span) (l : ℕ) → IsWithin layers s → l < layers → IsWithin layers (grown s l)
-grown-within layers None l within below = record { ordered = omega arith; high = below }
-grown-within layers (Some s) l within below =
+pub widened-within : (layers : ℕ) (s : Option Span) (l : ℕ) → IsWithin layers s → l < layers → IsWithin layers (widened s l)
+widened-within layers None l within below = record { ordered = omega arith; high = below }
+widened-within layers (Some s) l within below =
     let ordered = within.ordered in let high = within.high in record { ordered = omega arith; high = omega arith }
 
 -- no climb costs more than 48
@@ -77,7 +77,7 @@ ends-other p u i own other = grind (arith, nat_tests)
 pub ends-none : (p : Problem) (u : ℕ) → ends p u 0 ≡ false
 ends-none p u = refl
 
-span-more : (p : Problem) (a : ℕ → ℕ) (u i : ℕ) → ends p u i ≡ true → span p a u (suc i) ≡ grown (span p a u i) (a i)
+span-more : (p : Problem) (a : ℕ → ℕ) (u i : ℕ) → ends p u i ≡ true → span p a u (suc i) ≡ widened (span p a u i) (a i)
 span-more p a u i is = rw is refl
 
 span-kept : (p : Problem) (a : ℕ → ℕ) (u i : ℕ) → ends p u i ≡ false → span p a u (suc i) ≡ span p a u i
@@ -98,7 +98,7 @@ span-within p a u (suc (suc i)) sound assigned le =
     let before = span-within p a u (suc i) sound assigned (omega arith) in
     let below = sound.below (suc i) (a (suc i)) (assigned (suc i) (omega arith) (omega arith)) in
     elim (cases_Bool (ends p u (suc i))) [
-      | inl is ↦ subst (λ (s : Option Span). IsWithin p.layers s) (sym (span-more p a u (suc i) is)) (grown-within p.layers (span p a u (suc i)) (a (suc i)) before below)
+      | inl is ↦ subst (λ (s : Option Span). IsWithin p.layers s) (sym (span-more p a u (suc i) is)) (widened-within p.layers (span p a u (suc i)) (a (suc i)) before below)
       | inr is ↦ subst (λ (s : Option Span). IsWithin p.layers s) (sym (span-kept p a u (suc i) is)) before
     ]
 
@@ -108,12 +108,12 @@ span-alike p a b u (suc zero) alike = refl
 span-alike p a b u (suc (suc i)) alike =
     let before = span-alike p a b u (suc i) (λ w later lt. alike w later (omega arith)) in
     let at = alike (suc i) (omega arith) (omega arith) in
-    let choose : Option Span → ℕ → Option Span = λ s l. if ends p u (suc i) then grown s l else s in
+    let choose : Option Span → ℕ → Option Span = λ s l. if ends p u (suc i) then widened s l else s in
     ap (λ (s : Option Span). choose s (a (suc i))) before ∙ ap (λ (l : ℕ). choose (span p b u (suc i)) l) at
 
 -- what a node's layer adds where the others' are eliminated: its edge, and its tile's and its parent's tile's costs
 abbrev pub onward : Problem → (ℕ → Option Span → ℕ) → ℕ → Option Span → ℕ → ℕ
-onward p E v s l = p.wire v l + E v (grown (p.base v) l) + E (p.parent v) (grown s l)
+onward p E v s l = p.wire v l + E v (widened (p.base v) l) + E (p.parent v) (widened s l)
 
 -- one node's layer is eliminated: its parent's costs change, and its own are gone
 pub record Step (p : Problem) (v : ℕ) (E F choice later : ℕ → Option Span → ℕ) : Type 0 where
@@ -133,10 +133,10 @@ total-step p v E F choice later a sound positive below assigned step =
     let changed : sums f v + h up ≡ sums h v + f up = sums-changed f h v up earlier (λ u lt other.
     ap (λ (s : Option Span). E u s) (span-kept p a u v (ends-other p u v (λ e. omega arith) other))
     ∙ sym (step.others u (span p a u v) lt other (span-within p a u v sound assigned (omega arith)))) in
-    let own : f v ≡ E v (grown (p.base v) (a v)) =
-    ap (λ (s : Option Span). E v s) (span-more p a v v (ends-own p v positive) ∙ ap (λ (s : Option Span). grown s (a v)) (span-base p a v v sound below (omega arith))) in
-    let above : f up ≡ E up (grown (span p a up v) (a v)) = ap (λ (s : Option Span). E up s) (span-more p a up v (ends-parent p v positive)) in
-    plain (sums (λ w. p.wire w (a w)) v) (p.wire v (a v)) (sums f v) (f v) (h up) (sums h v) (f up) (E v (grown (p.base v) (a v))) (E up (grown (span p a up v) (a v))) changed own above
+    let own : f v ≡ E v (widened (p.base v) (a v)) =
+    ap (λ (s : Option Span). E v s) (span-more p a v v (ends-own p v positive) ∙ ap (λ (s : Option Span). widened s (a v)) (span-base p a v v sound below (omega arith))) in
+    let above : f up ≡ E up (widened (span p a up v) (a v)) = ap (λ (s : Option Span). E up s) (span-more p a up v (ends-parent p v positive)) in
+    plain (sums (λ w. p.wire w (a w)) v) (p.wire v (a v)) (sums f v) (f v) (h up) (sums h v) (f up) (E v (widened (p.base v) (a v))) (E up (widened (span p a up v) (a v))) changed own above
   where
     plain : (ws w fs fv hu hs fu own above : ℕ) → fs + hu ≡ hs + fu → fv ≡ own → fu ≡ above → ws + w + (fs + fv) + hu ≡ ws + hs + (w + own + above)
     plain ws w fs fv hu hs fu own above changed is up = omega arith
@@ -246,7 +246,7 @@ span-within_below p a u (suc (suc i)) sound each =
     let before = span-within_below p a u (suc i) sound (λ w later lt. each w later (omega arith)) in
     let below = each (suc i) (omega arith) (omega arith) in
     elim (cases_Bool (ends p u (suc i))) [
-      | inl is ↦ subst (λ (s : Option Span). IsWithin p.layers s) (sym (span-more p a u (suc i) is)) (grown-within p.layers (span p a u (suc i)) (a (suc i)) before below)
+      | inl is ↦ subst (λ (s : Option Span). IsWithin p.layers s) (sym (span-more p a u (suc i) is)) (widened-within p.layers (span p a u (suc i)) (a (suc i)) before below)
       | inr is ↦ subst (λ (s : Option Span). IsWithin p.layers s) (sym (span-kept p a u (suc i) is)) before
     ]
 
@@ -297,8 +297,8 @@ weighed-more p v E F choice later sound positive below cheap step so_far = recor
             let l = choice v s in
             let wire = cheap l best.allowed in
             let less = sound.below v l best.allowed in
-            let own = so_far.bound v (grown (p.base v) l) (omega arith) (grown-within p.layers (p.base v) l (sound.within v) less) in
-            let above = so_far.bound up (grown s l) (omega arith) (grown-within p.layers s l within less) in
+            let own = so_far.bound v (widened (p.base v) l) (omega arith) (widened-within p.layers (p.base v) l (sound.within v) less) in
+            let above = so_far.bound up (widened s l) (omega arith) (widened-within p.layers s l within less) in
             let cost = best.cost in
             subst (λ (k : ℕ). F k s ≤ heavier w up v k) (sym same) (rw at_up (omega (arith, wire, own, above, cost)))
         | inr other ↦

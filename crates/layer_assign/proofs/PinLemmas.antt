@@ -9,7 +9,7 @@ use Rattle.gr_base.specs.Trees.{TreeView, cell_at, node_with, IsTree}
 use Rattle.gr_base.specs.declared.grid.Shape.{Shape}
 use Rattle.gr_base.proofs.TreeLemmas.{node_with-at, cell-only, read-cell}
 use Rattle.layer_assign.specs.declared.span.Span.{Span}
-use Rattle.layer_assign.specs.Spans.{span_of, grown, growing, span_in}
+use Rattle.layer_assign.specs.Spans.{span_of, widened, growing, span_in}
 use Rattle.layer_assign.specs.Assignments.{tile_of, level_of, tile_at, parent_of, ends_at, pin_layers}
 use Rattle.layer_assign.proofs.FlatLemmas.{node-at, tile-at}
 use Rattle.layer_assign.proofs.Following.{span-read}
@@ -46,13 +46,13 @@ tile-apart t u v tile tree below is same =
 pub pins-more : (g : Shape) (t : TreeView) (pins : List ℕ) (k pin node : ℕ) (spans : List (Option Span)) (s : Option Span) → IsTree t → k < length pins → pin ≡ get_or pins k 0 →
     node_with t.nodes (tile_of g pin) ≡ Some node → node < length spans → slice_get spans node ≡ Some s →
     ((u : ℕ) → u < length t.nodes → growing spans u ≡ span_of (pin_layers g (take k pins) (tile_at t u))) →
-    (u : ℕ) → u < length t.nodes → growing (set spans node (grown s (level_of g pin))) u ≡ span_of (pin_layers g (take (k + 1) pins) (tile_at t u))
+    (u : ℕ) → u < length t.nodes → growing (set spans node (widened s (level_of g pin))) u ≡ span_of (pin_layers g (take (k + 1) pins) (tile_at t u))
 pins-more g t pins k pin node spans s tree within is found below read so_far u lt =
     let more : take (k + 1) pins ≡ take k pins ++ pin ∷ [] = take_more pins k 0 within ∙ ap (λ (p : ℕ). take k pins ++ p ∷ []) (sym is) in
     let whole : (b : Bool) → (tile_of g pin == tile_at t u) ≡ b →
     pin_layers g (take (k + 1) pins) (tile_at t u) ≡ pin_layers g (take k pins) (tile_at t u) ++ (if b then level_of g pin ∷ [] else []) =
     λ b test. ap (λ (ps : List ℕ). pin_layers g ps (tile_at t u)) more ∙ pin_layers-push g (take k pins) pin (tile_at t u) b test in
-    let v = grown s (level_of g pin) in
+    let v = widened s (level_of g pin) in
     elim (cases_eq u node) [
       | inl same ↦
           let tile : tile_at t u ≡ tile_of g pin =
@@ -61,7 +61,7 @@ pins-more g t pins k pin node spans s tree within is found below read so_far u l
           let own : growing spans u ≡ s = ap (λ (n : ℕ). growing spans n) same ∙ span-read spans node s read in
           ap (λ (n : ℕ). growing (set spans node v) n) same
           ∙ span-read (set spans node v) node v (get-set_same spans node v below)
-          ∙ ap (λ (r : Option Span). grown r (level_of g pin)) (sym own ∙ so_far u lt)
+          ∙ ap (λ (r : Option Span). widened r (level_of g pin)) (sym own ∙ so_far u lt)
           ∙ sym (span-push (pin_layers g (take k pins) (tile_at t u)) (level_of g pin))
           ∙ sym (ap (λ (ls : List ℕ). span_of ls) (whole true test))
       | inr other ↦
@@ -82,8 +82,8 @@ growing-set_other spans i k s other = ap (λ (o : Option (Option Span)). option_
 
 -- a node's layer grows the spans of its tile and its parent's
 pub grows-both : (t : TreeView) (spans : List (Option Span)) (node up layer : ℕ) (above own first second : Option Span) → up < node → node < length spans → parent_of t node ≡ up →
-    slice_get spans up ≡ Some first → above ≡ grown first layer → slice_get (set spans up above) node ≡ Some second → own ≡ grown second layer →
-    (other : ℕ) → growing (set (set spans up above) node own) other ≡ (if ends_at t other node then grown (growing spans other) layer else growing spans other)
+    slice_get spans up ≡ Some first → above ≡ widened first layer → slice_get (set spans up above) node ≡ Some second → own ≡ widened second layer →
+    (other : ℕ) → growing (set (set spans up above) node own) other ≡ (if ends_at t other node then widened (growing spans other) layer else growing spans other)
 grows-both t spans node up layer above own first second earlier below parent read above_is read_own own_is other =
     let long = length-set spans up above in
     elim (cases_eq other node) [
@@ -93,7 +93,7 @@ grows-both t spans node up layer above own first second earlier below parent rea
           (ap (growing (set (set spans up above) node own)) same
           ∙ growing-set_same (set spans up above) node own (omega (arith, long))
           ∙ own_is
-          ∙ ap (λ (s : Option Span). grown s layer) (sym (span-read (set spans up above) node second read_own)
+          ∙ ap (λ (s : Option Span). widened s layer) (sym (span-read (set spans up above) node second read_own)
           ∙ growing-set_other spans up node above (λ e. omega arith)
           ∙ ap (growing spans) (sym same)))
       | inr apart ↦
@@ -105,7 +105,7 @@ grows-both t spans node up layer above own first second earlier below parent rea
                 ∙ ap (growing (set spans up above)) same
                 ∙ growing-set_same spans up above (omega arith)
                 ∙ above_is
-                ∙ ap (λ (s : Option Span). grown s layer) (sym (span-read spans up first read) ∙ ap (growing spans) (sym same)))
+                ∙ ap (λ (s : Option Span). widened s layer) (sym (span-read spans up first read) ∙ ap (growing spans) (sym same)))
             | inr away ↦
                 let test : ends_at t other node ≡ false = grind (arith, nat_tests) in
                 rw test (growing-set_other (set spans up above) node other own apart ∙ growing-set_other spans up other above away)

@@ -6,17 +6,18 @@ use Rattle.std.proofs.lemmas.List.Elements.{All-tail, All-map, All-weaker, All-f
 use Rattle.std.proofs.lemmas.List.Sums.{fold-append}
 use Rattle.std.specs.List.{range_with_len, sum_by}
 use Rattle.std.specs.Option.{option_map, option_and_then}
-use Rattle.gr_base.specs.Grid.{cells_of}
+use Rattle.gr_base.specs.ParentEdges.{parent_edge}
+use Rattle.gr_base.specs.Grid.{cells_of, on_layer}
 use Rattle.gr_base.specs.Trees.{TreeView, IsTree}
 use Rattle.gr_base.specs.declared.grid.Edge.{Edge}
 use Rattle.gr_base.specs.declared.grid.Shape.{Shape}
 use Rattle.gr_base.specs.declared.grid.Way.{Way}
 use Rattle.layer_assign.specs.declared.span.Span.{Span}
-use Rattle.layer_assign.specs.Spans.{span_of, grown, climb, IsSpan, IsWithin}
-use Rattle.layer_assign.specs.Assignments.{tile_of, level_of, parent_of, tile_at, edge_up, on_layer, goes_on, may_take, wire_cost, ends_at, pin_layers, met_below, cost_of}
+use Rattle.layer_assign.specs.Spans.{span_of, widened, climb, IsSpan, IsWithin}
+use Rattle.layer_assign.specs.Assignments.{tile_of, level_of, parent_of, tile_at, goes_on, may_take, wire_cost, ends_at, pin_layers, met_below, cost_of}
 use Rattle.layer_assign.specs.Choices.{Follows, AreBest}
 use Rattle.layer_assign.proofs.Sums.{sums, sums-range, sums-same, range-more}
-use Rattle.layer_assign.proofs.Elimination.{grown-within, Problem, IsSound, span, whole, FollowsFrom, Eliminates, eliminated-least, eliminated-first}
+use Rattle.layer_assign.proofs.Elimination.{widened-within, Problem, IsSound, span, whole, FollowsFrom, Eliminates, eliminated-least, eliminated-first}
 use Rattle.layer_assign.proofs.FlatLemmas.{level-below, parent-before, root_edge}
 
 -- the span of the pins of a node's tile
@@ -35,8 +36,8 @@ problem g ways price t pins = record {
 }
 
 -- the span of layers and one more
-pub span-push : (layers : List ℕ) (l : ℕ) → span_of (layers ++ l ∷ []) ≡ grown (span_of layers) l
-span-push layers l = fold-append grown None layers (l ∷ [])
+pub span-push : (layers : List ℕ) (l : ℕ) → span_of (layers ++ l ∷ []) ≡ widened (span_of layers) l
+span-push layers l = fold-append widened None layers (l ∷ [])
 
 filter_one : (f : ℕ → Bool) (a : ℕ → ℕ) (i : ℕ) (b : Bool) → f i ≡ b → map a (filter f (i ∷ [])) ≡ (if b then a i ∷ [] else [])
 filter_one f a i true is = rw is refl
@@ -65,7 +66,7 @@ met-span g ways price t pins a node (suc i) =
       | inl is ↦
           ap (λ (ls : List ℕ). span_of ls) (met-more first (ends_at t node) a i true is)
           ∙ span-push (met_below g t pins a node i) (a i)
-          ∙ ap (λ (s : Option Span). grown s (a i)) before
+          ∙ ap (λ (s : Option Span). widened s (a i)) before
           ∙ sym (rw is refl)
       | inr is ↦
           ap (λ (ls : List ℕ). span_of ls) (met-more first (ends_at t node) a i false is ∙ append-nil (met_below g t pins a node i))
@@ -87,10 +88,10 @@ cost-whole g ways price t pins a =
     ∙ ap (λ (k : ℕ). sums (λ node. wire_cost g price t node (a node)) n + k) climbs
 
 -- layers of the grid have a span in it
-fold-within : (layers : ℕ) (first : Option Span) (all : List ℕ) → IsWithin layers first → All (λ layer. layer < layers) all → IsWithin layers (fold grown first all)
+fold-within : (layers : ℕ) (first : Option Span) (all : List ℕ) → IsWithin layers first → All (λ layer. layer < layers) all → IsWithin layers (fold widened first all)
 fold-within layers first [] within each = within
 fold-within layers first (layer ∷ all) within each =
-    fold-within layers (grown first layer) all (grown-within layers first layer within (each 0 0 (omega arith))) (All-tail (λ layer. layer < layers) layer all each)
+    fold-within layers (widened first layer) all (widened-within layers first layer within (each 0 0 (omega arith))) (All-tail (λ layer. layer < layers) layer all each)
 
 -- pins that are cells of the grid have its layers
 levels-below : (g : Shape) (f : ℕ → Bool) (pins : List ℕ) → All (λ pin. pin < cells_of g) pins → All (λ layer. layer < g.layers) (map (level_of g) (filter f pins))
@@ -111,7 +112,7 @@ may-some g ways layer (Some e) is = below (nat_lt layer g.layers) (ways layer e.
     below false q same yes_q = absurd (both_ways false refl yes_q)
 
 pub may-below : (g : Shape) (ways : ℕ → Way → Bool) (t : TreeView) (node layer : ℕ) → IsTrue (may_take g ways t node layer) → layer < g.layers
-may-below g ways t node layer may = may-some g ways layer (edge_up t node) may
+may-below g ways t node layer may = may-some g ways layer (parent_edge t node) may
 
 pub problem-sound : (g : Shape) (ways : ℕ → Way → Bool) (price : Edge → Option ℕ) (t : TreeView) (pins : List ℕ) → IsTree t →
     All (λ pin. pin < cells_of g) pins → IsSound (problem g ways price t pins)

@@ -3,15 +3,15 @@ use Rattle.std.proofs.lemmas.Bool.{cases_Bool, cases_eq, cases_lt, eq-eqb}
 use Rattle.std.proofs.lemmas.Bool.Decides.{nat_tests}
 use Rattle.std.specs.List.{list_any, range_with_len}
 use Rattle.std.specs.Option.{option_map}
-use Rattle.gr_base.specs.Grid.{cells_of}
+use Rattle.gr_base.specs.Grid.{cells_of, on_layer}
 use Rattle.gr_base.specs.EdgeSets.{is_edge}
 use Rattle.gr_base.specs.Trees.{TreeView, cell_at, node_with, holds, edges_of, IsTree}
 use Rattle.gr_base.specs.declared.grid.Edge.{Edge}
 use Rattle.gr_base.specs.declared.grid.Shape.{Shape}
 use Rattle.gr_base.proofs.TreeLemmas.{some_from, node_with-at, cell_at-within}
 use Rattle.layer_assign.specs.declared.span.Span.{Span}
-use Rattle.layer_assign.specs.Spans.{grown, growing, span_of, span_by, IsSpan, IsWithin}
-use Rattle.layer_assign.specs.Assignments.{IsFlat, tile_of, level_of, cell_on, tile_at, parent_of, on_layer, ends_at, met, ArePins}
+use Rattle.layer_assign.specs.Spans.{widened, growing, span_of, span_by, IsSpan, IsWithin}
+use Rattle.layer_assign.specs.Assignments.{IsFlat, tile_of, level_of, cell_on, tile_at, parent_of, ends_at, met, ArePins}
 use Rattle.layer_assign.specs.Raised.{in_column, is_via_of, is_via_in, is_wire_of, raised_edges}
 use Rattle.layer_assign.specs.Raising.{any_below, IsIn, HoldEdges, IsRaised, IsColumn}
 use Rattle.layer_assign.proofs.Elimination.{Problem, IsSound, span-within_below, ends-own, ends-parent}
@@ -29,17 +29,17 @@ abbrev HasLayer : Option Span → ℕ → Type 0
 HasLayer None layer = ⊥
 HasLayer (Some s) layer = IsIn s layer
 
-grown-has : (o : Option Span) (layer : ℕ) → HasLayer (grown o layer) layer
-grown-has None layer = record { low = omega arith; high = omega arith }
-grown-has (Some s) layer = record { low = omega arith; high = omega arith }
+widened-has : (o : Option Span) (layer : ℕ) → HasLayer (widened o layer) layer
+widened-has None layer = record { low = omega arith; high = omega arith }
+widened-has (Some s) layer = record { low = omega arith; high = omega arith }
 
-grown-keeps : (o : Option Span) (k layer : ℕ) → HasLayer o k → HasLayer (grown o layer) k
-grown-keeps None k layer inside = absurd inside
-grown-keeps (Some s) k layer inside = let low = inside.low in let high = inside.high in record { low = omega arith; high = omega arith }
+widened-keeps : (o : Option Span) (k layer : ℕ) → HasLayer o k → HasLayer (widened o layer) k
+widened-keeps None k layer inside = absurd inside
+widened-keeps (Some s) k layer inside = let low = inside.low in let high = inside.high in record { low = omega arith; high = omega arith }
 
-fold-keeps : (o : Option Span) (k : ℕ) (layers : List ℕ) → HasLayer o k → HasLayer (fold grown o layers) k
+fold-keeps : (o : Option Span) (k : ℕ) (layers : List ℕ) → HasLayer o k → HasLayer (fold widened o layers) k
 fold-keeps o k [] inside = inside
-fold-keeps o k (layer ∷ layers) inside = fold-keeps (grown o layer) k layers (grown-keeps o k layer inside)
+fold-keeps o k (layer ∷ layers) inside = fold-keeps (widened o layer) k layers (widened-keeps o k layer inside)
 
 some-span : (o : Option Span) (layer : ℕ) → HasLayer o layer → IsSome o
 some-span None layer inside = absurd inside
@@ -52,13 +52,13 @@ span-holds ends first a u v (suc i) lt is =
     elim (cases_eq v i) [
       | inl same ↦
           let here : ends u i ≡ true = ap (λ (k : ℕ). ends u k) (sym same) ∙ is in
-          let last : HasLayer (grown (span_by ends first a u i) (a i)) (a v) =
-          subst (λ (k : ℕ). HasLayer (grown (span_by ends first a u i) (a i)) (a k)) (sym same) (grown-has (span_by ends first a u i) (a i)) in
+          let last : HasLayer (widened (span_by ends first a u i) (a i)) (a v) =
+          subst (λ (k : ℕ). HasLayer (widened (span_by ends first a u i) (a i)) (a k)) (sym same) (widened-has (span_by ends first a u i) (a i)) in
           rw here last
       | inr other ↦
           let before = span-holds ends first a u v i (omega arith) is in
           elim (cases_Bool (ends u i)) [
-            | inl here ↦ rw here (grown-keeps (span_by ends first a u i) (a v) (a i) before)
+            | inl here ↦ rw here (widened-keeps (span_by ends first a u i) (a v) (a i) before)
             | inr here ↦ rw here before
           ]
     ]
@@ -69,7 +69,7 @@ span-first ends first a u layer zero inside = inside
 span-first ends first a u layer (suc i) inside =
     let before = span-first ends first a u layer i inside in
     elim (cases_Bool (ends u i)) [
-      | inl here ↦ rw here (grown-keeps (span_by ends first a u i) layer (a i) before)
+      | inl here ↦ rw here (widened-keeps (span_by ends first a u i) layer (a i) before)
       | inr here ↦ rw here before
     ]
 
@@ -96,13 +96,13 @@ hold-edges g t pins a spans tree cells below are = record {
 
 -- the layers of pins lie in the span of those that are kept
 levels-hold : (g : Shape) (f : ℕ → Bool) (pins : List ℕ) (first : Option Span) (k : ℕ) → k < length pins → f (get_or pins k 0) ≡ true →
-    HasLayer (fold grown first (map (level_of g) (filter f pins))) (level_of g (get_or pins k 0))
+    HasLayer (fold widened first (map (level_of g) (filter f pins))) (level_of g (get_or pins k 0))
 levels-hold g f [] first k lt is = absurd (omega arith)
 levels-hold g f (pin ∷ pins) first zero lt is =
-    rw is (fold-keeps (grown first (level_of g pin)) (level_of g pin) (map (level_of g) (filter f pins)) (grown-has first (level_of g pin)))
+    rw is (fold-keeps (widened first (level_of g pin)) (level_of g pin) (map (level_of g) (filter f pins)) (widened-has first (level_of g pin)))
 levels-hold g f (pin ∷ pins) first (suc k) lt is =
     elim (cases_Bool (f pin)) [
-      | inl here ↦ rw here (levels-hold g f pins (grown first (level_of g pin)) k (omega arith) is)
+      | inl here ↦ rw here (levels-hold g f pins (widened first (level_of g pin)) k (omega arith) is)
       | inr here ↦ rw here (levels-hold g f pins first k (omega arith) is)
     ]
 

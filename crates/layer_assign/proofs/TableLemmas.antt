@@ -5,8 +5,9 @@ use Rattle.std.proofs.lemmas.Bool.Decides.{nat_tests}
 use Rattle.std.proofs.lemmas.List.{get_or-set_same, get_or-set_other}
 use Rattle.std.proofs.lemmas.Nat.{div-mul-add, mod-mul-add, mul-add-lt}
 use Rattle.gr_base.specs.declared.grid.Shape.{Shape}
+use Rattle.gr_base.proofs.GridLemmas.{some_layers}
 use Rattle.layer_assign.specs.declared.span.Span.{Span}
-use Rattle.layer_assign.specs.Spans.{grown, IsSpan, IsWithin, triangle, span_number, spans_of, next_span, span_at}
+use Rattle.layer_assign.specs.Spans.{widened, IsSpan, IsWithin, triangle, span_number, spans_of, next_span, span_at}
 use Rattle.layer_assign.specs.Choices.{entry}
 use Rattle.layer_assign.specs.Tables.{HasRows}
 
@@ -120,7 +121,7 @@ same_span layers (Some s) None first second same = absurd (omega arith)
 same_span layers (Some s) (Some t) first second same = same_of layers s t first second same
 
 -- a wider span has no less a number
-pub number-wider : (layers : ℕ) (s : Option Span) (l : ℕ) → IsWithin layers s → l < layers → span_number layers s ≤ span_number layers (grown s l)
+pub number-wider : (layers : ℕ) (s : Option Span) (l : ℕ) → IsWithin layers s → l < layers → span_number layers s ≤ span_number layers (widened s l)
 number-wider layers None l within below = omega arith
 number-wider layers (Some s) l within below =
     let ordered = within.ordered in
@@ -237,9 +238,6 @@ span_at-row layers zero number some = let at : 0 * spans_of layers + number ≡ 
 span_at-row layers (suc row) number some =
     let at : suc row * spans_of layers + number ≡ spans_of layers + (row * spans_of layers + number) = omega arith in
     ap (span_at layers) at ∙ shifted layers (spans_of layers) (row * spans_of layers + number) (whole-round layers some) ∙ span_at-row layers row number some
-
-pub some_layers : (g : Shape) → 0 < g.layers
-some_layers g = let v = g.valid in grind (arith, nat_tests)
 
 -- the spans of a turn
 pub turn-within : (g : Shape) (s : Option Span) (number : ℕ) → s ≡ span_at g.layers number → IsWithin g.layers s

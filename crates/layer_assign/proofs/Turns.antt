@@ -1,14 +1,14 @@
 use Rattle.std.proofs.Common.{◌≡◌, ℕ, suc, ◌<◌, ◌≤◌, Bool, List, All, length, get_or, Option, Some, None, unwrap_or, IfSome, sym, ap, subst, ◌∙◌, arith}
 use Rattle.std.specs.Option.{option_and_then}
 use Rattle.cost_rules.specs.Prices.{ArePrices}
-use Rattle.gr_base.specs.Grid.{cells_of}
+use Rattle.gr_base.specs.Grid.{cells_of, on_layer}
 use Rattle.gr_base.specs.Trees.{TreeView, IsTree}
 use Rattle.gr_base.specs.declared.grid.Edge.{Edge}
 use Rattle.gr_base.specs.declared.grid.Shape.{Shape}
 use Rattle.gr_base.specs.declared.grid.Way.{Way}
 use Rattle.layer_assign.specs.declared.span.Span.{Span}
 use Rattle.layer_assign.specs.Spans.{climb, IsWithin, span_by, growing}
-use Rattle.layer_assign.specs.Assignments.{IsFlat, parent_of, on_layer, may_take, wire_cost, ends_at, IsAssignment}
+use Rattle.layer_assign.specs.Assignments.{IsFlat, parent_of, may_take, wire_cost, ends_at, IsAssignment}
 use Rattle.layer_assign.specs.Answers.{IsFirstLeast}
 use Rattle.layer_assign.specs.Choices.{IsBest, entry, Follows, FollowsFrom, AreBest}
 use Rattle.layer_assign.specs.Tables.{HasRows, IsSmall}

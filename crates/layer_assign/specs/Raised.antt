@@ -1,6 +1,8 @@
 use Rattle.std.specs.Prelude.{◌≡◌, ℕ, ◌<◌, Bool, false, ◌&&◌, ◌||◌, ◌==◌, nat_lt, nat_le, List, length, Option, Some, None, unwrap_or, slice_index}
 use Rattle.std.specs.List.{list_any, range_with_len}
 use Rattle.std.specs.Option.{option_map}
+use Rattle.gr_base.specs.Grid.{on_layer}
+use Rattle.gr_base.specs.ParentEdges.{parent_edge}
 use Rattle.gr_base.specs.EdgeSets.{Edges, is_way, is_edge}
 use Rattle.gr_base.specs.Trees.{TreeView, cell_at, holds, edges_of}
 use Rattle.gr_base.specs.declared.grid.Edge.{Edge}
@@ -8,11 +10,11 @@ use Rattle.gr_base.specs.declared.grid.Shape.{Shape}
 use Rattle.gr_base.specs.declared.grid.Way.TheVariants.{Up}
 use Rattle.layer_assign.specs.declared.span.Span.{Span}
 use Rattle.layer_assign.specs.Spans.{span_of}
-use Rattle.layer_assign.specs.Assignments.{tile_of, level_of, tile_at, edge_up, on_layer, met}
+use Rattle.layer_assign.specs.Assignments.{tile_of, level_of, tile_at, met}
 
 -- the edge is the wire edge of a node, on the node's layer
 abbrev pub is_wire_of : Shape → TreeView → (ℕ → ℕ) → ℕ → Edge → Bool
-is_wire_of g t a node e = unwrap_or (option_map (λ f. is_edge e (on_layer g (a node) f)) (edge_up t node)) false
+is_wire_of g t a node e = unwrap_or (option_map (λ f. is_edge e (on_layer g (a node) f)) (parent_edge t node)) false
 
 -- the cell is a tile's, on a layer from one and below another
 abbrev pub in_column : Shape → ℕ → ℕ → ℕ → ℕ → Bool

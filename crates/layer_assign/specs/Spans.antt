@@ -1,22 +1,23 @@
 -- spans of layers, their numbers in a table, and the spans to which the tiles of a tree grow
 use Rattle.std.specs.Prelude.{ℕ, zero, suc, ◌+◌, ◌-◌, ◌*◌, ◌<◌, ◌≤◌, ◌==◌, min, max, nat_lt, Bool, List, fold, Option, Some, None, unwrap_or, slice_get, if◌then◌else◌}
 use Rattle.std.specs.Option.{option_and_then}
+use Rattle.cost_rules.specs.Formulas.{via_cost}
 use Rattle.layer_assign.specs.declared.span.Span.{Span}
 
 -- the span with one more layer, where there is one so far
-abbrev pub grown : Option Span → ℕ → Option Span
-grown None layer = Some (record { low = layer; high = layer })
-grown (Some s) layer = Some (record { low = min s.low layer; high = max s.high layer })
+abbrev pub widened : Option Span → ℕ → Option Span
+widened None layer = Some (record { low = layer; high = layer })
+widened (Some s) layer = Some (record { low = min s.low layer; high = max s.high layer })
 
 -- the span of some layers, from the least to the greatest; of none there is none
 abbrev pub span_of : List ℕ → Option Span
-span_of layers = fold grown None layers
+span_of layers = fold widened None layers
 
 -- the span of a tile, from a first span and the layers of the edges of nodes below a number that end in it
 abbrev pub span_by : (ℕ → ℕ → Bool) → (ℕ → Option Span) → (ℕ → ℕ) → ℕ → ℕ → Option Span
 span_by ends first a node zero = first node
 span_by ends first a node (suc below) =
-    if ends node below then grown (span_by ends first a node below) (a below) else span_by ends first a node below
+    if ends node below then widened (span_by ends first a node below) (a below) else span_by ends first a node below
 
 -- the span of a node in a list of those so far, and in a list of whole ones
 abbrev pub growing : List (Option Span) → ℕ → Option Span
@@ -25,10 +26,10 @@ growing spans node = option_and_then (λ s. s) (slice_get spans node)
 abbrev pub span_in : List Span → ℕ → Span
 span_in spans node = unwrap_or (slice_get spans node) (record { low = 0; high = 0 })
 
--- a climb by one layer costs 3
+-- a climb by one layer costs as much as a via edge
 abbrev pub climb : Option Span → ℕ
 climb None = 0
-climb (Some s) = 3 * (s.high - s.low)
+climb (Some s) = via_cost * (s.high - s.low)
 
 -- the span is one of layers of a grid
 pub record IsSpan (layers : ℕ) (s : Span) : Type 0 where

@@ -4,7 +4,6 @@
 
 mod choices;
 mod columns;
-mod edges;
 mod first_least;
 mod layers;
 mod raised;

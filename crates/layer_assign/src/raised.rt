@@ -4,7 +4,7 @@ ghost use Rattle.gr_base.specs.EdgeSets.{set_of};
 ghost use Rattle.gr_base.specs.Trees.{holds, node_with, cell_at, edges_of, walk_edges, IsTree};
 ghost use Rattle.gr_base.specs.declared.grid.Edge.{Edge as EdgeView};
 ghost use Rattle.layer_assign.specs.Spans.{IsWithin, span_in};
-ghost use Rattle.layer_assign.specs.Assignments.{IsFlat, tiles_of, cell_on, tile_of, level_of, tile_at, parent_of, ArePins};
+ghost use Rattle.layer_assign.specs.Assignments.{IsFlat, tile_count, cell_on, tile_of, level_of, tile_at, parent_of, ArePins};
 ghost use Rattle.layer_assign.specs.Raised.{in_column, is_via_of, is_wire_of, Grows, AreLayers, raised_edges};
 ghost use Rattle.layer_assign.specs.Raising.{is_done, IsIn, HoldEdges, Links, IsRaised, IsColumn};
 
@@ -94,8 +94,8 @@ fn enter(
     layer: u32,
     span: Span,
 ) -> Result<(), AllocError>
-    requires from { from < tiles_of tree.old.shape }
-    requires tile { tile < tiles_of tree.old.shape }
+    requires from { from < tile_count tree.old.shape }
+    requires tile { tile < tile_count tree.old.shape }
     requires layer { IsIn span layer }
     requires high { span.high < tree.old.shape.layers }
     requires near { AreNeighbours tree.old.shape (cell_on tree.old.shape tile layer) (cell_on tree.old.shape from layer) }

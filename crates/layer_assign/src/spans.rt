@@ -1,12 +1,13 @@
 ghost use Rattle.std.specs.Prelude.{◌≡◌, ◌<◌, ◌≤◌, IfSome};
-ghost use Rattle.layer_assign.specs.Spans.{grown, climb, IsWithin, span_number, spans_of, next_span};
+ghost use Rattle.layer_assign.specs.Spans.{widened, climb, IsWithin, span_number, spans_of, next_span};
 
 use crate::span::Span;
+use cost_rules::VIA_COST;
 use gr_base::Shape;
 
 /// A tile's span with one more layer.
-pub(crate) fn grown(span: Option<Span>, layer: u32) -> Option<Span>
-    ensures { result ≡ grown span layer }
+pub(crate) fn widened(span: Option<Span>, layer: u32) -> Option<Span>
+    ensures { result ≡ widened span layer }
 {
     match span {
         None => Some(Span {
@@ -20,14 +21,14 @@ pub(crate) fn grown(span: Option<Span>, layer: u32) -> Option<Span>
     }
 }
 
-/// What it costs to climb a tile's span: 3 a layer.
+/// What it costs to climb a tile's span: as much as a via edge for each layer.
 pub(crate) fn climb(span: Option<Span>) -> u64
     requires { IfSome span (λ s. s.low ≤ s.high) }
     ensures { result ≡ climb span }
 {
     match span {
         None => 0,
-        Some(span) => 3 * u64::from(span.high - span.low),
+        Some(span) => VIA_COST * u64::from(span.high - span.low),
     }
 }
 

@@ -2,7 +2,7 @@ ghost use Rattle.std.specs.Prelude.{◌≡◌, ℕ, ◌<◌, ◌≤◌, ◌*◌,
 ghost use Rattle.gr_base.specs.Grid.{cells_of};
 ghost use Rattle.gr_base.specs.Trees.{IsTree, holds};
 ghost use Rattle.layer_assign.specs.declared.span.Span.{Span as SpanView};
-ghost use Rattle.layer_assign.specs.Spans.{grown, growing, span_of, span_in, span_by, IsWithin, spans_of};
+ghost use Rattle.layer_assign.specs.Spans.{widened, growing, span_of, span_in, span_by, IsWithin, spans_of};
 ghost use Rattle.layer_assign.specs.Assignments.{tile_of, level_of, tile_at, parent_of, ends_at, pin_layers, met, ArePins};
 ghost use Rattle.layer_assign.specs.Raised.{AreLayers};
 ghost use Rattle.layer_assign.specs.Choices.{entry, FollowsFrom};
@@ -10,7 +10,7 @@ ghost use Rattle.layer_assign.specs.Tables.{HasRows};
 
 use crate::layers::Layers;
 use crate::span::Span;
-use crate::spans::grown;
+use crate::spans::widened;
 use crate::tables::place_in;
 use gr_base::{RouteTree, Shape};
 use std::alloc::{AllocError, Global};
@@ -32,7 +32,7 @@ pub(crate) fn pin_spans(
     let mut spans = vec![in alloc; None; flat.len() as usize]?;
     for pin in pins {
         let node = flat.node_at(*pin % tiles).unwrap() as usize;
-        spans[node] = grown(spans[node], *pin / tiles);
+        spans[node] = widened(spans[node], *pin / tiles);
     }
     Ok(spans)
 }
@@ -44,11 +44,11 @@ pub(crate) fn grow_spans(spans: &mut Vec<Option<Span>>, flat: &RouteTree, node: 
     requires count { length spans.old.items ≡ length flat.now.nodes }
     ensures count { length spans.new.items ≡ length flat.now.nodes }
     ensures spans { (other : ℕ) → other < length flat.now.nodes → growing spans.new.items other ≡
-        (if ends_at flat.now other node then grown (growing spans.old.items other) layer else growing spans.old.items other) }
+        (if ends_at flat.now other node then widened (growing spans.old.items other) layer else growing spans.old.items other) }
 {
-    let up = flat.parent(node) as usize;
-    spans[up] = grown(spans[up], layer);
-    spans[node as usize] = grown(spans[node as usize], layer);
+    let parent = flat.parent(node) as usize;
+    spans[parent] = widened(spans[parent], layer);
+    spans[node as usize] = widened(spans[node as usize], layer);
 }
 
 /// The layers that choices lead to: each node's for the span that its parent's tile has before.

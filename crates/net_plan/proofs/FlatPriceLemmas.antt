@@ -9,7 +9,7 @@ use Rattle.cost_rules.specs.Prices.{ArePrices}
 use Rattle.cost_rules.specs.declared.site.Formula.{Formula}
 use Rattle.gr_base.proofs.GridLemmas.{edge-room}
 use Rattle.gr_base.specs.Designs.{DesignView, IsFrame}
-use Rattle.gr_base.specs.Grid.{has_edge, place_at}
+use Rattle.gr_base.specs.Grid.{has_edge, place_at, on_layer}
 use Rattle.gr_base.specs.declared.grid.Edge.{Edge}
 use Rattle.gr_base.specs.declared.grid.Shape.{Shape}
 use Rattle.gr_base.specs.declared.grid.Way.{Way}
@@ -17,7 +17,7 @@ use Rattle.gr_base.specs.declared.grid.Way.TheVariants.{Up}
 use Rattle.grid_demand.specs.LoadSums.{LoadsView}
 use Rattle.grid_demand.specs.Tables.{CapacityView, usable_at, capacity_of}
 use Rattle.net_plan.specs.Prices.{HasPrices, price_of, ways_of}
-use Rattle.layer_assign.specs.Assignments.{IsFlat as IsFlattened, on_layer}
+use Rattle.layer_assign.specs.Assignments.{IsFlat as IsFlattened}
 use Rattle.net_plan.specs.FlatPrices.{lesser, flat_price, some_goes}
 use Rattle.pattern_route.specs.Walks.{IsFlat}
 use Rattle.net_plan.proofs.RangeLemmas.{All-range, any-range}

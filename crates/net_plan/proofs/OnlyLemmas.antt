@@ -4,6 +4,8 @@ use Rattle.std.specs.Option.{option_map}
 use Rattle.std.proofs.Math.Bool.{Bool-set}
 use Rattle.std.proofs.lemmas.Bool.{cases_Bool, cases_eq}
 use Rattle.std.proofs.lemmas.Bool.Decides.{nat_tests}
+use Rattle.gr_base.specs.Grid.{on_layer}
+use Rattle.gr_base.specs.ParentEdges.{parent_edge}
 use Rattle.gr_base.specs.EdgeSets.{is_edge}
 use Rattle.gr_base.specs.Limits.{is_grid}
 use Rattle.gr_base.specs.Trees.{TreeView, IsTree, edges_of}
@@ -11,7 +13,7 @@ use Rattle.gr_base.specs.declared.grid.Edge.{Edge}
 use Rattle.gr_base.specs.declared.grid.Shape.{Shape}
 use Rattle.gr_base.specs.declared.grid.Way.{Way}
 use Rattle.layer_assign.proofs.FlatLemmas.{root_edge}
-use Rattle.layer_assign.specs.Assignments.{edge_up, on_layer, ends_at, met, cost_of, tile_at, pin_layers, IsAssignment, IsLeast, IsFirst, AreAlike}
+use Rattle.layer_assign.specs.Assignments.{ends_at, met, cost_of, tile_at, pin_layers, IsAssignment, IsLeast, IsFirst, AreAlike}
 use Rattle.layer_assign.specs.Raised.{is_wire_of, is_via_of, raised_edges}
 use Rattle.layer_assign.specs.Spans.{span_of}
 use Rattle.steiner_topology.specs.Topology.{topology_of}
@@ -110,9 +112,9 @@ wire-same g t a b e node tree alike below =
     let f : ℕ → Option Edge → Bool = λ layer o. unwrap_or (option_map (λ (h : Edge). is_edge e (on_layer g layer h)) o) false in
     elim (cases_eq node 0) [
       | inl root ↦
-          let none : edge_up t node ≡ None = ap (edge_up t) root ∙ root_edge t tree in
+          let none : parent_edge t node ≡ None = ap (parent_edge t) root ∙ root_edge t tree in
           ap (f (a node)) none ∙ sym (ap (f (b node)) none)
-      | inr other ↦ ap (λ (layer : ℕ). f layer (edge_up t node)) (alike node (omega arith) below)
+      | inr other ↦ ap (λ (layer : ℕ). f layer (parent_edge t node)) (alike node (omega arith) below)
     ]
 
 edges-same : (g : Shape) (t : TreeView) (pins : List ℕ) (a b : ℕ → ℕ) (e : Edge) → IsTree t → AreAlike a b (length t.nodes) →

@@ -1,9 +1,9 @@
 use Rattle.std.specs.Prelude.{ℕ, Bool, Option, Some, None, min, map, fold}
 use Rattle.std.specs.List.{range_with_len, list_any}
+use Rattle.gr_base.specs.Grid.{on_layer}
 use Rattle.gr_base.specs.declared.grid.Edge.{Edge}
 use Rattle.gr_base.specs.declared.grid.Shape.{Shape}
 use Rattle.gr_base.specs.declared.grid.Way.{Way}
-use Rattle.layer_assign.specs.Assignments.{on_layer}
 
 -- the lesser of two prices, if there are two
 abbrev pub lesser : Option ℕ → Option ℕ → Option ℕ

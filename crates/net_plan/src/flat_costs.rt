@@ -1,7 +1,7 @@
 ghost use Rattle.std.specs.Prelude.{◌≡◌, ◌<◌, IsTrue};
-ghost use Rattle.gr_base.specs.Grid.{has_edge};
+ghost use Rattle.gr_base.specs.Grid.{has_edge, on_layer};
 ghost use Rattle.net_plan.specs.Prices.{HasPrices, kept_prices, price_of, ways_of};
-ghost use Rattle.layer_assign.specs.Assignments.{on_layer, IsFlat as IsFlattened};
+ghost use Rattle.layer_assign.specs.Assignments.{IsFlat as IsFlattened};
 ghost use Rattle.net_plan.specs.FlatPrices.{lesser, flat_price, some_goes};
 
 use crate::net_costs::NetCosts;

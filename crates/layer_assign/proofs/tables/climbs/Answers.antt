@@ -2,11 +2,12 @@ use Rattle.std.proofs.Common.{◌≡◌, ℕ, ◌+◌, ◌*◌, ◌<◌, Option,
 use Rattle.std.proofs.lemmas.List.FromFn.{length-map-range_with_len, map-range_with_len_more, get_or-map-range_with_len}
 use Rattle.std.specs.List.{range_with_len}
 use Rattle.gr_base.specs.declared.grid.Shape.{Shape}
+use Rattle.gr_base.proofs.GridLemmas.{some_layers}
 use Rattle.layer_assign.specs.declared.span.Span.{Span}
 use Rattle.layer_assign.specs.Spans.{climb, IsWithin, span_number, spans_of, span_at}
 use Rattle.layer_assign.specs.Choices.{entry}
 use Rattle.layer_assign.specs.Tables.{HasRows}
-use Rattle.layer_assign.proofs.TableLemmas.{some_layers, ordered-within, turn-within, turn-next, span_at-row, span_at-number, place-within}
+use Rattle.layer_assign.proofs.TableLemmas.{ordered-within, turn-within, turn-next, span_at-row, span_at-number, place-within}
 use Rattle.layer_assign.proofs.tables.climbs.Goals as goal
 
 abbrev climb_at : ℕ → ℕ → ℕ

@@ -4,10 +4,10 @@ use Rattle.std.specs.Option.{option_map, option_and_then}
 use Rattle.gr_base.specs.declared.grid.Shape.{Shape}
 use Rattle.layer_assign.specs.declared.span.Best.{Best}
 use Rattle.layer_assign.specs.declared.span.Span.{Span}
-use Rattle.layer_assign.specs.Spans.{grown, span_number, spans_of}
+use Rattle.layer_assign.specs.Spans.{widened, span_number, spans_of}
 use Rattle.layer_assign.specs.Choices.{entry}
 use Rattle.layer_assign.specs.Tables.{offer}
-use Rattle.layer_assign.proofs.Elimination.{grown-within}
+use Rattle.layer_assign.proofs.Elimination.{widened-within}
 use Rattle.layer_assign.proofs.FlatLemmas.{few_layers}
 use Rattle.layer_assign.proofs.TableLemmas.{number-within, place-small}
 use Rattle.layer_assign.proofs.tables.offer_of.Goals as goal
@@ -23,22 +23,22 @@ some_at (x ∷ xs) (suc i) limb is = some_at xs i limb is
 
 pub offset_bounds-least-place_in : goal.offset_bounds-least-place_in
 offset_bounds-least-place_in c =
-    let within = grown-within c.args.shape.layers c.args.span c.args.layer c.requires.span c.requires.layer in
-    let small = place-small c.args.shape.layers c.args.up (grown c.args.span c.args.layer) (few_layers c.args.shape) c.requires.up within in
-    let at = c.place_in.ensures ∙ ap (λ (s : Option Span). c.args.up * spans_of c.args.shape.layers + span_number c.args.shape.layers s) c.grown.ensures in
+    let within = widened-within c.args.shape.layers c.args.span c.args.layer c.requires.span c.requires.layer in
+    let small = place-small c.args.shape.layers c.args.parent (widened c.args.span c.args.layer) (few_layers c.args.shape) c.requires.parent within in
+    let at = c.place_in.ensures ∙ ap (λ (s : Option Span). c.args.parent * spans_of c.args.shape.layers + span_number c.args.shape.layers s) c.widened.ensures in
     omega (arith, small, at)
 
 pub bounds-least-place_in : goal.bounds-least-place_in
 bounds-least-place_in c =
-    let within = grown-within c.args.shape.layers c.args.span c.args.layer c.requires.span c.requires.layer in
-    let number = number-within c.args.shape.layers (grown c.args.span c.args.layer) within in
+    let within = widened-within c.args.shape.layers c.args.span c.args.layer c.requires.span c.requires.layer in
+    let number = number-within c.args.shape.layers (widened c.args.span c.args.layer) within in
     let row = c.requires.row in
-    let at = c.place_in.ensures ∙ ap (λ (s : Option Span). c.args.up * spans_of c.args.shape.layers + span_number c.args.shape.layers s) c.grown.ensures in
+    let at = c.place_in.ensures ∙ ap (λ (s : Option Span). c.args.parent * spans_of c.args.shape.layers + span_number c.args.shape.layers s) c.widened.ensures in
     omega (arith, number, row, at)
 
 pub overflow_add-cost : goal.overflow_add-cost
 overflow_add-cost c =
-    let at = c.place_in.ensures ∙ ap (λ (s : Option Span). c.args.up * spans_of c.args.shape.layers + span_number c.args.shape.layers s) c.grown.ensures in
+    let at = c.place_in.ensures ∙ ap (λ (s : Option Span). c.args.parent * spans_of c.args.shape.layers + span_number c.args.shape.layers s) c.widened.ensures in
     let limb : c.in_ok-limb.limb ≤ 1125899907891200 =
     subst (λ (o : Option ℕ). IfSome o (λ cost. cost ≤ 1125899907891200))
     (limb-read c.args.limbs.now c.args.layer c.in_ok-limb.limb (some_at c.args.limbs.now c.args.layer c.in_ok-limb.limb c.in_ok-limb.was)) (c.requires.limbs c.args.layer c.requires.layer) in
@@ -48,8 +48,8 @@ overflow_add-cost c =
 
 pub returns : goal.returns
 returns c =
-    let at = c.place_in.ensures ∙ ap (λ (s : Option Span). c.args.up * spans_of c.args.shape.layers + span_number c.args.shape.layers s) c.grown.ensures in
+    let at = c.place_in.ensures ∙ ap (λ (s : Option Span). c.args.parent * spans_of c.args.shape.layers + span_number c.args.shape.layers s) c.widened.ensures in
     let make : ℕ → Option Best = λ k. Some (record { layer = c.args.layer; cost = k }) in
     ap (λ (k : ℕ). make (c.in_ok-limb.limb + get_or c.args.least.now k 0)) at
-    ∙ ap (λ (o : Option ℕ). option_map (λ (limb : ℕ). record { layer = c.args.layer; cost = limb + entry c.args.shape.layers c.args.least.now c.args.up (grown c.args.span c.args.layer) }) o)
+    ∙ ap (λ (o : Option ℕ). option_map (λ (limb : ℕ). record { layer = c.args.layer; cost = limb + entry c.args.shape.layers c.args.least.now c.args.parent (widened c.args.span c.args.layer) }) o)
     (sym (limb-read c.args.limbs.now c.args.layer c.in_ok-limb.limb (some_at c.args.limbs.now c.args.layer c.in_ok-limb.limb c.in_ok-limb.was)))

@@ -1,6 +1,6 @@
 use Rattle.std.proofs.Common.{◌≡◌, ℕ, ◌+◌, ◌<◌, ◌≤◌, suc, Bool, if◌then◌else◌, Option, Some, Result, Ok, Err, IfOk, IsSome, List, length, get_or, add-one, sym, ap, subst, ◌∙◌, arith}
 use Rattle.layer_assign.specs.declared.span.Span.{Span}
-use Rattle.layer_assign.specs.Spans.{grown, growing, span_in, span_of, span_by}
+use Rattle.layer_assign.specs.Spans.{widened, growing, span_in, span_of, span_by}
 use Rattle.layer_assign.specs.Assignments.{ends_at, met}
 use Rattle.layer_assign.proofs.Problems.{pin_span}
 use Rattle.layer_assign.proofs.SpanLemmas.{met-found, met-some}
@@ -34,7 +34,7 @@ loop-node-preserved c =
       count = c.grow_spans.ensures.count;
       spans = λ node below.
           let so_far = c.loop-node.invariant.spans node below in
-          let choose : Option Span → ℕ → Option Span = λ s layer. if ends_at c.args.flat.now node c.loop-node.node then grown s layer else s in
+          let choose : Option Span → ℕ → Option Span = λ s layer. if ends_at c.args.flat.now node c.loop-node.node then widened s layer else s in
           rw add-one
           (c.grow_spans.ensures.spans node below
           ∙ ap (λ (s : Option Span). choose s c.layer.result) so_far

@@ -1,6 +1,5 @@
 use Rattle.std.proofs.Common.{◌≡◌, ℕ, ◌+◌, ◌*◌, IsTrue, sym, ap, subst, ◌∙◌}
-use Rattle.gr_base.specs.Grid.{edge_at, has_edge}
-use Rattle.layer_assign.specs.Assignments.{on_layer}
+use Rattle.gr_base.specs.Grid.{edge_at, has_edge, on_layer}
 use Rattle.layer_assign.proofs.FlatLemmas.{on_layer-edge, flat-cells}
 use Rattle.net_plan.proofs.flat_costs.FlatCosts.over.Goals as goal
 
