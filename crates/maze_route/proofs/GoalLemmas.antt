@@ -23,7 +23,7 @@ use Rattle.maze_route.specs.declared.window.Window.{Window}
 use Rattle.maze_route.proofs.Distances.{at-most, guided-low, guided-distance}
 use Rattle.maze_route.proofs.PaneLemmas.{local-below, cell-local}
 use Rattle.maze_route.proofs.SeedLemmas.{tree-window, tree-source}
-use Rattle.maze_route.proofs.SpreadLemmas.{pane-rest}
+use Rattle.maze_route.proofs.HandingLemmas.{pane-rest}
 use Rattle.maze_route.proofs.WindowLemmas.{LiesIn, out-least}
 use Rattle.maze_route.proofs.ReachLemmas.{reach-cell}
 

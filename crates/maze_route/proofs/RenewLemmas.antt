@@ -14,7 +14,7 @@ use Rattle.maze_route.proofs.KeepLemmas.{empty-chain}
 use Rattle.maze_route.proofs.LabelLemmas.{contains-head, contains-more, contains-cases}
 use Rattle.maze_route.proofs.PlaceLemmas.{pair-taken, pair-free}
 use Rattle.maze_route.proofs.SpreadingLemmas.{head-set}
-use Rattle.maze_route.proofs.SpreadSteps.{chain-empty}
+use Rattle.maze_route.proofs.HandingSteps.{chain-empty}
 
 abbrev above : (ℕ → List ℕ) → ℕ → ℕ → List ℕ
 above chains bucket b = if nat_lt bucket b then chains b else []
