@@ -34,6 +34,7 @@ pub fn raise(
     requires flat { IsFlat shape flat.now.shape }
     requires pins { ArePins shape flat.now pins.now }
     requires layers { AreLayers shape flat.now layers.now }
+    ensures tree { IfOk result IsTree }
     ensures shape { IfOk result (λ tree. tree.shape ≡ shape) }
     ensures driver { IfOk result (λ tree. cell_at tree.nodes 0 ≡ slice_get pins.now 0) }
     ensures pins { IfOk result (λ tree. All (λ pin. IsTrue (holds tree pin)) pins.now) }
@@ -60,7 +61,8 @@ fn raise_from(
     requires cell { cell < cells_of shape }
     requires tile { IsTrue (holds flat.now (tile_of shape cell)) }
     requires span { (node : ℕ) → node_with flat.now.nodes (tile_of shape cell) ≡ Some node → IsIn (span_in spans.now node) (level_of shape cell) }
-    ensures { IfOk result (λ tree. IsRaised shape flat.now (λ node. slice_index layers.now node) (span_in spans.now)
+    ensures tree { IfOk result IsTree }
+    ensures raised { IfOk result (λ tree. IsRaised shape flat.now (λ node. slice_index layers.now node) (span_in spans.now)
         (Some cell) (λ _. true) 0 tree) }
 {
     let tile = cell % (shape.columns() * shape.rows());

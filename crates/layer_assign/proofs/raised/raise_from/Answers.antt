@@ -54,8 +54,8 @@ raise_others-requires-clause-raised c =
     raised-as c.raise_ancestors.new.tree.shape c.in_ok-tree.tree.shape t a (span_in c.args.spans.now) (cell_at c.raise_ancestors.new.tree.nodes 0) (cell_at c.in_ok-tree.tree.nodes 0)
     (is_done c.raise_ancestors.new.done.items) 0 c.raise_ancestors.new.tree (sym raised.shape) (sym raised.starts) raised
 
-pub returns : goal.returns
-returns c =
+pub returns-clause-raised : goal.returns-clause-raised
+returns-clause-raised c =
     let g = c.args.shape in
     let t = c.args.flat.now in
     let a : ℕ → ℕ = λ node. get_or c.args.layers.now node 0 in
