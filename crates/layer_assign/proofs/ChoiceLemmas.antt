@@ -1,3 +1,4 @@
+-- The best of the layers that are offered.
 use Rattle.std.proofs.Common.{◌≡◌, ℕ, suc, zero, ◌+◌, ◌<◌, ◌≤◌, inl, inr, Bool, true, false, ◌&&◌, nat_lt, if◌then◌else◌, List, Option, Some, None, unwrap_or, slice_get, IsSome, IsTrue, refl, sym, ap, subst, ◌∙◌, arith}
 use Rattle.std.proofs.lemmas.Bool.{cases_Bool, cases_lt, cases_eq, both_ways}
 use Rattle.std.proofs.lemmas.Bool.Decides.{nat_tests}

@@ -1,3 +1,4 @@
+-- The assignments of a flat tree's edges, as a problem for the elimination.
 use Rattle.std.proofs.Common.{◌≡◌, ℕ, suc, zero, ◌+◌, ◌<◌, ◌≤◌, Bool, true, false, ◌&&◌, ◌==◌, nat_lt, min, max, if◌then◌else◌, inl, inr, List, [], ◌∷◌, ◌++◌, length, map, filter, fold, All, Option, Some, None, unwrap_or, IsTrue, refl, sym, ap, ◌∙◌, append_assoc, arith}
 use Rattle.std.proofs.lemmas.Bool.{cases_Bool, both_ways}
 use Rattle.std.proofs.lemmas.Bool.Decides.{nat_tests}

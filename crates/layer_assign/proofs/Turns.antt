@@ -1,3 +1,4 @@
+-- The turns of the assignment, from the last node down.
 use Rattle.std.proofs.Common.{◌≡◌, ℕ, suc, ◌<◌, ◌≤◌, Bool, List, All, length, get_or, Option, Some, None, unwrap_or, IfSome, sym, ap, subst, ◌∙◌, arith}
 use Rattle.std.specs.Option.{option_and_then}
 use Rattle.cost_rules.specs.Prices.{ArePrices}

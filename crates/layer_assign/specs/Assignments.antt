@@ -1,3 +1,4 @@
+-- Assignments of a flat tree's edges to layers: what they may be, what they cost, and which is the first least one.
 use Rattle.std.specs.Prelude.{◌≡◌, ℕ, ◌+◌, ◌*◌, ◌/◌, ◌%◌, ◌<◌, ◌≤◌, Bool, false, ◌&&◌, ◌||◌, ◌==◌, nat_lt, List, ◌++◌, All, length, map, filter, sum_by, Option, unwrap_or, slice_get, IsTrue}
 use Rattle.std.specs.List.{range_with_len}
 use Rattle.std.specs.Option.{option_map, option_and_then}

@@ -1,3 +1,4 @@
+-- What stands while a tree is raised tile by tile.
 use Rattle.std.specs.Prelude.{◌≡◌, ℕ, zero, suc, ◌+◌, ◌<◌, ◌≤◌, ◌⊎◌, Bool, false, ◌&&◌, ◌||◌, ◌==◌, not, List, length, Option, Some, unwrap_or, slice_get}
 use Rattle.gr_base.specs.Trees.{TreeView, cell_at, holds, edges_of}
 use Rattle.gr_base.specs.declared.grid.Edge.{Edge}

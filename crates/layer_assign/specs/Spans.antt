@@ -1,4 +1,4 @@
--- spans of layers, their numbers in a table, and the spans to which the tiles of a tree grow
+-- Spans of layers, their numbers in a table, and the spans to which the tiles of a tree grow.
 use Rattle.std.specs.Prelude.{ℕ, zero, suc, ◌+◌, ◌-◌, ◌*◌, ◌<◌, ◌≤◌, ◌==◌, min, max, nat_lt, Bool, List, fold, Option, Some, None, unwrap_or, slice_get, if◌then◌else◌}
 use Rattle.std.specs.Option.{option_and_then}
 use Rattle.cost_rules.specs.Formulas.{via_cost}

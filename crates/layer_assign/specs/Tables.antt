@@ -1,3 +1,4 @@
+-- Tables of costs by node and span, and the best layer that they offer.
 use Rattle.std.specs.Prelude.{◌≡◌, ℕ, zero, suc, ◌+◌, ◌*◌, ◌^◌, ◌≤◌, nat_lt, List, length, Option, Some, None, slice_get, if◌then◌else◌}
 use Rattle.std.specs.Option.{option_map, option_and_then}
 use Rattle.gr_base.specs.Grid.{on_layer}

@@ -1,3 +1,4 @@
+-- A cell that hands its label on is relaxed.
 use Rattle.std.proofs.Common.{◌≡◌, ℕ, ◌<◌, inl, inr, Bool, length, Option, Some, None, IfSome, refl, ap, ◌∙◌}
 use Rattle.std.specs.Option.{option_map}
 use Rattle.cost_rules.specs.Prices.{ArePrices}

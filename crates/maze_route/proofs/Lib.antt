@@ -18,7 +18,7 @@ pub mod ChainLemmas
 pub mod BucketLemmas
 pub mod LengthLemmas
 pub mod SpreadingLemmas
-pub mod HandingSteps
+pub mod ChainSteps
 pub mod PlaceLemmas
 pub mod KeepLemmas
 pub mod RenewLemmas

@@ -1,3 +1,4 @@
+-- What stands in a search from step to step.
 use Rattle.std.proofs.Common.{◌≡◌, ◌≢◌, ℕ, ◌+◌, ◌*◌, ◌<◌, ◌≤◌, ◌⊎◌, inl, inr, Bool, true, false, ◌&&◌, nat_le, List, [], ◌∷◌, length, get_or, Option, Some, None, IfSome, IsSomeAnd, IsTrue, All, Contains, slice_set, refl, sym, ap, subst, ◌∙◌, arith, length-set}
 use Rattle.std.specs.List.{sum}
 use Rattle.std.specs.List.Sorted.{IsPermutation}

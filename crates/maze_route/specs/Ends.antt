@@ -1,3 +1,4 @@
+-- The first of some labelled cells.
 use Rattle.std.specs.Prelude.{◌≡◌, ℕ, ◌<◌, ◌≤◌, ◌⊎◌, Bool, ◌&&◌, ◌||◌, ◌==◌, nat_lt, nat_le, List, Option, Some, None, if◌then◌else◌, IsTrue}
 use Rattle.gr_base.specs.Trees.{is_among}
 use Rattle.maze_route.specs.declared.pane.Reached.{Reached}

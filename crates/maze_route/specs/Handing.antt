@@ -1,3 +1,4 @@
+-- What it does to a front that a cell hands its label on.
 use Rattle.std.specs.Prelude.{◌≡◌, ℕ, ◌+◌, Bool, true, false, ◌&&◌, nat_le, List, [], ◌∷◌, Option, Some, None, slice_set}
 use Rattle.gr_base.specs.declared.grid.Edge.{Edge}
 use Rattle.maze_route.specs.Labels.{label_at, is_lower}

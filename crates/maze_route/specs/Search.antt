@@ -1,3 +1,4 @@
+-- What stands while labels spread from the tree, and what labels tell in the end.
 use Rattle.std.specs.Prelude.{◌≡◌, ◌≢◌, ℕ, ◌+◌, ◌≤◌, ◌⊎◌, Bool, true, false, List, Option, Some, None, Contains, IsSomeAnd, IsTrue, slice_get, unwrap_or, nat_lt}
 use Rattle.maze_route.specs.Walks.{Graph, Reaches}
 

@@ -1,3 +1,4 @@
+-- Windows of a grid, and the walks inside them.
 use Rattle.std.specs.Prelude.{ℕ, ◌<◌, ◌≤◌, Bool, ◌&&◌, nat_lt, nat_le, min, max, List, All, Option, None, if◌then◌else◌, IsTrue, option_and_then}
 use Rattle.gr_base.specs.declared.grid.Cell.{Cell}
 use Rattle.gr_base.specs.declared.grid.Edge.{Edge}

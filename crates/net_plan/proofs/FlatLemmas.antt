@@ -1,3 +1,4 @@
+-- The flat tree of pins over a design's grid.
 use Rattle.std.proofs.lemmas.Nat.{mod-mul-add, mul-add-lt}
 use Rattle.gr_base.proofs.GridLemmas.{place-inside, number-place}
 use Rattle.gr_base.specs.Grid.{cells_of, place_at}

@@ -1,3 +1,4 @@
+-- A net's prices are prices.
 use Rattle.std.proofs.Common.{ℕ, ◌≤◌, ◌↔◌, Bool, true, false, Some, None, IsSome, IfSome, IsTrue, if◌then◌else◌, refl, arith}
 use Rattle.cost_rules.specs.Formulas.{cost_at, most_cost}
 use Rattle.cost_rules.specs.Prices.{ArePrices}

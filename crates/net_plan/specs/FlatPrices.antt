@@ -1,3 +1,4 @@
+-- What edges cost where the layers of a grid are laid on one another.
 use Rattle.std.specs.Prelude.{ℕ, Bool, Option, Some, None, min, map, fold}
 use Rattle.std.specs.List.{range_with_len, list_any}
 use Rattle.gr_base.specs.Grid.{on_layer}

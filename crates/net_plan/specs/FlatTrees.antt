@@ -1,3 +1,4 @@
+-- Flat trees: the tiles of pins, joined by the flat walks of their topology.
 use Rattle.std.specs.Prelude.{◌≡◌, ℕ, ◌<◌, Bool, ◌&&◌, ◌==◌, List, [], ◌∷◌, ◌++◌, All, map, fold, Option, if◌then◌else◌, IsTrue}
 use Rattle.std.specs.List.{list_any}
 use Rattle.gr_base.specs.Grid.{place_at}

@@ -1,3 +1,4 @@
+-- Maze plans: a tree that grows in a net's window by least walks.
 use Rattle.std.specs.Prelude.{◌≡◌, ℕ, ◌+◌, ◌-◌, min, max, not, List, [], ◌∷◌, map, filter, fold, slice_index, Option}
 use Rattle.cost_rules.specs.declared.site.Formula.{Formula}
 use Rattle.gr_base.specs.Grid.{place_at}

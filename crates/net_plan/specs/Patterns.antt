@@ -1,3 +1,4 @@
+-- Pattern plans: trees that are raised from the first least assignment of a flat tree.
 use Rattle.std.specs.Prelude.{◌≡◌, ℕ, Bool, List, Option, slice_get}
 use Rattle.cost_rules.specs.declared.site.Formula.{Formula}
 use Rattle.gr_base.specs.Trees.{TreeView, IsTree, cell_at, edges_of}

@@ -1,3 +1,4 @@
+-- What edges cost a net over given loads.
 use Rattle.std.specs.Prelude.{◌≡◌, ℕ, ◌^◌, ◌≤◌, ◌↔◌, Bool, Option, Some, None, slice_get, if◌then◌else◌, IsTrue, IsSome, IfSome, refl}
 use Rattle.cost_rules.specs.Formulas.{cost_at, most_cost, via_cost}
 use Rattle.cost_rules.specs.Prices.{layer_of, ArePrices}

@@ -1,3 +1,4 @@
+-- Walks by the lines of a span, and what a sweep over them knows.
 use Rattle.std.proofs.Common.{◌≡◌, ◌≢◌, ℕ, ◌+◌, ◌-◌, ◌*◌, ◌≤◌, ◌++◌, Option, refl, sym, ap, subst, ◌∙◌, arith}
 use Rattle.gr_base.specs.declared.grid.Cell.{Cell}
 use Rattle.gr_base.specs.declared.grid.Edge.{Edge}

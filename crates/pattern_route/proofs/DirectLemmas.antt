@@ -1,3 +1,4 @@
+-- Each flat walk goes away from its first cell by one step at a time.
 use Rattle.std.proofs.Common.{◌≡◌, ◌≢◌, ℕ, zero, suc, ◌+◌, ◌*◌, ◌<◌, inl, inr, false, ◌==◌, List, [], ◌∷◌, ◌++◌, Option, Some, None, All, map, min, if◌then◌else◌, refl, sym, ap, subst, ◌∙◌, zero-add, append-nil, arith}
 use Rattle.std.proofs.lemmas.Bool.{cases_lt, cases_eq}
 use Rattle.std.proofs.lemmas.Bool.Decides.{nat_tests}

@@ -1,3 +1,4 @@
+-- Lines of tiles, and the walks of at most two bends as the lines of an axis see them.
 use Rattle.std.specs.Prelude.{◌≡◌, ℕ, ◌+◌, ◌*◌, ◌≤◌, List, ◌∷◌, ◌++◌, Option, map}
 use Rattle.cost_rules.specs.Formulas.{most_cost}
 use Rattle.gr_base.specs.declared.grid.Cell.{Cell}

@@ -1,3 +1,4 @@
+-- The lists of children, while a branch is added.
 use Rattle.std.proofs.Common.{◌≡◌, ℕ, ◌+◌, ◌<◌, inl, inr, Bool, true, false, not, ◌&&◌, ◌||◌, ◌==◌, nat_lt, List, [], ◌∷◌, ◌++◌, length, filter, get_or, set, cond, replicate, All, sym, ap, subst, ◌∙◌, arith}
 use Rattle.std.specs.List.Retain.{RetainsInTurn}
 use Rattle.std.proofs.lemmas.Bool.{cases_eq, cases_lt, cases_order}

@@ -1,3 +1,4 @@
+-- The laws of a whole topology, turn by turn.
 use Rattle.std.proofs.Common.{◌≡◌, ℕ, ◌+◌, ◌*◌, ◌<◌, ◌≤◌, List, length, fold, get_or, take, All, sym, ap, subst, ◌∙◌, arith}
 use Rattle.std.proofs.lemmas.List.{length-take, length-take-le, length-map, get_or-map, get_or-take, ext_get_or, take_all}
 use Rattle.std.proofs.lemmas.List.Elements.{All-take, All-weaker, All-get_or}

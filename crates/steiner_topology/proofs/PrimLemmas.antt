@@ -1,3 +1,4 @@
+-- Prim's tree as points is a tree.
 use Rattle.std.proofs.Common.{◌≡◌, ℕ, zero, suc, ◌-◌, ◌<◌, inl, inr, true, false, Option, Some, None, IfSome, List, [], ◌∷◌, ◌++◌, length, fold, get_or, All, sum_by, refl, sym, ap, subst, ◌∙◌, arith}
 use Rattle.std.proofs.lemmas.Bool.{cases_eq, true≢false}
 use Rattle.std.proofs.lemmas.Bool.Decides.{nat_tests}

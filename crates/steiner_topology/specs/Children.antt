@@ -1,3 +1,4 @@
+-- The children of points: one list for each point, kept while branches are added.
 use Rattle.std.specs.Prelude.{◌≡◌, ℕ, ◌<◌, Bool, not, ◌&&◌, ◌==◌, nat_lt, if◌then◌else◌, Option, Some, None, List, [], ◌∷◌, ◌++◌, length, map, filter, fold, slice_index_or, slice_set}
 use Rattle.std.specs.List.{list_any}
 use Rattle.smallvec.specs.SmallVec.{SmallVec}

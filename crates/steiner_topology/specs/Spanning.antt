@@ -1,3 +1,4 @@
+-- Trees between tiles: what spans them, what a topology is, and how short it is.
 use Rattle.std.specs.Prelude.{◌≡◌, ℕ, ◌<◌, ◌≤◌, ◌⊎◌, Bool, ◌==◌, IsTrue, List, ◌++◌, length, All, Contains, sum_by}
 use Rattle.steiner_topology.specs.declared.point.Join.{Join}
 use Rattle.steiner_topology.specs.declared.point.Point.{Point}
