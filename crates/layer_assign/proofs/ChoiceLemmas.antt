@@ -1,17 +1,19 @@
+-- The best of the layers that are offered.
 use Rattle.std.proofs.Common.{◌≡◌, ℕ, suc, zero, ◌+◌, ◌<◌, ◌≤◌, inl, inr, Bool, true, false, ◌&&◌, nat_lt, if◌then◌else◌, List, Option, Some, None, unwrap_or, slice_get, IsSome, IsTrue, refl, sym, ap, subst, ◌∙◌, arith}
 use Rattle.std.proofs.lemmas.Bool.{cases_Bool, cases_lt, cases_eq, both_ways}
 use Rattle.std.proofs.lemmas.Bool.Decides.{nat_tests}
 use Rattle.std.specs.Option.{option_map, option_and_then}
 use Rattle.cost_rules.specs.Prices.{ArePrices}
-use Rattle.gr_base.specs.Grid.{has_edge}
+use Rattle.gr_base.specs.ParentEdges.{parent_edge}
+use Rattle.gr_base.specs.Grid.{has_edge, on_layer}
 use Rattle.gr_base.specs.Trees.{TreeView}
 use Rattle.gr_base.specs.declared.grid.Edge.{Edge}
 use Rattle.gr_base.specs.declared.grid.Shape.{Shape}
 use Rattle.gr_base.specs.declared.grid.Way.{Way}
 use Rattle.layer_assign.specs.declared.span.Best.{Best}
 use Rattle.layer_assign.specs.declared.span.Span.{Span}
-use Rattle.layer_assign.specs.Spans.{grown}
-use Rattle.layer_assign.specs.Assignments.{IsFlat, edge_up, on_layer, goes_on, may_take, wire_cost}
+use Rattle.layer_assign.specs.Spans.{widened}
+use Rattle.layer_assign.specs.Assignments.{IsFlat, goes_on, may_take, wire_cost}
 use Rattle.layer_assign.specs.Choices.{IsBest, entry}
 use Rattle.layer_assign.specs.Tables.{limb_cost, offer, better, best_below}
 use Rattle.layer_assign.proofs.FlatLemmas.{on_layer-edge, on_layer-layer}
@@ -118,10 +120,10 @@ priced (Some wire) false true x inside to from = absurd (both_ways false refl (t
 priced o way false x inside to from = absurd (both_ways false refl inside)
 
 -- a limb has a cost on the layers that its edge may have
-pub limb-cost : (g : Shape) (ways : ℕ → Way → Bool) (price : Edge → Option ℕ) (t : TreeView) (costs : List ℕ) (node : ℕ) (base : Span) (layer : ℕ) (e : Edge) →
-    ArePrices g ways price → IsFlat g t.shape → edge_up t node ≡ Some e → IsTrue (has_edge t.shape e) → layer < g.layers →
+pub limb-cost : (g : Shape) (ways : ℕ → Way → Bool) (price : Edge → Option ℕ) (t : TreeView) (costs : List ℕ) (node : ℕ) (base : Option Span) (layer : ℕ) (e : Edge) →
+    ArePrices g ways price → IsFlat g t.shape → parent_edge t node ≡ Some e → IsTrue (has_edge t.shape e) → layer < g.layers →
     limb_cost g price t costs node base layer
-    ≡ (if may_take g ways t node layer then Some (wire_cost g price t node layer + entry g.layers costs node (grown base layer)) else None)
+    ≡ (if may_take g ways t node layer then Some (wire_cost g price t node layer + entry g.layers costs node (widened base layer)) else None)
 limb-cost g ways price t costs node base layer e prices flat up edge below =
     let over = on_layer g layer e in
     let some = prices.some over (on_layer-edge g t.shape layer e flat edge below) in
@@ -129,20 +131,20 @@ limb-cost g ways price t costs node base layer e prices flat up edge below =
     let test : nat_lt layer g.layers ≡ true = grind (arith, nat_tests) in
     let W : ℕ → Type 0 = λ l. IsSome (price over) → IsTrue (ways l e.way) in
     let V : ℕ → Type 0 = λ l. IsTrue (ways l e.way) → IsSome (price over) in
-    let x = entry g.layers costs node (grown base layer) in
+    let x = entry g.layers costs node (widened base layer) in
     let P : Option Edge → Type 0 = λ o.
     option_map (λ wire. wire + x) (option_and_then (λ f. price (on_layer g layer f)) o)
     ≡ (if unwrap_or (option_map (goes_on g ways layer) o) false then Some (unwrap_or (option_and_then (λ f. price (on_layer g layer f)) o) 0 + x) else None) in
     subst P (sym up) (priced (price over) (ways layer e.way) (nat_lt layer g.layers) x test (subst W is some.0) (subst V is some.1))
 
 -- an offer from a limb's cost
-pub offer-limb : (g : Shape) (limbs : List (Option ℕ)) (costs : List ℕ) (up : ℕ) (s : Span) (layer : ℕ) (o : Option ℕ) (allowed : Bool) (limb : ℕ) (cost : ℕ) →
-    slice_get limbs layer ≡ Some o → o ≡ (if allowed then Some limb else None) → limb + entry g.layers costs up (grown s layer) ≡ cost →
+pub offer-limb : (g : Shape) (limbs : List (Option ℕ)) (costs : List ℕ) (up : ℕ) (s : Option Span) (layer : ℕ) (o : Option ℕ) (allowed : Bool) (limb : ℕ) (cost : ℕ) →
+    slice_get limbs layer ≡ Some o → o ≡ (if allowed then Some limb else None) → limb + entry g.layers costs up (widened s layer) ≡ cost →
     offer g limbs costs up s layer ≡ (if allowed then Some (record { layer = layer; cost = cost }) else None)
 offer-limb g limbs costs up s layer o true limb cost at is sum =
     let make : ℕ → Option Best = λ k. Some (record { layer = layer; cost = k }) in
-    let P : Option (Option ℕ) → Option Best = λ q. option_map (λ (l : ℕ). record { layer = layer; cost = l + entry g.layers costs up (grown s layer) }) (option_and_then (λ (r : Option ℕ). r) q) in
+    let P : Option (Option ℕ) → Option Best = λ q. option_map (λ (l : ℕ). record { layer = layer; cost = l + entry g.layers costs up (widened s layer) }) (option_and_then (λ (r : Option ℕ). r) q) in
     ap P (at ∙ ap (λ (r : Option ℕ). Some r) is) ∙ ap make sum
 offer-limb g limbs costs up s layer o false limb cost at is sum =
-    let P : Option (Option ℕ) → Option Best = λ q. option_map (λ (l : ℕ). record { layer = layer; cost = l + entry g.layers costs up (grown s layer) }) (option_and_then (λ (r : Option ℕ). r) q) in
+    let P : Option (Option ℕ) → Option Best = λ q. option_map (λ (l : ℕ). record { layer = layer; cost = l + entry g.layers costs up (widened s layer) }) (option_and_then (λ (r : Option ℕ). r) q) in
     ap P (at ∙ ap (λ (r : Option ℕ). Some r) is)

@@ -1,3 +1,4 @@
+-- The cells of a tile are hung one over another.
 use Rattle.std.proofs.Common.{◌≡◌, ℕ, ◌+◌, ◌*◌, ◌/◌, ◌%◌, ◌<◌, ◌≤◌, inl, inr, Bool, true, false, ◌&&◌, ◌||◌, ◌==◌, nat_lt, nat_le, List, [], ◌∷◌, ◌++◌, Option, Some, None, is_some, Result, Ok, Err, OnOk, refl, sym, ap, subst, ◌∙◌, arith}
 use Rattle.std.proofs.lemmas.Bool.{cases_Bool, cases_eq, eqb-true, eq-eqb, both_ways}
 use Rattle.std.proofs.lemmas.Bool.Decides.{nat_tests}
@@ -15,7 +16,7 @@ use Rattle.gr_base.proofs.GridLemmas.{edge-beyond, place-number, some_columns}
 use Rattle.gr_base.proofs.TreeLemmas.{some_from, node_with-at, cell_at-within, cell_at-append, read-cell}
 use Rattle.gr_base.proofs.TreeEdges.{edge_of-swap}
 use Rattle.layer_assign.specs.declared.span.Span.{Span}
-use Rattle.layer_assign.specs.Assignments.{tiles_of, tile_of, level_of, cell_on}
+use Rattle.layer_assign.specs.Assignments.{tile_count, tile_of, level_of, cell_on}
 use Rattle.layer_assign.specs.Raised.{in_column, is_via_of, Grows}
 use Rattle.layer_assign.proofs.FlatLemmas.{tile-on, level-on, node-at}
 
@@ -68,9 +69,9 @@ in-column g tile from end cell is le lt =
 
 -- a cell is the one of its tile on its layer
 pub cell-over : (g : Shape) (cell : ℕ) → cell_on g (tile_of g cell) (level_of g cell) ≡ cell
-cell-over g cell = div-add-mod' cell (tiles_of g)
+cell-over g cell = div-add-mod' cell (tile_count g)
 
-pub column-one : (g : Shape) (tile layer cell : ℕ) → tile < tiles_of g → (cell_on g tile layer == cell) ≡ in_column g tile layer (layer + 1) cell
+pub column-one : (g : Shape) (tile layer cell : ℕ) → tile < tile_count g → (cell_on g tile layer == cell) ≡ in_column g tile layer (layer + 1) cell
 column-one g tile layer cell below =
     iff (cell_on g tile layer == cell) (in_column g tile layer (layer + 1) cell)
     (λ is.
@@ -84,7 +85,7 @@ column-one g tile layer cell below =
     (ap (λ (l : ℕ). cell_on g tile l) level ∙ ap (λ (k : ℕ). cell_on g k (level_of g cell)) (sym parts.0) ∙ cell-over g cell))
 
 -- the place of a tile's cell on a layer
-pub place-tile : (g : Shape) (tile layer : ℕ) → tile < tiles_of g → layer < g.layers →
+pub place-tile : (g : Shape) (tile layer : ℕ) → tile < tile_count g → layer < g.layers →
     place_at g (cell_on g tile layer) ≡ record { x = tile % g.columns; y = tile / g.columns; layer = layer }
 place-tile g tile layer below inside =
     let cell : Cell = record { x = tile % g.columns; y = tile / g.columns; layer = layer } in
@@ -97,7 +98,7 @@ place-tile g tile layer below inside =
     plain q r is = omega (arith, is)
 
 -- the edge between two cells of a tile, one over the other
-pub up-edge : (g : Shape) (tile layer : ℕ) → tile < tiles_of g → layer + 1 < g.layers →
+pub up-edge : (g : Shape) (tile layer : ℕ) → tile < tile_count g → layer + 1 < g.layers →
     edge_of g (cell_on g tile layer) (cell_on g tile (layer + 1)) ≡ Some (edge_at (cell_on g tile layer) Up)
 up-edge g tile layer inside below =
     let low = place-tile g tile layer inside (omega arith) in
@@ -105,7 +106,7 @@ up-edge g tile layer inside below =
     edge-beyond g (cell_on g tile layer) (cell_on g tile (layer + 1)) Up
     (high ∙ ap (λ (cell : Cell). record { x = cell.x; y = cell.y; layer = cell.layer + 1 }) (sym low)) (omega arith)
 
-pub down-edge : (g : Shape) (tile layer : ℕ) → tile < tiles_of g → layer + 1 < g.layers →
+pub down-edge : (g : Shape) (tile layer : ℕ) → tile < tile_count g → layer + 1 < g.layers →
     edge_of g (cell_on g tile (layer + 1)) (cell_on g tile layer) ≡ Some (edge_at (cell_on g tile layer) Up)
 down-edge g tile layer inside below = edge_of-swap g (cell_on g tile (layer + 1)) (cell_on g tile layer) ∙ up-edge g tile layer inside below
 
@@ -196,7 +197,7 @@ vias-join g tile a b d e first second =
     both false p q r is = refl
 
 -- the edge over a tile's cell is the via edge of one layer
-pub vias-one : (g : Shape) (tile layer : ℕ) (e : Edge) → tile < tiles_of g → is_edge e (edge_at (cell_on g tile layer) Up) ≡ vias g tile layer (layer + 1) e
+pub vias-one : (g : Shape) (tile layer : ℕ) (e : Edge) → tile < tile_count g → is_edge e (edge_at (cell_on g tile layer) Up) ≡ vias g tile layer (layer + 1) e
 vias-one g tile layer e below =
     ap (λ (p : Bool). p && is_way e.way Up) (swapped ∙ column-one g tile layer e.low below) ∙ turned (in_column g tile layer (layer + 1) e.low) (is_way e.way Up)
   where
@@ -238,7 +239,7 @@ held_new old now cells edges cell grows new = grows.cells_are cell ∙ right (ho
     right false q is = is
 
 -- a cell of the tile on another layer is in no part without that layer
-pub column-out : (g : Shape) (tile from end layer : ℕ) → tile < tiles_of g → (from ≤ layer → layer < end → ⊥) → in_column g tile from end (cell_on g tile layer) ≡ false
+pub column-out : (g : Shape) (tile from end layer : ℕ) → tile < tile_count g → (from ≤ layer → layer < end → ⊥) → in_column g tile from end (cell_on g tile layer) ≡ false
 column-out g tile from end layer below out =
     elim (cases_Bool (in_column g tile from end (cell_on g tile layer))) [
       | inl is ↦
@@ -248,7 +249,7 @@ column-out g tile from end layer below out =
       | inr is ↦ is
     ]
 
-pub column-in : (g : Shape) (tile from end layer : ℕ) → tile < tiles_of g → from ≤ layer → layer < end → in_column g tile from end (cell_on g tile layer) ≡ true
+pub column-in : (g : Shape) (tile from end layer : ℕ) → tile < tile_count g → from ≤ layer → layer < end → in_column g tile from end (cell_on g tile layer) ≡ true
 column-in g tile from end layer below le lt =
     let level = level-on g tile layer below in
     in-column g tile from end (cell_on g tile layer) (tile-on g tile layer below) (omega arith) (omega arith)
@@ -260,7 +261,7 @@ Risen g old new tile from to = Grows old new (in_column g tile (from + 1) (to + 
 pub risen-none : (g : Shape) (t : TreeView) (tile from : ℕ) → Risen g t t tile from from
 risen-none g t tile from = grows-none t (in_column g tile (from + 1) (from + 1)) (vias g tile from from) (column-none g tile (from + 1)) (vias-none g tile from)
 
-pub risen-more : (g h : Shape) (old now new : TreeView) (tile from layer up at : ℕ) → tile < tiles_of g → layer + 1 < g.layers → from ≤ layer → h ≡ g → up ≡ cell_on g tile (layer + 1) → at ≡ cell_on g tile layer →
+pub risen-more : (g h : Shape) (old now new : TreeView) (tile from layer up at : ℕ) → tile < tile_count g → layer + 1 < g.layers → from ≤ layer → h ≡ g → up ≡ cell_on g tile (layer + 1) → at ≡ cell_on g tile layer →
     Risen g old now tile from layer → Grows now new (λ other. up == other) (set_of (walk_edges h (up ∷ at ∷ []))) → Risen g old new tile from (layer + 1)
 risen-more g h old now new tile from layer up at inside below le shape is on before after =
     grows-then old now new (in_column g tile (from + 1) (layer + 1)) (λ other. up == other) (in_column g tile (from + 1) (layer + 1 + 1))
@@ -283,7 +284,7 @@ Sunk g old new tile from to = Grows old new (in_column g tile to from) (vias g t
 pub sunk-none : (g : Shape) (t : TreeView) (tile from : ℕ) → Sunk g t t tile from from
 sunk-none g t tile from = grows-none t (in_column g tile from from) (vias g tile from from) (column-none g tile from) (vias-none g tile from)
 
-pub sunk-more : (g h : Shape) (old now new : TreeView) (tile from layer down at : ℕ) → tile < tiles_of g → layer + 1 < g.layers → layer + 1 ≤ from → h ≡ g → down ≡ cell_on g tile layer → at ≡ cell_on g tile (layer + 1) →
+pub sunk-more : (g h : Shape) (old now new : TreeView) (tile from layer down at : ℕ) → tile < tile_count g → layer + 1 < g.layers → layer + 1 ≤ from → h ≡ g → down ≡ cell_on g tile layer → at ≡ cell_on g tile (layer + 1) →
     Sunk g old now tile from (layer + 1) → Grows now new (λ other. down == other) (set_of (walk_edges h (down ∷ at ∷ []))) → Sunk g old new tile from layer
 sunk-more g h old now new tile from layer down at inside below le shape is on before after =
     grows-then old now new (in_column g tile (layer + 1) from) (λ other. down == other) (in_column g tile layer from)
@@ -308,14 +309,14 @@ sunk-more g h old now new tile from layer down at inside below le shape is on be
     swapped false false = refl
 
 -- what hanging the next cell upwards asks for
-pub rise-outside : (old now : TreeView) (tile from layer to up : ℕ) → tile < tiles_of old.shape → layer < to → from ≤ layer → up ≡ cell_on old.shape tile (layer + 1) →
+pub rise-outside : (old now : TreeView) (tile from layer to up : ℕ) → tile < tile_count old.shape → layer < to → from ≤ layer → up ≡ cell_on old.shape tile (layer + 1) →
     ((l : ℕ) → from < l → l ≤ to → holds old (cell_on old.shape tile l) ≡ false) → Risen old.shape old now tile from layer → holds now up ≡ false
 rise-outside old now tile from layer to up inside lt le is free so_far =
     subst (λ (c : ℕ). holds now c ≡ false) (sym is)
     (free_still old now (in_column old.shape tile (from + 1) (layer + 1)) (vias old.shape tile from layer) (cell_on old.shape tile (layer + 1)) so_far (free (layer + 1) (omega arith) (omega arith))
     (column-out old.shape tile (from + 1) (layer + 1) (layer + 1) inside (λ a b. omega arith)))
 
-pub rise-on : (old now : TreeView) (tile from layer at : ℕ) → tile < tiles_of old.shape → from ≤ layer → at ≡ cell_on old.shape tile layer →
+pub rise-on : (old now : TreeView) (tile from layer at : ℕ) → tile < tile_count old.shape → from ≤ layer → at ≡ cell_on old.shape tile layer →
     holds old (cell_on old.shape tile from) ≡ true → Risen old.shape old now tile from layer → holds now at ≡ true
 rise-on old now tile from layer at inside le is on so_far =
     subst (λ (c : ℕ). holds now c ≡ true) (sym is)
@@ -328,27 +329,27 @@ rise-on old now tile from layer at inside le is on so_far =
           (column-in old.shape tile (from + 1) (layer + 1) layer inside (omega arith) (omega arith))
     ])
 
-pub near_up : (g h : Shape) (tile layer up at : ℕ) → tile < tiles_of g → layer + 1 < g.layers → h ≡ g → up ≡ cell_on g tile (layer + 1) → at ≡ cell_on g tile layer → AreNeighbours h up at
+pub near_up : (g h : Shape) (tile layer up at : ℕ) → tile < tile_count g → layer + 1 < g.layers → h ≡ g → up ≡ cell_on g tile (layer + 1) → at ≡ cell_on g tile layer → AreNeighbours h up at
 near_up g h tile layer up at inside below shape is on =
     let near = near-edge g (cell_on g tile (layer + 1)) (cell_on g tile layer) (edge_at (cell_on g tile layer) Up) (down-edge g tile layer inside below) in
     subst (λ (s : Shape). AreNeighbours s up at) (sym shape)
     (subst (λ (c : ℕ). AreNeighbours g c at) (sym is) (subst (λ (c : ℕ). AreNeighbours g (cell_on g tile (layer + 1)) c) (sym on) near))
 
-pub near_down : (g h : Shape) (tile layer down at : ℕ) → tile < tiles_of g → layer + 1 < g.layers → h ≡ g → down ≡ cell_on g tile layer → at ≡ cell_on g tile (layer + 1) → AreNeighbours h down at
+pub near_down : (g h : Shape) (tile layer down at : ℕ) → tile < tile_count g → layer + 1 < g.layers → h ≡ g → down ≡ cell_on g tile layer → at ≡ cell_on g tile (layer + 1) → AreNeighbours h down at
 near_down g h tile layer down at inside below shape is on =
     let near = near-edge g (cell_on g tile layer) (cell_on g tile (layer + 1)) (edge_at (cell_on g tile layer) Up) (up-edge g tile layer inside below) in
     subst (λ (s : Shape). AreNeighbours s down at) (sym shape)
     (subst (λ (c : ℕ). AreNeighbours g c at) (sym is) (subst (λ (c : ℕ). AreNeighbours g (cell_on g tile layer) c) (sym on) near))
 
 -- what hanging the next cell downwards asks for
-pub sink-outside : (old now : TreeView) (tile from layer to down : ℕ) → tile < tiles_of old.shape → to ≤ layer → layer < from → down ≡ cell_on old.shape tile layer →
+pub sink-outside : (old now : TreeView) (tile from layer to down : ℕ) → tile < tile_count old.shape → to ≤ layer → layer < from → down ≡ cell_on old.shape tile layer →
     ((l : ℕ) → to ≤ l → l < from → holds old (cell_on old.shape tile l) ≡ false) → Sunk old.shape old now tile from (layer + 1) → holds now down ≡ false
 sink-outside old now tile from layer to down inside le lt is free so_far =
     subst (λ (c : ℕ). holds now c ≡ false) (sym is)
     (free_still old now (in_column old.shape tile (layer + 1) from) (vias old.shape tile (layer + 1) from) (cell_on old.shape tile layer) so_far (free layer le lt)
     (column-out old.shape tile (layer + 1) from layer inside (λ a b. omega arith)))
 
-pub sink-on : (old now : TreeView) (tile from layer at : ℕ) → tile < tiles_of old.shape → layer + 1 ≤ from → at ≡ cell_on old.shape tile (layer + 1) →
+pub sink-on : (old now : TreeView) (tile from layer at : ℕ) → tile < tile_count old.shape → layer + 1 ≤ from → at ≡ cell_on old.shape tile (layer + 1) →
     holds old (cell_on old.shape tile from) ≡ true → Sunk old.shape old now tile from (layer + 1) → holds now at ≡ true
 sink-on old now tile from layer at inside le is on so_far =
     subst (λ (c : ℕ). holds now c ≡ true) (sym is)
@@ -362,7 +363,7 @@ sink-on old now tile from layer at inside le is on so_far =
     ])
 
 -- risen and sunk, the whole span is there
-pub spread-all : (g : Shape) (old mid new : TreeView) (tile layer : ℕ) (s : Span) → tile < tiles_of g → s.low ≤ layer → layer ≤ s.high → holds old (cell_on g tile layer) ≡ true →
+pub spread-all : (g : Shape) (old mid new : TreeView) (tile layer : ℕ) (s : Span) → tile < tile_count g → s.low ≤ layer → layer ≤ s.high → holds old (cell_on g tile layer) ≡ true →
     Risen g old mid tile layer s.high → Sunk g mid new tile layer s.low → Grows old new (in_column g tile s.low (s.high + 1)) (is_via_of g tile s)
 spread-all g old mid new tile layer s inside above below on up down =
     let all = grows-then old mid new (in_column g tile (layer + 1) (s.high + 1)) (in_column g tile s.low layer) (λ c. in_column g tile (layer + 1) (s.high + 1) c || in_column g tile s.low layer c)

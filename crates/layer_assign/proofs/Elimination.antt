@@ -1,8 +1,9 @@
-use Rattle.std.proofs.Common.{◌≡◌, ◌≢◌, ℕ, suc, zero, ◌+◌, ◌*◌, ◌<◌, ◌≤◌, inl, inr, Bool, true, false, ◌&&◌, ◌||◌, ◌==◌, nat_lt, if◌then◌else◌, IsTrue, refl, sym, ap, subst, ◌∙◌, arith}
+-- Layers are eliminated node by node, from the last: what is left costs the least, and choices lead to the first.
+use Rattle.std.proofs.Common.{Option, Some, None, ◌≡◌, ◌≢◌, ℕ, suc, zero, ◌+◌, ◌*◌, ◌<◌, ◌≤◌, inl, inr, Bool, true, false, ◌&&◌, ◌||◌, ◌==◌, nat_lt, if◌then◌else◌, IsTrue, refl, sym, ap, subst, ◌∙◌, arith}
 use Rattle.std.proofs.lemmas.Bool.{cases_eq, cases_Bool}
 use Rattle.std.proofs.lemmas.Bool.Decides.{nat_tests}
 use Rattle.layer_assign.specs.declared.span.Span.{Span}
-use Rattle.layer_assign.specs.Spans.{grown, climb, IsWithin, span_by}
+use Rattle.layer_assign.specs.Spans.{widened, climb, IsSpan, IsWithin, span_by}
 use Rattle.layer_assign.specs.Choices.{IsBest}
 use Rattle.layer_assign.proofs.Sums.{sums, sums-same, sums-changed, sums-at}
 
@@ -14,7 +15,7 @@ pub record Problem : Type 0 where
   pub parent : ℕ → ℕ
   pub wire : ℕ → ℕ → ℕ
   pub may : ℕ → ℕ → Bool
-  pub base : ℕ → Span
+  pub base : ℕ → Option Span
 
 pub record IsSound (p : Problem) : Type 0 where
   pub earlier : (v : ℕ) → 0 < v → v < p.nodes → p.parent v < v
@@ -26,36 +27,43 @@ abbrev pub ends : Problem → ℕ → ℕ → Bool
 ends p u v = nat_lt 0 v && ((v == u) || (p.parent v == u))
 
 -- the span of a node's tile, of the edges of nodes below a number
-abbrev pub span : Problem → (ℕ → ℕ) → ℕ → ℕ → Span
+abbrev pub span : Problem → (ℕ → ℕ) → ℕ → ℕ → Option Span
 span p a u i = span_by (ends p) p.base a u i
 
 abbrev pub Assigned : Problem → (ℕ → ℕ) → Type 0
 Assigned p a = (v : ℕ) → 0 < v → v < p.nodes → IsTrue (p.may v (a v))
 
 -- the cost of the edges of nodes below a number, and of what E says of the tiles of these nodes
-abbrev pub total : Problem → (ℕ → Span → ℕ) → (ℕ → ℕ) → ℕ → ℕ
+abbrev pub total : Problem → (ℕ → Option Span → ℕ) → (ℕ → ℕ) → ℕ → ℕ
 total p E a i = sums (λ v. p.wire v (a v)) i + sums (λ u. E u (span p a u i)) i
 
 abbrev pub whole : Problem → (ℕ → ℕ) → ℕ
 whole p a = total p (λ u s. climb s) a p.nodes
 
 -- from a node on each node's layer is the choice for its parent's span
-abbrev pub FollowsFrom : Problem → (ℕ → Span → ℕ) → ℕ → (ℕ → ℕ) → Type 0
+abbrev pub FollowsFrom : Problem → (ℕ → Option Span → ℕ) → ℕ → (ℕ → ℕ) → Type 0
 FollowsFrom p choice i a = (v : ℕ) → i ≤ v → 0 < v → v < p.nodes → a v ≡ choice v (span p a (p.parent v) v)
 
 abbrev pub Alike : (ℕ → ℕ) → (ℕ → ℕ) → ℕ → Type 0
 Alike a b v = (w : ℕ) → 0 < w → w < v → a w ≡ b w
 
 -- the layers of the nodes from a number on are eliminated: E tells what they cost at least, and the choices the first layers that cost this
-pub record Eliminates (p : Problem) (i : ℕ) (E choice : ℕ → Span → ℕ) : Type 0 where
+pub record Eliminates (p : Problem) (i : ℕ) (E choice : ℕ → Option Span → ℕ) : Type 0 where
   pub bound : (a : ℕ → ℕ) → Assigned p a → total p E a i ≤ whole p a
   pub attained : (a : ℕ → ℕ) → Assigned p a → FollowsFrom p choice i a → whole p a ≡ total p E a i
   pub first : (a b : ℕ → ℕ) → Assigned p a → Assigned p b → FollowsFrom p choice i a → whole p b ≡ total p E b i →
       (v : ℕ) → i ≤ v → 0 < v → v < p.nodes → Alike a b v → a v ≤ b v
-  pub allowed : (v : ℕ) → i ≤ v → 0 < v → v < p.nodes → (s : Span) → IsWithin p.layers s → IsTrue (p.may v (choice v s))
+  pub allowed : (v : ℕ) → i ≤ v → 0 < v → v < p.nodes → (s : Option Span) → IsWithin p.layers s → IsTrue (p.may v (choice v s))
 
-pub grown-within : (layers : ℕ) (s : Span) (l : ℕ) → IsWithin layers s → l < layers → IsWithin layers (grown s l)
-grown-within layers s l within below = record { low = let h = within.low in omega arith; high = let h = within.high in omega arith }
+pub widened-within : (layers : ℕ) (s : Option Span) (l : ℕ) → IsWithin layers s → l < layers → IsWithin layers (widened s l)
+widened-within layers None l within below = record { ordered = omega arith; high = below }
+widened-within layers (Some s) l within below =
+    let ordered = within.ordered in let high = within.high in record { ordered = omega arith; high = omega arith }
+
+-- no climb costs more than 48
+climb-low : (layers : ℕ) (s : Option Span) → layers ≤ 16 → IsWithin layers s → climb s ≤ 48
+climb-low layers None few within = omega arith
+climb-low layers (Some s) few within = let high = within.high in omega arith
 
 -- an edge of a node above ends in none of the tiles of nodes below it but its parent's
 pub ends-own : (p : Problem) (i : ℕ) → 0 < i → ends p i i ≡ true
@@ -70,7 +78,7 @@ ends-other p u i own other = grind (arith, nat_tests)
 pub ends-none : (p : Problem) (u : ℕ) → ends p u 0 ≡ false
 ends-none p u = refl
 
-span-more : (p : Problem) (a : ℕ → ℕ) (u i : ℕ) → ends p u i ≡ true → span p a u (suc i) ≡ grown (span p a u i) (a i)
+span-more : (p : Problem) (a : ℕ → ℕ) (u i : ℕ) → ends p u i ≡ true → span p a u (suc i) ≡ widened (span p a u i) (a i)
 span-more p a u i is = rw is refl
 
 span-kept : (p : Problem) (a : ℕ → ℕ) (u i : ℕ) → ends p u i ≡ false → span p a u (suc i) ≡ span p a u i
@@ -91,8 +99,8 @@ span-within p a u (suc (suc i)) sound assigned le =
     let before = span-within p a u (suc i) sound assigned (omega arith) in
     let below = sound.below (suc i) (a (suc i)) (assigned (suc i) (omega arith) (omega arith)) in
     elim (cases_Bool (ends p u (suc i))) [
-      | inl is ↦ subst (λ (s : Span). IsWithin p.layers s) (sym (span-more p a u (suc i) is)) (grown-within p.layers (span p a u (suc i)) (a (suc i)) before below)
-      | inr is ↦ subst (λ (s : Span). IsWithin p.layers s) (sym (span-kept p a u (suc i) is)) before
+      | inl is ↦ subst (λ (s : Option Span). IsWithin p.layers s) (sym (span-more p a u (suc i) is)) (widened-within p.layers (span p a u (suc i)) (a (suc i)) before below)
+      | inr is ↦ subst (λ (s : Option Span). IsWithin p.layers s) (sym (span-kept p a u (suc i) is)) before
     ]
 
 pub span-alike : (p : Problem) (a b : ℕ → ℕ) (u i : ℕ) → Alike a b i → span p a u i ≡ span p b u i
@@ -101,21 +109,21 @@ span-alike p a b u (suc zero) alike = refl
 span-alike p a b u (suc (suc i)) alike =
     let before = span-alike p a b u (suc i) (λ w later lt. alike w later (omega arith)) in
     let at = alike (suc i) (omega arith) (omega arith) in
-    let choose : Span → ℕ → Span = λ s l. if ends p u (suc i) then grown s l else s in
-    ap (λ (s : Span). choose s (a (suc i))) before ∙ ap (λ (l : ℕ). choose (span p b u (suc i)) l) at
+    let choose : Option Span → ℕ → Option Span = λ s l. if ends p u (suc i) then widened s l else s in
+    ap (λ (s : Option Span). choose s (a (suc i))) before ∙ ap (λ (l : ℕ). choose (span p b u (suc i)) l) at
 
 -- what a node's layer adds where the others' are eliminated: its edge, and its tile's and its parent's tile's costs
-abbrev pub onward : Problem → (ℕ → Span → ℕ) → ℕ → Span → ℕ → ℕ
-onward p E v s l = p.wire v l + E v (grown (p.base v) l) + E (p.parent v) (grown s l)
+abbrev pub onward : Problem → (ℕ → Option Span → ℕ) → ℕ → Option Span → ℕ → ℕ
+onward p E v s l = p.wire v l + E v (widened (p.base v) l) + E (p.parent v) (widened s l)
 
 -- one node's layer is eliminated: its parent's costs change, and its own are gone
-pub record Step (p : Problem) (v : ℕ) (E F choice later : ℕ → Span → ℕ) : Type 0 where
-  pub best : (s : Span) → IsWithin p.layers s → IsBest (onward p E v s) (p.may v) (choice v s) (F (p.parent v) s)
-  pub others : (u : ℕ) (s : Span) → u < v → u ≢ p.parent v → IsWithin p.layers s → F u s ≡ E u s
-  pub kept : (w : ℕ) (s : Span) → v < w → w < p.nodes → IsWithin p.layers s → choice w s ≡ later w s
+pub record Step (p : Problem) (v : ℕ) (E F choice later : ℕ → Option Span → ℕ) : Type 0 where
+  pub best : (s : Option Span) → IsWithin p.layers s → IsBest (onward p E v s) (p.may v) (choice v s) (F (p.parent v) s)
+  pub others : (u : ℕ) (s : Option Span) → u < v → u ≢ p.parent v → IsWithin p.layers s → F u s ≡ E u s
+  pub kept : (w : ℕ) (s : Option Span) → v < w → w < p.nodes → IsWithin p.layers s → choice w s ≡ later w s
 
 -- what the step changes in the total
-pub total-step : (p : Problem) (v : ℕ) (E F choice later : ℕ → Span → ℕ) (a : ℕ → ℕ) → IsSound p → 0 < v → v < p.nodes → Assigned p a →
+pub total-step : (p : Problem) (v : ℕ) (E F choice later : ℕ → Option Span → ℕ) (a : ℕ → ℕ) → IsSound p → 0 < v → v < p.nodes → Assigned p a →
     Step p v E F choice later →
     total p E a (suc v) + F (p.parent v) (span p a (p.parent v) v) ≡ total p F a v + onward p E v (span p a (p.parent v) v) (a v)
 total-step p v E F choice later a sound positive below assigned step =
@@ -124,18 +132,18 @@ total-step p v E F choice later a sound positive below assigned step =
     let f : ℕ → ℕ = λ u. E u (span p a u (suc v)) in
     let h : ℕ → ℕ = λ u. F u (span p a u v) in
     let changed : sums f v + h up ≡ sums h v + f up = sums-changed f h v up earlier (λ u lt other.
-    ap (λ (s : Span). E u s) (span-kept p a u v (ends-other p u v (λ e. omega arith) other))
+    ap (λ (s : Option Span). E u s) (span-kept p a u v (ends-other p u v (λ e. omega arith) other))
     ∙ sym (step.others u (span p a u v) lt other (span-within p a u v sound assigned (omega arith)))) in
-    let own : f v ≡ E v (grown (p.base v) (a v)) =
-    ap (λ (s : Span). E v s) (span-more p a v v (ends-own p v positive) ∙ ap (λ (s : Span). grown s (a v)) (span-base p a v v sound below (omega arith))) in
-    let above : f up ≡ E up (grown (span p a up v) (a v)) = ap (λ (s : Span). E up s) (span-more p a up v (ends-parent p v positive)) in
-    plain (sums (λ w. p.wire w (a w)) v) (p.wire v (a v)) (sums f v) (f v) (h up) (sums h v) (f up) (E v (grown (p.base v) (a v))) (E up (grown (span p a up v) (a v))) changed own above
+    let own : f v ≡ E v (widened (p.base v) (a v)) =
+    ap (λ (s : Option Span). E v s) (span-more p a v v (ends-own p v positive) ∙ ap (λ (s : Option Span). widened s (a v)) (span-base p a v v sound below (omega arith))) in
+    let above : f up ≡ E up (widened (span p a up v) (a v)) = ap (λ (s : Option Span). E up s) (span-more p a up v (ends-parent p v positive)) in
+    plain (sums (λ w. p.wire w (a w)) v) (p.wire v (a v)) (sums f v) (f v) (h up) (sums h v) (f up) (E v (widened (p.base v) (a v))) (E up (widened (span p a up v) (a v))) changed own above
   where
     plain : (ws w fs fv hu hs fu own above : ℕ) → fs + hu ≡ hs + fu → fv ≡ own → fu ≡ above → ws + w + (fs + fv) + hu ≡ ws + hs + (w + own + above)
     plain ws w fs fv hu hs fu own above changed is up = omega arith
 
 -- a step goes on from what eliminates the layers of the later nodes
-pub eliminates-more : (p : Problem) (v : ℕ) (E F choice later : ℕ → Span → ℕ) → IsSound p → 0 < v → v < p.nodes →
+pub eliminates-more : (p : Problem) (v : ℕ) (E F choice later : ℕ → Option Span → ℕ) → IsSound p → 0 < v → v < p.nodes →
     Step p v E F choice later → Eliminates p (suc v) E later → Eliminates p v F choice
 eliminates-more p v E F choice later sound positive below step done = record {
   bound = λ a assigned.
@@ -161,7 +169,7 @@ eliminates-more p v E F choice later sound positive below step done = record {
       elim (cases_eq v w) [
         | inl same ↦
             let agree : Alike a b v = λ k pos lt. alike k pos (omega arith) in
-            let is : a v ≡ choice v s = follows v (omega arith) positive below ∙ ap (λ (t : Span). choice v t) (span-alike p a b (p.parent v) v agree) in
+            let is : a v ≡ choice v s = follows v (omega arith) positive below ∙ ap (λ (t : Option Span). choice v t) (span-alike p a b (p.parent v) v agree) in
             let tight : onward p E v s (b v) ≡ F (p.parent v) s =
             tight_by (total p F b v) (total p E b (suc v)) (whole p b) (F (p.parent v) s) (onward p E v s (b v)) over change rest least in
             let le = best.first (b v) (other v positive below) tight in
@@ -197,8 +205,8 @@ eliminates-more p v E F choice later sound positive below step done = record {
         ∙ step.kept w (span p a (p.parent w) w) (omega arith) inside (span-within p a (p.parent w) w sound assigned (omega arith))
 
 -- before any step the totals are the whole costs
-pub eliminates-none : (p : Problem) (E choice : ℕ → Span → ℕ) → IsSound p →
-    ((u : ℕ) (s : Span) → u < p.nodes → IsWithin p.layers s → E u s ≡ climb s) → Eliminates p p.nodes E choice
+pub eliminates-none : (p : Problem) (E choice : ℕ → Option Span → ℕ) → IsSound p →
+    ((u : ℕ) (s : Option Span) → u < p.nodes → IsWithin p.layers s → E u s ≡ climb s) → Eliminates p p.nodes E choice
 eliminates-none p E choice sound each = record {
   bound = λ a assigned. let e = same a assigned in omega (arith, e);
   attained = λ a assigned follows. sym (same a assigned);
@@ -213,7 +221,7 @@ eliminates-none p E choice sound each = record {
         (λ u lt. each u (span p a u p.nodes) lt (span-within p a u p.nodes sound assigned (omega arith))))
 
 -- where all layers are eliminated the choices lead to the first least assignment
-pub eliminated-least : (p : Problem) (E choice : ℕ → Span → ℕ) → IsSound p → Eliminates p 1 E choice →
+pub eliminated-least : (p : Problem) (E choice : ℕ → Option Span → ℕ) → IsSound p → Eliminates p 1 E choice →
     (a : ℕ → ℕ) → Assigned p a → FollowsFrom p choice 1 a → (b : ℕ → ℕ) → Assigned p b → whole p a ≤ whole p b
 eliminated-least p E choice sound done a assigned follows b other =
     let own = done.attained a assigned follows in
@@ -222,7 +230,7 @@ eliminated-least p E choice sound done a assigned follows b other =
     let second = sound.root (b 0) in
     omega (arith, own, bound, first, second)
 
-pub eliminated-first : (p : Problem) (E choice : ℕ → Span → ℕ) → IsSound p → Eliminates p 1 E choice →
+pub eliminated-first : (p : Problem) (E choice : ℕ → Option Span → ℕ) → IsSound p → Eliminates p 1 E choice →
     (a : ℕ → ℕ) → Assigned p a → FollowsFrom p choice 1 a → (b : ℕ → ℕ) → Assigned p b → whole p b ≡ whole p a →
     (v : ℕ) → 0 < v → v < p.nodes → Alike a b v → a v ≤ b v
 eliminated-first p E choice sound done a assigned follows b other same v positive inside alike =
@@ -239,13 +247,13 @@ span-within_below p a u (suc (suc i)) sound each =
     let before = span-within_below p a u (suc i) sound (λ w later lt. each w later (omega arith)) in
     let below = each (suc i) (omega arith) (omega arith) in
     elim (cases_Bool (ends p u (suc i))) [
-      | inl is ↦ subst (λ (s : Span). IsWithin p.layers s) (sym (span-more p a u (suc i) is)) (grown-within p.layers (span p a u (suc i)) (a (suc i)) before below)
-      | inr is ↦ subst (λ (s : Span). IsWithin p.layers s) (sym (span-kept p a u (suc i) is)) before
+      | inl is ↦ subst (λ (s : Option Span). IsWithin p.layers s) (sym (span-more p a u (suc i) is)) (widened-within p.layers (span p a u (suc i)) (a (suc i)) before below)
+      | inr is ↦ subst (λ (s : Option Span). IsWithin p.layers s) (sym (span-kept p a u (suc i) is)) before
     ]
 
 -- layers that follow allowed choices are an assignment
-pub follows-assigned : (p : Problem) (choice : ℕ → Span → ℕ) (a : ℕ → ℕ) → IsSound p → FollowsFrom p choice 1 a →
-    ((v : ℕ) → 0 < v → v < p.nodes → (s : Span) → IsWithin p.layers s → IsTrue (p.may v (choice v s))) →
+pub follows-assigned : (p : Problem) (choice : ℕ → Option Span → ℕ) (a : ℕ → ℕ) → IsSound p → FollowsFrom p choice 1 a →
+    ((v : ℕ) → 0 < v → v < p.nodes → (s : Option Span) → IsWithin p.layers s → IsTrue (p.may v (choice v s))) →
     (i : ℕ) → i ≤ p.nodes → (w : ℕ) → 0 < w → w < i → IsTrue (p.may w (a w))
 follows-assigned p choice a sound follows allowed zero le w later lt = absurd (omega arith)
 follows-assigned p choice a sound follows allowed (suc i) le w later lt =
@@ -259,15 +267,15 @@ follows-assigned p choice a sound follows allowed (suc i) le w later lt =
     ]
 
 -- what the nodes not yet eliminated cost at most
-pub record Weighed (p : Problem) (i : ℕ) (E : ℕ → Span → ℕ) : Type 0 where
+pub record Weighed (p : Problem) (i : ℕ) (E : ℕ → Option Span → ℕ) : Type 0 where
   pub weight : ℕ → ℕ
-  pub bound : (u : ℕ) (s : Span) → u < i → IsWithin p.layers s → E u s ≤ weight u
+  pub bound : (u : ℕ) (s : Option Span) → u < i → IsWithin p.layers s → E u s ≤ weight u
   pub few : sums weight i + i * 1048576 ≤ p.nodes * 1048624
 
-pub weighed-none : (p : Problem) (E : ℕ → Span → ℕ) → p.layers ≤ 16 → ((u : ℕ) (s : Span) → u < p.nodes → IsWithin p.layers s → E u s ≡ climb s) → Weighed p p.nodes E
+pub weighed-none : (p : Problem) (E : ℕ → Option Span → ℕ) → p.layers ≤ 16 → ((u : ℕ) (s : Option Span) → u < p.nodes → IsWithin p.layers s → E u s ≡ climb s) → Weighed p p.nodes E
 weighed-none p E few each = record {
   weight = λ u. 48;
-  bound = λ u s lt within. let e = each u s lt within in let h = within.high in omega (arith, e, h);
+  bound = λ u s lt within. let e = each u s lt within in let h = climb-low p.layers s few within in omega (arith, e, h);
   few = let h = all_alike p.nodes in omega (arith, h);
 }
   where
@@ -279,7 +287,7 @@ weighed-none p E few each = record {
 abbrev pub heavier : (ℕ → ℕ) → ℕ → ℕ → ℕ → ℕ
 heavier weight up v u = if u == up then weight up + weight v + 1048576 else weight u
 
-pub weighed-more : (p : Problem) (v : ℕ) (E F choice later : ℕ → Span → ℕ) → IsSound p → 0 < v → v < p.nodes →
+pub weighed-more : (p : Problem) (v : ℕ) (E F choice later : ℕ → Option Span → ℕ) → IsSound p → 0 < v → v < p.nodes →
     ((l : ℕ) → IsTrue (p.may v l) → p.wire v l ≤ 1048576) → Step p v E F choice later → Weighed p (suc v) E → Weighed p v F
 weighed-more p v E F choice later sound positive below cheap step so_far = record {
   weight = heavier w up v;
@@ -290,8 +298,8 @@ weighed-more p v E F choice later sound positive below cheap step so_far = recor
             let l = choice v s in
             let wire = cheap l best.allowed in
             let less = sound.below v l best.allowed in
-            let own = so_far.bound v (grown (p.base v) l) (omega arith) (grown-within p.layers (p.base v) l (sound.within v) less) in
-            let above = so_far.bound up (grown s l) (omega arith) (grown-within p.layers s l within less) in
+            let own = so_far.bound v (widened (p.base v) l) (omega arith) (widened-within p.layers (p.base v) l (sound.within v) less) in
+            let above = so_far.bound up (widened s l) (omega arith) (widened-within p.layers s l within less) in
             let cost = best.cost in
             subst (λ (k : ℕ). F k s ≤ heavier w up v k) (sym same) (rw at_up (omega (arith, wire, own, above, cost)))
         | inr other ↦
@@ -319,7 +327,7 @@ weighed-more p v E F choice later sound positive below cheap step so_far = recor
     at_up : (p.parent v == p.parent v) ≡ true
     at_up = grind (arith, nat_tests)
 
-pub weighed-small : (p : Problem) (i : ℕ) (E : ℕ → Span → ℕ) → p.nodes ≤ 8388608 → Weighed p i E → (u : ℕ) (s : Span) → u < i → IsWithin p.layers s → E u s ≤ 1125899906842624
+pub weighed-small : (p : Problem) (i : ℕ) (E : ℕ → Option Span → ℕ) → p.nodes ≤ 8388608 → Weighed p i E → (u : ℕ) (s : Option Span) → u < i → IsWithin p.layers s → E u s ≤ 1125899906842624
 weighed-small p i E few weighed u s lt within =
     let bound = weighed.bound u s lt within in
     let all = sums-at weighed.weight i u lt in

@@ -1,3 +1,4 @@
+-- Tiles and edges of a flat tree, and the cells and edges over them.
 use Rattle.std.proofs.Common.{◌≡◌, ℕ, suc, zero, ◌+◌, ◌*◌, ◌<◌, ◌≤◌, Bool, true, false, ◌&&◌, nat_lt, List, [], ◌∷◌, length, take, Option, Some, None, unwrap_or, slice_get, IfSome, IsTrue, refl, sym, ap, subst, ◌∙◌, arith}
 use Rattle.std.proofs.lemmas.Nat.{div_below, div-mul-add, mod-mul-add, mul-add-lt}
 use Rattle.std.proofs.lemmas.Bool.Decides.{nat_tests}
@@ -5,7 +6,8 @@ use Rattle.std.proofs.lemmas.Option.{none-some, same_Some}
 use Rattle.std.proofs.lemmas.List.{length-take-le}
 use Rattle.std.specs.Option.{option_map}
 use Rattle.cost_rules.specs.Prices.{layer_of}
-use Rattle.gr_base.specs.Grid.{cells_of, number_of, IsInside, place_at, AreNeighbours, edge_of, has_edge, has_room, Joins}
+use Rattle.gr_base.specs.ParentEdges.{parent_edge}
+use Rattle.gr_base.specs.Grid.{cells_of, number_of, IsInside, place_at, AreNeighbours, edge_of, has_edge, has_room, Joins, on_layer}
 use Rattle.gr_base.specs.Trees.{TreeView, cell_at, parent_at, IsTree, AllHang}
 use Rattle.gr_base.specs.declared.grid.Cell.{Cell}
 use Rattle.gr_base.specs.declared.grid.Edge.{Edge}
@@ -13,12 +15,12 @@ use Rattle.gr_base.specs.declared.grid.Shape.{Shape}
 use Rattle.gr_base.specs.declared.grid.Way.{Way}
 use Rattle.gr_base.specs.declared.grid.Way.TheVariants.{East, North, Up}
 use Rattle.gr_base.specs.declared.tree.Node.{Node}
-use Rattle.gr_base.proofs.GridLemmas.{some_columns, some_rows, number-place, place-inside, place-number, number-below, edge-low, edge-room, few_cells, edge_of-joins}
+use Rattle.gr_base.proofs.GridLemmas.{some_columns, some_rows, some_layers, number-place, place-inside, place-number, number-below, edge-low, edge-room, few_cells, edge_of-joins}
 use Rattle.gr_base.proofs.TreeLemmas.{hangs-at, parent-earlier, parent-of, cell_at-take, read-cell, cell-inside, few-nodes}
 use Rattle.gr_base.proofs.TreeEdges.{edge_of-self, edge_of-some, edge-at}
-use Rattle.layer_assign.specs.Assignments.{IsFlat, tiles_of, tile_of, level_of, cell_on, parent_of, tile_at, edge_up, on_layer, goes_on, may_take}
+use Rattle.layer_assign.specs.Assignments.{IsFlat, tile_count, tile_of, level_of, cell_on, parent_of, tile_at, goes_on, may_take}
 
-pub some_tiles : (g : Shape) → 0 < tiles_of g
+pub some_tiles : (g : Shape) → 0 < tile_count g
 some_tiles g = let c = some_columns g in let r = some_rows g in let h = mul-add-lt 0 g.columns 0 g.rows r c in omega (arith, h)
 
 -- the place of the cell over a tile
@@ -56,7 +58,7 @@ place-on g flat tile layer is inside below =
     subst (λ (n : ℕ). place_at g n ≡ over flat tile layer) (over-number g flat tile layer is inside)
     (place-number g (over flat tile layer) (over-inside g flat tile layer is inside below))
 
-pub flat-cells : (g flat : Shape) → IsFlat g flat → cells_of flat ≡ tiles_of g
+pub flat-cells : (g flat : Shape) → IsFlat g flat → cells_of flat ≡ tile_count g
 flat-cells g flat is =
     subst (λ (k : ℕ). flat.columns * flat.rows * flat.layers ≡ k * g.rows) is.columns
     (subst (λ (k : ℕ). flat.columns * flat.rows * flat.layers ≡ flat.columns * k) is.rows
@@ -86,14 +88,14 @@ on_layer-layer g flat layer e is edge below =
     ap (λ (cell : Cell). cell.layer) (place-on g flat e.low layer is (edge-low flat e edge) below)
 
 -- the tile and the layer of the cell of a tile on a layer
-pub tile-on : (g : Shape) (tile layer : ℕ) → tile < tiles_of g → tile_of g (cell_on g tile layer) ≡ tile
-tile-on g tile layer below = mod-mul-add layer (tiles_of g) tile below
+pub tile-on : (g : Shape) (tile layer : ℕ) → tile < tile_count g → tile_of g (cell_on g tile layer) ≡ tile
+tile-on g tile layer below = mod-mul-add layer (tile_count g) tile below
 
-pub level-on : (g : Shape) (tile layer : ℕ) → tile < tiles_of g → level_of g (cell_on g tile layer) ≡ layer
-level-on g tile layer below = div-mul-add layer (tiles_of g) tile below
+pub level-on : (g : Shape) (tile layer : ℕ) → tile < tile_count g → level_of g (cell_on g tile layer) ≡ layer
+level-on g tile layer below = div-mul-add layer (tile_count g) tile below
 
 pub level-below : (g : Shape) (cell : ℕ) → cell < cells_of g → level_of g cell < g.layers
-level-below g cell below = div_below cell (tiles_of g) g.layers (some_tiles g) (omega arith)
+level-below g cell below = div_below cell (tile_count g) g.layers (some_tiles g) (omega arith)
 
 -- the cell and the parent of a node by number
 pub tile-at : (t : TreeView) (node cell : ℕ) → cell_at t.nodes node ≡ Some cell → tile_at t node ≡ cell
@@ -123,7 +125,7 @@ root_parent g [] node hanging is = absurd (none-some node is)
 root_parent g (root ∷ others) node hanging is = subst (λ (n : Node). n.parent ≡ 0) (same_Some root node is) hanging.0.parent
 
 -- node 0 has no edge
-pub root_edge : (t : TreeView) → IsTree t → edge_up t 0 ≡ None
+pub root_edge : (t : TreeView) → IsTree t → parent_edge t 0 ≡ None
 root_edge t tree =
     let at = node-at t.nodes 0 tree.rooted in
     let up : parent_at t.nodes 0 ≡ Some 0 = read-parent t.nodes 0 at.0 at.1 ∙ ap (λ (k : ℕ). Some k) (root_parent t.shape t.nodes at.0 tree.hanging at.1) in
@@ -152,7 +154,7 @@ parent-cell t node tree positive below =
 
 -- each other node has an edge of the flat grid
 pub node_edge : (t : TreeView) (node : ℕ) → IsTree t → 0 < node → node < length t.nodes →
-    edge_up t node ≡ edge_of t.shape (tile_at t node) (tile_at t (parent_of t node))
+    parent_edge t node ≡ edge_of t.shape (tile_at t node) (tile_at t (parent_of t node))
 node_edge t node tree positive below =
     let at = node-at t.nodes node below in
     let up = parent-cell t node tree positive below in
@@ -170,11 +172,8 @@ few t tree = let most = few-nodes t.shape t.nodes tree.hanging in let cells = fe
 pub few_layers : (g : Shape) → g.layers ≤ 16
 few_layers g = let v = g.valid in grind (arith, nat_tests)
 
-pub some_layers : (g : Shape) → 0 < g.layers
-some_layers g = let v = g.valid in grind (arith, nat_tests)
-
 -- the edge of a node is one of the flat grid's
-pub some_edge : (t : TreeView) (node : ℕ) → IsTree t → 0 < node → node < length t.nodes → (e : Edge) × ((edge_up t node ≡ Some e) × IsTrue (has_edge t.shape e))
+pub some_edge : (t : TreeView) (node : ℕ) → IsTree t → 0 < node → node < length t.nodes → (e : Edge) × ((parent_edge t node ≡ Some e) × IsTrue (has_edge t.shape e))
 some_edge t node tree positive below =
     let at = node-at t.nodes node below in
     let cell = read-cell t.nodes node at.0 at.1 in

@@ -1,6 +1,8 @@
+-- A tile is entered by the wire edge of a node.
 use Rattle.std.proofs.Common.{◌≡◌, ◌≢◌, ℕ, ◌+◌, ◌<◌, inl, inr, Bool, true, false, ◌||◌, ◌==◌, min, List, [], ◌∷◌, length, Option, Some, None, unwrap_or, if◌then◌else◌, refl, sym, ap, subst, ◌∙◌, arith}
 use Rattle.std.specs.Option.{option_map}
-use Rattle.gr_base.specs.Grid.{cells_of, place_at, gap, AreNeighbours, steps_between, way_between, edge_at, edge_of}
+use Rattle.gr_base.specs.ParentEdges.{parent_edge}
+use Rattle.gr_base.specs.Grid.{cells_of, place_at, gap, AreNeighbours, steps_between, way_between, edge_at, edge_of, on_layer}
 use Rattle.gr_base.specs.EdgeSets.{is_edge, set_of}
 use Rattle.gr_base.specs.Trees.{TreeView, holds, walk_edges, IsTree}
 use Rattle.gr_base.specs.declared.grid.Cell.{Cell}
@@ -12,7 +14,7 @@ use Rattle.gr_base.proofs.GridLemmas.{place-inside}
 use Rattle.gr_base.proofs.TreeLemmas.{cell-inside}
 use Rattle.gr_base.proofs.TreeEdges.{edge_of-swap}
 use Rattle.layer_assign.specs.declared.span.Span.{Span}
-use Rattle.layer_assign.specs.Assignments.{IsFlat, tiles_of, cell_on, tile_at, parent_of, edge_up, on_layer}
+use Rattle.layer_assign.specs.Assignments.{IsFlat, tile_count, cell_on, tile_at, parent_of}
 use Rattle.layer_assign.specs.Raised.{in_column, is_via_of, is_wire_of, Grows}
 use Rattle.layer_assign.specs.Raising.{IsIn, Links}
 use Rattle.layer_assign.proofs.FlatLemmas.{over, place-on, flat-cells, some_edge, node_edge, parent-before}
@@ -54,18 +56,18 @@ lifted-edge g flat a b layer is first second below =
 pub tile-below : (t : TreeView) (u : ℕ) → IsTree t → u < length t.nodes → tile_at t u < cells_of t.shape
 tile-below t u tree below = cell-inside t.shape t.nodes u (tile_at t u) tree.hanging (tile-held t u below)
 
-pub tile-inside : (g : Shape) (t : TreeView) (u : ℕ) → IsFlat g t.shape → IsTree t → u < length t.nodes → tile_at t u < tiles_of g
+pub tile-inside : (g : Shape) (t : TreeView) (u : ℕ) → IsFlat g t.shape → IsTree t → u < length t.nodes → tile_at t u < tile_count g
 tile-inside g t u flat tree below = let h = tile-below t u tree below in let e = flat-cells g t.shape flat in omega arith
 
 -- the wire edge of a node leads from its tile to its parent's, and back
-pub wire-edge : (g : Shape) (t : TreeView) (edge layer : ℕ) (f : Edge) → IsFlat g t.shape → IsTree t → 0 < edge → edge < length t.nodes → layer < g.layers → edge_up t edge ≡ Some f →
+pub wire-edge : (g : Shape) (t : TreeView) (edge layer : ℕ) (f : Edge) → IsFlat g t.shape → IsTree t → 0 < edge → edge < length t.nodes → layer < g.layers → parent_edge t edge ≡ Some f →
     edge_of g (cell_on g (tile_at t edge) layer) (cell_on g (tile_at t (parent_of t edge)) layer) ≡ Some (on_layer g layer f)
 wire-edge g t edge layer f flat tree later below inside is =
     let early = parent-before t edge tree later below in
     lifted-edge g t.shape (tile_at t edge) (tile_at t (parent_of t edge)) layer flat (tile-below t edge tree below) (tile-below t (parent_of t edge) tree (omega arith)) inside
     ∙ ap (λ (o : Option Edge). option_map (on_layer g layer) o) (sym (node_edge t edge tree later below) ∙ is)
 
-pub link-edge : (g : Shape) (t : TreeView) (edge from to layer : ℕ) (f : Edge) → IsFlat g t.shape → IsTree t → 0 < edge → edge < length t.nodes → layer < g.layers → edge_up t edge ≡ Some f →
+pub link-edge : (g : Shape) (t : TreeView) (edge from to layer : ℕ) (f : Edge) → IsFlat g t.shape → IsTree t → 0 < edge → edge < length t.nodes → layer < g.layers → parent_edge t edge ≡ Some f →
     Links t edge from to → edge_of g (cell_on g (tile_at t to) layer) (cell_on g (tile_at t from) layer) ≡ Some (on_layer g layer f)
 link-edge g t edge from to layer f flat tree later below inside is links =
     let edge_is = wire-edge g t edge layer f flat tree later below inside is in
@@ -96,7 +98,7 @@ link-wire g t a edge from to e flat tree later below inside links =
     ∙ ap (λ (o : Option Edge). unwrap_or (option_map (λ f. is_edge e (on_layer g (a edge) f)) o) false) (sym some.1.0)
 
 -- a tile is entered by one of its cells, and spread
-pub entered : (g : Shape) (old mid new : TreeView) (tile layer : ℕ) (s : Span) (walk : List ℕ) → tile < tiles_of g → IsIn s layer →
+pub entered : (g : Shape) (old mid new : TreeView) (tile layer : ℕ) (s : Span) (walk : List ℕ) → tile < tile_count g → IsIn s layer →
     Grows old mid (λ other. cell_on g tile layer == other) (set_of (walk_edges g walk)) → Grows mid new (in_column g tile s.low (s.high + 1)) (is_via_of g tile s) →
     Grows old new (in_column g tile s.low (s.high + 1)) (λ e. set_of (walk_edges g walk) e || is_via_of g tile s e)
 entered g old mid new tile layer s walk inside within first second =
@@ -114,7 +116,7 @@ entered g old mid new tile layer s walk inside within first second =
     within_all true q implies = sym (implies refl)
     within_all false q implies = refl
 
-pub enter-free : (g : Shape) (old mid : TreeView) (tile layer other : ℕ) (walk : List ℕ) → tile < tiles_of g → other ≢ layer → holds old (cell_on g tile other) ≡ false →
+pub enter-free : (g : Shape) (old mid : TreeView) (tile layer other : ℕ) (walk : List ℕ) → tile < tile_count g → other ≢ layer → holds old (cell_on g tile other) ≡ false →
     Grows old mid (λ c. cell_on g tile layer == c) (set_of (walk_edges g walk)) → holds mid (cell_on g tile other) ≡ false
 enter-free g old mid tile layer other walk inside apart free grows =
     let out : (cell_on g tile layer == cell_on g tile other) ≡ false =

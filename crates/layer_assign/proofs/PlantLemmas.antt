@@ -1,3 +1,4 @@
+-- The first tile of a tree that is raised.
 use Rattle.std.proofs.Common.{◌≡◌, ◌≢◌, ℕ, ◌+◌, ◌<◌, inl, inr, Bool, true, false, ◌||◌, ◌==◌, [], ◌∷◌, Option, Some, None, is_some, if◌then◌else◌, refl, sym, ap, subst, ◌∙◌, arith}
 use Rattle.std.proofs.lemmas.Bool.{cases_Bool, eqb-true}
 use Rattle.std.proofs.lemmas.Nat.{mod_below}
@@ -8,7 +9,7 @@ use Rattle.gr_base.specs.declared.grid.Edge.{Edge}
 use Rattle.gr_base.specs.declared.grid.Shape.{Shape}
 use Rattle.gr_base.proofs.TreeEdges.{edge_of-self}
 use Rattle.layer_assign.specs.declared.span.Span.{Span}
-use Rattle.layer_assign.specs.Assignments.{tiles_of, tile_of, level_of, cell_on}
+use Rattle.layer_assign.specs.Assignments.{tile_count, tile_of, level_of, cell_on}
 use Rattle.layer_assign.specs.Raised.{in_column, is_via_of, Grows}
 use Rattle.layer_assign.specs.Raising.{IsIn, IsColumn}
 use Rattle.layer_assign.proofs.FlatLemmas.{some_tiles, level-on}
@@ -35,7 +36,7 @@ planted-free g r cell tile other is tile_is apart =
     (seed-cells g cell (cell_on g tile other)
     ∙ elim (cases_Bool (cell == cell_on g tile other)) [
       | inl same ↦
-          let below : tile_of g cell < tiles_of g = mod_below cell (tiles_of g) (some_tiles g) in
+          let below : tile_of g cell < tile_count g = mod_below cell (tile_count g) (some_tiles g) in
           let whole : cell ≡ cell_on g (tile_of g cell) other = eqb-true cell (cell_on g tile other) same ∙ ap (λ (k : ℕ). cell_on g k other) tile_is in
           absurd (apart (sym (level-on g (tile_of g cell) other below) ∙ ap (λ (c : ℕ). level_of g c) (sym whole)))
       | inr not_same ↦ not_same

@@ -1,27 +1,29 @@
+-- The assignments of a flat tree's edges, as a problem for the elimination.
 use Rattle.std.proofs.Common.{◌≡◌, ℕ, suc, zero, ◌+◌, ◌<◌, ◌≤◌, Bool, true, false, ◌&&◌, ◌==◌, nat_lt, min, max, if◌then◌else◌, inl, inr, List, [], ◌∷◌, ◌++◌, length, map, filter, fold, All, Option, Some, None, unwrap_or, IsTrue, refl, sym, ap, ◌∙◌, append_assoc, arith}
 use Rattle.std.proofs.lemmas.Bool.{cases_Bool, both_ways}
 use Rattle.std.proofs.lemmas.Bool.Decides.{nat_tests}
 use Rattle.std.proofs.lemmas.List.{append-nil, map-append}
-use Rattle.std.proofs.lemmas.List.Elements.{All-tail, filter-append}
+use Rattle.std.proofs.lemmas.List.Elements.{All-tail, All-map, All-weaker, All-filter, filter-append}
 use Rattle.std.proofs.lemmas.List.Sums.{fold-append}
 use Rattle.std.specs.List.{range_with_len, sum_by}
 use Rattle.std.specs.Option.{option_map, option_and_then}
-use Rattle.gr_base.specs.Grid.{cells_of}
+use Rattle.gr_base.specs.ParentEdges.{parent_edge}
+use Rattle.gr_base.specs.Grid.{cells_of, on_layer}
 use Rattle.gr_base.specs.Trees.{TreeView, IsTree}
 use Rattle.gr_base.specs.declared.grid.Edge.{Edge}
 use Rattle.gr_base.specs.declared.grid.Shape.{Shape}
 use Rattle.gr_base.specs.declared.grid.Way.{Way}
 use Rattle.layer_assign.specs.declared.span.Span.{Span}
-use Rattle.layer_assign.specs.Spans.{greatest, least, span_of, grown, climb, IsWithin}
-use Rattle.layer_assign.specs.Assignments.{tile_of, level_of, parent_of, tile_at, edge_up, on_layer, goes_on, may_take, wire_cost, ends_at, pin_layers, met_below, cost_of}
+use Rattle.layer_assign.specs.Spans.{span_of, widened, climb, IsSpan, IsWithin}
+use Rattle.layer_assign.specs.Assignments.{tile_of, level_of, parent_of, tile_at, goes_on, may_take, wire_cost, ends_at, pin_layers, met_below, cost_of}
 use Rattle.layer_assign.specs.Choices.{Follows, AreBest}
 use Rattle.layer_assign.proofs.Sums.{sums, sums-range, sums-same, range-more}
-use Rattle.layer_assign.proofs.Elimination.{Problem, IsSound, span, whole, FollowsFrom, Eliminates, eliminated-least, eliminated-first}
+use Rattle.layer_assign.proofs.Elimination.{widened-within, Problem, IsSound, span, whole, FollowsFrom, Eliminates, eliminated-least, eliminated-first}
 use Rattle.layer_assign.proofs.FlatLemmas.{level-below, parent-before, root_edge}
 
 -- the span of the pins of a node's tile
-abbrev pub pin_span : Shape → TreeView → List ℕ → ℕ → Span
-pin_span g t pins node = span_of g (pin_layers g pins (tile_at t node))
+abbrev pub pin_span : Shape → TreeView → List ℕ → ℕ → Option Span
+pin_span g t pins node = span_of (pin_layers g pins (tile_at t node))
 
 -- the assignments of a flat tree's edges to layers, as a problem
 abbrev pub problem : Shape → (ℕ → Way → Bool) → (Edge → Option ℕ) → TreeView → List ℕ → Problem
@@ -35,13 +37,8 @@ problem g ways price t pins = record {
 }
 
 -- the span of layers and one more
-pub span-push : (g : Shape) (layers : List ℕ) (l : ℕ) → span_of g (layers ++ l ∷ []) ≡ grown (span_of g layers) l
-span-push g layers l =
-    let low : least g (layers ++ l ∷ []) ≡ min (least g layers) l = fold-append min g.layers layers (l ∷ []) in
-    let high : greatest (layers ++ l ∷ []) ≡ max (greatest layers) l = fold-append max 0 layers (l ∷ []) in
-    let by_low : ℕ → Span = λ k. record { low = k; high = greatest (layers ++ l ∷ []) } in
-    let by_high : ℕ → Span = λ k. record { low = min (least g layers) l; high = k } in
-    ap by_low low ∙ ap by_high high
+pub span-push : (layers : List ℕ) (l : ℕ) → span_of (layers ++ l ∷ []) ≡ widened (span_of layers) l
+span-push layers l = fold-append widened None layers (l ∷ [])
 
 filter_one : (f : ℕ → Bool) (a : ℕ → ℕ) (i : ℕ) (b : Bool) → f i ≡ b → map a (filter f (i ∷ [])) ≡ (if b then a i ∷ [] else [])
 filter_one f a i true is = rw is refl
@@ -61,19 +58,19 @@ met-more first f a i b is =
 
 -- the span of what meets in a tile, as the problem has it
 pub met-span : (g : Shape) (ways : ℕ → Way → Bool) (price : Edge → Option ℕ) (t : TreeView) (pins : List ℕ) (a : ℕ → ℕ) (node i : ℕ) →
-    span_of g (met_below g t pins a node i) ≡ span (problem g ways price t pins) a node i
-met-span g ways price t pins a node zero = ap (λ (ls : List ℕ). span_of g ls) (append-nil (pin_layers g pins (tile_at t node)))
+    span_of (met_below g t pins a node i) ≡ span (problem g ways price t pins) a node i
+met-span g ways price t pins a node zero = ap (λ (ls : List ℕ). span_of ls) (append-nil (pin_layers g pins (tile_at t node)))
 met-span g ways price t pins a node (suc i) =
     let before = met-span g ways price t pins a node i in
     let first = pin_layers g pins (tile_at t node) in
     elim (cases_Bool (ends_at t node i)) [
       | inl is ↦
-          ap (λ (ls : List ℕ). span_of g ls) (met-more first (ends_at t node) a i true is)
-          ∙ span-push g (met_below g t pins a node i) (a i)
-          ∙ ap (λ (s : Span). grown s (a i)) before
+          ap (λ (ls : List ℕ). span_of ls) (met-more first (ends_at t node) a i true is)
+          ∙ span-push (met_below g t pins a node i) (a i)
+          ∙ ap (λ (s : Option Span). widened s (a i)) before
           ∙ sym (rw is refl)
       | inr is ↦
-          ap (λ (ls : List ℕ). span_of g ls) (met-more first (ends_at t node) a i false is ∙ append-nil (met_below g t pins a node i))
+          ap (λ (ls : List ℕ). span_of ls) (met-more first (ends_at t node) a i false is ∙ append-nil (met_below g t pins a node i))
           ∙ before
           ∙ sym (rw is refl)
     ]
@@ -85,28 +82,27 @@ cost-whole g ways price t pins a =
     let n = length t.nodes in
     let wires = sums-range (λ node. wire_cost g price t node (a node)) n in
     let climbs =
-    sums-range (λ node. climb (span_of g (met_below g t pins a node n))) n
-    ∙ sums-same (λ node. climb (span_of g (met_below g t pins a node n))) (λ node. climb (span (problem g ways price t pins) a node n)) n
-    (λ node below. ap (λ (s : Span). climb s) (met-span g ways price t pins a node n)) in
-    ap (λ (k : ℕ). k + sum_by (λ node. climb (span_of g (met_below g t pins a node n))) (range_with_len 0 n)) wires
+    sums-range (λ node. climb (span_of (met_below g t pins a node n))) n
+    ∙ sums-same (λ node. climb (span_of (met_below g t pins a node n))) (λ node. climb (span (problem g ways price t pins) a node n)) n
+    (λ node below. ap (λ (s : Option Span). climb s) (met-span g ways price t pins a node n)) in
+    ap (λ (k : ℕ). k + sum_by (λ node. climb (span_of (met_below g t pins a node n))) (range_with_len 0 n)) wires
     ∙ ap (λ (k : ℕ). sums (λ node. wire_cost g price t node (a node)) n + k) climbs
 
+-- layers of the grid have a span in it
+fold-within : (layers : ℕ) (first : Option Span) (all : List ℕ) → IsWithin layers first → All (λ layer. layer < layers) all → IsWithin layers (fold widened first all)
+fold-within layers first [] within each = within
+fold-within layers first (layer ∷ all) within each =
+    fold-within layers (widened first layer) all (widened-within layers first layer within (each 0 0 (omega arith))) (All-tail (λ layer. layer < layers) layer all each)
+
 -- pins that are cells of the grid have its layers
-levels-within : (g : Shape) (f : ℕ → Bool) (pins : List ℕ) (low high : ℕ) → low ≤ g.layers → high < g.layers → All (λ pin. pin < cells_of g) pins →
-    IsWithin g.layers (record { low = fold min low (map (level_of g) (filter f pins)); high = fold max high (map (level_of g) (filter f pins)) })
-levels-within g f [] low high le lt each = record { low = le; high = lt }
-levels-within g f (pin ∷ pins) low high le lt each =
-    let below = level-below g pin (each 0 0 (omega arith)) in
-    let rest : All (λ other. other < cells_of g) pins = All-tail (λ other. other < cells_of g) pin pins each in
-    elim (cases_Bool (f pin)) [
-      | inl is ↦ rw is (levels-within g f pins (min low (level_of g pin)) (max high (level_of g pin)) (omega arith) (omega arith) rest)
-      | inr is ↦ rw is (levels-within g f pins low high le lt rest)
-    ]
+levels-below : (g : Shape) (f : ℕ → Bool) (pins : List ℕ) → All (λ pin. pin < cells_of g) pins → All (λ layer. layer < g.layers) (map (level_of g) (filter f pins))
+levels-below g f pins each =
+    All-map (λ layer. layer < g.layers) (level_of g) (filter f pins)
+    (All-weaker (λ pin. pin < cells_of g) (λ pin. level_of g pin < g.layers) (λ pin below. level-below g pin below) (filter f pins) (All-filter f (λ pin. pin < cells_of g) pins each))
 
 pub pin_span-within : (g : Shape) (t : TreeView) (pins : List ℕ) (node : ℕ) → All (λ pin. pin < cells_of g) pins → IsWithin g.layers (pin_span g t pins node)
 pin_span-within g t pins node each =
-    let some : 0 < g.layers = let v = g.valid in grind (arith, nat_tests) in
-    levels-within g (λ pin. tile_of g pin == tile_at t node) pins g.layers 0 (omega arith) some each
+    fold-within g.layers None (pin_layers g pins (tile_at t node)) tt (levels-below g (λ pin. tile_of g pin == tile_at t node) pins each)
 
 may-some : (g : Shape) (ways : ℕ → Way → Bool) (layer : ℕ) (o : Option Edge) → unwrap_or (option_map (goes_on g ways layer) o) false ≡ true → layer < g.layers
 may-some g ways layer None is = absurd (both_ways false refl is)
@@ -117,7 +113,7 @@ may-some g ways layer (Some e) is = below (nat_lt layer g.layers) (ways layer e.
     below false q same yes_q = absurd (both_ways false refl yes_q)
 
 pub may-below : (g : Shape) (ways : ℕ → Way → Bool) (t : TreeView) (node layer : ℕ) → IsTrue (may_take g ways t node layer) → layer < g.layers
-may-below g ways t node layer may = may-some g ways layer (edge_up t node) may
+may-below g ways t node layer may = may-some g ways layer (parent_edge t node) may
 
 pub problem-sound : (g : Shape) (ways : ℕ → Way → Bool) (price : Edge → Option ℕ) (t : TreeView) (pins : List ℕ) → IsTree t →
     All (λ pin. pin < cells_of g) pins → IsSound (problem g ways price t pins)
@@ -129,7 +125,7 @@ problem-sound g ways price t pins tree each = record {
 }
 
 -- choices that eliminate all layers lead to the first least assignment
-pub eliminates-best : (g : Shape) (ways : ℕ → Way → Bool) (price : Edge → Option ℕ) (t : TreeView) (pins : List ℕ) (E choice : ℕ → Span → ℕ) → IsTree t →
+pub eliminates-best : (g : Shape) (ways : ℕ → Way → Bool) (price : Edge → Option ℕ) (t : TreeView) (pins : List ℕ) (E choice : ℕ → Option Span → ℕ) → IsTree t →
     All (λ pin. pin < cells_of g) pins → Eliminates (problem g ways price t pins) 1 E choice → AreBest g ways price t pins choice
 eliminates-best g ways price t pins E choice tree each done = record {
   allowed = λ node positive below s within. done.allowed node (omega arith) positive below s within;
@@ -152,4 +148,4 @@ eliminates-best g ways price t pins E choice tree each done = record {
 
     from : (a : ℕ → ℕ) → Follows g t pins choice a → FollowsFrom (problem g ways price t pins) choice 1 a
     from a follows = λ v one positive below.
-        follows v positive below ∙ ap (λ (s : Span). choice v s) (met-span g ways price t pins a (parent_of t v) v)
+        follows v positive below ∙ ap (λ (s : Option Span). choice v s) (met-span g ways price t pins a (parent_of t v) v)

@@ -1,18 +1,19 @@
-use Rattle.std.proofs.Common.{◌≡◌, ◌≢◌, ℕ, suc, zero, ◌+◌, ◌<◌, ◌≤◌, inl, inr, Bool, true, false, ◌&&◌, ◌||◌, ◌==◌, not, min, max, List, [], ◌∷◌, length, map, filter, fold, get_or, All, Option, Some, None, unwrap_or, IsTrue, refl, sym, ap, subst, ◌∙◌, arith}
-use Rattle.std.proofs.lemmas.Bool.{cases_Bool, cases_eq, eq-eqb}
+-- The spans of all tiles in the end, and the tree that is raised from them.
+use Rattle.std.proofs.Common.{◌≡◌, ◌≢◌, ℕ, suc, zero, ◌+◌, ◌<◌, ◌≤◌, inl, inr, Bool, true, false, ◌&&◌, ◌||◌, ◌==◌, not, List, [], ◌∷◌, length, map, filter, fold, get_or, All, Option, Some, None, unwrap_or, IsSome, IsTrue, refl, sym, ap, subst, ◌∙◌, arith}
+use Rattle.std.proofs.lemmas.Bool.{cases_Bool, cases_eq, cases_lt, eq-eqb}
 use Rattle.std.proofs.lemmas.Bool.Decides.{nat_tests}
 use Rattle.std.specs.List.{list_any, range_with_len}
 use Rattle.std.specs.Option.{option_map}
-use Rattle.gr_base.specs.Grid.{cells_of}
+use Rattle.gr_base.specs.Grid.{cells_of, on_layer}
 use Rattle.gr_base.specs.EdgeSets.{is_edge}
 use Rattle.gr_base.specs.Trees.{TreeView, cell_at, node_with, holds, edges_of, IsTree}
 use Rattle.gr_base.specs.declared.grid.Edge.{Edge}
 use Rattle.gr_base.specs.declared.grid.Shape.{Shape}
 use Rattle.gr_base.proofs.TreeLemmas.{some_from, node_with-at, cell_at-within}
 use Rattle.layer_assign.specs.declared.span.Span.{Span}
-use Rattle.layer_assign.specs.Spans.{span_of, span_by, IsWithin}
-use Rattle.layer_assign.specs.Assignments.{IsFlat, tile_of, level_of, cell_on, tile_at, parent_of, on_layer, ends_at, met, ArePins}
-use Rattle.layer_assign.specs.Raised.{in_column, is_via_of, is_wire_of, raised_edges}
+use Rattle.layer_assign.specs.Spans.{widened, growing, span_of, span_by, IsSpan, IsWithin}
+use Rattle.layer_assign.specs.Assignments.{IsFlat, tile_of, level_of, cell_on, tile_at, parent_of, ends_at, met, ArePins}
+use Rattle.layer_assign.specs.Raised.{in_column, is_via_of, is_via_in, is_wire_of, raised_edges}
 use Rattle.layer_assign.specs.Raising.{any_below, IsIn, HoldEdges, IsRaised, IsColumn}
 use Rattle.layer_assign.proofs.Elimination.{Problem, IsSound, span-within_below, ends-own, ends-parent}
 use Rattle.layer_assign.proofs.FlatLemmas.{tile-at, root_edge}
@@ -24,46 +25,64 @@ use Rattle.layer_assign.proofs.RaisingLemmas.{any-same, any-none, any-changed, a
 abbrev pub plain : Shape → TreeView → List ℕ → Problem
 plain g t pins = problem g (λ _ _. true) (λ _. None) t pins
 
+-- a tile has a span, which has the layer
+abbrev HasLayer : Option Span → ℕ → Type 0
+HasLayer None layer = ⊥
+HasLayer (Some s) layer = IsIn s layer
+
+widened-has : (o : Option Span) (layer : ℕ) → HasLayer (widened o layer) layer
+widened-has None layer = record { low = omega arith; high = omega arith }
+widened-has (Some s) layer = record { low = omega arith; high = omega arith }
+
+widened-keeps : (o : Option Span) (k layer : ℕ) → HasLayer o k → HasLayer (widened o layer) k
+widened-keeps None k layer inside = absurd inside
+widened-keeps (Some s) k layer inside = let low = inside.low in let high = inside.high in record { low = omega arith; high = omega arith }
+
+fold-keeps : (o : Option Span) (k : ℕ) (layers : List ℕ) → HasLayer o k → HasLayer (fold widened o layers) k
+fold-keeps o k [] inside = inside
+fold-keeps o k (layer ∷ layers) inside = fold-keeps (widened o layer) k layers (widened-keeps o k layer inside)
+
+some-span : (o : Option Span) (layer : ℕ) → HasLayer o layer → IsSome o
+some-span None layer inside = absurd inside
+some-span (Some s) layer inside = refl
+
 -- the layers of edges that end in a tile lie in its span
-pub span-holds : (ends : ℕ → ℕ → Bool) (first : ℕ → Span) (a : ℕ → ℕ) (u v i : ℕ) → v < i → ends u v ≡ true → IsIn (span_by ends first a u i) (a v)
+pub span-holds : (ends : ℕ → ℕ → Bool) (first : ℕ → Option Span) (a : ℕ → ℕ) (u v i : ℕ) → v < i → ends u v ≡ true → HasLayer (span_by ends first a u i) (a v)
 span-holds ends first a u v zero lt is = absurd (omega arith)
 span-holds ends first a u v (suc i) lt is =
     elim (cases_eq v i) [
       | inl same ↦
           let here : ends u i ≡ true = ap (λ (k : ℕ). ends u k) (sym same) ∙ is in
-          let e : a v ≡ a i = ap a same in
-          rw here (record { low = omega (arith, e); high = omega (arith, e) })
+          let last : HasLayer (widened (span_by ends first a u i) (a i)) (a v) =
+          subst (λ (k : ℕ). HasLayer (widened (span_by ends first a u i) (a i)) (a k)) (sym same) (widened-has (span_by ends first a u i) (a i)) in
+          rw here last
       | inr other ↦
           let before = span-holds ends first a u v i (omega arith) is in
-          let low = before.low in
-          let high = before.high in
           elim (cases_Bool (ends u i)) [
-            | inl here ↦ rw here (record { low = omega arith; high = omega arith })
+            | inl here ↦ rw here (widened-keeps (span_by ends first a u i) (a v) (a i) before)
             | inr here ↦ rw here before
           ]
     ]
 
 -- so do those that lie in its first span
-pub span-first : (ends : ℕ → ℕ → Bool) (first : ℕ → Span) (a : ℕ → ℕ) (u layer i : ℕ) → IsIn (first u) layer → IsIn (span_by ends first a u i) layer
+pub span-first : (ends : ℕ → ℕ → Bool) (first : ℕ → Option Span) (a : ℕ → ℕ) (u layer i : ℕ) → HasLayer (first u) layer → HasLayer (span_by ends first a u i) layer
 span-first ends first a u layer zero inside = inside
 span-first ends first a u layer (suc i) inside =
     let before = span-first ends first a u layer i inside in
-    let low = before.low in
-    let high = before.high in
     elim (cases_Bool (ends u i)) [
-      | inl here ↦ rw here (record { low = omega arith; high = omega arith })
+      | inl here ↦ rw here (widened-keeps (span_by ends first a u i) layer (a i) before)
       | inr here ↦ rw here before
     ]
 
 -- the spans of the layers that meet hold the layers of their edges
 pub hold-edges : (g : Shape) (t : TreeView) (pins : List ℕ) (a : ℕ → ℕ) (spans : ℕ → Span) → IsTree t → All (λ pin. pin < cells_of g) pins →
-    ((v : ℕ) → 0 < v → v < length t.nodes → a v < g.layers) → ((u : ℕ) → u < length t.nodes → spans u ≡ span_of g (met g t pins a u)) → HoldEdges g t a spans
+    ((v : ℕ) → 0 < v → v < length t.nodes → a v < g.layers) → ((u : ℕ) → u < length t.nodes → Some (spans u) ≡ span_of (met g t pins a u)) → HoldEdges g t a spans
 hold-edges g t pins a spans tree cells below are = record {
-  within = λ u lt. subst (λ (s : Span). IsWithin g.layers s) (sym (as_by u lt)) (span-within_below p a u (length t.nodes) sound (λ w later less. below w later less));
-  own = λ v later lt. subst (λ (s : Span). IsIn s (a v)) (sym (as_by v lt)) (span-holds (ends_at t) (pin_span g t pins) a v v (length t.nodes) lt (ends-own p v later));
+  within = λ u lt. subst (λ (o : Option Span). IsWithin g.layers o) (sym (as_by u lt)) (span-within_below p a u (length t.nodes) sound (λ w later less. below w later less));
+  own = λ v later lt. subst (λ (o : Option Span). HasLayer o (a v)) (sym (as_by v lt)) (span-holds (ends_at t) (pin_span g t pins) a v v (length t.nodes) lt (ends-own p v later));
   above = λ v later lt.
       let early = sound.earlier v later lt in
-      subst (λ (s : Span). IsIn s (a v)) (sym (as_by (parent_of t v) (omega arith)))
+      subst (λ (o : Option Span). HasLayer o (a v)) (sym (as_by (parent_of t v) (omega arith)))
       (span-holds (ends_at t) (pin_span g t pins) a (parent_of t v) v (length t.nodes) lt (ends-parent p v later));
 }
   where
@@ -73,46 +92,81 @@ hold-edges g t pins a spans tree cells below are = record {
     sound : IsSound (plain g t pins)
     sound = problem-sound g (λ _ _. true) (λ _. None) t pins tree cells
 
-    as_by : (u : ℕ) → u < length t.nodes → spans u ≡ span_by (ends_at t) (pin_span g t pins) a u (length t.nodes)
+    as_by : (u : ℕ) → u < length t.nodes → Some (spans u) ≡ span_by (ends_at t) (pin_span g t pins) a u (length t.nodes)
     as_by u lt = are u lt ∙ met-span g (λ _ _. true) (λ _. None) t pins a u (length t.nodes)
 
-fold_low : (low : ℕ) (xs : List ℕ) → fold min low xs ≤ low
-fold_low low [] = omega arith
-fold_low low (x ∷ xs) = let h = fold_low (min low x) xs in omega arith
-
-fold_high : (high : ℕ) (xs : List ℕ) → high ≤ fold max high xs
-fold_high high [] = omega arith
-fold_high high (x ∷ xs) = let h = fold_high (max high x) xs in omega arith
-
 -- the layers of pins lie in the span of those that are kept
-levels-hold : (g : Shape) (f : ℕ → Bool) (pins : List ℕ) (low high k : ℕ) → k < length pins → f (get_or pins k 0) ≡ true →
-    IsIn (record { low = fold min low (map (level_of g) (filter f pins)); high = fold max high (map (level_of g) (filter f pins)) }) (level_of g (get_or pins k 0))
-levels-hold g f [] low high k lt is = absurd (omega arith)
-levels-hold g f (pin ∷ pins) low high zero lt is =
-    let l = fold_low (min low (level_of g pin)) (map (level_of g) (filter f pins)) in
-    let h = fold_high (max high (level_of g pin)) (map (level_of g) (filter f pins)) in
-    rw is (record { low = omega arith; high = omega arith })
-levels-hold g f (pin ∷ pins) low high (suc k) lt is =
+levels-hold : (g : Shape) (f : ℕ → Bool) (pins : List ℕ) (first : Option Span) (k : ℕ) → k < length pins → f (get_or pins k 0) ≡ true →
+    HasLayer (fold widened first (map (level_of g) (filter f pins))) (level_of g (get_or pins k 0))
+levels-hold g f [] first k lt is = absurd (omega arith)
+levels-hold g f (pin ∷ pins) first zero lt is =
+    rw is (fold-keeps (widened first (level_of g pin)) (level_of g pin) (map (level_of g) (filter f pins)) (widened-has first (level_of g pin)))
+levels-hold g f (pin ∷ pins) first (suc k) lt is =
     elim (cases_Bool (f pin)) [
-      | inl here ↦ rw here (levels-hold g f pins (min low (level_of g pin)) (max high (level_of g pin)) k (omega arith) is)
-      | inr here ↦ rw here (levels-hold g f pins low high k (omega arith) is)
+      | inl here ↦ rw here (levels-hold g f pins (widened first (level_of g pin)) k (omega arith) is)
+      | inr here ↦ rw here (levels-hold g f pins first k (omega arith) is)
     ]
 
 -- a pin's layer lies in the span of its tile
-pub pin-in : (g : Shape) (t : TreeView) (pins : List ℕ) (a : ℕ → ℕ) (spans : ℕ → Span) (k node : ℕ) → k < length pins → node_with t.nodes (tile_of g (get_or pins k 0)) ≡ Some node →
-    ((u : ℕ) → u < length t.nodes → spans u ≡ span_of g (met g t pins a u)) → IsIn (spans node) (level_of g (get_or pins k 0))
-pin-in g t pins a spans k node lt found are =
+pin-met : (g : Shape) (t : TreeView) (pins : List ℕ) (a : ℕ → ℕ) (k node : ℕ) → k < length pins → node_with t.nodes (tile_of g (get_or pins k 0)) ≡ Some node →
+    HasLayer (span_of (met g t pins a node)) (level_of g (get_or pins k 0))
+pin-met g t pins a k node lt found =
     let pin = get_or pins k 0 in
     let at = node_with-at t.nodes (tile_of g pin) node found in
     let below = cell_at-within t.nodes node (tile_of g pin) at in
     let test : (tile_of g pin == tile_at t node) ≡ true = eq-eqb (tile_of g pin) (tile_at t node) (sym (tile-at t node (tile_of g pin) at)) in
-    let base : IsIn (pin_span g t pins node) (level_of g pin) = levels-hold g (λ p. tile_of g p == tile_at t node) pins g.layers 0 k lt test in
-    subst (λ (s : Span). IsIn s (level_of g pin)) (sym (are node below ∙ met-span g (λ _ _. true) (λ _. None) t pins a node (length t.nodes)))
+    let base : HasLayer (pin_span g t pins node) (level_of g pin) = levels-hold g (λ p. tile_of g p == tile_at t node) pins None k lt test in
+    subst (λ (o : Option Span). HasLayer o (level_of g pin)) (sym (met-span g (λ _ _. true) (λ _. None) t pins a node (length t.nodes)))
     (span-first (ends_at t) (pin_span g t pins) a node (level_of g pin) (length t.nodes) base)
+
+pub pin-in : (g : Shape) (t : TreeView) (pins : List ℕ) (a : ℕ → ℕ) (spans : ℕ → Span) (k node : ℕ) → k < length pins → node_with t.nodes (tile_of g (get_or pins k 0)) ≡ Some node →
+    ((u : ℕ) → u < length t.nodes → Some (spans u) ≡ span_of (met g t pins a u)) → IsIn (spans node) (level_of g (get_or pins k 0))
+pin-in g t pins a spans k node lt found are =
+    let below = cell_at-within t.nodes node (tile_of g (get_or pins k 0)) (node_with-at t.nodes (tile_of g (get_or pins k 0)) node found) in
+    subst (λ (o : Option Span). HasLayer o (level_of g (get_or pins k 0))) (sym (are node below)) (pin-met g t pins a k node lt found)
+
+-- in the end each tile has a span: that of its own edge, or of its first child's, or of a pin
+pub met-some : (g : Shape) (t : TreeView) (pins : List ℕ) (a : ℕ → ℕ) (u : ℕ) → IsTree t → ArePins g t pins → u < length t.nodes → IsSome (span_of (met g t pins a u))
+met-some g t pins a u tree are_pins lt =
+    elim (cases_eq u 0) [
+      | inl zero_u ↦
+          elim (cases_lt 1 (length t.nodes)) [
+            | inl more ↦
+                let early = sound.earlier 1 (omega arith) more in
+                let up : parent_of t 1 ≡ u = omega arith in
+                ends u 1 more (subst (λ (k : ℕ). ends_at t k 1 ≡ true) up (ends-parent p 1 (omega arith)))
+            | inr alone ↦
+                let found = some_from (node_with t.nodes (tile_of g (get_or pins 0 0))) (are_pins.tiles 0 0 are_pins.some) in
+                let below = cell_at-within t.nodes found.0 (tile_of g (get_or pins 0 0)) (node_with-at t.nodes (tile_of g (get_or pins 0 0)) found.0 found.1) in
+                let same : found.0 ≡ u = omega arith in
+                subst (λ (k : ℕ). IsSome (span_of (met g t pins a k))) same
+                (some-span (span_of (met g t pins a found.0)) (level_of g (get_or pins 0 0)) (pin-met g t pins a 0 found.0 are_pins.some found.1))
+          ]
+      | inr later ↦ ends u u lt (ends-own p u (omega arith))
+    ]
+  where
+    p : Problem
+    p = plain g t pins
+
+    sound : IsSound (plain g t pins)
+    sound = problem-sound g (λ _ _. true) (λ _. None) t pins tree are_pins.cells
+
+    ends : (k v : ℕ) → v < length t.nodes → ends_at t k v ≡ true → IsSome (span_of (met g t pins a k))
+    ends k v inside is =
+        let as_by : span_of (met g t pins a k) ≡ span_by (ends_at t) (pin_span g t pins) a k (length t.nodes) = met-span g (λ _ _. true) (λ _. None) t pins a k (length t.nodes) in
+        subst (λ (o : Option Span). IsSome o) (sym as_by)
+        (some-span (span_by (ends_at t) (pin_span g t pins) a k (length t.nodes)) (a v) (span-holds (ends_at t) (pin_span g t pins) a k v (length t.nodes) inside is))
+
+-- what is found for each tile in the end
+pub met-found : (g : Shape) (t : TreeView) (pins : List ℕ) (a : ℕ → ℕ) (spans : List (Option Span)) (n : ℕ) → n ≡ length t.nodes →
+    ((u : ℕ) → u < length t.nodes → growing spans u ≡ span_by (ends_at t) (pin_span g t pins) a u n) →
+    (u : ℕ) → u < length t.nodes → growing spans u ≡ span_of (met g t pins a u)
+met-found g t pins a spans n end are u lt =
+    are u lt ∙ ap (λ (k : ℕ). span_by (ends_at t) (pin_span g t pins) a u k) end ∙ sym (met-span g (λ _ _. true) (λ _. None) t pins a u (length t.nodes))
 
 -- the tree holds the pins
 pub raised-pins : (g : Shape) (t : TreeView) (pins : List ℕ) (a : ℕ → ℕ) (spans : ℕ → Span) (first : Option ℕ) (r : TreeView) → IsFlat g t.shape → IsTree t → ArePins g t pins →
-    ((u : ℕ) → u < length t.nodes → spans u ≡ span_of g (met g t pins a u)) → IsRaised g t a spans first (λ _. true) 0 r → All (λ pin. IsTrue (holds r pin)) pins
+    ((u : ℕ) → u < length t.nodes → Some (spans u) ≡ span_of (met g t pins a u)) → IsRaised g t a spans first (λ _. true) 0 r → All (λ pin. IsTrue (holds r pin)) pins
 raised-pins g t pins a spans first r flat tree are_pins are raised = λ k d lt.
     let pin = get_or pins k 0 in
     let found = some_from (node_with t.nodes (tile_of g pin)) (are_pins.tiles k 0 lt) in
@@ -133,18 +187,18 @@ not_zero u = grind (arith, nat_tests)
 
 -- the tree has the edges of the assignment
 pub raised-edges : (g : Shape) (t : TreeView) (pins : List ℕ) (a : ℕ → ℕ) (spans : ℕ → Span) (first : Option ℕ) (r : TreeView) → IsTree t →
-    ((u : ℕ) → u < length t.nodes → spans u ≡ span_of g (met g t pins a u)) → IsRaised g t a spans first (λ _. true) 0 r → (e : Edge) → edges_of r e ≡ raised_edges g t pins a e
+    ((u : ℕ) → u < length t.nodes → Some (spans u) ≡ span_of (met g t pins a u)) → IsRaised g t a spans first (λ _. true) 0 r → (e : Edge) → edges_of r e ≡ raised_edges g t pins a e
 raised-edges g t pins a spans first r tree are raised e =
     let n = length t.nodes in
-    let vias = any-same (λ u. true && is_via_of g (tile_at t u) (spans u) e) (λ u. is_via_of g (tile_at t u) (span_of g (met g t pins a u)) e) n
-    (λ u lt. ap (λ (s : Span). is_via_of g (tile_at t u) s e) (are u lt)) in
+    let vias = any-same (λ u. true && is_via_of g (tile_at t u) (spans u) e) (λ u. is_via_in g (tile_at t u) (span_of (met g t pins a u)) e) n
+    (λ u lt. ap (λ (o : Option Span). is_via_in g (tile_at t u) o e) (are u lt)) in
     let wires = any-same (λ u. (true && not (u == 0)) && is_wire_of g t a u e) (λ u. is_wire_of g t a u e) n (λ u lt. wire u) in
     raised.edges_are e
     ∙ ap (λ (b : Bool). b || any_below (λ u. (true && not (u == 0)) && is_wire_of g t a u e) n) vias
-    ∙ ap (λ (b : Bool). any_below (λ u. is_via_of g (tile_at t u) (span_of g (met g t pins a u)) e) n || b) wires
-    ∙ swapped (any_below (λ u. is_via_of g (tile_at t u) (span_of g (met g t pins a u)) e) n) (any_below (λ u. is_wire_of g t a u e) n)
-    ∙ ap (λ (b : Bool). b || any_below (λ u. is_via_of g (tile_at t u) (span_of g (met g t pins a u)) e) n) (sym (any-range (λ u. is_wire_of g t a u e) n))
-    ∙ ap (λ (b : Bool). list_any (λ u. is_wire_of g t a u e) (range_with_len 0 n) || b) (sym (any-range (λ u. is_via_of g (tile_at t u) (span_of g (met g t pins a u)) e) n))
+    ∙ ap (λ (b : Bool). any_below (λ u. is_via_in g (tile_at t u) (span_of (met g t pins a u)) e) n || b) wires
+    ∙ swapped (any_below (λ u. is_via_in g (tile_at t u) (span_of (met g t pins a u)) e) n) (any_below (λ u. is_wire_of g t a u e) n)
+    ∙ ap (λ (b : Bool). b || any_below (λ u. is_via_in g (tile_at t u) (span_of (met g t pins a u)) e) n) (sym (any-range (λ u. is_wire_of g t a u e) n))
+    ∙ ap (λ (b : Bool). list_any (λ u. is_wire_of g t a u e) (range_with_len 0 n) || b) (sym (any-range (λ u. is_via_in g (tile_at t u) (span_of (met g t pins a u)) e) n))
   where
     swapped : (p q : Bool) → (p || q) ≡ (q || p)
     swapped true true = refl

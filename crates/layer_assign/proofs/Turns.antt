@@ -1,14 +1,15 @@
+-- The turns of the assignment, from the last node down.
 use Rattle.std.proofs.Common.{◌≡◌, ℕ, suc, ◌<◌, ◌≤◌, Bool, List, All, length, get_or, Option, Some, None, unwrap_or, IfSome, sym, ap, subst, ◌∙◌, arith}
 use Rattle.std.specs.Option.{option_and_then}
 use Rattle.cost_rules.specs.Prices.{ArePrices}
-use Rattle.gr_base.specs.Grid.{cells_of}
+use Rattle.gr_base.specs.Grid.{cells_of, on_layer}
 use Rattle.gr_base.specs.Trees.{TreeView, IsTree}
 use Rattle.gr_base.specs.declared.grid.Edge.{Edge}
 use Rattle.gr_base.specs.declared.grid.Shape.{Shape}
 use Rattle.gr_base.specs.declared.grid.Way.{Way}
 use Rattle.layer_assign.specs.declared.span.Span.{Span}
-use Rattle.layer_assign.specs.Spans.{climb, IsWithin, span_by, span_in}
-use Rattle.layer_assign.specs.Assignments.{IsFlat, parent_of, on_layer, may_take, wire_cost, ends_at, IsAssignment}
+use Rattle.layer_assign.specs.Spans.{climb, IsWithin, span_by, growing}
+use Rattle.layer_assign.specs.Assignments.{IsFlat, parent_of, may_take, wire_cost, ends_at, IsAssignment}
 use Rattle.layer_assign.specs.Answers.{IsFirstLeast}
 use Rattle.layer_assign.specs.Choices.{IsBest, entry, Follows, FollowsFrom, AreBest}
 use Rattle.layer_assign.specs.Tables.{HasRows, IsSmall}
@@ -19,12 +20,12 @@ use Rattle.layer_assign.proofs.Following.{span_by-first}
 use Rattle.layer_assign.proofs.Problems.{pin_span, problem, met-span, may-below, problem-sound, eliminates-best}
 
 -- a node's choices are a step
-pub chooses-step : (g : Shape) (ways : ℕ → Way → Bool) (price : Edge → Option ℕ) (t : TreeView) (pins : List ℕ) (v : ℕ) (base : Span) (old new before after : List ℕ) →
+pub chooses-step : (g : Shape) (ways : ℕ → Way → Bool) (price : Edge → Option ℕ) (t : TreeView) (pins : List ℕ) (v : ℕ) (base : Option Span) (old new before after : List ℕ) →
     base ≡ pin_span g t pins v → Chooses g ways price t v base old new before after →
     Step (problem g ways price t pins) v (entry g.layers old) (entry g.layers new) (entry g.layers after) (entry g.layers before)
 chooses-step g ways price t pins v base old new before after is chooses = record {
   best = λ s within.
-      subst (λ (b : Span). IsBest (onward_cost g price t old v b s) (may_take g ways t v) (entry g.layers after v s) (entry g.layers new (parent_of t v) s)) is (chooses.best s within);
+      subst (λ (b : Option Span). IsBest (onward_cost g price t old v b s) (may_take g ways t v) (entry g.layers after v s) (entry g.layers new (parent_of t v) s)) is (chooses.best s within);
   others = λ u s lt other within. chooses.others u s other within;
   kept = λ w s lt inside within. chooses.kept w s (λ e. omega arith) within;
 }
@@ -52,7 +53,7 @@ pub record Chosen (g : Shape) (ways : ℕ → Way → Bool) (price : Edge → Op
 
 pub chosen-none : (g : Shape) (ways : ℕ → Way → Bool) (price : Edge → Option ℕ) (t : TreeView) (pins : List ℕ) (least choices : List ℕ) (node : ℕ) → IsTree t →
     All (λ pin. pin < cells_of g) pins → node ≡ length t.nodes → HasRows g.layers (length t.nodes) least → HasRows g.layers (length t.nodes) choices →
-    ((u : ℕ) → (s : Span) → u < length t.nodes → IsWithin g.layers s → entry g.layers least u s ≡ climb s) → Chosen g ways price t pins least choices node
+    ((u : ℕ) → (s : Option Span) → u < length t.nodes → IsWithin g.layers s → entry g.layers least u s ≡ climb s) → Chosen g ways price t pins least choices node
 chosen-none g ways price t pins least choices node tree cells is costs rows each =
     subst (λ (k : ℕ). Chosen g ways price t pins least choices k) (sym is) (record {
       costs = costs;
@@ -63,7 +64,7 @@ chosen-none g ways price t pins least choices node tree cells is costs rows each
       weighed = weighed-none (problem g ways price t pins) (entry g.layers least) (few_layers g) each;
     })
 
-pub chosen-more : (g : Shape) (ways : ℕ → Way → Bool) (price : Edge → Option ℕ) (t : TreeView) (pins : List ℕ) (old new before after : List ℕ) (node v : ℕ) (base : Span) →
+pub chosen-more : (g : Shape) (ways : ℕ → Way → Bool) (price : Edge → Option ℕ) (t : TreeView) (pins : List ℕ) (old new before after : List ℕ) (node v : ℕ) (base : Option Span) →
     ArePrices g ways price → IsFlat g t.shape → IsTree t → All (λ pin. pin < cells_of g) pins → node ≡ suc v → 0 < v → base ≡ pin_span g t pins v →
     Chooses g ways price t v base old new before after → Chosen g ways price t pins old before node → Chosen g ways price t pins new after v
 chosen-more g ways price t pins old new before after node v base prices flat tree cells is positive at chooses so_far =
@@ -99,18 +100,18 @@ chosen-best g ways price t pins least choices node tree cells is so_far =
     (subst (λ (k : ℕ). Eliminates (problem g ways price t pins) k (entry g.layers least) (entry g.layers choices)) is so_far.done)
 
 -- layers that follow the best choices from the spans of the pins are the first least assignment
-pub followed : (g : Shape) (ways : ℕ → Way → Bool) (price : Edge → Option ℕ) (t : TreeView) (pins : List ℕ) (choice : ℕ → Span → ℕ) (spans : List Span) (layers : List ℕ) → IsTree t →
-    All (λ pin. pin < cells_of g) pins → ((u : ℕ) → u < length t.nodes → span_in spans u ≡ pin_span g t pins u) → AreBest g ways price t pins choice →
-    length layers ≡ length t.nodes → FollowsFrom t (span_in spans) choice (λ node. get_or layers node 0) → IsFirstLeast g ways price t pins layers
+pub followed : (g : Shape) (ways : ℕ → Way → Bool) (price : Edge → Option ℕ) (t : TreeView) (pins : List ℕ) (choice : ℕ → Option Span → ℕ) (spans : List (Option Span)) (layers : List ℕ) → IsTree t →
+    All (λ pin. pin < cells_of g) pins → ((u : ℕ) → u < length t.nodes → growing spans u ≡ pin_span g t pins u) → AreBest g ways price t pins choice →
+    length layers ≡ length t.nodes → FollowsFrom t (growing spans) choice (λ node. get_or layers node 0) → IsFirstLeast g ways price t pins layers
 followed g ways price t pins choice spans layers tree cells spans_are best count follows =
     let a : ℕ → ℕ = λ node. get_or layers node 0 in
     let p = problem g ways price t pins in
     let as_pins : (v : ℕ) → 0 < v → v < length t.nodes → a v ≡ choice v (span_by (ends_at t) (pin_span g t pins) a (parent_of t v) v) =
     λ v positive below.
     follows v positive below
-    ∙ ap (λ (s : Span). choice v s) (span_by-first (ends_at t) (span_in spans) (pin_span g t pins) a (parent_of t v) v (spans_are (parent_of t v) (let early = parent-before t v tree positive below in omega arith))) in
+    ∙ ap (λ (s : Option Span). choice v s) (span_by-first (ends_at t) (growing spans) (pin_span g t pins) a (parent_of t v) v (spans_are (parent_of t v) (let early = parent-before t v tree positive below in omega arith))) in
     let in_words : Follows g t pins choice a =
-    λ v positive below. as_pins v positive below ∙ ap (λ (s : Span). choice v s) (sym (met-span g ways price t pins a (parent_of t v) v)) in
+    λ v positive below. as_pins v positive below ∙ ap (λ (s : Option Span). choice v s) (sym (met-span g ways price t pins a (parent_of t v) v)) in
     let assigned : IsAssignment g ways t a =
     λ v positive below.
     follows-assigned p choice a (problem-sound g ways price t pins tree cells) (λ w one later lt. as_pins w later lt) best.allowed (length t.nodes) (omega arith) v positive below in

@@ -1,3 +1,4 @@
+-- The answer of the assignment: layers that are the first least assignment.
 use Rattle.std.specs.Prelude.{◌≡◌, ℕ, Bool, List, length, Option, slice_index}
 use Rattle.gr_base.specs.Trees.{TreeView}
 use Rattle.gr_base.specs.declared.grid.Edge.{Edge}

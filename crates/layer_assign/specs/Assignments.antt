@@ -1,7 +1,9 @@
+-- Assignments of a flat tree's edges to layers: what they may be, what they cost, and which is the first least one.
 use Rattle.std.specs.Prelude.{◌≡◌, ℕ, ◌+◌, ◌*◌, ◌/◌, ◌%◌, ◌<◌, ◌≤◌, Bool, false, ◌&&◌, ◌||◌, ◌==◌, nat_lt, List, ◌++◌, All, length, map, filter, sum_by, Option, unwrap_or, slice_get, IsTrue}
 use Rattle.std.specs.List.{range_with_len}
 use Rattle.std.specs.Option.{option_map, option_and_then}
-use Rattle.gr_base.specs.Grid.{cells_of, edge_at}
+use Rattle.gr_base.specs.ParentEdges.{parent_edge}
+use Rattle.gr_base.specs.Grid.{cells_of, edge_at, on_layer}
 use Rattle.gr_base.specs.Trees.{TreeView, cell_at, parent_at, holds, edge_to_parent}
 use Rattle.gr_base.specs.declared.grid.Edge.{Edge}
 use Rattle.gr_base.specs.declared.grid.Shape.{Shape}
@@ -15,19 +17,19 @@ pub record IsFlat (g flat : Shape) : Type 0 where
   pub layers : flat.layers ≡ 1
 
 -- how many tiles the grid has; a tile has the number of its cell on layer 0
-abbrev pub tiles_of : Shape → ℕ
-tiles_of g = g.columns * g.rows
+abbrev pub tile_count : Shape → ℕ
+tile_count g = g.columns * g.rows
 
 -- the tile of a cell, and its layer
 abbrev pub tile_of : Shape → ℕ → ℕ
-tile_of g cell = cell % tiles_of g
+tile_of g cell = cell % tile_count g
 
 abbrev pub level_of : Shape → ℕ → ℕ
-level_of g cell = cell / tiles_of g
+level_of g cell = cell / tile_count g
 
 -- the cell of a tile on a layer
 abbrev pub cell_on : Shape → ℕ → ℕ → ℕ
-cell_on g tile layer = layer * tiles_of g + tile
+cell_on g tile layer = layer * tile_count g + tile
 
 -- the tile and the parent of a node
 abbrev pub tile_at : TreeView → ℕ → ℕ
@@ -36,20 +38,12 @@ tile_at t node = unwrap_or (cell_at t.nodes node) 0
 abbrev pub parent_of : TreeView → ℕ → ℕ
 parent_of t node = unwrap_or (parent_at t.nodes node) 0
 
--- the flat edge from a node to its parent; node 0 has none
-abbrev pub edge_up : TreeView → ℕ → Option Edge
-edge_up t node = option_and_then (edge_to_parent t.shape t.nodes) (slice_get t.nodes node)
-
--- the wire edge on a layer that lies over a flat edge
-abbrev pub on_layer : Shape → ℕ → Edge → Edge
-on_layer g layer e = edge_at (cell_on g e.low layer) e.way
-
 -- a node's edge may be on a layer: the grid has the layer, and it goes the edge's way
 abbrev pub goes_on : Shape → (ℕ → Way → Bool) → ℕ → Edge → Bool
 goes_on g ways layer e = nat_lt layer g.layers && ways layer e.way
 
 abbrev pub may_take : Shape → (ℕ → Way → Bool) → TreeView → ℕ → ℕ → Bool
-may_take g ways t node layer = unwrap_or (option_map (goes_on g ways layer) (edge_up t node)) false
+may_take g ways t node layer = unwrap_or (option_map (goes_on g ways layer) (parent_edge t node)) false
 
 -- an assignment gives each node but node 0 a layer that goes the way of the node's edge
 abbrev pub IsAssignment : Shape → (ℕ → Way → Bool) → TreeView → (ℕ → ℕ) → Type 0
@@ -57,7 +51,7 @@ IsAssignment g ways t a = (node : ℕ) → 0 < node → node < length t.nodes �
 
 -- what the wire edge of a node on a layer costs; node 0 has none, which costs nothing
 abbrev pub wire_cost : Shape → (Edge → Option ℕ) → TreeView → ℕ → ℕ → ℕ
-wire_cost g price t node layer = unwrap_or (option_and_then (λ e. price (on_layer g layer e)) (edge_up t node)) 0
+wire_cost g price t node layer = unwrap_or (option_and_then (λ e. price (on_layer g layer e)) (parent_edge t node)) 0
 
 -- the edge from one node to its parent ends in another node's tile
 abbrev pub ends_at : TreeView → ℕ → ℕ → Bool
@@ -80,7 +74,7 @@ met g t pins a node = met_below g t pins a node (length t.nodes)
 abbrev pub cost_of : Shape → (Edge → Option ℕ) → TreeView → List ℕ → (ℕ → ℕ) → ℕ
 cost_of g price t pins a =
     sum_by (λ node. wire_cost g price t node (a node)) (range_with_len 0 (length t.nodes))
-    + sum_by (λ node. climb (span_of g (met g t pins a node))) (range_with_len 0 (length t.nodes))
+    + sum_by (λ node. climb (span_of (met g t pins a node))) (range_with_len 0 (length t.nodes))
 
 -- no assignment costs less
 abbrev pub IsLeast : Shape → (ℕ → Way → Bool) → (Edge → Option ℕ) → TreeView → List ℕ → (ℕ → ℕ) → Type 0

@@ -1,6 +1,9 @@
-use Rattle.std.specs.Prelude.{◌≡◌, ℕ, ◌<◌, Bool, false, ◌&&◌, ◌||◌, ◌==◌, nat_lt, nat_le, List, length, unwrap_or, slice_index}
+-- The edges and cells of the tree that is raised from an assignment.
+use Rattle.std.specs.Prelude.{◌≡◌, ℕ, ◌<◌, Bool, false, ◌&&◌, ◌||◌, ◌==◌, nat_lt, nat_le, List, length, Option, Some, None, unwrap_or, slice_index}
 use Rattle.std.specs.List.{list_any, range_with_len}
 use Rattle.std.specs.Option.{option_map}
+use Rattle.gr_base.specs.Grid.{on_layer}
+use Rattle.gr_base.specs.ParentEdges.{parent_edge}
 use Rattle.gr_base.specs.EdgeSets.{Edges, is_way, is_edge}
 use Rattle.gr_base.specs.Trees.{TreeView, cell_at, holds, edges_of}
 use Rattle.gr_base.specs.declared.grid.Edge.{Edge}
@@ -8,11 +11,11 @@ use Rattle.gr_base.specs.declared.grid.Shape.{Shape}
 use Rattle.gr_base.specs.declared.grid.Way.TheVariants.{Up}
 use Rattle.layer_assign.specs.declared.span.Span.{Span}
 use Rattle.layer_assign.specs.Spans.{span_of}
-use Rattle.layer_assign.specs.Assignments.{tile_of, level_of, tile_at, edge_up, on_layer, met}
+use Rattle.layer_assign.specs.Assignments.{tile_of, level_of, tile_at, met}
 
 -- the edge is the wire edge of a node, on the node's layer
 abbrev pub is_wire_of : Shape → TreeView → (ℕ → ℕ) → ℕ → Edge → Bool
-is_wire_of g t a node e = unwrap_or (option_map (λ f. is_edge e (on_layer g (a node) f)) (edge_up t node)) false
+is_wire_of g t a node e = unwrap_or (option_map (λ f. is_edge e (on_layer g (a node) f)) (parent_edge t node)) false
 
 -- the cell is a tile's, on a layer from one and below another
 abbrev pub in_column : Shape → ℕ → ℕ → ℕ → ℕ → Bool
@@ -22,11 +25,16 @@ in_column g tile from end cell = (tile_of g cell == tile) && nat_le from (level_
 abbrev pub is_via_of : Shape → ℕ → Span → Edge → Bool
 is_via_of g tile s e = is_way e.way Up && in_column g tile s.low s.high e.low
 
+-- the same where a tile has a span
+abbrev pub is_via_in : Shape → ℕ → Option Span → Edge → Bool
+is_via_in g tile None e = false
+is_via_in g tile (Some s) e = is_via_of g tile s e
+
 -- the edges of an assignment: its wire edges, and in each tile the via edges between the least and the greatest layer that meet there
 abbrev pub raised_edges : Shape → TreeView → List ℕ → (ℕ → ℕ) → Edges
 raised_edges g t pins a e =
     list_any (λ node. is_wire_of g t a node e) (range_with_len 0 (length t.nodes))
-    || list_any (λ node. is_via_of g (tile_at t node) (span_of g (met g t pins a node)) e) (range_with_len 0 (length t.nodes))
+    || list_any (λ node. is_via_in g (tile_at t node) (span_of (met g t pins a node)) e) (range_with_len 0 (length t.nodes))
 
 -- the layers are the grid's, for each node but node 0
 pub record AreLayers (g : Shape) (t : TreeView) (layers : List ℕ) : Type 0 where

@@ -1,9 +1,10 @@
+-- What stands while a tree is raised tile by tile.
 use Rattle.std.specs.Prelude.{◌≡◌, ℕ, zero, suc, ◌+◌, ◌<◌, ◌≤◌, ◌⊎◌, Bool, false, ◌&&◌, ◌||◌, ◌==◌, not, List, length, Option, Some, unwrap_or, slice_get}
 use Rattle.gr_base.specs.Trees.{TreeView, cell_at, holds, edges_of}
 use Rattle.gr_base.specs.declared.grid.Edge.{Edge}
 use Rattle.gr_base.specs.declared.grid.Shape.{Shape}
 use Rattle.layer_assign.specs.declared.span.Span.{Span}
-use Rattle.layer_assign.specs.Spans.{IsWithin}
+use Rattle.layer_assign.specs.Spans.{IsSpan}
 use Rattle.layer_assign.specs.Assignments.{tile_of, tile_at, parent_of}
 use Rattle.layer_assign.specs.Raised.{is_wire_of, is_via_of, in_column}
 
@@ -23,7 +24,7 @@ pub record IsIn (s : Span) (layer : ℕ) : Type 0 where
 
 -- the spans of the tiles hold the layers of their edges
 pub record HoldEdges (g : Shape) (t : TreeView) (a : ℕ → ℕ) (spans : ℕ → Span) : Type 0 where
-  pub within : (node : ℕ) → node < length t.nodes → IsWithin g.layers (spans node)
+  pub within : (node : ℕ) → node < length t.nodes → IsSpan g.layers (spans node)
   pub own : (node : ℕ) → 0 < node → node < length t.nodes → IsIn (spans node) (a node)
   pub above : (node : ℕ) → 0 < node → node < length t.nodes → IsIn (spans (parent_of t node)) (a node)
 

@@ -1,12 +1,14 @@
+-- Tables of costs by node and span, and the best layer that they offer.
 use Rattle.std.specs.Prelude.{◌≡◌, ℕ, zero, suc, ◌+◌, ◌*◌, ◌^◌, ◌≤◌, nat_lt, List, length, Option, Some, None, slice_get, if◌then◌else◌}
 use Rattle.std.specs.Option.{option_map, option_and_then}
+use Rattle.gr_base.specs.Grid.{on_layer}
+use Rattle.gr_base.specs.ParentEdges.{parent_edge}
 use Rattle.gr_base.specs.Trees.{TreeView}
 use Rattle.gr_base.specs.declared.grid.Edge.{Edge}
 use Rattle.gr_base.specs.declared.grid.Shape.{Shape}
 use Rattle.layer_assign.specs.declared.span.Best.{Best}
 use Rattle.layer_assign.specs.declared.span.Span.{Span}
-use Rattle.layer_assign.specs.Spans.{grown, IsWithin, spans_of}
-use Rattle.layer_assign.specs.Assignments.{edge_up, on_layer}
+use Rattle.layer_assign.specs.Spans.{widened, IsWithin, spans_of}
 use Rattle.layer_assign.specs.Choices.{entry}
 
 -- a table has a row of spans for each node
@@ -15,17 +17,17 @@ HasRows layers nodes table = length table ≡ nodes * spans_of layers
 
 -- the entries of a node's row are small
 abbrev pub IsSmall : ℕ → List ℕ → ℕ → Type 0
-IsSmall layers table node = (s : Span) → IsWithin layers s → entry layers table node s ≤ 2 ^ 50
+IsSmall layers table node = (s : Option Span) → IsWithin layers s → entry layers table node s ≤ 2 ^ 50
 
 -- what a node's edge on a layer and the limb below it cost, if the layer goes the edge's way
-abbrev pub limb_cost : Shape → (Edge → Option ℕ) → TreeView → List ℕ → ℕ → Span → ℕ → Option ℕ
+abbrev pub limb_cost : Shape → (Edge → Option ℕ) → TreeView → List ℕ → ℕ → Option Span → ℕ → Option ℕ
 limb_cost g price t costs node base layer =
-    option_map (λ wire. wire + entry g.layers costs node (grown base layer)) (option_and_then (λ e. price (on_layer g layer e)) (edge_up t node))
+    option_map (λ wire. wire + entry g.layers costs node (widened base layer)) (option_and_then (λ e. price (on_layer g layer e)) (parent_edge t node))
 
 -- a layer with its cost, from what the limb costs on each layer and the row of the parent's costs
-abbrev pub offer : Shape → List (Option ℕ) → List ℕ → ℕ → Span → ℕ → Option Best
-offer g limbs costs up s layer =
-    option_map (λ limb. record { layer = layer; cost = limb + entry g.layers costs up (grown s layer) }) (option_and_then (λ o. o) (slice_get limbs layer))
+abbrev pub offer : Shape → List (Option ℕ) → List ℕ → ℕ → Option Span → ℕ → Option Best
+offer g limbs costs parent s layer =
+    option_map (λ limb. record { layer = layer; cost = limb + entry g.layers costs parent (widened s layer) }) (option_and_then (λ o. o) (slice_get limbs layer))
 
 -- of two offers the first, unless the second costs less
 abbrev pub better : Option Best → Option Best → Option Best

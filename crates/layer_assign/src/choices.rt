@@ -1,12 +1,17 @@
-ghost use Rattle.std.specs.Prelude.{◌≡◌, ℕ, ◌*◌, ◌<◌, Option, length, map, IfOk, IsTrue};
+ghost use Rattle.std.specs.Prelude.{◌≡◌, ℕ, ◌+◌, ◌*◌, ◌^◌, ◌<◌, ◌≤◌, Option, length, slice_get, IfSome, IsSome, IsTrue};
+ghost use Rattle.std.specs.Option.{option_and_then};
+ghost use Rattle.cost_rules.specs.Formulas.{most_cost};
+ghost use Rattle.gr_base.specs.Limits.{most_cells};
 ghost use Rattle.gr_base.specs.Trees.{IsTree};
 ghost use Rattle.layer_assign.specs.declared.span.Span.{Span as SpanView};
-ghost use Rattle.layer_assign.specs.Spans.{IsWithin, spans_of};
+ghost use Rattle.layer_assign.specs.Spans.{IsWithin, widened, spans_of};
 ghost use Rattle.layer_assign.specs.Assignments.{IsFlat, parent_of, may_take};
-ghost use Rattle.layer_assign.specs.Tables.{HasRows, IsSmall};
-ghost use Rattle.layer_assign.specs.Chosen.{Chooses};
+ghost use Rattle.layer_assign.specs.Choices.{entry};
+ghost use Rattle.layer_assign.specs.Tables.{HasRows, IsSmall, offer, best_below};
+ghost use Rattle.layer_assign.specs.Chosen.{Chooses, Writes};
 
 use crate::span::Span;
+use crate::spans::{next_span, spans_of};
 use crate::tables::{best_layer, limb_costs, place_in};
 use cost_rules::Costs;
 use gr_base::{RouteTree, Shape};
@@ -20,7 +25,7 @@ pub(crate) fn choose_layers<C: Costs>(
     costs: &C,
     shape: Shape,
     flat: &RouteTree,
-    base: Span,
+    base: Option<Span>,
     node: u32,
     least: &mut Vec<u64>,
     choices: &mut Vec<u32>,
@@ -39,11 +44,39 @@ pub(crate) fn choose_layers<C: Costs>(
         least.old.items least.new.items choices.old.items choices.new.items }
 {
     let limbs = limb_costs(costs, shape, flat, least, node, base);
-    let up = flat.parent(node);
-    for number in 0..Span::count(shape) {
-        let span = Span::at(shape, number);
-        let best = best_layer(shape, &limbs, least, up, span).unwrap();
-        least[place_in(shape, up, span)] = best.cost;
-        choices[place_in(shape, node, span)] = best.layer;
+    let parent = flat.parent(node);
+    let mut span = None;
+    for _ in 0..spans_of(shape) {
+        choose_layer(shape, &limbs, parent, node, span, least, choices);
+        span = next_span(shape, span);
     }
+}
+
+/// Chooses the best layer of a node's edge for one span that its parent's tile may have before, and
+/// adds what that costs to the parent's tile.
+fn choose_layer(
+    shape: Shape,
+    limbs: &[Option<u64>; 16],
+    parent: u32,
+    node: u32,
+    span: Option<Span>,
+    least: &mut Vec<u64>,
+    choices: &mut Vec<u32>,
+)
+    requires span { IsWithin shape.layers span }
+    requires parent { parent < most_cells }
+    requires node { node < most_cells }
+    requires row { parent * spans_of shape.layers + spans_of shape.layers ≤ length least.old.items }
+    requires own { node * spans_of shape.layers + spans_of shape.layers ≤ length choices.old.items }
+    requires small { (other : ℕ) → other < shape.layers →
+        entry shape.layers least.old.items parent (widened span other) ≤ 2 ^ 50 }
+    requires limbs { (other : ℕ) → other < shape.layers →
+        IfSome (option_and_then (λ (o : Option ℕ). o) (slice_get limbs.now other)) (λ cost. cost ≤ 2 ^ 50 + most_cost) }
+    requires some { IsSome (best_below (offer shape limbs.now least.old.items parent span) shape.layers) }
+    ensures { Writes shape.layers parent node span (best_below (offer shape limbs.now least.old.items parent span) shape.layers)
+        least.old.items least.new.items choices.old.items choices.new.items }
+{
+    let best = best_layer(shape, limbs, least, parent, span).unwrap();
+    least[place_in(shape, parent, span)] = best.cost;
+    choices[place_in(shape, node, span)] = best.layer;
 }

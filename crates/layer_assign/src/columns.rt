@@ -3,7 +3,7 @@ ghost use Rattle.gr_base.specs.Grid.{cells_of, AreNeighbours};
 ghost use Rattle.gr_base.specs.EdgeSets.{is_way, set_of};
 ghost use Rattle.gr_base.specs.Trees.{holds, walk_edges};
 ghost use Rattle.gr_base.specs.declared.grid.Way.TheVariants.{Up};
-ghost use Rattle.layer_assign.specs.Assignments.{tiles_of, cell_on};
+ghost use Rattle.layer_assign.specs.Assignments.{tile_count, cell_on};
 ghost use Rattle.layer_assign.specs.Raised.{in_column, is_via_of, Grows};
 
 use crate::span::Span;
@@ -23,7 +23,7 @@ pub(crate) fn hang(tree: &mut RouteTree, cell: u32, on: u32) -> Result<(), Alloc
 
 /// The cell of a tile on a layer.
 pub(crate) fn cell_at_level(shape: Shape, tile: u32, layer: u32) -> u32
-    requires tile { tile < tiles_of shape }
+    requires tile { tile < tile_count shape }
     requires layer { layer < shape.layers }
     ensures cell { result ≡ cell_on shape tile layer }
     ensures inside { result < cells_of shape }
@@ -33,7 +33,7 @@ pub(crate) fn cell_at_level(shape: Shape, tile: u32, layer: u32) -> u32
 
 /// Hangs the cells of a tile above one of its cells on that, up to a layer.
 pub(crate) fn rise(tree: &mut RouteTree, tile: u32, from: u32, to: u32) -> Result<(), AllocError>
-    requires tile { tile < tiles_of tree.old.shape }
+    requires tile { tile < tile_count tree.old.shape }
     requires layers { to < tree.old.shape.layers }
     requires up { from ≤ to }
     requires on { IsTrue (holds tree.old (cell_on tree.old.shape tile from)) }
@@ -54,7 +54,7 @@ pub(crate) fn rise(tree: &mut RouteTree, tile: u32, from: u32, to: u32) -> Resul
 
 /// Hangs the cells of a tile below one of its cells on that, down to a layer.
 pub(crate) fn sink(tree: &mut RouteTree, tile: u32, from: u32, to: u32) -> Result<(), AllocError>
-    requires tile { tile < tiles_of tree.old.shape }
+    requires tile { tile < tile_count tree.old.shape }
     requires layers { from < tree.old.shape.layers }
     requires down { to ≤ from }
     requires on { IsTrue (holds tree.old (cell_on tree.old.shape tile from)) }
@@ -80,7 +80,7 @@ pub(crate) fn spread(
     layer: u32,
     span: Span,
 ) -> Result<(), AllocError>
-    requires tile { tile < tiles_of tree.old.shape }
+    requires tile { tile < tile_count tree.old.shape }
     requires high { span.high < tree.old.shape.layers }
     requires above { span.low ≤ layer }
     requires below { layer ≤ span.high }

@@ -5,7 +5,7 @@ ghost use Rattle.layer_assign.specs.Answers.{IsFirstLeast};
 
 use crate::choices::choose_layers;
 use crate::layers::Layers;
-use crate::span::Span;
+use crate::spans::spans_of;
 use crate::tables::climbs;
 use crate::tiles::{follow, pin_spans};
 use cost_rules::Costs;
@@ -61,7 +61,7 @@ fn first_least<C: Costs>(
     let mut spans = pin_spans(alloc, shape, flat, pins)?;
     let nodes = flat.len();
     let mut least = climbs(alloc, shape, nodes)?;
-    let mut choices = vec![in alloc; 0; nodes as usize * Span::count(shape)]?;
+    let mut choices = vec![in alloc; 0; nodes as usize * spans_of(shape)]?;
     for node in (1..nodes).rev() {
         let base = spans[node as usize];
         choose_layers(costs, shape, flat, base, node, &mut least, &mut choices);

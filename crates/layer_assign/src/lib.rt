@@ -4,15 +4,12 @@
 
 mod choices;
 mod columns;
-mod edges;
 mod first_least;
 mod layers;
 mod raised;
 mod span;
 mod spans;
 mod tables;
-#[cfg(test)]
-mod tests;
 mod tiles;
 
 pub use first_least::assign;

@@ -4,7 +4,7 @@ ghost use Rattle.gr_base.specs.EdgeSets.{set_of};
 ghost use Rattle.gr_base.specs.Trees.{holds, node_with, cell_at, edges_of, walk_edges, IsTree};
 ghost use Rattle.gr_base.specs.declared.grid.Edge.{Edge as EdgeView};
 ghost use Rattle.layer_assign.specs.Spans.{IsWithin, span_in};
-ghost use Rattle.layer_assign.specs.Assignments.{IsFlat, tiles_of, cell_on, tile_of, level_of, tile_at, parent_of, ArePins};
+ghost use Rattle.layer_assign.specs.Assignments.{IsFlat, tile_count, cell_on, tile_of, level_of, tile_at, parent_of, ArePins};
 ghost use Rattle.layer_assign.specs.Raised.{in_column, is_via_of, is_wire_of, Grows, AreLayers, raised_edges};
 ghost use Rattle.layer_assign.specs.Raising.{is_done, IsIn, HoldEdges, Links, IsRaised, IsColumn};
 
@@ -34,6 +34,7 @@ pub fn raise(
     requires flat { IsFlat shape flat.now.shape }
     requires pins { ArePins shape flat.now pins.now }
     requires layers { AreLayers shape flat.now layers.now }
+    ensures tree { IfOk result IsTree }
     ensures shape { IfOk result (λ tree. tree.shape ≡ shape) }
     ensures driver { IfOk result (λ tree. cell_at tree.nodes 0 ≡ slice_get pins.now 0) }
     ensures pins { IfOk result (λ tree. All (λ pin. IsTrue (holds tree pin)) pins.now) }
@@ -60,7 +61,8 @@ fn raise_from(
     requires cell { cell < cells_of shape }
     requires tile { IsTrue (holds flat.now (tile_of shape cell)) }
     requires span { (node : ℕ) → node_with flat.now.nodes (tile_of shape cell) ≡ Some node → IsIn (span_in spans.now node) (level_of shape cell) }
-    ensures { IfOk result (λ tree. IsRaised shape flat.now (λ node. slice_index layers.now node) (span_in spans.now)
+    ensures tree { IfOk result IsTree }
+    ensures raised { IfOk result (λ tree. IsRaised shape flat.now (λ node. slice_index layers.now node) (span_in spans.now)
         (Some cell) (λ _. true) 0 tree) }
 {
     let tile = cell % (shape.columns() * shape.rows());
@@ -94,8 +96,8 @@ fn enter(
     layer: u32,
     span: Span,
 ) -> Result<(), AllocError>
-    requires from { from < tiles_of tree.old.shape }
-    requires tile { tile < tiles_of tree.old.shape }
+    requires from { from < tile_count tree.old.shape }
+    requires tile { tile < tile_count tree.old.shape }
     requires layer { IsIn span layer }
     requires high { span.high < tree.old.shape.layers }
     requires near { AreNeighbours tree.old.shape (cell_on tree.old.shape tile layer) (cell_on tree.old.shape from layer) }

@@ -1,4 +1,5 @@
-/// The layers from the least to the greatest of some. Where there are none, `low` is above `high`.
+/// The layers from the least to the greatest of some: `low` is at most `high`. Of no layers there is
+/// none, so that a tile's span so far is an `Option`.
 #[derive(Clone, Copy, Debug, PartialEq, Eq)]
 pub(crate) struct Span {
     pub(crate) low: u32,

@@ -1,26 +1,29 @@
 ghost use Rattle.std.specs.Prelude.{◌≡◌, ℕ, ◌+◌, ◌*◌, ◌^◌, ◌<◌, ◌≤◌, Option, Some, length, map, slice_get, IfOk, IfSome, IsTrue, IsSome};
 ghost use Rattle.std.specs.Option.{option_and_then};
+ghost use Rattle.cost_rules.specs.Formulas.{most_cost};
+ghost use Rattle.gr_base.specs.Limits.{most_cells};
+ghost use Rattle.gr_base.specs.ParentEdges.{parent_edge};
 ghost use Rattle.gr_base.specs.Grid.{has_edge};
 ghost use Rattle.gr_base.specs.Trees.{IsTree};
 ghost use Rattle.layer_assign.specs.declared.span.Span.{Span as SpanView};
-ghost use Rattle.layer_assign.specs.Spans.{IsWithin, grown, climb, span_number, spans_of};
-ghost use Rattle.layer_assign.specs.Assignments.{IsFlat, edge_up, on_layer};
+ghost use Rattle.layer_assign.specs.Spans.{IsWithin, widened, climb, span_number, spans_of};
+ghost use Rattle.layer_assign.specs.Assignments.{IsFlat};
 ghost use Rattle.layer_assign.specs.Choices.{entry};
 ghost use Rattle.layer_assign.specs.Tables.{HasRows, IsSmall, limb_cost, offer, better, best_below};
 
-use crate::edges::{edge_on, edge_up_of};
 use crate::span::{Best, Span};
+use crate::spans::{climb, widened, next_span, span_number, spans_of};
 use cost_rules::Costs;
 use gr_base::{Edge, RouteTree, Shape};
 use std::alloc::{AllocError, Global};
 
 /// Where a table has the entry of a node and a span.
-pub(crate) fn place_in(shape: Shape, node: u32, span: Span) -> usize
-    requires node { node < 8388608 }
+pub(crate) fn place_in(shape: Shape, node: u32, span: Option<Span>) -> usize
+    requires node { node < most_cells }
     requires within { IsWithin shape.layers span }
     ensures { result ≡ node * spans_of shape.layers + span_number shape.layers span }
 {
-    node as usize * Span::count(shape) + span.number(shape)
+    node as usize * spans_of(shape) + span_number(shape, span)
 }
 
 /// What a limb costs on one layer. None exactly where the layer doesn't go the edge's way.
@@ -31,24 +34,24 @@ fn limb_on<C: Costs>(
     least: &[u64],
     node: u32,
     edge: Edge,
-    base: Span,
+    base: Option<Span>,
     layer: u32,
 ) -> Option<u64>
     requires grid { C.grid costs.now ≡ shape }
     requires flat { IsFlat shape flat.now.shape }
     requires tree { IsTree flat.now }
     requires node { node < length flat.now.nodes }
-    requires edge { edge_up flat.now node ≡ Some edge }
+    requires edge { parent_edge flat.now node ≡ Some edge }
     requires inside { IsTrue (has_edge flat.now.shape edge) }
     requires base { IsWithin shape.layers base }
     requires layer { layer < shape.layers }
     requires rows { HasRows shape.layers (length flat.now.nodes) least.now }
     requires small { IsSmall shape.layers least.now node }
     ensures cost { result ≡ limb_cost shape (C.price costs.now) flat.now least.now node base layer }
-    ensures most { IfSome result (λ cost. cost ≤ 2 ^ 50 + 1048576) }
+    ensures most { IfSome result (λ cost. cost ≤ 2 ^ 50 + most_cost) }
 {
-    let wire = costs.cost(edge_on(shape, layer, edge))?;
-    Some(wire + least[place_in(shape, node, base.with(layer))])
+    let wire = costs.cost(shape.edge_over(layer, edge))?;
+    Some(wire + least[place_in(shape, node, widened(base, layer))])
 }
 
 /// What a limb costs on each layer.
@@ -58,7 +61,7 @@ pub(crate) fn limb_costs<C: Costs>(
     flat: &RouteTree,
     least: &[u64],
     node: u32,
-    base: Span,
+    base: Option<Span>,
 ) -> [Option<u64>; 16]
     requires grid { C.grid costs.now ≡ shape }
     requires flat { IsFlat shape flat.now.shape }
@@ -70,10 +73,10 @@ pub(crate) fn limb_costs<C: Costs>(
     ensures costs { (layer : ℕ) → layer < shape.layers →
         slice_get result layer ≡ Some (limb_cost shape (C.price costs.now) flat.now least.now node base layer) }
     ensures most { (layer : ℕ) → layer < shape.layers →
-        IfSome (limb_cost shape (C.price costs.now) flat.now least.now node base layer) (λ cost. cost ≤ 2 ^ 50 + 1048576) }
+        IfSome (limb_cost shape (C.price costs.now) flat.now least.now node base layer) (λ cost. cost ≤ 2 ^ 50 + most_cost) }
     ensures tree { IsTree flat.now }
 {
-    let edge = edge_up_of(flat, node);
+    let edge = flat.edge_to_parent(node).unwrap();
     let mut limbs = [None; 16];
     for layer in 0..shape.layers() {
         limbs[layer as usize] = limb_on(costs, shape, flat, least, node, edge, base, layer);
@@ -86,21 +89,21 @@ fn offer_of(
     shape: Shape,
     limbs: &[Option<u64>; 16],
     least: &[u64],
-    up: u32,
-    span: Span,
+    parent: u32,
+    span: Option<Span>,
     layer: u32,
 ) -> Option<Best>
     requires layer { layer < shape.layers }
     requires span { IsWithin shape.layers span }
-    requires up { up < 8388608 }
-    requires row { up * spans_of shape.layers + spans_of shape.layers ≤ length least.now }
-    requires small { (other : ℕ) → other < shape.layers → entry shape.layers least.now up (grown span other) ≤ 2 ^ 50 }
+    requires parent { parent < most_cells }
+    requires row { parent * spans_of shape.layers + spans_of shape.layers ≤ length least.now }
+    requires small { (other : ℕ) → other < shape.layers → entry shape.layers least.now parent (widened span other) ≤ 2 ^ 50 }
     requires limbs { (other : ℕ) → other < shape.layers →
-        IfSome (option_and_then (λ (o : Option ℕ). o) (slice_get limbs.now other)) (λ cost. cost ≤ 2 ^ 50 + 1048576) }
-    ensures { result ≡ offer shape limbs.now least.now up span layer }
+        IfSome (option_and_then (λ (o : Option ℕ). o) (slice_get limbs.now other)) (λ cost. cost ≤ 2 ^ 50 + most_cost) }
+    ensures { result ≡ offer shape limbs.now least.now parent span layer }
 {
     let limb = limbs[layer as usize]?;
-    let cost = limb + least[place_in(shape, up, span.with(layer))];
+    let cost = limb + least[place_in(shape, parent, widened(span, layer))];
     Some(Best { layer, cost })
 }
 
@@ -120,36 +123,37 @@ pub(crate) fn best_layer(
     shape: Shape,
     limbs: &[Option<u64>; 16],
     least: &[u64],
-    up: u32,
-    span: Span,
+    parent: u32,
+    span: Option<Span>,
 ) -> Option<Best>
     requires span { IsWithin shape.layers span }
-    requires up { up < 8388608 }
-    requires row { up * spans_of shape.layers + spans_of shape.layers ≤ length least.now }
-    requires small { (other : ℕ) → other < shape.layers → entry shape.layers least.now up (grown span other) ≤ 2 ^ 50 }
+    requires parent { parent < most_cells }
+    requires row { parent * spans_of shape.layers + spans_of shape.layers ≤ length least.now }
+    requires small { (other : ℕ) → other < shape.layers → entry shape.layers least.now parent (widened span other) ≤ 2 ^ 50 }
     requires limbs { (other : ℕ) → other < shape.layers →
-        IfSome (option_and_then (λ (o : Option ℕ). o) (slice_get limbs.now other)) (λ cost. cost ≤ 2 ^ 50 + 1048576) }
-    ensures { result ≡ best_below (offer shape limbs.now least.now up span) shape.layers }
+        IfSome (option_and_then (λ (o : Option ℕ). o) (slice_get limbs.now other)) (λ cost. cost ≤ 2 ^ 50 + most_cost) }
+    ensures { result ≡ best_below (offer shape limbs.now least.now parent span) shape.layers }
 {
     let mut best = None;
     for layer in 0..shape.layers() {
-        best = better_of(best, offer_of(shape, limbs, least, up, span, layer));
+        best = better_of(best, offer_of(shape, limbs, least, parent, span, layer));
     }
     best
 }
 
 /// What it costs to climb each span, for each node.
 pub(crate) fn climbs(alloc: Global, shape: Shape, nodes: u32) -> Result<Vec<u64>, AllocError>
-    requires { nodes ≤ 8388608 }
+    requires { nodes ≤ most_cells }
     ensures rows { IfOk result (λ costs. HasRows shape.layers nodes costs.items) }
-    ensures climbs { IfOk result (λ costs. (node : ℕ) → (s : SpanView) → node < nodes → IsWithin shape.layers s →
+    ensures climbs { IfOk result (λ costs. (node : ℕ) → (s : Option SpanView) → node < nodes → IsWithin shape.layers s →
         entry shape.layers costs.items node s ≡ climb s) }
 {
-    let spans = Span::count(shape);
-    let places = nodes as usize * spans;
+    let places = nodes as usize * spans_of(shape);
     let mut costs = Vec::with_capacity(alloc, places)?;
-    for place in 0..places {
-        costs.push(Span::at(shape, place % spans).climb())?;
+    let mut span = None;
+    for _ in 0..places {
+        costs.push(climb(span))?;
+        span = next_span(shape, span);
     }
     Ok(costs)
 }

@@ -1,8 +1,8 @@
-ghost use Rattle.std.specs.Prelude.{◌≡◌, ℕ, ◌<◌, ◌≤◌, ◌*◌, length, slice_index, All, IfOk, OnOk, IsTrue, if◌then◌else◌};
+ghost use Rattle.std.specs.Prelude.{◌≡◌, ℕ, ◌<◌, ◌≤◌, ◌*◌, length, Option, Some, slice_index, All, IfOk, OnOk, IsSome, IsTrue, if◌then◌else◌};
 ghost use Rattle.gr_base.specs.Grid.{cells_of};
 ghost use Rattle.gr_base.specs.Trees.{IsTree, holds};
 ghost use Rattle.layer_assign.specs.declared.span.Span.{Span as SpanView};
-ghost use Rattle.layer_assign.specs.Spans.{grown, span_of, span_in, span_by, IsWithin, spans_of};
+ghost use Rattle.layer_assign.specs.Spans.{widened, growing, span_of, span_in, span_by, IsWithin, spans_of};
 ghost use Rattle.layer_assign.specs.Assignments.{tile_of, level_of, tile_at, parent_of, ends_at, pin_layers, met, ArePins};
 ghost use Rattle.layer_assign.specs.Raised.{AreLayers};
 ghost use Rattle.layer_assign.specs.Choices.{entry, FollowsFrom};
@@ -10,6 +10,7 @@ ghost use Rattle.layer_assign.specs.Tables.{HasRows};
 
 use crate::layers::Layers;
 use crate::span::Span;
+use crate::spans::widened;
 use crate::tables::place_in;
 use gr_base::{RouteTree, Shape};
 use std::alloc::{AllocError, Global};
@@ -20,34 +21,34 @@ pub(crate) fn pin_spans(
     shape: Shape,
     flat: &RouteTree,
     pins: &[u32],
-) -> Result<Vec<Span>, AllocError>
+) -> Result<Vec<Option<Span>>, AllocError>
     requires pins { ArePins shape flat.now pins.now }
     ensures count { IfOk result (λ spans. length spans.items ≡ length flat.now.nodes) }
     ensures spans { IfOk result (λ spans. (node : ℕ) → node < length flat.now.nodes →
-        span_in spans.items node ≡ span_of shape (pin_layers shape pins.now (tile_at flat.now node))) }
+        growing spans.items node ≡ span_of (pin_layers shape pins.now (tile_at flat.now node))) }
     ensures tree { IsTree flat.now }
 {
     let tiles = shape.columns() * shape.rows();
-    let mut spans = vec![in alloc; Span::none(shape); flat.len() as usize]?;
+    let mut spans = vec![in alloc; None; flat.len() as usize]?;
     for pin in pins {
         let node = flat.node_at(*pin % tiles).unwrap() as usize;
-        spans[node] = spans[node].with(*pin / tiles);
+        spans[node] = widened(spans[node], *pin / tiles);
     }
     Ok(spans)
 }
 
 /// The tiles of a node and its parent with the layer of the node's edge.
-pub(crate) fn grow_spans(spans: &mut Vec<Span>, flat: &RouteTree, node: u32, layer: u32)
+pub(crate) fn grow_spans(spans: &mut Vec<Option<Span>>, flat: &RouteTree, node: u32, layer: u32)
     requires later { 0 < node }
     requires node { node < length flat.now.nodes }
     requires count { length spans.old.items ≡ length flat.now.nodes }
     ensures count { length spans.new.items ≡ length flat.now.nodes }
-    ensures spans { (other : ℕ) → other < length flat.now.nodes → span_in spans.new.items other ≡
-        (if ends_at flat.now other node then grown (span_in spans.old.items other) layer else span_in spans.old.items other) }
+    ensures spans { (other : ℕ) → other < length flat.now.nodes → growing spans.new.items other ≡
+        (if ends_at flat.now other node then widened (growing spans.old.items other) layer else growing spans.old.items other) }
 {
-    let up = flat.parent(node) as usize;
-    spans[up] = spans[up].with(layer);
-    spans[node as usize] = spans[node as usize].with(layer);
+    let parent = flat.parent(node) as usize;
+    spans[parent] = widened(spans[parent], layer);
+    spans[node as usize] = widened(spans[node as usize], layer);
 }
 
 /// The layers that choices lead to: each node's for the span that its parent's tile has before.
@@ -55,16 +56,16 @@ pub(crate) fn follow(
     alloc: Global,
     shape: Shape,
     flat: &RouteTree,
-    spans: &mut Vec<Span>,
+    spans: &mut Vec<Option<Span>>,
     choices: &[u32],
 ) -> Result<Vec<u32>, AllocError>
     requires count { length spans.old.items ≡ length flat.now.nodes }
-    requires within { (node : ℕ) → node < length flat.now.nodes → IsWithin shape.layers (span_in spans.old.items node) }
+    requires within { (node : ℕ) → node < length flat.now.nodes → IsWithin shape.layers (growing spans.old.items node) }
     requires rows { HasRows shape.layers (length flat.now.nodes) choices.now }
-    requires below { (node : ℕ) → (s : SpanView) → 0 < node → node < length flat.now.nodes → IsWithin shape.layers s →
+    requires below { (node : ℕ) → (s : Option SpanView) → 0 < node → node < length flat.now.nodes → IsWithin shape.layers s →
         entry shape.layers choices.now node s < shape.layers }
     ensures count { IfOk result (λ layers. length layers.items ≡ length flat.now.nodes) }
-    ensures follows { IfOk result (λ layers. FollowsFrom flat.now (span_in spans.old.items) (entry shape.layers choices.now)
+    ensures follows { IfOk result (λ layers. FollowsFrom flat.now (growing spans.old.items) (entry shape.layers choices.now)
         (λ node. slice_index layers.items node)) }
 {
     let mut layers = vec![in alloc; 0]?;
@@ -89,12 +90,26 @@ pub(crate) fn met_spans(
     requires layers { AreLayers shape flat.now layers.now }
     ensures count { IfOk result (λ spans. length spans.items ≡ length flat.now.nodes) }
     ensures spans { IfOk result (λ spans. (node : ℕ) → node < length flat.now.nodes →
-        span_in spans.items node ≡ span_of shape (met shape flat.now pins.now (λ other. slice_index layers.now other) node)) }
+        Some (span_in spans.items node) ≡ span_of (met shape flat.now pins.now (λ other. slice_index layers.now other) node)) }
     ensures tree { IsTree flat.now }
 {
     let mut spans = pin_spans(alloc, shape, flat, pins)?;
     for node in 1..flat.len() {
         grow_spans(&mut spans, flat, node, layers.layer(node));
     }
-    Ok(spans)
+    whole_spans(alloc, &spans)
+}
+
+/// The spans of tiles that all have one.
+fn whole_spans(alloc: Global, spans: &[Option<Span>]) -> Result<Vec<Span>, AllocError>
+    requires { (node : ℕ) → node < length spans.now → IsSome (growing spans.now node) }
+    ensures count { IfOk result (λ whole. length whole.items ≡ length spans.now) }
+    ensures spans { IfOk result (λ whole. (node : ℕ) → node < length spans.now →
+        Some (span_in whole.items node) ≡ growing spans.now node) }
+{
+    let mut whole = Vec::with_capacity(alloc, spans.len())?;
+    for span in spans {
+        whole.push(span.unwrap())?;
+    }
+    Ok(whole)
 }

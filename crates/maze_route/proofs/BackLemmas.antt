@@ -1,3 +1,4 @@
+-- The first step back, by labels.
 use Rattle.std.proofs.Common.{◌≡◌, ℕ, ◌+◌, ◌-◌, ◌*◌, ◌<◌, ◌≤◌, inl, inr, Bool, true, false, ◌==◌, List, [], ◌∷◌, map, Option, Some, None, IfSome, IsSome, if◌then◌else◌, refl, sym, ap, subst, ◌∙◌, arith}
 use Rattle.std.proofs.lemmas.Bool.{cases_Bool, both_ways}
 use Rattle.std.proofs.lemmas.Bool.Decides.{nat_tests}
@@ -19,7 +20,7 @@ use Rattle.maze_route.specs.declared.pane.Step.{Step}
 use Rattle.maze_route.specs.declared.window.Window.{Window}
 use Rattle.maze_route.proofs.Distances.{guided-distance, label-back, back-label, some-back}
 use Rattle.maze_route.proofs.SearchLemmas.{AllSteps}
-use Rattle.maze_route.proofs.SpreadLemmas.{pick-step, pane-costs, pane-rest}
+use Rattle.maze_route.proofs.HandingLemmas.{pick-step, pane-costs, pane-rest}
 use Rattle.maze_route.proofs.StepLemmas.{step-by, step-ahead, step-behind, step-to-some}
 
 -- a step costs the same the other way round

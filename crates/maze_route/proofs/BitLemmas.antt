@@ -1,3 +1,4 @@
+-- Buckets of keys, in bits.
 use Rattle.std.proofs.Common.{◌≡◌, ◌≢◌, ℕ, zero, suc, ◌+◌, ◌-◌, ◌*◌, ◌/◌, ◌^◌, ◌<◌, ◌≤◌, inl, inr, refl, sym, ap, subst, ◌∙◌, arith}
 use Rattle.std.specs.Int.Bits.{bit_xor, xor_self, xor_assoc, xor_zero_r, xor_zero_l, xor_lt, xor_shr}
 use Rattle.std.specs.Int.{w64, leading_zeros}

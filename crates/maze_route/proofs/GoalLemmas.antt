@@ -1,3 +1,4 @@
+-- The goal that is found is the first goal.
 use Rattle.std.proofs.Common.{◌≡◌, ℕ, ◌<◌, ◌≤◌, inl, inr, Bool, true, false, ◌||◌, ◌==◌, List, [], ◌∷◌, length, map, All, Option, Some, None, Result, Ok, Err, IfOk, IsSome, IsTrue, refl, sym, ap, subst, ◌∙◌, arith}
 use Rattle.std.proofs.lemmas.Bool.{cases_lt, cases_eq, both_ways}
 use Rattle.std.proofs.lemmas.Bool.Decides.{nat_tests}
@@ -23,7 +24,7 @@ use Rattle.maze_route.specs.declared.window.Window.{Window}
 use Rattle.maze_route.proofs.Distances.{at-most, guided-low, guided-distance}
 use Rattle.maze_route.proofs.PaneLemmas.{local-below, cell-local}
 use Rattle.maze_route.proofs.SeedLemmas.{tree-window, tree-source}
-use Rattle.maze_route.proofs.SpreadLemmas.{pane-rest}
+use Rattle.maze_route.proofs.HandingLemmas.{pane-rest}
 use Rattle.maze_route.proofs.WindowLemmas.{LiesIn, out-least}
 use Rattle.maze_route.proofs.ReachLemmas.{reach-cell}
 

@@ -4,7 +4,7 @@ pub mod StepLemmas
 pub mod SpotLemmas
 pub mod LabelLemmas
 pub mod SearchLemmas
-pub mod SpreadLemmas
+pub mod HandingLemmas
 pub mod TurnLemmas
 pub mod WindowLemmas
 pub mod AttachLemmas
@@ -18,7 +18,7 @@ pub mod ChainLemmas
 pub mod BucketLemmas
 pub mod LengthLemmas
 pub mod SpreadingLemmas
-pub mod SpreadSteps
+pub mod ChainSteps
 pub mod PlaceLemmas
 pub mod KeepLemmas
 pub mod RenewLemmas

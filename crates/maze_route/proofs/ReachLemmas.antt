@@ -1,3 +1,4 @@
+-- A walk of bounded cost leads to each cell of a window.
 use Rattle.std.proofs.Common.{◌≡◌, ℕ, suc, zero, ◌+◌, ◌-◌, ◌*◌, ◌<◌, ◌≤◌, inl, inr, Bool, true, Option, Some, None, IsSome, IsTrue, refl, sym, ap, subst, ◌∙◌, arith}
 use Rattle.std.proofs.lemmas.Bool.{cases_lt, both_ways}
 use Rattle.cost_rules.specs.Prices.{layer_of, ArePrices}
@@ -9,7 +10,7 @@ use Rattle.gr_base.specs.declared.grid.Way.TheVariants.{East, North, Up}
 use Rattle.gr_base.specs.Grid.{number_of, place_at, IsInside, beyond, edge_at}
 use Rattle.gr_base.specs.Trees.{TreeView}
 use Rattle.gr_base.proofs.GridLemmas.{number-place, place-inside, place-number, number-below, same_cell}
-use Rattle.maze_route.specs.Search.{most_cost}
+use Rattle.maze_route.specs.Search.{most_distance}
 use Rattle.maze_route.specs.Steps.{size_of, cell_in, pane_graph}
 use Rattle.maze_route.specs.Walks.{Graph, Reaches, Starts, Goes_on}
 use Rattle.maze_route.specs.Windows.{IsPassable}
@@ -221,7 +222,7 @@ to-row p t ways price x y layer to prices passable q_in row =
 
 -- from a source a walk of bounded cost leads to each cell of the window
 pub reach-cell : (p : Pane) (t : TreeView) (ways : ℕ → Way → Bool) (price : Edge → Option ℕ) (m n : ℕ) → ArePrices p.grid ways price → IsPassable p.grid ways p.window →
-    m < size_of p → n < size_of p → IsTrue ((pane_graph p t price).source m) → (d : ℕ) × (Reaches (pane_graph p t price) n d × (d ≤ most_cost))
+    m < size_of p → n < size_of p → IsTrue ((pane_graph p t price).source m) → (d : ℕ) × (Reaches (pane_graph p t price) n d × (d ≤ most_distance))
 reach-cell p t ways price m n prices passable m_in n_in source =
     let graph = pane_graph p t price in
     let s = p.shape in

@@ -1,3 +1,4 @@
+-- The bucket of the least key is made bucket 0.
 use Rattle.std.proofs.Common.{◌≡◌, ℕ, zero, suc, ◌-◌, ◌<◌, ◌≤◌, inl, inr, true, false, ◌==◌, nat_lt, List, [], ◌∷◌, Option, Some, None, IsSome, IsTrue, Contains, slice_get, slice_set, if◌then◌else◌, refl, sym, ap, subst, ◌∙◌, arith, length-set}
 use Rattle.std.specs.List.{filter_map, cons_option}
 use Rattle.std.proofs.lemmas.Bool.{cases_lt, cases_eq, cases_Bool, both_ways}
@@ -14,7 +15,7 @@ use Rattle.maze_route.proofs.KeepLemmas.{empty-chain}
 use Rattle.maze_route.proofs.LabelLemmas.{contains-head, contains-more, contains-cases}
 use Rattle.maze_route.proofs.PlaceLemmas.{pair-taken, pair-free}
 use Rattle.maze_route.proofs.SpreadingLemmas.{head-set}
-use Rattle.maze_route.proofs.SpreadSteps.{chain-empty}
+use Rattle.maze_route.proofs.ChainSteps.{chain-empty}
 
 abbrev above : (ℕ → List ℕ) → ℕ → ℕ → List ℕ
 above chains bucket b = if nat_lt bucket b then chains b else []

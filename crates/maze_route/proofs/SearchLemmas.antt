@@ -1,3 +1,4 @@
+-- What stands in a search from step to step.
 use Rattle.std.proofs.Common.{◌≡◌, ◌≢◌, ℕ, ◌+◌, ◌*◌, ◌<◌, ◌≤◌, ◌⊎◌, inl, inr, Bool, true, false, ◌&&◌, nat_le, List, [], ◌∷◌, length, get_or, Option, Some, None, IfSome, IsSomeAnd, IsTrue, All, Contains, slice_set, refl, sym, ap, subst, ◌∙◌, arith, length-set}
 use Rattle.std.specs.List.{sum}
 use Rattle.std.specs.List.Sorted.{IsPermutation}
@@ -8,8 +9,8 @@ use Rattle.std.proofs.lemmas.List.Sums.{sum_by-set}
 use Rattle.std.proofs.lemmas.List.Sorted.{Contains-permutation, IsPermutation-sym, length_permutation}
 use Rattle.maze_route.specs.Labels.{unreached, label_at, is_lower, relabelled}
 use Rattle.maze_route.specs.Queues.{QueueView}
-use Rattle.maze_route.specs.Search.{most_cost, IsAtMost, IsConsistent, HasCosts, HasSources, AreWalked, IsRelaxed, AreGuided, IsSearching, HasGoal}
-use Rattle.maze_route.specs.Spreads.{Lowers, Stands, IsReachIf, does_lower, IsReach, AreReaches}
+use Rattle.maze_route.specs.Search.{most_distance, IsAtMost, IsConsistent, HasCosts, HasSources, AreWalked, IsRelaxed, AreGuided, IsSearching, HasGoal}
+use Rattle.maze_route.specs.Handing.{Lowers, Stands, IsReachIf, does_lower, IsReach, AreReaches}
 use Rattle.maze_route.specs.Walks.{Graph, Reaches, Starts, Goes_on}
 use Rattle.maze_route.specs.declared.front.Front.{Front}
 use Rattle.maze_route.specs.declared.pane.Step.{Step}
@@ -108,8 +109,8 @@ pair-parts : (a b c d : ℕ) → ◌≡◌ {A = ℕ × ℕ} (a, b) (c, d) → (a
 pair-parts a b c d same = (ap (λ (p : ℕ × ℕ). p.0) same, ap (λ (p : ℕ × ℕ). p.1) same)
 
 lowered-small : (before after : ℕ → Option ℕ) (cell cost : ℕ) (pairs pairs_after : List (ℕ × ℕ)) (key : ℕ) →
-    IsLowered before after cell cost pairs pairs_after key → ((n found : ℕ) → before n ≡ Some found → found ≤ most_cost) → cost ≤ most_cost →
-    (n found : ℕ) → after n ≡ Some found → found ≤ most_cost
+    IsLowered before after cell cost pairs pairs_after key → ((n found : ℕ) → before n ≡ Some found → found ≤ most_distance) → cost ≤ most_distance →
+    (n found : ℕ) → after n ≡ Some found → found ≤ most_distance
 lowered-small before after cell cost pairs pairs_after key low all small n found is =
     elim (cases_eq n cell) [
       | inl same ↦ let e : cost ≡ found = same_Some cost found (sym (low.labels n ∙ relabelled-here before cell cost n same) ∙ is) in omega arith
@@ -166,7 +167,7 @@ lowered-queued graph rest before after cell cost v pairs pairs_after key low sea
 -- the reach of a step from an open cell
 pub lowers-grown : (graph : Graph) (rest : ℕ → ℕ) (v from : ℕ) (step : Step) (before after : Front) → HasCosts graph →
     IsSearching graph rest (labels_of before) before.queue.pairs v → labels_of before v ≡ Some from → IsStepFrom graph rest v step →
-    step.cell < length before.labels.costs.items → from + step.cost ≤ most_cost → Lowers (from + step.cost) step before after →
+    step.cell < length before.labels.costs.items → from + step.cost ≤ most_distance → Lowers (from + step.cost) step before after →
     (Grown graph rest v from before after) × (labels_of after step.cell ≡ Some (from + step.cost))
 lowers-grown graph rest v from step before after costs searching is of_graph inside small lowers =
     let cost = from + step.cost in
@@ -204,7 +205,7 @@ lowers-grown graph rest v from step before after costs searching is of_graph ins
 
 -- the step's end has a label as low
 abbrev pub IsReached : (ℕ → Option ℕ) → ℕ → Step → Type 0
-IsReached label from step = from + step.cost ≤ most_cost → IsAtMost (label step.cell) (from + step.cost)
+IsReached label from step = from + step.cost ≤ most_distance → IsAtMost (label step.cell) (from + step.cost)
 
 reached-falls : (before after : ℕ → Option ℕ) (from : ℕ) (step : Step) → Falls before after → IsReached before from step → IsReached after from step
 reached-falls before after from step falls reached small =
@@ -223,13 +224,13 @@ reach-if : (graph : Graph) (rest : ℕ → ℕ) (v from : ℕ) (step : Step) (be
     step.cell < length before.labels.costs.items → IsReachIf does (from + step.cost) step before after →
     (Grown graph rest v from before after) × IsReached (labels_of after) from step
 reach-if graph rest v from step before after true does costs searching is of_graph inside reach =
-    let small : from + step.cost ≤ most_cost = grind (arith, nat_tests) in
+    let small : from + step.cost ≤ most_distance = grind (arith, nat_tests) in
     let grown = lowers-grown graph rest v from step before after costs searching is of_graph inside small reach in
     (grown.0, λ _. make-at-most (labels_of after step.cell) (from + step.cost) (from + step.cost) grown.1 (omega arith))
 reach-if graph rest v from step before after false does costs searching is of_graph inside reach = (
   stands-grown graph rest v from before after searching is reach,
   λ small.
-      let within : nat_le (from + step.cost) most_cost ≡ true = grind (arith, nat_tests) in
+      let within : nat_le (from + step.cost) most_distance ≡ true = grind (arith, nat_tests) in
       let not_lower : is_lower (labels_of before step.cell) (from + step.cost) ≡ false = sym (ap (λ b. b && is_lower (labels_of before step.cell) (from + step.cost)) within) ∙ does in
       let old = not-lower (labels_of before step.cell) (from + step.cost) not_lower in
       make-at-most (labels_of after step.cell) old.0 (from + step.cost) (stands-labels before after reach step.cell ∙ old.1.0) (old.1.1),
@@ -311,7 +312,7 @@ seed-if graph rest open_cell step before after false does searching source free 
     let P : List ℕ → QueueView → Type 0 = λ xs q. IsSearching graph rest (label_at xs) q.pairs open_cell in
     let P1 : List ℕ → Type 0 = λ xs. P xs before.queue in
     let P2 : QueueView → Type 0 = λ q. P after.labels.costs.items q in
-    let within : nat_le (0 + step.cost) most_cost ≡ true = let e : 0 + step.cost ≤ most_cost = omega arith in grind (arith, nat_tests) in
+    let within : nat_le (0 + step.cost) most_distance ≡ true = let e : 0 + step.cost ≤ most_distance = omega arith in grind (arith, nat_tests) in
     let not_lower : is_lower (labels_of before step.cell) (0 + step.cost) ≡ false = sym (ap (λ b. b && is_lower (labels_of before step.cell) (0 + step.cost)) within) ∙ does in
     let old = not-lower (labels_of before step.cell) (0 + step.cost) not_lower in
     let at = old.1.1 in
@@ -416,7 +417,7 @@ close-relaxed graph rest label pairs nowhere cell from searching is relaxed = re
 
 -- once the least key that waits is above the bound, labels are distances up to it
 pub stop-guided : (graph : Graph) (rest : ℕ → ℕ) (label : ℕ → Option ℕ) (pairs : List (ℕ × ℕ)) (nowhere bound : ℕ) → IsConsistent graph rest →
-    IsSearching graph rest label pairs nowhere → label nowhere ≡ None → HasSources graph label → bound ≤ most_cost →
+    IsSearching graph rest label pairs nowhere → label nowhere ≡ None → HasSources graph label → bound ≤ most_distance →
     ((key cell : ℕ) → Contains pairs (key, cell) → bound < key) → AreGuided graph rest label bound
 stop-guided graph rest label pairs nowhere bound consistent searching none sources small above = record {
   sources = sources;
@@ -435,4 +436,4 @@ pub record IsTurn (graph : Graph) (rest : ℕ → ℕ) (marks : List Bool) (size
   pub sources : HasSources graph (labels_of front)
   pub searching : IsSearching graph rest (labels_of front) front.queue.pairs size
   pub goal : IfSome nearest (HasGoal marks (labels_of front))
-  pub near : IfSome nearest (λ distance. distance ≤ most_cost)
+  pub near : IfSome nearest (λ distance. distance ≤ most_distance)

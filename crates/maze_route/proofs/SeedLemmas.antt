@@ -1,3 +1,4 @@
+-- The front at which a search begins.
 use Rattle.std.proofs.Common.{◌≡◌, ℕ, ◌+◌, ◌<◌, ◌≤◌, inl, inr, Bool, true, ◌&&◌, nat_lt, List, [], length, Option, Some, None, is_some, IsTrue, Contains, sym, ap, subst, ◌∙◌, arith}
 use Rattle.std.proofs.lemmas.Bool.{cases_eq}
 use Rattle.std.proofs.lemmas.Bool.Decides.{nat_tests}
@@ -8,7 +9,7 @@ use Rattle.gr_base.specs.declared.grid.Shape.{Shape}
 use Rattle.gr_base.specs.Trees.{TreeView, holds, cell_at, node_with}
 use Rattle.gr_base.proofs.TreeLemmas.{some_from, node_with-at, cell_at-within}
 use Rattle.maze_route.specs.Search.{HasSources, IsSearching}
-use Rattle.maze_route.specs.Spreads.{IsReach}
+use Rattle.maze_route.specs.Handing.{IsReach}
 use Rattle.maze_route.specs.Steps.{size_of, cell_in, local_of, pane_source, pane_graph, rest_of, tiles_to, IsSpot, IsSeededTo}
 use Rattle.maze_route.specs.Walks.{Graph}
 use Rattle.maze_route.specs.Windows.{in_window, TreeLiesIn}

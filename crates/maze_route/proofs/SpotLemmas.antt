@@ -1,3 +1,4 @@
+-- Steps to the neighbours of a cell, as code computes them.
 use Rattle.std.proofs.Common.{◌≡◌, ℕ, ◌+◌, ◌-◌, ◌*◌, ◌<◌, ◌≤◌, Bool, false, Option, Some, None, if◌then◌else◌, IsTrue, sym, ap, subst, ◌∙◌, arith}
 use Rattle.std.specs.Option.{option_map}
 use Rattle.gr_base.specs.Limits.{most_cells}

@@ -1,9 +1,11 @@
+-- Steps between the cells of a window.
 use Rattle.std.proofs.Common.{◌≡◌, ℕ, ◌+◌, ◌-◌, ◌<◌, ◌≤◌, ◌⊎◌, inl, inr, Bool, true, false, ◌&&◌, ◌==◌, nat_lt, min, Option, Some, None, IfSome, if◌then◌else◌, IsTrue, refl, sym, ap, subst, ◌∙◌, arith}
 use Rattle.std.specs.Prelude.{option_and_then}
 use Rattle.std.specs.Option.{option_map}
 use Rattle.std.proofs.lemmas.Bool.{cases_eq}
 use Rattle.std.proofs.lemmas.Bool.Decides.{nat_tests}
 use Rattle.std.proofs.lemmas.Option.{none-some, same_Some}
+use Rattle.gr_base.proofs.TreeEdges.{edge_of-swap}
 use Rattle.gr_base.specs.declared.grid.Cell.{Cell}
 use Rattle.gr_base.specs.declared.grid.Edge.{Edge}
 use Rattle.gr_base.specs.declared.grid.Shape.{Shape}
@@ -19,32 +21,6 @@ use Rattle.maze_route.specs.declared.pane.Pane.{Pane}
 use Rattle.maze_route.specs.declared.pane.Step.{Step}
 use Rattle.maze_route.specs.declared.window.Window.{Window}
 use Rattle.maze_route.proofs.PaneLemmas.{place-cell, cell-below, cell-in-window}
-
--- the edge between two cells is the edge between them the other way round
-same-test : (m n : ℕ) → (m == n) ≡ (n == m)
-same-test m n =
-    elim (cases_eq m n) [
-      | inl same ↦ let P : ℕ → Type 0 = λ k. (m == k) ≡ (k == m) in subst P same refl
-      | inr other ↦
-          let one : (m == n) ≡ false = grind (arith, nat_tests) in
-          let two : (n == m) ≡ false = grind (arith, nat_tests) in
-          one ∙ sym two
-    ]
-
-abbrev edge_by : ℕ → ℕ → Bool → Bool → Option Edge
-edge_by steps low same_x same_y =
-    if steps == 1 then Some (edge_at low (if same_x then (if same_y then Up else North) else East)) else None
-
-pub edge_of-swap : (g : Shape) (a b : ℕ) → edge_of g a b ≡ edge_of g b a
-edge_of-swap g a b =
-    let steps : steps_between g a b ≡ steps_between g b a = omega arith in
-    let low : min a b ≡ min b a = omega arith in
-    let p = place_at g a in
-    let q = place_at g b in
-    ap (λ s. edge_by s (min a b) (p.x == q.x) (p.y == q.y)) steps ∙
-    ap (λ l. edge_by (steps_between g b a) l (p.x == q.x) (p.y == q.y)) low ∙
-    ap (λ x. edge_by (steps_between g b a) (min b a) x (p.y == q.y)) (same-test p.x q.x) ∙
-    ap (λ y. edge_by (steps_between g b a) (min b a) (q.x == p.x) y) (same-test p.y q.y)
 
 both : (a b : Bool) → IsTrue a → IsTrue b → (a && b) ≡ true
 both a b first second = grind (arith, nat_tests)

@@ -1,3 +1,4 @@
+-- The turns of a search.
 use Rattle.std.proofs.Common.{◌≡◌, ℕ, ◌+◌, ◌<◌, ◌≤◌, inl, inr, Bool, true, false, List, [], ◌∷◌, length, Option, Some, None, IfSome, IsSome, IsSomeAnd, Contains, if◌then◌else◌, refl, sym, ap, subst, ◌∙◌, arith}
 use Rattle.std.proofs.lemmas.Bool.{both_ways}
 use Rattle.std.proofs.lemmas.Bool.Decides.{nat_tests}
@@ -11,8 +12,8 @@ use Rattle.gr_base.specs.declared.grid.Way.{Way}
 use Rattle.gr_base.specs.Trees.{TreeView}
 use Rattle.maze_route.specs.Labels.{label_from}
 use Rattle.maze_route.specs.Queues.{QueueView, IsPopped}
-use Rattle.maze_route.specs.Search.{most_cost, IsConsistent, is_marked, HasGoal, CanReach, Finds, is_above}
-use Rattle.maze_route.specs.Spreads.{Spreads}
+use Rattle.maze_route.specs.Search.{most_distance, IsConsistent, is_marked, HasGoal, CanReach, Finds, is_above}
+use Rattle.maze_route.specs.Handing.{HandsOn}
 use Rattle.maze_route.specs.Steps.{size_of, pane_graph, rest_of, tiles_to, IsSpot}
 use Rattle.maze_route.specs.Walks.{Graph}
 use Rattle.maze_route.specs.declared.front.Front.{Front}
@@ -22,7 +23,7 @@ use Rattle.maze_route.specs.declared.window.Window.{Window}
 use Rattle.maze_route.proofs.Distances.{at-most, make-at-most, guided-low}
 use Rattle.maze_route.proofs.LabelLemmas.{label-within, contains-cases}
 use Rattle.maze_route.proofs.SearchLemmas.{labels_of, weight_of, Falls, IsTurn, IsTaken, taken-label, stale-taken, open-taken, close-relaxed, stop-guided, sources-fall}
-use Rattle.maze_route.proofs.SpreadLemmas.{spread-grown}
+use Rattle.maze_route.proofs.HandingLemmas.{spread-grown}
 
 -- the front once a pair is taken
 abbrev pub left_of : Front → QueueView → Front
@@ -43,7 +44,7 @@ pub record HasLabel (front : Front) (rest : ℕ → ℕ) (size key cell : ℕ) :
   pub cost : ℕ
   pub is : labels_of front cell ≡ Some cost
   pub low : cost + rest cell ≤ key
-  pub small : cost ≤ most_cost
+  pub small : cost ≤ most_distance
   pub inside : cell < size
 
 pub taken-has : (graph : Graph) (rest : ℕ → ℕ) (marks : List Bool) (size : ℕ) (nearest : Option ℕ) (front : Front) (key cell : ℕ) (queue : QueueView) →
@@ -100,17 +101,17 @@ next-goal marks before after None next false key cell cost falls is low marked i
 next-goal marks before after (Some most) next false key cell cost falls is low marked is_next goal =
     let P : Option ℕ → Type 0 = λ o. IfSome o (HasGoal marks after) in subst P (sym is_next) (goal-falls marks before after most falls goal)
 
-next-near : (nearest next : Option ℕ) (marked : Bool) (key : ℕ) → next ≡ (if marked then Some key else nearest) → (marked ≡ true → key ≤ most_cost) →
-    IfSome nearest (λ distance. distance ≤ most_cost) → IfSome next (λ distance. distance ≤ most_cost)
-next-near nearest next true key is_next small near = let P : Option ℕ → Type 0 = λ o. IfSome o (λ distance. distance ≤ most_cost) in subst P (sym is_next) (small refl)
-next-near nearest next false key is_next small near = let P : Option ℕ → Type 0 = λ o. IfSome o (λ distance. distance ≤ most_cost) in subst P (sym is_next) near
+next-near : (nearest next : Option ℕ) (marked : Bool) (key : ℕ) → next ≡ (if marked then Some key else nearest) → (marked ≡ true → key ≤ most_distance) →
+    IfSome nearest (λ distance. distance ≤ most_distance) → IfSome next (λ distance. distance ≤ most_distance)
+next-near nearest next true key is_next small near = let P : Option ℕ → Type 0 = λ o. IfSome o (λ distance. distance ≤ most_distance) in subst P (sym is_next) (small refl)
+next-near nearest next false key is_next small near = let P : Option ℕ → Type 0 = λ o. IfSome o (λ distance. distance ≤ most_distance) in subst P (sym is_next) near
 
 -- the turn of a pair whose cell is settled
 pub settled-turn : (p : Pane) (t : TreeView) (ways : ℕ → Way → Bool) (price : Edge → Option ℕ) (aim : Window) (marks : List Bool) (nearest next : Option ℕ) (marked : Bool)
     (front after : Front) (queue : QueueView) (key cell cost : ℕ) → ArePrices p.grid ways price →
     IsTurn (pane_graph p t price) (rest_of p aim) marks (size_of p) nearest front → IsPopped key cell front.queue queue →
     labels_of front cell ≡ Some cost → key ≤ cost + rest_of p aim cell → is_marked marks cell ≡ marked → next ≡ (if marked then Some key else nearest) →
-    ((n : ℕ) → is_marked marks n ≡ true → rest_of p aim n ≡ 0) → Spreads p price aim cell cost (left_of front queue) after →
+    ((n : ℕ) → is_marked marks n ≡ true → rest_of p aim n ≡ 0) → HandsOn p price aim cell cost (left_of front queue) after →
     (IsTurn (pane_graph p t price) (rest_of p aim) marks (size_of p) next after) × (weight_of after < weight_of front)
 settled-turn p t ways price aim marks nearest next marked front after queue key cell cost prices turn popped is fresh mark is_next aims spreads =
     let graph = pane_graph p t price in
@@ -143,9 +144,9 @@ stop-turn graph rest marks size nearest front key cell queue consistent turn pop
     let past = above-some nearest key above in
     let most = past.0 in
     let P : Option ℕ → Type 0 = λ o. IfSome o (HasGoal marks (labels_of front)) in
-    let Q : Option ℕ → Type 0 = λ o. IfSome o (λ distance. distance ≤ most_cost) in
+    let Q : Option ℕ → Type 0 = λ o. IfSome o (λ distance. distance ≤ most_distance) in
     let goal : HasGoal marks (labels_of front) most = subst P past.1.0 turn.goal in
-    let near : most ≤ most_cost = subst Q past.1.0 turn.near in
+    let near : most ≤ most_distance = subst Q past.1.0 turn.near in
     let beyond = past.1.1 in
     record {
       bound = most;

@@ -1,3 +1,4 @@
+-- The walk back, cell by cell.
 use Rattle.std.proofs.Common.{◌≡◌, ℕ, ◌-◌, ◌<◌, inl, inr, Bool, false, List, [], ◌∷◌, ◌++◌, map, Option, append_assoc, refl, sym, ap, subst, ◌∙◌, arith}
 use Rattle.std.proofs.lemmas.Bool.{cases_Bool}
 use Rattle.cost_rules.specs.Prices.{ArePrices}
@@ -12,7 +13,7 @@ use Rattle.maze_route.specs.declared.pane.Step.{Step}
 use Rattle.maze_route.specs.declared.window.Window.{Window}
 use Rattle.maze_route.proofs.BackLemmas.{GoesBack}
 use Rattle.maze_route.proofs.Distances.{guided-distance, source-zero, distance-source}
-use Rattle.maze_route.proofs.SpreadLemmas.{pane-costs, pane-rest}
+use Rattle.maze_route.proofs.HandingLemmas.{pane-costs, pane-rest}
 
 -- the cells so far, by numbers in the window, and how a walk from the cell in hand makes up the whole
 pub record IsOnWay (p : Pane) (t : TreeView) (price : Edge → Option ℕ) (aim : Window) (label : ℕ → Option ℕ) (goal : ℕ) (cells : List ℕ) (cell left : ℕ) : Type 0 where

@@ -1,3 +1,4 @@
+-- Buckets of pairs by the highest bit in which their keys differ from the last one taken.
 use Rattle.std.specs.Prelude.{◌≡◌, ◌≢◌, ℕ, ◌/◌, ◌^◌, ◌<◌, ◌≤◌, true, false, List, [], ◌∷◌, Option, Some, None, IsSome, IsSomeAnd, IsTrue, slice_get, if◌then◌else◌, length, option_and_then}
 use Rattle.gr_base.specs.Trees.{is_among}
 use Rattle.maze_route.specs.declared.slot.Slot.{Slot}

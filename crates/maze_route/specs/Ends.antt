@@ -1,12 +1,7 @@
-use Rattle.std.specs.Prelude.{◌≡◌, ℕ, ◌<◌, ◌≤◌, ◌⊎◌, Bool, ◌&&◌, ◌||◌, ◌==◌, nat_lt, nat_le, min, max, List, Option, Some, None, if◌then◌else◌, IsTrue}
+-- The first of some labelled cells.
+use Rattle.std.specs.Prelude.{◌≡◌, ℕ, ◌<◌, ◌≤◌, ◌⊎◌, Bool, ◌&&◌, ◌||◌, ◌==◌, nat_lt, nat_le, List, Option, Some, None, if◌then◌else◌, IsTrue}
 use Rattle.gr_base.specs.Trees.{is_among}
-use Rattle.gr_base.specs.declared.grid.Cell.{Cell}
 use Rattle.maze_route.specs.declared.pane.Reached.{Reached}
-use Rattle.maze_route.specs.declared.window.Window.{Window}
-
--- the least box that holds a box and a place
-abbrev pub grown : Window → Cell → Window
-grown aim place = record { x0 = min aim.x0 place.x; y0 = min aim.y0 place.y; x1 = max aim.x1 place.x; y1 = max aim.y1 place.y }
 
 abbrev pub is_earlier : ℕ → ℕ → ℕ → ℕ → Bool
 is_earlier best_cost best cost cell = nat_lt best_cost cost || best_cost == cost && nat_le best cell

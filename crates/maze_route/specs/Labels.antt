@@ -1,3 +1,4 @@
+-- Labels of cells, as a list of numbers holds them.
 use Rattle.std.specs.Prelude.{ℕ, Bool, true, ◌==◌, nat_lt, List, Option, Some, None, slice_get, if◌then◌else◌}
 
 -- what stands for no label

@@ -6,7 +6,7 @@ pub mod Queues
 pub mod Labels
 pub mod Search
 pub mod Buckets
-pub mod Spreads
+pub mod Handing
 pub mod Ends
 pub mod Backs
 pub mod Whole

@@ -1,3 +1,4 @@
+-- The cells of a window as a grid of their own.
 use Rattle.std.specs.Prelude.{◌≡◌, ◌+◌, ◌-◌}
 use Rattle.gr_base.specs.declared.grid.Cell.{Cell}
 use Rattle.gr_base.specs.declared.grid.Shape.{Shape}

@@ -1,3 +1,4 @@
+-- A queue of pairs as its callers see it.
 use Rattle.std.specs.Prelude.{◌≡◌, ℕ, ◌≤◌, List, [], ◌∷◌, All, Option, Some, None}
 use Rattle.std.specs.List.Sorted.{IsPermutation}
 

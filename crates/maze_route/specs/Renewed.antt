@@ -1,3 +1,4 @@
+-- Buckets that are made ready for the next pair, and the pair that is taken.
 use Rattle.std.specs.Prelude.{◌≡◌, ℕ, ◌≤◌, List, ◌∷◌, All, Option, Some, IsSome}
 use Rattle.std.specs.List.{filter_map}
 use Rattle.std.specs.List.Sorted.{IsPermutation}

@@ -1,9 +1,10 @@
+-- What stands while labels spread from the tree, and what labels tell in the end.
 use Rattle.std.specs.Prelude.{◌≡◌, ◌≢◌, ℕ, ◌+◌, ◌≤◌, ◌⊎◌, Bool, true, false, List, Option, Some, None, Contains, IsSomeAnd, IsTrue, slice_get, unwrap_or, nat_lt}
 use Rattle.maze_route.specs.Walks.{Graph, Reaches}
 
--- walks that cost more than this are not looked for
-abbrev pub most_cost : ℕ
-most_cost = 1152921504606846976
+-- the greatest distance: walks that cost more are not looked for
+abbrev pub most_distance : ℕ
+most_distance = 1152921504606846976
 
 -- there is a label, and it is at most this
 abbrev pub IsAtMost : Option ℕ → ℕ → Type 0
@@ -27,7 +28,7 @@ AreWalked graph label = (v cost : ℕ) → label v ≡ Some cost → Reaches gra
 
 -- no label falls through a step from this cell
 abbrev pub IsRelaxed : Graph → (ℕ → Option ℕ) → ℕ → ℕ → Type 0
-IsRelaxed graph label u cost = (v k : ℕ) → graph.step u v ≡ Some k → cost + k ≤ most_cost → IsAtMost (label v) (cost + k)
+IsRelaxed graph label u cost = (v k : ℕ) → graph.step u v ≡ Some k → cost + k ≤ most_distance → IsAtMost (label v) (cost + k)
 
 -- labels that are distances as far as a walk and its rest come to at most the bound
 pub record AreGuided (graph : Graph) (rest : ℕ → ℕ) (label : ℕ → Option ℕ) (bound : ℕ) : Type 0 where
@@ -38,7 +39,7 @@ pub record AreGuided (graph : Graph) (rest : ℕ → ℕ) (label : ℕ → Optio
 -- labels during the search: each labelled cell but an open one waits or is relaxed
 pub record IsSearching (graph : Graph) (rest : ℕ → ℕ) (label : ℕ → Option ℕ) (pairs : List (ℕ × ℕ)) (open_cell : ℕ) : Type 0 where
   pub walked : AreWalked graph label
-  pub small : (v cost : ℕ) → label v ≡ Some cost → cost ≤ most_cost
+  pub small : (v cost : ℕ) → label v ≡ Some cost → cost ≤ most_distance
   pub settled : (v cost : ℕ) → label v ≡ Some cost → v ≢ open_cell → Contains pairs (cost + rest v, v) ⊎ IsRelaxed graph label v cost
   pub queued : (key v : ℕ) → Contains pairs (key, v) → IsSomeAnd (label v) (λ cost. cost + rest v ≤ key)
 
@@ -58,7 +59,7 @@ pub record CanReach (graph : Graph) (marks : List Bool) : Type 0 where
   pub marked : is_marked marks goal ≡ true
   pub cost : ℕ
   pub walk : Reaches graph goal cost
-  pub small : cost ≤ most_cost
+  pub small : cost ≤ most_distance
 
 -- labels from which the least walk can be read: they are distances as far as to a goal
 pub record Finds (graph : Graph) (rest : ℕ → ℕ) (marks : List Bool) (label : ℕ → Option ℕ) : Type 0 where

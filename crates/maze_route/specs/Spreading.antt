@@ -1,3 +1,4 @@
+-- What stands while the pairs of one bucket are put into their new buckets.
 use Rattle.std.specs.Prelude.{◌≡◌, ℕ, ◌<◌, ◌⊎◌, false, true, List, length, Option, Some, IsTrue, slice_get}
 use Rattle.std.specs.List.{filter_map}
 use Rattle.gr_base.specs.Trees.{is_among}

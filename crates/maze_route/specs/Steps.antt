@@ -1,3 +1,4 @@
+-- Steps between neighbours by numbers in a window, and the least rest of a walk from each.
 use Rattle.std.specs.Prelude.{◌≡◌, ℕ, ◌+◌, ◌-◌, ◌<◌, Bool, ◌&&◌, nat_lt, List, [], ◌∷◌, map, Option, Some, None, if◌then◌else◌}
 use Rattle.std.specs.Option.{option_map}
 use Rattle.gr_base.specs.declared.grid.Cell.{Cell}

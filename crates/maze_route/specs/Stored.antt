@@ -1,3 +1,4 @@
+-- How a queue as it is stored is seen.
 use Rattle.std.specs.List.{filter_map}
 use Rattle.maze_route.specs.Buckets.{pair_in, Keeps}
 use Rattle.maze_route.specs.Queues.{QueueView}

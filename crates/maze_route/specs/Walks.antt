@@ -1,3 +1,4 @@
+-- Walks on a graph with costs: distances, the first goal, and the way back from it.
 use Rattle.std.specs.Prelude.{◌≡◌, ℕ, ◌+◌, ◌≤◌, Bool, false, List, [], ◌∷◌, Option, Some, IsTrue}
 use Rattle.gr_base.specs.Trees.{is_among}
 

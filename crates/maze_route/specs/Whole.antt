@@ -1,3 +1,4 @@
+-- The graph of a pane by numbers in the grid.
 use Rattle.std.specs.Prelude.{ℕ, Option}
 use Rattle.gr_base.specs.declared.grid.Edge.{Edge}
 use Rattle.gr_base.specs.Trees.{TreeView, holds}

@@ -1,4 +1,5 @@
-use Rattle.std.specs.Prelude.{ℕ, ◌<◌, ◌≤◌, Bool, ◌&&◌, nat_lt, nat_le, List, All, Option, None, if◌then◌else◌, IsTrue, option_and_then}
+-- Windows of a grid, and the walks inside them.
+use Rattle.std.specs.Prelude.{ℕ, ◌<◌, ◌≤◌, Bool, ◌&&◌, nat_lt, nat_le, min, max, List, All, Option, None, if◌then◌else◌, IsTrue, option_and_then}
 use Rattle.gr_base.specs.declared.grid.Cell.{Cell}
 use Rattle.gr_base.specs.declared.grid.Edge.{Edge}
 use Rattle.gr_base.specs.declared.grid.Shape.{Shape}
@@ -15,6 +16,15 @@ pub record IsWindow (g : Shape) (w : Window) : Type 0 where
   pub rows : w.y0 ≤ w.y1
   pub last_column : w.x1 < g.columns
   pub last_row : w.y1 < g.rows
+
+-- the least box that holds a box and a place
+abbrev pub with_place : Window → Cell → Window
+with_place w place = record {
+  x0 = min w.x0 place.x;
+  y0 = min w.y0 place.y;
+  x1 = max w.x1 place.x;
+  y1 = max w.y1 place.y;
+}
 
 -- the place lies in the window's columns and rows
 abbrev pub is_within : Window → Cell → Bool

@@ -1,7 +1,6 @@
 ghost use Rattle.std.specs.Prelude.{◌≡◌, ℕ, ◌<◌, ◌↔◌, true, All, Contains, length, map, IfOk, IsTrue};
 ghost use Rattle.gr_base.specs.Trees.{is_among};
-ghost use Rattle.gr_base.specs.declared.grid.Cell.{Cell};
-ghost use Rattle.maze_route.specs.Ends.{grown, IsFirstOf, earlier_of};
+ghost use Rattle.maze_route.specs.Ends.{IsFirstOf, earlier_of};
 ghost use Rattle.maze_route.specs.Labels.{label_at};
 ghost use Rattle.maze_route.specs.Search.{is_marked};
 ghost use Rattle.maze_route.specs.Steps.{size_of, rest_of, local_of};
@@ -10,7 +9,6 @@ ghost use Rattle.maze_route.specs.Windows.{LieIn};
 use crate::front::Labels;
 use crate::pane::{Pane, Reached};
 use crate::window::Window;
-use gr_base::Cell;
 use std::alloc::{AllocError, Global};
 
 /// The numbers in the window of some cells.
@@ -25,18 +23,6 @@ pub(crate) fn locals(alloc: Global, pane: Pane, cells: &[u32]) -> Result<Vec<u32
     Ok(ends)
 }
 
-/// The least box that holds a box and a place.
-fn grown_to(aim: Window, place: Cell) -> Window
-    ensures { result ≡ grown aim place }
-{
-    Window {
-        x0: aim.x0.min(place.x),
-        y0: aim.y0.min(place.y),
-        x1: aim.x1.max(place.x),
-        y1: aim.y1.max(place.y),
-    }
-}
-
 /// A box of tiles that holds these cells of a window.
 pub(crate) fn box_of(pane: Pane, ends: &[u32]) -> Window
     requires { All (λ end. end < size_of pane) ends.now }
@@ -49,7 +35,7 @@ pub(crate) fn box_of(pane: Pane, ends: &[u32]) -> Window
         y1: 0,
     };
     for &end in ends {
-        aim = grown_to(aim, pane.spot(end).place);
+        aim = aim.with(pane.spot(end).place);
     }
     aim
 }

@@ -13,8 +13,6 @@ mod queue;
 mod search;
 mod slot;
 mod steps;
-#[cfg(test)]
-mod tests;
 mod walk;
 mod window;
 

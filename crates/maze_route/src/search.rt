@@ -1,10 +1,11 @@
 ghost use Rattle.std.specs.Prelude.{◌≡◌, ℕ, ◌+◌, ◌^◌, ◌<◌, ◌≤◌, true, length, Option, Some, IfSome, IfOk, OnOk, if◌then◌else◌};
+ghost use Rattle.cost_rules.specs.Formulas.{most_cost};
 ghost use Rattle.gr_base.specs.declared.grid.Edge.{Edge};
 ghost use Rattle.maze_route.specs.Labels.{label_at};
 ghost use Rattle.maze_route.specs.Steps.{size_of, rest_of, IsSpot, pane_graph};
 ghost use Rattle.maze_route.specs.Windows.{TreeLiesIn};
-ghost use Rattle.maze_route.specs.Search.{most_cost, is_above, HasSources, IsSearching, is_marked, CanReach, Finds};
-ghost use Rattle.maze_route.specs.Spreads.{IsReach, Spreads};
+ghost use Rattle.maze_route.specs.Search.{most_distance, is_above, HasSources, IsSearching, is_marked, CanReach, Finds};
+ghost use Rattle.maze_route.specs.Handing.{IsReach, HandsOn};
 
 use crate::front::{Front, Labels};
 use crate::pane::{Pane, Spot, Step};
@@ -15,13 +16,13 @@ use cost_rules::Costs;
 use gr_base::{RouteTree, Way};
 use std::alloc::{AllocError, Global};
 
-/// The greatest label. Walks that cost more are not looked for.
-const MOST_COST: u64 = 1_152_921_504_606_846_976;
+/// The greatest distance. Walks that cost more are not looked for.
+const MOST_DISTANCE: u64 = 1_152_921_504_606_846_976;
 
 /// Gives the end of a step from a cell with this label a label of its own, if that is lower.
 fn reach(front: &mut Front, from: u64, step: Option<Step>) -> Result<(), AllocError>
-    requires from { from ≤ most_cost }
-    requires small { IfSome step (λ s. s.cost ≤ 1048576) }
+    requires from { from ≤ most_distance }
+    requires small { IfSome step (λ s. s.cost ≤ most_cost) }
     requires rest { IfSome step (λ s. s.rest < 2 ^ 34) }
     requires inside { IfSome step (λ s. s.cell < length front.old.labels.costs.items) }
     requires keys { IfSome step (λ s. front.old.queue.last ≤ from + s.cost + s.rest) }
@@ -33,7 +34,7 @@ fn reach(front: &mut Front, from: u64, step: Option<Step>) -> Result<(), AllocEr
         return Ok(());
     };
     let cost = from + step.cost;
-    if cost > MOST_COST {
+    if cost > MOST_DISTANCE {
         return Ok(());
     }
     if !front.labels.lower(step.cell, cost) {
@@ -79,10 +80,10 @@ fn settle<C: Costs>(
 ) -> Result<(), AllocError>
     requires grid { C.grid costs.now ≡ pane.grid }
     requires spot { IsSpot pane spot }
-    requires from { from ≤ most_cost }
+    requires from { from ≤ most_distance }
     requires size { length front.old.labels.costs.items ≡ size_of pane }
     requires key { front.old.queue.last ≤ from + rest_of pane aim spot.local }
-    ensures { OnOk result (Spreads pane (C.price costs.now) aim spot.local from front.old front.new) }
+    ensures { OnOk result (HandsOn pane (C.price costs.now) aim spot.local from front.old front.new) }
 {
     reach(front, from, behind(costs, pane, aim, spot, Way::Up))?;
     reach(front, from, behind(costs, pane, aim, spot, Way::North))?;

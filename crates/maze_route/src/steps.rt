@@ -1,4 +1,5 @@
 ghost use Rattle.std.specs.Prelude.{◌≡◌, ◌^◌, ◌<◌, ◌≤◌, IsTrue, IfSome};
+ghost use Rattle.cost_rules.specs.Formulas.{most_cost};
 ghost use Rattle.gr_base.specs.Grid.{IsInside, beyond, has_room};
 ghost use Rattle.gr_base.specs.Limits.{most_cells};
 ghost use Rattle.maze_route.specs.Steps.{IsSpot, has_room_behind, before, ahead_of, behind_of, tiles_to, step_to};
@@ -98,7 +99,7 @@ pub(crate) fn ahead<C: Costs>(
     requires grid { C.grid costs.now ≡ pane.grid }
     requires spot { IsSpot pane spot }
     ensures step { result ≡ step_to pane (C.price costs.now) aim spot.local (ahead_of pane.shape spot.local way) }
-    ensures cost { IfSome result (λ s. s.cost ≤ 1048576) }
+    ensures cost { IfSome result (λ s. s.cost ≤ most_cost) }
     ensures rest { IfSome result (λ s. s.rest < 2 ^ 34) }
 {
     if !has_ahead(pane.shape, spot.place, way) {
@@ -129,7 +130,7 @@ pub(crate) fn behind<C: Costs>(
     requires grid { C.grid costs.now ≡ pane.grid }
     requires spot { IsSpot pane spot }
     ensures step { result ≡ step_to pane (C.price costs.now) aim spot.local (behind_of pane.shape spot.local way) }
-    ensures cost { IfSome result (λ s. s.cost ≤ 1048576) }
+    ensures cost { IfSome result (λ s. s.cost ≤ most_cost) }
     ensures rest { IfSome result (λ s. s.rest < 2 ^ 34) }
 {
     if !has_behind(spot.place, way) {

@@ -1,3 +1,8 @@
+ghost use Rattle.std.specs.Prelude.{◌≡◌};
+ghost use Rattle.maze_route.specs.Windows.{with_place};
+
+use gr_base::Cell;
+
 /// A box of tiles on all layers, by its first and last column and row.
 #[derive(Clone, Copy, Debug, PartialEq, Eq)]
 pub struct Window {
@@ -5,4 +10,18 @@ pub struct Window {
     pub y0: u32,
     pub x1: u32,
     pub y1: u32,
+}
+
+impl Window {
+    /// The least box that holds this one and a place.
+    pub fn with(self, place: Cell) -> Window
+        ensures { result ≡ with_place self place }
+    {
+        Window {
+            x0: self.x0.min(place.x),
+            y0: self.y0.min(place.y),
+            x1: self.x1.max(place.x),
+            y1: self.y1.max(place.y),
+        }
+    }
 }

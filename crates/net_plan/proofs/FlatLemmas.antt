@@ -1,3 +1,4 @@
+-- The flat tree of pins over a design's grid.
 use Rattle.std.proofs.lemmas.Nat.{mod-mul-add, mul-add-lt}
 use Rattle.gr_base.proofs.GridLemmas.{place-inside, number-place}
 use Rattle.gr_base.specs.Grid.{cells_of, place_at}
@@ -13,7 +14,7 @@ use Rattle.pattern_route.specs.Walks.{IsFlat}
 use Rattle.steiner_topology.specs.Tile.{Tile}
 use Rattle.steiner_topology.specs.Topology.{topology_of}
 use Rattle.steiner_topology.specs.declared.point.Point.{Point}
-use Rattle.layer_assign.specs.Assignments.{tile_of, tiles_of, IsFlat as IsFlattened}
+use Rattle.layer_assign.specs.Assignments.{tile_of, tile_count, IsFlat as IsFlattened}
 use Rattle.net_plan.specs.FlatPrices.{flat_price}
 use Rattle.net_plan.specs.FlatTrees.{tile_under, distinct_tiles, cell_of_tile, with_point, first_tile, tree_of, IsFlatTree, HoldsTiles}
 use Rattle.net_plan.specs.Orders.{order_of}
@@ -69,13 +70,13 @@ tile-number g flat cell flattened below =
     let place = place_at g cell in
     let inside = place-inside g cell below in
     let low : place.y * g.columns + place.x < g.columns * g.rows = mul-add-lt place.y g.columns place.x g.rows inside.row inside.column in
-    let number : place.layer * tiles_of g + (place.y * g.columns + place.x) ≡ cell =
+    let number : place.layer * tile_count g + (place.y * g.columns + place.x) ≡ cell =
     by-layers place.layer g.rows g.columns place.y place.x cell (number-place g cell) in
-    let rest : (place.layer * tiles_of g + (place.y * g.columns + place.x)) % tiles_of g ≡ place.y * g.columns + place.x =
-    mod-mul-add place.layer (tiles_of g) (place.y * g.columns + place.x) (omega arith) in
+    let rest : (place.layer * tile_count g + (place.y * g.columns + place.x)) % tile_count g ≡ place.y * g.columns + place.x =
+    mod-mul-add place.layer (tile_count g) (place.y * g.columns + place.x) (omega arith) in
     let flat_number : cell_of_tile flat (tile_under g cell) ≡ place.y * g.columns + place.x =
     ap (λ (n : ℕ). (0 * flat.rows + place.y) * n + place.x) flattened.columns ∙ on-ground flat.rows place.y g.columns place.x in
-    flat_number ∙ sym rest ∙ ap (λ (n : ℕ). n % tiles_of g) number
+    flat_number ∙ sym rest ∙ ap (λ (n : ℕ). n % tile_count g) number
   where
     by-layers : (layer rows columns y x n : ℕ) → (layer * rows + y) * columns + x ≡ n → layer * (columns * rows) + (y * columns + x) ≡ n
     by-layers layer rows columns y x n is = omega arith

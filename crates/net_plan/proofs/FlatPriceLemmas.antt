@@ -1,3 +1,4 @@
+-- The least prices over all layers.
 use Rattle.std.proofs.Common.{◌≡◌, ℕ, ◌+◌, ◌<◌, ◌≤◌, ◌↔◌, inl, inr, Bool, true, false, ◌||◌, min, List, [], ◌∷◌, map, fold, All, Option, Some, None, is_some, if◌then◌else◌, IfSome, IsTrue, refl, sym, ap, subst, ◌∙◌, arith}
 use Rattle.std.specs.List.{range_with_len, list_any}
 use Rattle.std.proofs.lemmas.Bool.{cases_lt}
@@ -7,9 +8,10 @@ use Rattle.std.proofs.lemmas.List.FromFn.{map-range_with_len_more}
 use Rattle.std.proofs.lemmas.List.Sums.{fold_push}
 use Rattle.cost_rules.specs.Prices.{ArePrices}
 use Rattle.cost_rules.specs.declared.site.Formula.{Formula}
+use Rattle.cost_rules.specs.Formulas.{most_cost}
 use Rattle.gr_base.proofs.GridLemmas.{edge-room}
 use Rattle.gr_base.specs.Designs.{DesignView, IsFrame}
-use Rattle.gr_base.specs.Grid.{has_edge, place_at}
+use Rattle.gr_base.specs.Grid.{has_edge, place_at, on_layer}
 use Rattle.gr_base.specs.declared.grid.Edge.{Edge}
 use Rattle.gr_base.specs.declared.grid.Shape.{Shape}
 use Rattle.gr_base.specs.declared.grid.Way.{Way}
@@ -17,7 +19,7 @@ use Rattle.gr_base.specs.declared.grid.Way.TheVariants.{Up}
 use Rattle.grid_demand.specs.LoadSums.{LoadsView}
 use Rattle.grid_demand.specs.Tables.{CapacityView, usable_at, capacity_of}
 use Rattle.net_plan.specs.Prices.{HasPrices, price_of, ways_of}
-use Rattle.layer_assign.specs.Assignments.{IsFlat as IsFlattened, on_layer}
+use Rattle.layer_assign.specs.Assignments.{IsFlat as IsFlattened}
 use Rattle.net_plan.specs.FlatPrices.{lesser, flat_price, some_goes}
 use Rattle.pattern_route.specs.Walks.{IsFlat}
 use Rattle.net_plan.proofs.RangeLemmas.{All-range, any-range}
@@ -108,7 +110,7 @@ prices-of_layers c l f net flat flattened = record {
   up = λ layer. any-range (λ n. ways_of c n Up) c.shape.layers 0 0 (omega arith) (let h = some_layers c.shape in omega arith) refl;
   some = λ e edge. alike _ _ (flat-some c l f net flat e flattened edge);
   least = λ e edge. flat-if c l f net flat (λ n. 1 ≤ n) e flattened (prices-of_net c l f net).least edge;
-  most = λ e edge. flat-if c l f net flat (λ n. n ≤ 1048576) e flattened (prices-of_net c l f net).most edge;
+  most = λ e edge. flat-if c l f net flat (λ n. n ≤ most_cost) e flattened (prices-of_net c l f net).most edge;
 }
 
 -- the least price of one layer more
@@ -146,5 +148,5 @@ keep-prices g ways price are = record {
   up = are.up;
   some = are.some;
   least = λ e cost edge is. some-of (price e) (λ n. 1 ≤ n) cost (are.least e edge) is;
-  most = λ e cost edge is. some-of (price e) (λ n. n ≤ 1048576) cost (are.most e edge) is;
+  most = λ e cost edge is. some-of (price e) (λ n. n ≤ most_cost) cost (are.most e edge) is;
 }

@@ -1,3 +1,4 @@
+-- A flat tree, point by point.
 use Rattle.std.proofs.Common.{◌≡◌, ℕ, ◌+◌, ◌<◌, ◌≤◌, ◌⊎◌, inl, inr, Bool, true, false, ◌||◌, ◌==◌, Option, List, [], ◌∷◌, ◌++◌, length, take, get_or, fold, All, IsTrue, refl, sym, ap, subst, ◌∙◌, arith}
 use Rattle.std.proofs.lemmas.Bool.Decides.{nat_tests}
 use Rattle.std.proofs.lemmas.List.{take_more, take_all}
@@ -6,7 +7,7 @@ use Rattle.std.proofs.lemmas.List.Sums.{fold_push}
 use Rattle.gr_base.specs.Trees.{TreeView, holds}
 use Rattle.gr_base.specs.declared.grid.Edge.{Edge}
 use Rattle.gr_base.specs.declared.grid.Shape.{Shape}
-use Rattle.steiner_topology.specs.Spanning.{IsTree}
+use Rattle.steiner_topology.specs.Spanning.{IsTopology}
 use Rattle.steiner_topology.specs.Topology.{point, place_of, parent_of}
 use Rattle.steiner_topology.specs.declared.point.Point.{Point}
 use Rattle.net_plan.specs.FlatTrees.{cell_of_tile, with_point, first_tile, tree_of, HoldsHandled}
@@ -92,7 +93,7 @@ pub grown-tree : (flat : Shape) (price : Edge → Option ℕ) (points : List Poi
 grown-tree flat price points order count t ordered most grown =
     grown.tree ∙ ap (fold (with_point flat price points) (first_tile flat points)) (take_all count order most ∙ ordered)
 
-pub grown-points : (flat : Shape) (price : Edge → Option ℕ) (points : List Point) (order : List ℕ) (count : ℕ) (t : TreeView) → IsTree points → order ≡ order_of points →
+pub grown-points : (flat : Shape) (price : Edge → Option ℕ) (points : List Point) (order : List ℕ) (count : ℕ) (t : TreeView) → IsTopology points → order ≡ order_of points →
     length order ≤ count → HasGrown flat price points order count t →
     All (λ (p : Point). IsTrue (holds t (cell_of_tile flat p.tile))) points
 grown-points flat price points order count t tree ordered most grown =

@@ -1,3 +1,4 @@
+-- There is one maze plan.
 use Rattle.std.proofs.Common.{◌≡◌, ℕ, Bool, true, false, List, [], ◌∷◌, Option, IsTrue, refl, sym, ap, subst, ◌∙◌, arith}
 use Rattle.gr_base.specs.Trees.{TreeView, is_among, attached}
 use Rattle.gr_base.specs.declared.grid.Edge.{Edge}

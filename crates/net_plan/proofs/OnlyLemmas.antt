@@ -1,9 +1,13 @@
+-- All pattern plans have the same edges.
 use Rattle.std.proofs.Common.{◌≡◌, ℕ, zero, suc, ◌+◌, ◌<◌, ◌≤◌, inl, inr, Bool, true, false, ◌&&◌, ◌||◌, nat_lt, Option, None, unwrap_or, List, ◌∷◌, ◌++◌, length, map, filter, IsTrue, refl, sym, ap, subst, ◌∙◌, arith}
 use Rattle.std.specs.List.{list_any, range_with_len}
 use Rattle.std.specs.Option.{option_map}
 use Rattle.std.proofs.Math.Bool.{Bool-set}
 use Rattle.std.proofs.lemmas.Bool.{cases_Bool, cases_eq}
 use Rattle.std.proofs.lemmas.Bool.Decides.{nat_tests}
+use Rattle.gr_base.proofs.General.{filter-yes, filter-no}
+use Rattle.gr_base.specs.Grid.{on_layer}
+use Rattle.gr_base.specs.ParentEdges.{parent_edge}
 use Rattle.gr_base.specs.EdgeSets.{is_edge}
 use Rattle.gr_base.specs.Limits.{is_grid}
 use Rattle.gr_base.specs.Trees.{TreeView, IsTree, edges_of}
@@ -11,8 +15,8 @@ use Rattle.gr_base.specs.declared.grid.Edge.{Edge}
 use Rattle.gr_base.specs.declared.grid.Shape.{Shape}
 use Rattle.gr_base.specs.declared.grid.Way.{Way}
 use Rattle.layer_assign.proofs.FlatLemmas.{root_edge}
-use Rattle.layer_assign.specs.Assignments.{edge_up, on_layer, ends_at, met, cost_of, tile_at, pin_layers, IsAssignment, IsLeast, IsFirst, AreAlike}
-use Rattle.layer_assign.specs.Raised.{is_wire_of, is_via_of, raised_edges}
+use Rattle.layer_assign.specs.Assignments.{ends_at, met, cost_of, tile_at, pin_layers, IsAssignment, IsLeast, IsFirst, AreAlike}
+use Rattle.layer_assign.specs.Raised.{is_wire_of, is_via_in, raised_edges}
 use Rattle.layer_assign.specs.Spans.{span_of}
 use Rattle.steiner_topology.specs.Topology.{topology_of}
 use Rattle.net_plan.specs.FlatPrices.{flat_price}
@@ -71,12 +75,6 @@ any-same p q (suc n) k same =
     let rest = any-same p q n (k + 1) (λ v below. same v (omega arith)) in
     rw (here, rest) refl
 
-filter-yes : (p : ℕ → Bool) (x : ℕ) (xs : List ℕ) → p x ≡ true → filter p (x ∷ xs) ≡ x ∷ filter p xs
-filter-yes p x xs passes = rw passes refl
-
-filter-no : (p : ℕ → Bool) (x : ℕ) (xs : List ℕ) → p x ≡ false → filter p (x ∷ xs) ≡ filter p xs
-filter-no p x xs fails = rw fails refl
-
 map-same : (p : ℕ → Bool) (a b : ℕ → ℕ) (n k : ℕ) → ((v : ℕ) → v < k + n → p v ≡ true → a v ≡ b v) →
     map a (filter p (range_with_len k n)) ≡ map b (filter p (range_with_len k n))
 map-same p a b zero k same = refl
@@ -110,9 +108,9 @@ wire-same g t a b e node tree alike below =
     let f : ℕ → Option Edge → Bool = λ layer o. unwrap_or (option_map (λ (h : Edge). is_edge e (on_layer g layer h)) o) false in
     elim (cases_eq node 0) [
       | inl root ↦
-          let none : edge_up t node ≡ None = ap (edge_up t) root ∙ root_edge t tree in
+          let none : parent_edge t node ≡ None = ap (parent_edge t) root ∙ root_edge t tree in
           ap (f (a node)) none ∙ sym (ap (f (b node)) none)
-      | inr other ↦ ap (λ (layer : ℕ). f layer (edge_up t node)) (alike node (omega arith) below)
+      | inr other ↦ ap (λ (layer : ℕ). f layer (parent_edge t node)) (alike node (omega arith) below)
     ]
 
 edges-same : (g : Shape) (t : TreeView) (pins : List ℕ) (a b : ℕ → ℕ) (e : Edge) → IsTree t → AreAlike a b (length t.nodes) →
@@ -120,9 +118,9 @@ edges-same : (g : Shape) (t : TreeView) (pins : List ℕ) (a b : ℕ → ℕ) (e
 edges-same g t pins a b e tree alike =
     let wires = any-same (λ node. is_wire_of g t a node e) (λ node. is_wire_of g t b node e) (length t.nodes) 0
     (λ node below. wire-same g t a b e node tree alike (omega arith)) in
-    let vias = any-same (λ node. is_via_of g (tile_at t node) (span_of g (met g t pins a node)) e) (λ node. is_via_of g (tile_at t node) (span_of g (met g t pins b node)) e)
-    (length t.nodes) 0 (λ node below. ap (λ (layers : List ℕ). is_via_of g (tile_at t node) (span_of g layers) e) (met-same g t pins a b node alike)) in
-    ap (λ (x : Bool). x || list_any (λ node. is_via_of g (tile_at t node) (span_of g (met g t pins a node)) e) (range_with_len 0 (length t.nodes))) wires ∙
+    let vias = any-same (λ node. is_via_in g (tile_at t node) (span_of (met g t pins a node)) e) (λ node. is_via_in g (tile_at t node) (span_of (met g t pins b node)) e)
+    (length t.nodes) 0 (λ node below. ap (λ (layers : List ℕ). is_via_in g (tile_at t node) (span_of layers) e) (met-same g t pins a b node alike)) in
+    ap (λ (x : Bool). x || list_any (λ node. is_via_in g (tile_at t node) (span_of (met g t pins a node)) e) (range_with_len 0 (length t.nodes))) wires ∙
     ap (λ (x : Bool). list_any (λ node. is_wire_of g t b node e) (range_with_len 0 (length t.nodes)) || x) vias
 
 -- two pattern plans have the same edges
@@ -135,4 +133,4 @@ pattern-only g ways price pins t u one other e =
     let first = subst (λ (f : TreeView). IsFirst g ways price f pins other.layers) flat other.first in
     let alike = assignment-only g ways price one.flat pins other.layers one.layers assigned one.assignment least one.least first one.first in
     other.edges e ∙ ap (λ (f : TreeView). raised_edges g f pins other.layers e) flat ∙
-    edges-same g one.flat pins other.layers one.layers e one.tree alike ∙ sym (one.edges e)
+    edges-same g one.flat pins other.layers one.layers e one.flat_tree alike ∙ sym (one.edges e)

@@ -1,3 +1,4 @@
+-- The order of points handles each of them.
 use Rattle.std.proofs.Common.{◌≡◌, ℕ, zero, suc, ◌+◌, ◌-◌, ◌<◌, ◌≤◌, ◌⊎◌, inl, inr, Bool, true, false, not, ◌&&◌, ◌||◌, ◌==◌, Option, Some, None, List, [], ◌∷◌, ◌++◌, length, take, get_or, replicate, count_by, refl, sym, ap, subst, ◌∙◌, arith}
 use Rattle.std.specs.List.{range_with_len}
 use Rattle.std.proofs.Math.ListN.{set}
@@ -7,8 +8,8 @@ use Rattle.std.proofs.lemmas.List.{length-set, get_or-set_same, get_or-set_other
 use Rattle.std.proofs.lemmas.List.Elements.{All-get_or}
 use Rattle.std.proofs.lemmas.List.Folds.{list_any-append}
 use Rattle.gr_base.specs.Trees.{is_among}
-use Rattle.steiner_topology.specs.Spanning.{IsTree, Leads}
-use Rattle.steiner_topology.specs.Spanning.Leads.{root, up}
+use Rattle.steiner_topology.specs.Spanning.{IsTopology, LeadsUp}
+use Rattle.steiner_topology.specs.Spanning.LeadsUp.{root, over}
 use Rattle.steiner_topology.specs.Topology.{point, parent_of}
 use Rattle.steiner_topology.specs.declared.point.Point.{Point}
 use Rattle.net_plan.specs.Orders.{is_handled, is_due, next_due, with_next, order_after, order_of, is_marked}
@@ -84,15 +85,15 @@ unfolding order_after
 order_after-none n points order is = ap (λ (o : Option ℕ). order_after n points (with_next order o)) is
 
 -- a point's parent is a point
-parent-inside : (points : List Point) (v : ℕ) → IsTree points → v < length points → parent_of points v < length points
+parent-inside : (points : List Point) (v : ℕ) → IsTopology points → v < length points → parent_of points v < length points
 parent-inside points v tree below =
     All-get_or (λ (p : Point). p.parent < length points) points v (point (0, 0) 0) below tree.parents
 
 -- where no point is due, all have been handled
-none-due : (points : List Point) (order : List ℕ) (v : ℕ) → IsTree points → next_due points (is_handled order) ≡ None →
-    Leads points v → v < length points → is_handled order v ≡ true
+none-due : (points : List Point) (order : List ℕ) (v : ℕ) → IsTopology points → next_due points (is_handled order) ≡ None →
+    LeadsUp points v → v < length points → is_handled order v ≡ true
 none-due points order _ tree none root below = refl
-none-due points order _ tree none (up v leads) below =
+none-due points order _ tree none (over v leads) below =
     let parent = none-due points order (parent_of points v) tree none leads (parent-inside points v tree below) in
     let fails = find-none (is_due points (is_handled order)) (length points) 0 v none (omega arith) (omega arith) in
     not-due (is_handled order v) (is_handled order (parent_of points v)) parent fails
@@ -128,7 +129,7 @@ all-kept (suc n) points order v is =
     ]
 
 -- after as many points as there are to handle, all have been handled
-handled-after : (n : ℕ) (points : List Point) (order : List ℕ) (v : ℕ) → IsTree points → open_count points order ≡ n → v < length points →
+handled-after : (n : ℕ) (points : List Point) (order : List ℕ) (v : ℕ) → IsTopology points → open_count points order ≡ n → v < length points →
     is_handled (order_after n points order) v ≡ true
 unfolding order_after
 handled-after zero points order v tree none below =
@@ -156,7 +157,7 @@ open-first points some =
     first n = count-all (λ v. not (is_handled [] v)) n 1 later
 
 -- each point comes in the order, or is point 0
-pub order_of-handled : (points : List Point) (v : ℕ) → IsTree points → v < length points → is_handled (order_of points) v ≡ true
+pub order_of-handled : (points : List Point) (v : ℕ) → IsTopology points → v < length points → is_handled (order_of points) v ≡ true
 order_of-handled points v tree below = handled-after (length points - 1) points [] v tree (open-first points tree.some) below
 
 -- a point of the order is a point, and its parent comes before it
@@ -205,7 +206,7 @@ pub record AreMarks (points : List Point) (order : List ℕ) (marks : List Bool)
   pub long : length marks ≡ length points
   pub same : (v : ℕ) → v < length points → is_marked marks v ≡ is_handled order v
 
-pub marked-due : (points : List Point) (order : List ℕ) (marks : List Bool) → IsTree points → AreMarks points order marks →
+pub marked-due : (points : List Point) (order : List ℕ) (marks : List Bool) → IsTopology points → AreMarks points order marks →
     next_due points (is_marked marks) ≡ next_due points (is_handled order)
 marked-due points order marks tree are =
     find-same (is_due points (is_marked marks)) (is_due points (is_handled order)) (length points) 0 (λ v below.
@@ -255,7 +256,7 @@ pub record IsUnderWay (points : List Point) (order : List ℕ) (marks : List Boo
   pub marked : AreMarks points order marks
   pub so_far : order_after (open_count points order) points order ≡ order_of points
 
-pub order-first : (points : List Point) (marks : List Bool) (n : ℕ) → IsTree points → marks ≡ replicate n false → n ≡ length points →
+pub order-first : (points : List Point) (marks : List Bool) (n : ℕ) → IsTopology points → marks ≡ replicate n false → n ≡ length points →
     IsUnderWay points [] (set marks 0 true)
 order-first points marks n tree none count = record {
   marked = marks-first points marks n none count tree.some;
@@ -263,7 +264,7 @@ order-first points marks n tree none count = record {
 }
 
 -- one more point
-pub order-more : (points : List Point) (order longer : List ℕ) (marks marked : List Bool) (v : ℕ) → IsTree points → IsUnderWay points order marks →
+pub order-more : (points : List Point) (order longer : List ℕ) (marks marked : List Bool) (v : ℕ) → IsTopology points → IsUnderWay points order marks →
     next_due points (is_marked marks) ≡ Some v → longer ≡ order ++ v ∷ [] → marked ≡ set marks v true →
     IsUnderWay points longer marked × (open_count points longer < open_count points order)
 order-more points order longer marks marked v tree way is long set_it =
@@ -284,7 +285,7 @@ unfolding order_after
 order_after-stays zero points order none = refl
 order_after-stays (suc n) points order none = order_after-none n points order none ∙ order_after-stays n points order none
 
-pub order-done : (points : List Point) (order : List ℕ) (marks : List Bool) → IsTree points → IsUnderWay points order marks →
+pub order-done : (points : List Point) (order : List ℕ) (marks : List Bool) → IsTopology points → IsUnderWay points order marks →
     next_due points (is_marked marks) ≡ None → order ≡ order_of points
 order-done points order marks tree way none =
     sym (order_after-stays (open_count points order) points order (sym (marked-due points order marks tree way.marked) ∙ none)) ∙ way.so_far

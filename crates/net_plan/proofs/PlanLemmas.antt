@@ -1,8 +1,10 @@
+-- Nets and their pins, as the parts of a plan want them.
 use Rattle.std.proofs.Common.{◌≡◌, ℕ, ◌<◌, ◌≤◌, Bool, true, false, ◌&&◌, nat_lt, nat_le, Option, Some, None, List, length, slice_get, slice_index, unwrap_or, All, IsTrue, refl, sym, ap, subst, ◌∙◌, arith}
 use Rattle.std.specs.Option.{option_map}
 use Rattle.std.proofs.lemmas.Bool.Decides.{nat_tests}
 use Rattle.std.proofs.lemmas.List.Elements.{All-get_or}
 use Rattle.std.proofs.lemmas.Option.{slice_get_within, get_or_from_slice_get}
+use Rattle.gr_base.specs.ParentEdges.{parent_edge}
 use Rattle.gr_base.proofs.GridLemmas.{edge-room}
 use Rattle.gr_base.specs.Designs.{DesignView, IsFrame, IsDesign, IsNet, is_routed, is_routed_net, pins_in, pins_at}
 use Rattle.gr_base.specs.Grid.{cells_of, place_at}
@@ -15,7 +17,7 @@ use Rattle.grid_demand.specs.LoadSums.{LoadsView}
 use Rattle.gr_base.specs.declared.grid.Way.{Way}
 use Rattle.grid_demand.specs.Tables.{CapacityView, capacity_of}
 use Rattle.layer_assign.specs.Raised.{AreLayers}
-use Rattle.layer_assign.specs.Assignments.{IsAssignment, ArePins, edge_up, goes_on, HasLayers, IsFlat as IsFlattened}
+use Rattle.layer_assign.specs.Assignments.{IsAssignment, ArePins, goes_on, HasLayers, IsFlat as IsFlattened}
 use Rattle.layer_assign.proofs.FlatLemmas.{some_edge}
 use Rattle.net_plan.specs.FlatTrees.{HoldsTiles}
 use Rattle.net_plan.specs.Patterns.{IsPatternTree, IsPattern}
@@ -84,7 +86,7 @@ pub are-layers : (g : Shape) (ways : ℕ → Way → Bool) (t : TreeView) (layer
     IsAssignment g ways t (λ node. slice_index layers node) → AreLayers g t layers
 are-layers g ways t layers count assigned = record {
   nodes = count;
-  below = λ node later below. assigned-below g ways (slice_index layers node) (edge_up t node) (assigned node later below);
+  below = λ node later below. assigned-below g ways (slice_index layers node) (parent_edge t node) (assigned node later below);
 }
 
 -- the same plan, where the grid, the capacity and so on are the same

@@ -1,3 +1,4 @@
+-- The tiles of a topology lie in the grid.
 use Rattle.std.proofs.Common.{◌≡◌, ℕ, ◌<◌, inl, inr, Bool, true, false, ◌==◌, Option, Some, None, List, [], ◌∷◌, length, fold, take, get_or, All, if◌then◌else◌, sym, subst, arith}
 use Rattle.std.proofs.lemmas.Bool.{cases_lt}
 use Rattle.std.proofs.lemmas.List.Elements.{All-nil, All-cons, All-append, All-map, All-get_or, All-set, All-take}

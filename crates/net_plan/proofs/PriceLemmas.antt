@@ -1,5 +1,6 @@
+-- A net's prices are prices.
 use Rattle.std.proofs.Common.{ℕ, ◌≤◌, ◌↔◌, Bool, true, false, Some, None, IsSome, IfSome, IsTrue, if◌then◌else◌, refl, arith}
-use Rattle.cost_rules.specs.Formulas.{cost_at}
+use Rattle.cost_rules.specs.Formulas.{cost_at, most_cost}
 use Rattle.cost_rules.specs.Prices.{ArePrices}
 use Rattle.cost_rules.specs.declared.site.Formula.{Formula}
 use Rattle.cost_rules.specs.declared.site.Formula.TheVariants.{First, Steep, Flat}
@@ -15,7 +16,7 @@ cost-least First site = omega arith
 cost-least Steep site = omega arith
 cost-least Flat site = omega arith
 
-cost-most : (f : Formula) (site : Site) → cost_at f site ≤ 1048576
+cost-most : (f : Formula) (site : Site) → cost_at f site ≤ most_cost
 cost-most First site = omega arith
 cost-most Steep site = omega arith
 cost-most Flat site = omega arith
@@ -40,6 +41,6 @@ prices-of_net c l f net = record {
   some = λ e edge. some-if (usable_at c e) (if is_wire e then cost_at f (site_of c l net e) else 3);
   least = λ e edge. let P : ℕ → Type 0 = λ n. 1 ≤ n in
       if-paid (usable_at c e) _ P (either (is_wire e) _ 3 P (cost-least f (site_of c l net e)) (omega arith));
-  most = λ e edge. let P : ℕ → Type 0 = λ n. n ≤ 1048576 in
+  most = λ e edge. let P : ℕ → Type 0 = λ n. n ≤ most_cost in
       if-paid (usable_at c e) _ P (either (is_wire e) _ 3 P (cost-most f (site_of c l net e)) (omega arith));
 }

@@ -1,3 +1,4 @@
+-- Flat trees: the tiles of pins, joined by the flat walks of their topology.
 use Rattle.std.specs.Prelude.{◌≡◌, ℕ, ◌<◌, Bool, ◌&&◌, ◌==◌, List, [], ◌∷◌, ◌++◌, All, map, fold, Option, if◌then◌else◌, IsTrue}
 use Rattle.std.specs.List.{list_any}
 use Rattle.gr_base.specs.Grid.{place_at}
@@ -35,6 +36,13 @@ distinct_tiles g cells = fold with_tile [] (map (tile_under g) cells)
 abbrev pub cell_of_tile : Shape → Tile → ℕ
 cell_of_tile flat t = tile flat t.0 t.1
 
+-- the cell of a point's tile, and that of its parent's
+abbrev pub cell_at_point : Shape → List Point → ℕ → ℕ
+cell_at_point flat points v = cell_of_tile flat (place_of points v)
+
+abbrev pub cell_above : Shape → List Point → ℕ → ℕ
+cell_above flat points v = cell_at_point flat points (parent_of points v)
+
 -- a walk up to its first cell in the tree
 abbrev pub up_to_tree : TreeView → List ℕ → List ℕ
 up_to_tree t [] = []
@@ -42,8 +50,7 @@ up_to_tree t (cell ∷ rest) = cell ∷ (if holds t cell then [] else up_to_tree
 
 -- the flat walk from a point to its parent
 abbrev pub walk_up : Shape → (Edge → Option ℕ) → List Point → ℕ → List ℕ
-walk_up flat price points v =
-    flat_walk flat price (cell_of_tile flat (place_of points v)) (cell_of_tile flat (place_of points (parent_of points v)))
+walk_up flat price points v = flat_walk flat price (cell_at_point flat points v) (cell_above flat points v)
 
 -- the tree after a point's walk is cut where it meets the tree, and attached
 abbrev pub with_point : Shape → (Edge → Option ℕ) → List Point → TreeView → ℕ → TreeView
@@ -71,7 +78,8 @@ abbrev pub HoldsHandled : Shape → List Point → List ℕ → TreeView → Typ
 HoldsHandled flat points order t =
     (v : ℕ) → IsTrue (is_handled order v) → IsTrue (holds t (cell_of_tile flat (place_of points v)))
 
--- the flat tree of pins over a grid: on a grid with its columns and rows and one layer, by the least prices over its layers
+-- the flat tree of pins over a grid: on a grid with its columns and rows and one layer, by the least prices over its
+-- layers
 pub record IsFlatTree (g : Shape) (price : Edge → Option ℕ) (pins : List ℕ) (t : TreeView) : Type 0 where
   pub flattened : IsFlattened g t.shape
   pub exact : t ≡ tree_of t.shape (flat_price g price) (topology_of (distinct_tiles g pins))

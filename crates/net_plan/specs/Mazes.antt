@@ -1,3 +1,4 @@
+-- Maze plans: a tree that grows in a net's window by least walks.
 use Rattle.std.specs.Prelude.{◌≡◌, ℕ, ◌+◌, ◌-◌, min, max, not, List, [], ◌∷◌, map, filter, fold, slice_index, Option}
 use Rattle.cost_rules.specs.declared.site.Formula.{Formula}
 use Rattle.gr_base.specs.Grid.{place_at}
@@ -54,7 +55,8 @@ missing t pins = filter (λ pin. not (holds t pin)) pins
 -- while a pin's cell isn't in the tree, the least walk in the window from the nearest such cell to the tree is attached
 pub data GrowsTo (w : Window) (price : Edge → Option ℕ) (pins : List ℕ) : TreeView → TreeView → Type 0 where
   Ends : {t : TreeView} → missing t pins ≡ [] → GrowsTo w price pins t t
-  Goes_on : {t u : TreeView} → (walk : List ℕ) → IsLeastWalk (window_graph t w price) (missing t pins) walk → GrowsTo w price pins (attached t walk) u → GrowsTo w price pins t u
+  Goes_on : {t u : TreeView} → (walk : List ℕ) → IsLeastWalk (window_graph t w price) (missing t pins) walk →
+      GrowsTo w price pins (attached t walk) u → GrowsTo w price pins t u
 
 -- the tree of the driver's cell alone
 abbrev pub driver_tree : Shape → List ℕ → TreeView
@@ -64,3 +66,7 @@ driver_tree g pins = record { shape = g; nodes = node_of (slice_index pins 0) 0 
 abbrev pub IsMaze : CapacityView → LoadsView → Formula → ℕ → List ℕ → ℕ → TreeView → Type 0
 IsMaze c l formula net pins margin t =
     GrowsTo (window_of c.shape pins margin) (price_of c l formula net) pins (driver_tree c.shape pins) t
+
+-- there is no other such plan
+abbrev pub IsOnlyMaze : CapacityView → LoadsView → Formula → ℕ → List ℕ → ℕ → TreeView → Type 0
+IsOnlyMaze c l formula net pins margin t = (other : TreeView) → IsMaze c l formula net pins margin other → other ≡ t

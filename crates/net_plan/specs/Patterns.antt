@@ -1,3 +1,4 @@
+-- Pattern plans: trees that are raised from the first least assignment of a flat tree.
 use Rattle.std.specs.Prelude.{◌≡◌, ℕ, Bool, List, Option, slice_get}
 use Rattle.cost_rules.specs.declared.site.Formula.{Formula}
 use Rattle.gr_base.specs.Trees.{TreeView, IsTree, cell_at, edges_of}
@@ -11,12 +12,15 @@ use Rattle.layer_assign.specs.Raised.{raised_edges}
 use Rattle.net_plan.specs.FlatTrees.{IsFlatTree}
 use Rattle.net_plan.specs.Prices.{price_of, ways_of}
 
--- a tree from the first pin's cell, whose edges are those that are raised from the first least assignment of the pins' flat tree
-pub record IsPatternTree (g : Shape) (ways : ℕ → Way → Bool) (price : Edge → Option ℕ) (pins : List ℕ) (t : TreeView) : Type 0 where
+-- a tree from the first pin's cell, whose edges are those that are raised from the first least assignment of the pins'
+-- flat tree
+pub record IsPatternTree (g : Shape) (ways : ℕ → Way → Bool) (price : Edge → Option ℕ) (pins : List ℕ) (t : TreeView)
+    : Type 0 where
+  pub tree : IsTree t
   pub shape : t.shape ≡ g
   pub driver : cell_at t.nodes 0 ≡ slice_get pins 0
   pub flat : TreeView
-  pub tree : IsTree flat
+  pub flat_tree : IsTree flat
   pub layers : ℕ → ℕ
   pub is_flat : IsFlatTree g price pins flat
   pub assignment : IsAssignment g ways flat layers
@@ -27,3 +31,8 @@ pub record IsPatternTree (g : Shape) (ways : ℕ → Way → Bool) (price : Edge
 -- a pattern plan of a net, by the net's prices
 abbrev pub IsPattern : CapacityView → LoadsView → Formula → ℕ → List ℕ → TreeView → Type 0
 IsPattern c l formula net pins t = IsPatternTree c.shape (ways_of c) (price_of c l formula net) pins t
+
+-- any other such plan has the tree's edges
+abbrev pub HasPatternEdges : CapacityView → LoadsView → Formula → ℕ → List ℕ → TreeView → Type 0
+HasPatternEdges c l formula net pins t =
+    (other : TreeView) → IsPattern c l formula net pins other → (e : Edge) → edges_of other e ≡ edges_of t e

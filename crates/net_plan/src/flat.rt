@@ -5,7 +5,7 @@ ghost use Rattle.grid_demand.specs.Tables.{capacity_of};
 ghost use Rattle.pattern_route.specs.Walks.{IsFlat, IsDirect};
 ghost use Rattle.steiner_topology.specs.Topology.{topology_of, place_of, parent_of};
 ghost use Rattle.net_plan.specs.Prices.{price_of};
-ghost use Rattle.net_plan.specs.FlatTrees.{IsTileIn, AreTilesIn, IsFlatTree, HoldsTiles, cell_of_tile, up_to_tree, walk_up, with_point, tree_of};
+ghost use Rattle.net_plan.specs.FlatTrees.{IsTileIn, AreTilesIn, IsFlatTree, HoldsTiles, cell_of_tile, cell_at_point, cell_above, up_to_tree, walk_up, with_point, tree_of};
 
 use crate::flat_costs::FlatCosts;
 use crate::net_costs::NetCosts;
@@ -29,7 +29,9 @@ pub(crate) fn flat_tree(
     requires pins { All (λ pin. pin < cells_of design.now.frame.shape) pins.now }
     requires some { 0 < length pins.now }
     requires few { length pins.now < 2 ^ 31 }
-    ensures tree { IfOk result (IsFlatTree design.now.frame.shape (price_of costs.now.capacity.now costs.now.loads.now costs.now.rule.now.formula costs.now.net) pins.now) }
+    ensures tree { let costs = costs.now in
+        let price = price_of costs.capacity.now costs.loads.now costs.rule.now.formula costs.net in
+        IfOk result (IsFlatTree design.now.frame.shape price pins.now) }
     ensures tiles { IfOk result (HoldsTiles design.now.frame.shape pins.now) }
 {
     let tiles = distinct_tiles(alloc, design.frame().shape, pins)?;
@@ -91,9 +93,9 @@ fn join_point<C: Costs>(
     requires flat { IsFlat tree.old.shape (C.price costs.now) }
     requires inside { AreTilesIn tree.old.shape topology.now }
     requires point { point < length topology.now }
-    requires parent { IsTrue (holds tree.old (cell_of_tile tree.old.shape (place_of topology.now (parent_of topology.now point)))) }
+    requires parent { IsTrue (holds tree.old (cell_above tree.old.shape topology.now point)) }
     ensures tree { OnOk result (tree.new ≡ with_point tree.old.shape (C.price costs.now) topology.now tree.old point) }
-    ensures point { OnOk result (IsTrue (holds tree.new (cell_of_tile tree.old.shape (place_of topology.now point)))) }
+    ensures point { OnOk result (IsTrue (holds tree.new (cell_at_point tree.old.shape topology.now point))) }
     ensures kept { OnOk result ((cell : ℕ) → IsTrue (holds tree.old cell) → IsTrue (holds tree.new cell)) }
 {
     let walk = walk_up(alloc, costs, tree.shape(), topology, point)?;
@@ -114,7 +116,7 @@ fn walk_up<C: Costs>(
     requires inside { AreTilesIn shape topology.now }
     requires point { point < length topology.now }
     ensures walk { IfOk result (λ cells. cells ≡ walk_up shape (C.price costs.now) topology.now point) }
-    ensures direct { IfOk result (IsDirect shape (cell_of_tile shape (place_of topology.now point)) (cell_of_tile shape (place_of topology.now (parent_of topology.now point)))) }
+    ensures direct { IfOk result (IsDirect shape (cell_at_point shape topology.now point) (cell_above shape topology.now point)) }
 {
     let from = cell_of_tile(shape, topology.tile(point));
     let to = cell_of_tile(shape, topology.tile(topology.parent(point)));

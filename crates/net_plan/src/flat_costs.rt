@@ -1,8 +1,8 @@
 ghost use Rattle.std.specs.Prelude.{◌≡◌, ◌<◌, IsTrue};
-ghost use Rattle.gr_base.specs.Grid.{has_edge};
-ghost use Rattle.net_plan.specs.Prices.{HasPrices, kept_prices, price_of, ways_of};
-ghost use Rattle.layer_assign.specs.Assignments.{on_layer, IsFlat as IsFlattened};
-ghost use Rattle.net_plan.specs.FlatPrices.{lesser, flat_price, some_goes};
+ghost use Rattle.gr_base.specs.Grid.{has_edge, on_layer};
+ghost use Rattle.net_plan.specs.Prices.{kept_prices};
+ghost use Rattle.layer_assign.specs.Assignments.{IsFlat as IsFlattened};
+ghost use Rattle.net_plan.specs.FlatPrices.{lesser, flat_price_of, flat_ways_of, HasFlatPrices};
 
 use crate::net_costs::NetCosts;
 use cost_rules::Costs;
@@ -15,7 +15,8 @@ pub(crate) struct FlatCosts<'a> {
     pub(crate) costs: &'a NetCosts<'a>,
     pub(crate) shape: Shape,
     pub(crate) ghost flattened: { IsFlattened costs.now.capacity.now.shape shape },
-    pub(crate) ghost prices: { HasPrices shape (λ _. some_goes costs.now.capacity.now.shape (ways_of costs.now.capacity.now)) (flat_price costs.now.capacity.now.shape (price_of costs.now.capacity.now costs.now.loads.now costs.now.rule.now.formula costs.now.net)) },
+    pub(crate) ghost prices: { HasFlatPrices shape costs.now.capacity.now costs.now.loads.now
+        costs.now.rule.now.formula costs.now.net },
 }
 
 impl<'a> FlatCosts<'a> {
@@ -50,21 +51,21 @@ impl<'a> FlatCosts<'a> {
         ensures over { result ≡ on_layer self.now.costs.now.capacity.now.shape layer e }
         ensures edge { IsTrue (has_edge self.now.costs.now.capacity.now.shape result) }
     {
-        Edge {
-            low: layer * self.shape.cells() + e.low,
-            way: e.way,
-        }
+        self.costs.capacity.shape().edge_over(layer, e)
     }
 }
 
 impl Costs for FlatCosts<'_> {
     ghost grid = { λ c. c.shape };
 
-    ghost ways = { λ c _. some_goes c.costs.now.capacity.now.shape (ways_of c.costs.now.capacity.now) };
+    ghost ways = { λ c. flat_ways_of c.costs.now.capacity.now };
 
-    ghost price = { λ c. flat_price c.costs.now.capacity.now.shape (price_of c.costs.now.capacity.now c.costs.now.loads.now c.costs.now.rule.now.formula c.costs.now.net) };
+    ghost price = { λ c. flat_price_of c.costs.now.capacity.now c.costs.now.loads.now
+        c.costs.now.rule.now.formula c.costs.now.net };
 
-    ghost prices = { λ c. kept_prices c.shape (λ _. some_goes c.costs.now.capacity.now.shape (ways_of c.costs.now.capacity.now)) (flat_price c.costs.now.capacity.now.shape (price_of c.costs.now.capacity.now c.costs.now.loads.now c.costs.now.rule.now.formula c.costs.now.net)) c.prices };
+    ghost prices = { λ c. kept_prices c.shape (flat_ways_of c.costs.now.capacity.now)
+        (flat_price_of c.costs.now.capacity.now c.costs.now.loads.now c.costs.now.rule.now.formula c.costs.now.net)
+        c.prices };
 
     fn goes(&self, _layer: u32, way: Way) -> bool {
         for layer in 0..self.layers() {

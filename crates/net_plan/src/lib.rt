@@ -9,8 +9,6 @@ mod net_costs;
 mod order;
 mod pattern;
 mod pin_tiles;
-#[cfg(test)]
-mod tests;
 mod window;
 
 pub use maze::maze_plan;

@@ -1,12 +1,12 @@
 ghost use Rattle.std.specs.Prelude.{◌≡◌, ◌<◌, Some, All, IfOk, IsTrue, not, filter, length, slice_get};
 ghost use Rattle.gr_base.specs.Designs.{is_routed, pins_at};
-ghost use Rattle.gr_base.specs.Plans.{Routes};
+ghost use Rattle.gr_base.specs.Plans.{IsRouteOf};
 ghost use Rattle.gr_base.specs.Grid.{cells_of};
 ghost use Rattle.gr_base.specs.Trees.{TreeView, cell_at, holds, is_among};
 ghost use Rattle.gr_base.specs.declared.frame.Net.{Net};
 ghost use Rattle.grid_demand.specs.Tables.{capacity_of};
 ghost use Rattle.maze_route.specs.Windows.{IsWindow, IsPassable, LieIn};
-ghost use Rattle.net_plan.specs.Mazes.{missing, driver_tree, GrowsTo, IsMaze};
+ghost use Rattle.net_plan.specs.Mazes.{missing, driver_tree, GrowsTo, IsMaze, IsOnlyMaze};
 ghost use Rattle.net_plan.specs.Prices.{HasBoundedDemand};
 
 use crate::net_costs::NetCosts;
@@ -37,8 +37,9 @@ pub fn maze_plan(
     requires loads { loads.now.shape ≡ design.now.frame.shape }
     requires demand { HasBoundedDemand loads.now }
     ensures plan { IfOk result (IsMaze capacity.now loads.now rule.now.formula net (pins_at design.now net) margin) }
-    ensures only { IfOk result (λ t. (other : TreeView) → IsMaze capacity.now loads.now rule.now.formula net (pins_at design.now net) margin other → other ≡ t) }
-    ensures routes { (wanted : Net) → slice_get design.now.nets net ≡ Some wanted → IfOk result (Routes design.now.frame.shape wanted) }
+    ensures only { IfOk result (IsOnlyMaze capacity.now loads.now rule.now.formula net (pins_at design.now net) margin) }
+    ensures routes { (wanted : Net) → slice_get design.now.nets net ≡ Some wanted →
+        IfOk result (IsRouteOf design.now.frame.shape wanted) }
 {
     let costs = NetCosts::new(design, capacity, loads, net, rule);
     let shape = design.frame().shape;
@@ -94,15 +95,9 @@ fn others(alloc: Global, goals: &[u32], walk: &[u32]) -> Result<Vec<u32>, AllocE
 {
     let mut others = Vec::new(alloc);
     for &goal in goals {
-        if !is_among(walk, goal) {
+        if !walk.contains(&goal) {
             others.push(goal)?;
         }
     }
     Ok(others)
-}
-
-fn is_among(cells: &[u32], cell: u32) -> bool
-    ensures { result ≡ is_among cells.now cell }
-{
-    cells.iter().any(|&other| other == cell)
 }

@@ -2,14 +2,14 @@ ghost use Rattle.std.specs.Prelude.{◌≡◌, IsTrue};
 ghost use Rattle.cost_rules.specs.Formulas.{IsInRange};
 ghost use Rattle.gr_base.specs.Grid.{has_edge, is_wire};
 ghost use Rattle.grid_demand.specs.Tables.{capacity_of};
-ghost use Rattle.net_plan.specs.Prices.{HasBoundedDemand, HasPrices, kept_prices, site_of, price_of, ways_of};
+ghost use Rattle.net_plan.specs.Prices.{HasBoundedDemand, HasNetPrices, kept_prices, site_of, price_of, ways_of};
 
-use cost_rules::{CostRule, Costs, Site};
+use cost_rules::{CostRule, Costs, Site, VIA_COST};
 use gr_base::{Design, Edge, Frame, Way};
 use grid_demand::{Capacity, Loads};
 
-/// What the edges of a design's grid cost a net over given loads: a via edge 3, a usable wire edge
-/// what the rule gives at the edge's demand, capacity and marks and the net's need.
+/// What the edges of a design's grid cost a net over given loads: a via edge
+/// what each via edge costs, a usable wire edge what the rule gives at the edge's demand, capacity and marks and the net's need.
 #[derive(Clone, Copy)]
 pub(crate) struct NetCosts<'a> {
     pub(crate) frame: &'a Frame,
@@ -20,11 +20,8 @@ pub(crate) struct NetCosts<'a> {
     pub(crate) ghost layers: { frame.now.layers ≡ capacity.now.layers },
     pub(crate) ghost shape: { loads.now.shape ≡ capacity.now.shape },
     pub(crate) ghost bounded: { HasBoundedDemand loads.now },
-    pub(crate) ghost prices: { HasPrices capacity.now.shape (ways_of capacity.now) (price_of capacity.now loads.now rule.now.formula net) },
+    pub(crate) ghost prices: { HasNetPrices capacity.now loads.now rule.now.formula net },
 }
-
-/// What a via edge costs.
-const VIA_COST: u64 = 3;
 
 impl<'a> NetCosts<'a> {
     pub(crate) fn new(
@@ -74,7 +71,8 @@ impl Costs for NetCosts<'_> {
 
     ghost price = { λ c. price_of c.capacity.now c.loads.now c.rule.now.formula c.net };
 
-    ghost prices = { λ c. kept_prices c.capacity.now.shape (ways_of c.capacity.now) (price_of c.capacity.now c.loads.now c.rule.now.formula c.net) c.prices };
+    ghost prices = { λ c. kept_prices c.capacity.now.shape (ways_of c.capacity.now)
+        (price_of c.capacity.now c.loads.now c.rule.now.formula c.net) c.prices };
 
     fn goes(&self, layer: u32, way: Way) -> bool {
         let stated = self.frame.layers.get(layer as usize);

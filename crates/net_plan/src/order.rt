@@ -1,5 +1,5 @@
 ghost use Rattle.std.specs.Prelude.{◌≡◌, ◌<◌, length, IfOk, IfSome};
-ghost use Rattle.steiner_topology.specs.Spanning.{IsTree};
+ghost use Rattle.steiner_topology.specs.Spanning.{IsTopology};
 ghost use Rattle.net_plan.specs.Orders.{is_marked, is_due, next_due, order_of};
 
 use std::alloc::{AllocError, Global};
@@ -10,7 +10,7 @@ use steiner_topology::Topology;
 /// handled. It takes time in the square of the number of points. The only error is want of memory.
 pub(crate) fn order_of(alloc: Global, topology: &Topology) -> Result<Vec<u32>, AllocError>
     ensures order { IfOk result (λ order. order.items ≡ order_of topology.now) }
-    ensures tree { IsTree topology.now }
+    ensures tree { IsTopology topology.now }
 {
     let mut handled = vec![in alloc; false; topology.len() as usize]?;
     handled[0] = true;
@@ -27,7 +27,7 @@ fn next_due(topology: &Topology, handled: &[bool]) -> Option<u32>
     requires { length handled.now ≡ length topology.now }
     ensures due { result ≡ next_due topology.now (is_marked handled.now) }
     ensures inside { IfSome result (λ point. point < length topology.now) }
-    ensures tree { IsTree topology.now }
+    ensures tree { IsTopology topology.now }
 {
     for point in 0..topology.len() {
         if is_due(topology, handled, point) {

@@ -1,11 +1,11 @@
 ghost use Rattle.std.specs.Prelude.{◌≡◌, Some, slice_get, IfOk, IsTrue};
 ghost use Rattle.gr_base.specs.Designs.{is_routed, pins_at};
-ghost use Rattle.gr_base.specs.Plans.{Routes};
+ghost use Rattle.gr_base.specs.Plans.{IsRouteOf};
 ghost use Rattle.gr_base.specs.Trees.{TreeView, edges_of};
 ghost use Rattle.gr_base.specs.declared.frame.Net.{Net};
 ghost use Rattle.gr_base.specs.declared.grid.Edge.{Edge};
 ghost use Rattle.grid_demand.specs.Tables.{capacity_of};
-ghost use Rattle.net_plan.specs.Patterns.{IsPattern};
+ghost use Rattle.net_plan.specs.Patterns.{IsPattern, HasPatternEdges};
 ghost use Rattle.net_plan.specs.Prices.{HasBoundedDemand};
 
 use crate::flat::flat_tree;
@@ -37,8 +37,9 @@ pub fn pattern_plan(
     requires demand { HasBoundedDemand loads.now }
     ensures plan { IfOk result (IsPattern capacity.now loads.now rule.now.formula net (pins_at design.now net)) }
     // Another such plan has the same edges.
-    ensures only { IfOk result (λ t. (other : TreeView) → IsPattern capacity.now loads.now rule.now.formula net (pins_at design.now net) other → (e : Edge) → edges_of other e ≡ edges_of t e) }
-    ensures routes { (wanted : Net) → slice_get design.now.nets net ≡ Some wanted → IfOk result (Routes design.now.frame.shape wanted) }
+    ensures only { IfOk result (HasPatternEdges capacity.now loads.now rule.now.formula net (pins_at design.now net)) }
+    ensures routes { (wanted : Net) → slice_get design.now.nets net ≡ Some wanted →
+        IfOk result (IsRouteOf design.now.frame.shape wanted) }
 {
     plan_tree(alloc, design, capacity, loads, net, rule)
 }
@@ -57,7 +58,8 @@ fn plan_tree(
     requires loads { loads.now.shape ≡ design.now.frame.shape }
     requires demand { HasBoundedDemand loads.now }
     ensures plan { IfOk result (IsPattern capacity.now loads.now rule.now.formula net (pins_at design.now net)) }
-    ensures routes { (wanted : Net) → slice_get design.now.nets net ≡ Some wanted → IfOk result (Routes design.now.frame.shape wanted) }
+    ensures routes { (wanted : Net) → slice_get design.now.nets net ≡ Some wanted →
+        IfOk result (IsRouteOf design.now.frame.shape wanted) }
 {
     let costs = NetCosts::new(design, capacity, loads, net, rule);
     let pins = design.net(net).pins.as_slice();

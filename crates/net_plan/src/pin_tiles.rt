@@ -23,14 +23,15 @@ pub(crate) fn distinct_tiles(
     for &cell in cells {
         let place = shape.place_of(cell);
         let tile = (place.x, place.y);
-        if !is_among(&tiles, tile) {
+        if !has_tile(&tiles, tile) {
             tiles.push(tile)?;
         }
     }
     Ok(tiles)
 }
 
-fn is_among(tiles: &[Tile], tile: Tile) -> bool
+/// Whether one of some tiles is this one.
+fn has_tile(tiles: &[Tile], tile: Tile) -> bool
     ensures { result ≡ list_any (is_tile tile) tiles.now }
 {
     tiles

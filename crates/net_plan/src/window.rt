@@ -1,8 +1,8 @@
-ghost use Rattle.std.specs.Prelude.{◌≡◌, ◌<◌, All, length, min, max};
+ghost use Rattle.std.specs.Prelude.{◌≡◌, ◌<◌, All, length};
 ghost use Rattle.gr_base.specs.Grid.{cells_of};
 ghost use Rattle.net_plan.specs.Mazes.{box_of, window_of};
 
-use gr_base::{Cell, Shape};
+use gr_base::Shape;
 use maze_route::Window;
 
 /// The least box of columns and rows that holds a net's pins, grown by a margin on each side and
@@ -28,26 +28,14 @@ fn box_of(shape: Shape, cells: &[u32]) -> Window
     ensures { result ≡ box_of shape cells.now }
 {
     let first = shape.place_of(cells[0]);
-    let mut grown = Window {
+    let mut held = Window {
         x0: first.x,
         y0: first.y,
         x1: first.x,
         y1: first.y,
     };
     for &cell in cells {
-        grown = grown_to(grown, shape.place_of(cell));
+        held = held.with(shape.place_of(cell));
     }
-    grown
-}
-
-/// The least box that holds a box and a place.
-fn grown_to(window: Window, place: Cell) -> Window
-    ensures { result ≡ record { x0 = min window.x0 place.x; y0 = min window.y0 place.y; x1 = max window.x1 place.x; y1 = max window.y1 place.y } }
-{
-    Window {
-        x0: window.x0.min(place.x),
-        y0: window.y0.min(place.y),
-        x1: window.x1.max(place.x),
-        y1: window.y1.max(place.y),
-    }
+    held
 }

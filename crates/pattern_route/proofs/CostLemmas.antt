@@ -1,3 +1,4 @@
+-- What legs cost, one after another.
 use Rattle.std.proofs.Common.{◌≡◌, ◌≢◌, ℕ, zero, suc, ◌+◌, List, ◌++◌, Option, map, refl, sym, ap, subst, ◌∙◌, add_assoc, add-zero, zero-add, arith}
 use Rattle.std.proofs.lemmas.List.{map-append}
 use Rattle.gr_base.specs.declared.grid.Edge.{Edge}

@@ -1,3 +1,4 @@
+-- Walks by the lines of a span, and what a sweep over them knows.
 use Rattle.std.proofs.Common.{◌≡◌, ◌≢◌, ℕ, ◌+◌, ◌-◌, ◌*◌, ◌≤◌, ◌++◌, Option, refl, sym, ap, subst, ◌∙◌, arith}
 use Rattle.gr_base.specs.declared.grid.Cell.{Cell}
 use Rattle.gr_base.specs.declared.grid.Edge.{Edge}
@@ -9,18 +10,18 @@ use Rattle.pattern_route.specs.declared.line.Span.{Span}
 use Rattle.pattern_route.specs.declared.line.Sweep.{Sweep}
 use Rattle.pattern_route.specs.Steps.{toward}
 use Rattle.pattern_route.specs.Walks.{step_cost, cost_onward, walk_cost}
-use Rattle.pattern_route.specs.Lines.{across, cell_on, place_on, IsOn, IsBetween, along, leg_cost, leaving, crossing, arriving, SpanFits, walk_by, IsAtLine}
+use Rattle.pattern_route.specs.Lines.{across, line_cell, place_on, IsOn, IsBetween, along, leg_cost, leaving, crossing, arriving, SpanFits, walk_by, IsAtLine}
 use Rattle.pattern_route.proofs.StepLemmas.{between-next}
 use Rattle.pattern_route.proofs.CostLemmas.{leg-step, leg-then, leg-between, leg-one}
 use Rattle.pattern_route.proofs.LineLemmas.{on-between}
 
 -- a cell is on the line of either axis
-pub turned : (axis : Axis) (at place : ℕ) → cell_on (across axis) place at ≡ cell_on axis at place
+pub turned : (axis : Axis) (at place : ℕ) → line_cell (across axis) place at ≡ line_cell axis at place
 turned Columns at place = refl
 turned Rows at place = refl
 
-corner : (g : Shape) (axis : Axis) (start end from to : ℕ) → IsInside g (cell_on (across axis) from start) →
-    IsInside g (cell_on (across axis) to end) → IsInside g (cell_on (across axis) to start)
+corner : (g : Shape) (axis : Axis) (start end from to : ℕ) → IsInside g (line_cell (across axis) from start) →
+    IsInside g (line_cell (across axis) to end) → IsInside g (line_cell (across axis) to start)
 corner g Columns start end from to first last = record { column = first.column; row = last.row; layer = first.layer }
 corner g Rows start end from to first last = record { column = last.column; row = first.row; layer = first.layer }
 

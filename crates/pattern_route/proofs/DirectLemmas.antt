@@ -1,3 +1,4 @@
+-- Each flat walk goes away from its first cell by one step at a time.
 use Rattle.std.proofs.Common.{◌≡◌, ◌≢◌, ℕ, zero, suc, ◌+◌, ◌*◌, ◌<◌, inl, inr, false, ◌==◌, List, [], ◌∷◌, ◌++◌, Option, Some, None, All, map, min, if◌then◌else◌, refl, sym, ap, subst, ◌∙◌, zero-add, append-nil, arith}
 use Rattle.std.proofs.lemmas.Bool.{cases_lt, cases_eq}
 use Rattle.std.proofs.lemmas.Bool.Decides.{nat_tests}
@@ -13,7 +14,7 @@ use Rattle.pattern_route.specs.declared.line.Line.{Line}
 use Rattle.pattern_route.specs.declared.line.Span.{Span}
 use Rattle.pattern_route.specs.Steps.{toward, onward}
 use Rattle.pattern_route.specs.Walks.{by_column, by_row, flat_walk, walk_cost, cheaper, least_of, last_of, StepsOn, Recedes, IsDirect}
-use Rattle.pattern_route.specs.Lines.{across, cell_on, place_on, IsOn, IsBetween, along, span_of, leaving, crossing, arriving, SpanFits, walk_by}
+use Rattle.pattern_route.specs.Lines.{across, line_cell, place_on, IsOn, IsBetween, along, span_of, leaving, crossing, arriving, SpanFits, walk_by}
 use Rattle.pattern_route.proofs.StepLemmas.{onward-none, onward-step, step-cases, gap-toward, between-next}
 use Rattle.pattern_route.proofs.LineLemmas.{step-joined, next-on-line}
 use Rattle.pattern_route.proofs.CrossingLemmas.{turned, leaving-on, arriving-on, crossing-on-from, crossing-on-to}
@@ -83,7 +84,7 @@ leg-inside (suc n) g line from to steps from_on to_on =
     let Q : List ℕ → Type 0 = λ xs. All (λ cell. cell < cells_of g) (map place xs) in
     subst Q (sym (onward-step from to other))
     (All-cons (λ cell. cell < cells_of g) (place (toward from to)) (map place (onward (toward from to) to))
-    (number-below g (cell_on line.axis line.at (toward from to)) next_on)
+    (number-below g (line_cell line.axis line.at (toward from to)) next_on)
     (leg-inside n g line (toward from to) to (omega arith) next_on to_on))
 
 -- places on a line lie so far from a cell, and their distance along the line
@@ -131,9 +132,9 @@ apart p q = gap p.x q.x + gap p.y q.y + gap p.layer q.layer
 
 -- how far the cells of the lines are from a cell that the span sees
 pub record Sees (a : Cell) (span : Span) : Type 0 where
-  pub leaving : (p : ℕ) → apart a (cell_on (across span.axis) span.from p) ≡ gap span.start p
-  pub crossing : (at q : ℕ) → apart a (cell_on span.axis at q) ≡ gap span.start at + gap span.from q
-  pub arriving : (p : ℕ) → apart a (cell_on (across span.axis) span.to p) ≡ gap span.start p + gap span.from span.to
+  pub leaving : (p : ℕ) → apart a (line_cell (across span.axis) span.from p) ≡ gap span.start p
+  pub crossing : (at q : ℕ) → apart a (line_cell span.axis at q) ≡ gap span.start at + gap span.from q
+  pub arriving : (p : ℕ) → apart a (line_cell (across span.axis) span.to p) ≡ gap span.start p + gap span.from span.to
 
 sees : (axis : Axis) (a b : Cell) → a.layer ≡ 0 → Sees a (span_of axis a b)
 sees Columns a b level = record {
@@ -148,8 +149,8 @@ sees Rows a b level = record {
 }
 
 lies-on : (g : Shape) (a : ℕ) (line : Line) (p : ℕ) → IsOn g line p →
-    steps_between g a (place_on g line p) ≡ apart (place_at g a) (cell_on line.axis line.at p)
-lies-on g a line p on = ap (λ (c : Cell). apart (place_at g a) c) (place-number g (cell_on line.axis line.at p) on)
+    steps_between g a (place_on g line p) ≡ apart (place_at g a) (line_cell line.axis line.at p)
+lies-on g a line p on = ap (λ (c : Cell). apart (place_at g a) c) (place-number g (line_cell line.axis line.at p) on)
 
 through : (start at p end : ℕ) → IsBetween start at end → IsBetween at p end → gap start p ≡ gap start at + gap at p
 through start at p end first second = omega arith
@@ -213,7 +214,7 @@ direct-span g a span at fits between sees_it first =
       starts = ap (λ u. u ∷ rest) first;
       ends = ap (λ u. last_of u rest) (sym first) ∙ leg-ends (gap span.start at) left span.start at (leg_2 ++ leg_3) refl ∙ ends_2;
       inside =
-          All-cons In (left span.start) rest (number-below g (cell_on (across span.axis) span.from span.start) fits.start)
+          All-cons In (left span.start) rest (number-below g (line_cell (across span.axis) span.from span.start) fits.start)
           (All-append In leg_1 (leg_2 ++ leg_3) (leg-inside (gap span.start at) g (leaving span) span.start at refl fits.start left_on)
           (All-append In leg_2 leg_3 (leg-inside (gap span.from span.to) g (crossing span at) span.from span.to refl from_on to_on)
           (leg-inside (gap at span.end) g (arriving span) at span.end refl last_on fits.end)));

@@ -1,8 +1,10 @@
+-- Places on lines, and the edges between them.
 use Rattle.std.proofs.Common.{◌≡◌, ◌≢◌, ℕ, ◌+◌, ◌*◌, ◌<◌, ◌≤◌, inl, inr, Bool, false, ◌==◌, min, Option, Some, None, IsTrue, unwrap_or, if◌then◌else◌, refl, sym, ap, subst, ◌∙◌, arith}
 use Rattle.std.specs.Prelude.{option_and_then}
 use Rattle.std.proofs.Math.Nat.{le-mul_of_pos_right}
 use Rattle.std.proofs.lemmas.Bool.{cases_lt, cases_eq}
 use Rattle.std.proofs.lemmas.Bool.Decides.{nat_tests}
+use Rattle.gr_base.proofs.TreeEdges.{edge_of-swap}
 use Rattle.gr_base.specs.declared.grid.Cell.{Cell}
 use Rattle.gr_base.specs.declared.grid.Edge.{Edge}
 use Rattle.gr_base.specs.declared.grid.Shape.{Shape}
@@ -15,12 +17,12 @@ use Rattle.pattern_route.specs.declared.line.Axis.TheVariants.{Columns, Rows}
 use Rattle.pattern_route.specs.declared.line.Line.{Line}
 use Rattle.pattern_route.specs.Steps.{toward}
 use Rattle.pattern_route.specs.Walks.{step_cost}
-use Rattle.pattern_route.specs.Lines.{way_along, cell_on, place_on, IsOn, IsBetween}
+use Rattle.pattern_route.specs.Lines.{way_along, line_cell, place_on, IsOn, IsBetween}
 use Rattle.pattern_route.proofs.StepLemmas.{step-cases}
 
 -- a line has every place up to one that it has
 on-below : (g : Shape) (axis : Axis) (at less more : ℕ) → less ≤ more →
-    IsInside g (cell_on axis at more) → IsInside g (cell_on axis at less)
+    IsInside g (line_cell axis at more) → IsInside g (line_cell axis at less)
 on-below g Columns at less more below inside = record { column = inside.column; row = let r = inside.row in omega arith; layer = inside.layer }
 on-below g Rows at less more below inside = record { column = let c = inside.column in omega arith; row = inside.row; layer = inside.layer }
 
@@ -39,10 +41,10 @@ few-rows g y cell inside is =
     let grows : cell.layer * g.rows + cell.y ≤ (cell.layer * g.rows + cell.y) * g.columns = le-mul_of_pos_right (cell.layer * g.rows + cell.y) columns in
     omega arith
 
-few-in : (g : Shape) (axis : Axis) (at place : ℕ) → IsInside g (cell_on axis at place) → place < 8388608
-few-in g Columns at place inside = few-rows g place (cell_on Columns at place) inside refl
+few-in : (g : Shape) (axis : Axis) (at place : ℕ) → IsInside g (line_cell axis at place) → place < 8388608
+few-in g Columns at place inside = few-rows g place (line_cell Columns at place) inside refl
 few-in g Rows at place inside =
-    let number = number-below g (cell_on Rows at place) inside in
+    let number = number-below g (line_cell Rows at place) inside in
     let few = few_cells g in
     omega arith
 
@@ -64,45 +66,19 @@ joined-by g low high way low_in high_in is =
     let edge = edge-of-beyond g (number low) (number high) way (number-below g low low_in) (number-below g high high_in) place in
     record { edge = edge.0; joins = edge-beyond g (number low) (number high) way place (sym (edge.1)) }
 
-next-on : (axis : Axis) (at place : ℕ) → cell_on axis at (place + 1) ≡ beyond (cell_on axis at place) (way_along axis)
+next-on : (axis : Axis) (at place : ℕ) → line_cell axis at (place + 1) ≡ beyond (line_cell axis at place) (way_along axis)
 next-on Columns at place = refl
 next-on Rows at place = refl
 
 pub line-joined : (g : Shape) (line : Line) (place : ℕ) → IsOn g line place → IsOn g line (place + 1) →
     IsJoined g (place_on g line place) (place_on g line (place + 1)) (way_along line.axis)
 line-joined g line place on next =
-    joined-by g (cell_on line.axis line.at place) (cell_on line.axis line.at (place + 1)) (way_along line.axis) on next
+    joined-by g (line_cell line.axis line.at place) (line_cell line.axis line.at (place + 1)) (way_along line.axis) on next
     (next-on line.axis line.at place)
 
 pub wire-along : (low : ℕ) (axis : Axis) → IsTrue (is_wire (edge_at low (way_along axis)))
 wire-along low Columns = refl
 wire-along low Rows = refl
-
--- the edge between two cells is the edge between them the other way round
-same-test : (m n : ℕ) → (m == n) ≡ (n == m)
-same-test m n =
-    elim (cases_eq m n) [
-      | inl same ↦ let P : ℕ → Type 0 = λ k. (m == k) ≡ (k == m) in subst P same refl
-      | inr other ↦
-          let one : (m == n) ≡ false = grind (arith, nat_tests) in
-          let two : (n == m) ≡ false = grind (arith, nat_tests) in
-          one ∙ sym two
-    ]
-
-abbrev edge_by : ℕ → ℕ → Bool → Bool → Option Edge
-edge_by steps low same_x same_y =
-    if steps == 1 then Some (edge_at low (if same_x then (if same_y then Up else North) else East)) else None
-
-pub edge_of-swap : (g : Shape) (a b : ℕ) → edge_of g a b ≡ edge_of g b a
-edge_of-swap g a b =
-    let steps : steps_between g a b ≡ steps_between g b a = omega arith in
-    let low : min a b ≡ min b a = omega arith in
-    let p = place_at g a in
-    let q = place_at g b in
-    ap (λ s. edge_by s (min a b) (p.x == q.x) (p.y == q.y)) steps ∙
-    ap (λ l. edge_by (steps_between g b a) l (p.x == q.x) (p.y == q.y)) low ∙
-    ap (λ x. edge_by (steps_between g b a) (min b a) x (p.y == q.y)) (same-test p.x q.x) ∙
-    ap (λ y. edge_by (steps_between g b a) (min b a) (q.x == p.x) y) (same-test p.y q.y)
 
 -- the edge of a step along a line
 pub record IsStep (g : Shape) (line : Line) (from next low : ℕ) : Type 0 where

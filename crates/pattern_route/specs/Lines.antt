@@ -1,4 +1,6 @@
+-- Lines of tiles, and the walks of at most two bends as the lines of an axis see them.
 use Rattle.std.specs.Prelude.{◌≡◌, ℕ, ◌+◌, ◌*◌, ◌≤◌, List, ◌∷◌, ◌++◌, Option, map}
+use Rattle.cost_rules.specs.Formulas.{most_cost}
 use Rattle.gr_base.specs.declared.grid.Cell.{Cell}
 use Rattle.gr_base.specs.declared.grid.Edge.{Edge}
 use Rattle.gr_base.specs.declared.grid.Shape.{Shape}
@@ -24,17 +26,17 @@ abbrev pub way_along : Axis → Way
 way_along Columns = North
 way_along Rows = East
 
-abbrev pub cell_on : Axis → ℕ → ℕ → Cell
-cell_on Columns at place = record { x = at; y = place; layer = 0 }
-cell_on Rows at place = record { x = place; y = at; layer = 0 }
+abbrev pub line_cell : Axis → ℕ → ℕ → Cell
+line_cell Columns at place = record { x = at; y = place; layer = 0 }
+line_cell Rows at place = record { x = place; y = at; layer = 0 }
 
 -- the cell at a place on a line
 abbrev pub place_on : Shape → Line → ℕ → ℕ
-place_on g line place = number_of g (cell_on line.axis line.at place)
+place_on g line place = number_of g (line_cell line.axis line.at place)
 
 -- the line has this place in the grid
 abbrev pub IsOn : Shape → Line → ℕ → Type 0
-IsOn g line place = IsInside g (cell_on line.axis line.at place)
+IsOn g line place = IsInside g (line_cell line.axis line.at place)
 
 -- along a line from one place to another, without the first
 abbrev pub along : Shape → Line → ℕ → ℕ → List ℕ
@@ -85,8 +87,8 @@ pub record IsAtLine (g : Shape) (price : Edge → Option ℕ) (sweep : Sweep) : 
   pub between : IsBetween sweep.span.start sweep.at sweep.span.end
   pub left : sweep.left ≡ leg_cost g price (leaving sweep.span) sweep.span.start sweep.at
   pub to_come : sweep.to_come ≡ leg_cost g price (arriving sweep.span) sweep.at sweep.span.end
-  pub left_most : sweep.left ≤ 1048576 * gap sweep.span.start sweep.at
-  pub to_come_most : sweep.to_come ≤ 1048576 * gap sweep.span.start sweep.span.end
+  pub left_most : sweep.left ≤ most_cost * gap sweep.span.start sweep.at
+  pub to_come_most : sweep.to_come ≤ most_cost * gap sweep.span.start sweep.span.end
 
 -- the crossing is a line of the span's and knows what the walk by it costs
 pub record IsCrossing (g : Shape) (price : Edge → Option ℕ) (crossing : Crossing) : Type 0 where

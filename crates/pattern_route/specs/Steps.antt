@@ -1,3 +1,4 @@
+-- Steps from one number to another.
 use Rattle.std.specs.Prelude.{ℕ, zero, suc, ◌+◌, ◌-◌, List, [], ◌∷◌, nat_lt, if◌then◌else◌}
 use Rattle.gr_base.specs.Grid.{gap}
 

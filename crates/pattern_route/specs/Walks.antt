@@ -1,3 +1,4 @@
+-- Flat walks of at most two bends, what they cost, and the first of least cost.
 use Rattle.std.specs.Prelude.{◌≡◌, ℕ, ◌+◌, ◌<◌, ◌≤◌, List, [], ◌∷◌, ◌++◌, Option, All, IsTrue, IsSome, map, unwrap_or, option_and_then, nat_lt, if◌then◌else◌}
 use Rattle.gr_base.specs.declared.grid.Cell.{Cell}
 use Rattle.gr_base.specs.declared.grid.Edge.{Edge}

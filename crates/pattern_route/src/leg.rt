@@ -1,8 +1,9 @@
 ghost use Rattle.std.specs.Prelude.{◌≡◌, ◌≢◌, ◌+◌, ◌*◌, ◌≤◌, ◌++◌, OnOk, unwrap_or};
+ghost use Rattle.cost_rules.specs.Formulas.{most_cost};
 ghost use Rattle.gr_base.specs.Grid.{IsInside, gap, number_of};
 ghost use Rattle.pattern_route.specs.Steps.{toward};
 ghost use Rattle.pattern_route.specs.Walks.{IsFlat, step_cost};
-ghost use Rattle.pattern_route.specs.Lines.{IsOn, place_on, along, leg_cost, cell_on, way_along};
+ghost use Rattle.pattern_route.specs.Lines.{IsOn, place_on, along, leg_cost, line_cell, way_along};
 
 use crate::line::{Axis, Line};
 use cost_rules::Costs;
@@ -48,7 +49,7 @@ pub(crate) fn step_along<C: Costs>(costs: &C, shape: Shape, line: Line, from: u3
     requires apart { from ≢ to }
     ensures cost { let next = place_on shape line (toward from to) in
         result ≡ step_cost shape (C.price costs.now) (place_on shape line from) next }
-    ensures most { result ≤ 1048576 }
+    ensures most { result ≤ most_cost }
 {
     let low = from.min(one_toward(from, to));
     let edge = Edge {
@@ -68,7 +69,7 @@ pub(crate) fn cost_along<C: Costs>(costs: &C, shape: Shape, line: Line, from: u3
     requires from { IsOn shape line from }
     requires to { IsOn shape line to }
     ensures cost { result ≡ leg_cost shape (C.price costs.now) line from to }
-    ensures most { result ≤ 1048576 * gap from to }
+    ensures most { result ≤ most_cost * gap from to }
 {
     let mut cost = 0;
     let mut at = from;

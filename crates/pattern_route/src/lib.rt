@@ -5,7 +5,5 @@ mod crossing;
 mod flat;
 mod leg;
 mod line;
-#[cfg(test)]
-mod tests;
 
 pub use flat::pattern;

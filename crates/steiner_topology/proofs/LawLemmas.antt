@@ -1,3 +1,4 @@
+-- The laws of a whole topology, turn by turn.
 use Rattle.std.proofs.Common.{◌≡◌, ℕ, ◌+◌, ◌*◌, ◌<◌, ◌≤◌, List, length, fold, get_or, take, All, sym, ap, subst, ◌∙◌, arith}
 use Rattle.std.proofs.lemmas.List.{length-take, length-take-le, length-map, get_or-map, get_or-take, ext_get_or, take_all}
 use Rattle.std.proofs.lemmas.List.Elements.{All-take, All-weaker, All-get_or}
@@ -7,7 +8,7 @@ use Rattle.steiner_topology.specs.declared.point.Point.{Point}
 use Rattle.steiner_topology.specs.Tile.{Tile}
 use Rattle.steiner_topology.specs.Joins.{joins_of}
 use Rattle.steiner_topology.specs.Topology.{point, tiles_of, prim_points, handled, topology_of, wirelength}
-use Rattle.steiner_topology.specs.Spanning.{IsTree, IsShortest, total_span}
+use Rattle.steiner_topology.specs.Spanning.{IsTopology, IsShortest, total_span}
 use Rattle.steiner_topology.proofs.JoinLemmas.{length-joins_of}
 use Rattle.steiner_topology.proofs.TreeLemmas.{Grown, fold-grown, IsHandled}
 use Rattle.steiner_topology.proofs.PrimLemmas.{prim_points-tree, joins_of-handled}
@@ -28,7 +29,7 @@ grown-after tiles n some =
 pub record Standing (tiles : List Tile) (points : List Point) : Type 0 where
   pub many : length tiles ≤ length points
   pub few : length points < 2 * length tiles
-  pub tree : IsTree points
+  pub tree : IsTopology points
 
 pub standing : (tiles : List Tile) (points : List Point) (n : ℕ) → 0 < length tiles →
     points ≡ fold handled (prim_points tiles) (take n (joins_of tiles)) → Standing tiles points
@@ -73,7 +74,7 @@ grown-all tiles some =
     let G : List Join → Type 0 = λ xs. Grown (prim_points tiles) (length xs) (fold handled (prim_points tiles) xs) in
     subst G (take_all (length (joins_of tiles)) (joins_of tiles) (omega arith)) (grown-after tiles (length (joins_of tiles)) some)
 
-pub topology_of-tree : (tiles : List Tile) → 0 < length tiles → IsTree (topology_of tiles)
+pub topology_of-tree : (tiles : List Tile) → 0 < length tiles → IsTopology (topology_of tiles)
 topology_of-tree tiles some = let grown = grown-all tiles some in grown.tree
 
 pub length-topology_of : (tiles : List Tile) → 0 < length tiles → length (topology_of tiles) < 2 * length tiles

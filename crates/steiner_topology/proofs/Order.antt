@@ -1,4 +1,5 @@
-use Rattle.std.proofs.Common.{◌≡◌, ℕ, ◌<◌, ◌≤◌, ◌⊎◌, inl, inr, Bool, true, false, nat_lt, Option, Some, None, List, refl, sym, ap, ◌∙◌, arith}
+-- The order of pairs: it is transitive, and one of two comes first.
+use Rattle.std.proofs.Common.{◌≡◌, ℕ, ◌<◌, ◌≤◌, ◌⊎◌, inl, inr, Bool, true, false, nat_lt, Option, Some, None, List, refl, sym, ap, subst, ◌∙◌, arith}
 use Rattle.std.proofs.lemmas.Bool.{cases_order, cases_Bool, true≢false}
 use Rattle.std.proofs.lemmas.Bool.Decides.{nat_tests}
 use Rattle.steiner_topology.specs.declared.point.Join.{Join}
@@ -19,72 +20,63 @@ by_same a b rest same = grind (arith, nat_tests)
 abbrev by_three : ℕ → ℕ → ℕ → ℕ → ℕ → ℕ → Bool
 by_three a b c x y z = by_number a x (by_number b y (nat_lt c z))
 
--- what the test says in numbers
-yes_by : (a x : ℕ) (rest : Bool) → by_number a x rest ≡ true → (a < x) ⊎ ((a ≡ x) × (rest ≡ true))
-yes_by a x rest ok = elim (cases_order a x) [
-  | inl same ↦ inr (same, sym (by_same a x rest same) ∙ ok)
-  | inr (inl less) ↦ inl less
-  | inr (inr more) ↦ absurd (true≢false (sym ok ∙ by_more a x rest more))
-]
+-- the first number comes first, or the second
+abbrev Leans : Bool → ℕ → ℕ → Type 0
+Leans true a b = a < b
+Leans false a b = b < a
 
-no_by : (a x : ℕ) (rest : Bool) → by_number a x rest ≡ false → (x < a) ⊎ ((a ≡ x) × (rest ≡ false))
-no_by a x rest not_so = elim (cases_order a x) [
-  | inl same ↦ inr (same, sym (by_same a x rest same) ∙ not_so)
-  | inr (inl less) ↦ absurd (true≢false (sym (by_less a x rest less) ∙ not_so))
-  | inr (inr more) ↦ inl more
+leans-trans : (v : Bool) (a b c : ℕ) → Leans v a b → Leans v b c → Leans v a c
+leans-trans true a b c ab bc = omega arith
+leans-trans false a b c ab bc = omega arith
+
+by_leaning : (v : Bool) (a b : ℕ) (rest : Bool) → Leans v a b → by_number a b rest ≡ v
+by_leaning true a b rest less = by_less a b rest less
+by_leaning false a b rest more = by_more a b rest more
+
+-- what the test says in numbers
+says_by : (v : Bool) (a x : ℕ) (rest : Bool) → by_number a x rest ≡ v → Leans v a x ⊎ ((a ≡ x) × (rest ≡ v))
+says_by v a x rest is = elim (cases_order a x) [
+  | inl same ↦ inr (same, sym (by_same a x rest same) ∙ is)
+  | inr (inl less) ↦ inl (subst (λ (w : Bool). Leans w a x) (sym (by_less a x rest less) ∙ is) less)
+  | inr (inr more) ↦ inl (subst (λ (w : Bool). Leans w a x) (sym (by_more a x rest more) ∙ is) more)
 ]
 
 -- a test that is transitive by its last part is so by one number more
-trans_by : (a b c : ℕ) (p q r : Bool) → (p ≡ true → q ≡ true → r ≡ true) →
-    by_number a b p ≡ true → by_number b c q ≡ true → by_number a c r ≡ true
-trans_by a b c p q r step h k = elim (yes_by a b p h) [
-  | inl ab ↦ elim (yes_by b c q k) [
-    | inl bc ↦ by_less a c r (omega arith)
-    | inr bc ↦ let e = bc.0 in by_less a c r (omega arith)
+pub trans_by : (v : Bool) (a b c : ℕ) (p q r : Bool) → (p ≡ v → q ≡ v → r ≡ v) →
+    by_number a b p ≡ v → by_number b c q ≡ v → by_number a c r ≡ v
+trans_by v a b c p q r step h k = elim (says_by v a b p h) [
+  | inl ab ↦ elim (says_by v b c q k) [
+    | inl bc ↦ by_leaning v a c r (leans-trans v a b c ab bc)
+    | inr bc ↦ by_leaning v a c r (subst (λ (n : ℕ). Leans v a n) bc.0 ab)
   ]
-  | inr ab ↦ let d = ab.0 in elim (yes_by b c q k) [
-    | inl bc ↦ by_less a c r (omega arith)
-    | inr bc ↦ let e = bc.0 in by_same a c r (omega arith) ∙ step ab.1 bc.1
-  ]
-]
-
-pub back_by : (a b c : ℕ) (p q r : Bool) → (p ≡ false → q ≡ false → r ≡ false) →
-    by_number a b p ≡ false → by_number b c q ≡ false → by_number a c r ≡ false
-back_by a b c p q r step h k = elim (no_by a b p h) [
-  | inl ab ↦ elim (no_by b c q k) [
-    | inl bc ↦ by_more a c r (omega arith)
-    | inr bc ↦ let e = bc.0 in by_more a c r (omega arith)
-  ]
-  | inr ab ↦ let d = ab.0 in elim (no_by b c q k) [
-    | inl bc ↦ by_more a c r (omega arith)
-    | inr bc ↦ let e = bc.0 in by_same a c r (omega arith) ∙ step ab.1 bc.1
+  | inr ab ↦ elim (says_by v b c q k) [
+    | inl bc ↦ by_leaning v a c r (subst (λ (n : ℕ). Leans v n c) (sym ab.0) bc)
+    | inr bc ↦ by_same a c r (ab.0 ∙ bc.0) ∙ step ab.1 bc.1
   ]
 ]
 
 -- a test and its reverse
 pub asym_by : (a b : ℕ) (p q : Bool) → (p ≡ true → q ≡ false) → by_number a b p ≡ true → by_number b a q ≡ false
-asym_by a b p q step h = elim (yes_by a b p h) [
+asym_by a b p q step h = elim (says_by true a b p h) [
   | inl ab ↦ by_more b a q ab
   | inr ab ↦ by_same b a q (sym ab.0) ∙ step ab.1
 ]
 
 pub same_by : (a b : ℕ) (p q : Bool) → by_number a b p ≡ false → by_number b a q ≡ false → (a ≡ b) × (p ≡ false) × (q ≡ false)
-same_by a b p q h k = elim (no_by a b p h) [
-  | inl ab ↦ elim (no_by b a q k) [ inl ba ↦ absurd (omega arith) | inr ba ↦ let e = ba.0 in absurd (omega arith) ]
-  | inr ab ↦ let d = ab.0 in elim (no_by b a q k) [ inl ba ↦ absurd (omega arith) | inr ba ↦ (ab.0, ab.1, ba.1) ]
+same_by a b p q h k = elim (says_by false a b p h) [
+  | inl ab ↦ elim (says_by false b a q k) [ inl ba ↦ absurd (omega arith) | inr ba ↦ let e = ba.0 in absurd (omega arith) ]
+  | inr ab ↦ let d = ab.0 in elim (says_by false b a q k) [ inl ba ↦ absurd (omega arith) | inr ba ↦ (ab.0, ab.1, ba.1) ]
 ]
 
-pub before-trans : (tiles : List Tile) (p q r : Join) → is_before tiles p q ≡ true → is_before tiles q r ≡ true → is_before tiles p r ≡ true
-before-trans tiles p q r =
-    trans_by (span tiles p) (span tiles q) (span tiles r) (by_number p.point q.point (nat_lt p.parent q.parent)) (by_number q.point r.point (nat_lt q.parent r.parent)) (by_number p.point r.point (nat_lt p.parent r.parent))
-    (trans_by p.point q.point r.point (nat_lt p.parent q.parent) (nat_lt q.parent r.parent) (nat_lt p.parent r.parent)
-    (λ h k. grind (arith, nat_tests)))
+last_trans : (v : Bool) (a b c : ℕ) → nat_lt a b ≡ v → nat_lt b c ≡ v → nat_lt a c ≡ v
+last_trans true a b c ab bc = grind (arith, nat_tests)
+last_trans false a b c ab bc = grind (arith, nat_tests)
 
-pub before-back : (tiles : List Tile) (p q r : Join) → is_before tiles p q ≡ false → is_before tiles q r ≡ false → is_before tiles p r ≡ false
-before-back tiles p q r =
-    back_by (span tiles p) (span tiles q) (span tiles r) (by_number p.point q.point (nat_lt p.parent q.parent)) (by_number q.point r.point (nat_lt q.parent r.parent)) (by_number p.point r.point (nat_lt p.parent r.parent))
-    (back_by p.point q.point r.point (nat_lt p.parent q.parent) (nat_lt q.parent r.parent) (nat_lt p.parent r.parent)
-    (λ h k. grind (arith, nat_tests)))
+pub before-trans : (v : Bool) (tiles : List Tile) (p q r : Join) → is_before tiles p q ≡ v → is_before tiles q r ≡ v → is_before tiles p r ≡ v
+before-trans v tiles p q r =
+    trans_by v (span tiles p) (span tiles q) (span tiles r) (by_number p.point q.point (nat_lt p.parent q.parent)) (by_number q.point r.point (nat_lt q.parent r.parent)) (by_number p.point r.point (nat_lt p.parent r.parent))
+    (trans_by v p.point q.point r.point (nat_lt p.parent q.parent) (nat_lt q.parent r.parent) (nat_lt p.parent r.parent)
+    (last_trans v p.parent q.parent r.parent))
 
 pub before-asym : (tiles : List Tile) (p q : Join) → is_before tiles p q ≡ true → is_before tiles q p ≡ false
 before-asym tiles p q =
@@ -145,21 +137,21 @@ sooner_assoc tiles (Some p) (Some q) (Some r) = elim (cases_Bool (is_before tile
   | inl qp ↦ elim (cases_Bool (is_before tiles r q)) [
     | inl rq ↦
         rw (sooner-first tiles p q qp, sooner-first tiles q r rq)
-        (sym (sooner-first tiles p r (before-trans tiles r q p rq qp)))
+        (sym (sooner-first tiles p r (before-trans true tiles r q p rq qp)))
     | inr rq ↦ rw (sooner-first tiles p q qp, sooner-kept tiles q r rq) (sym (sooner-first tiles p q qp))
   ]
   | inr qp ↦ elim (cases_Bool (is_before tiles r q)) [
     | inl rq ↦ rw (sooner-kept tiles p q qp, sooner-first tiles q r rq) refl
     | inr rq ↦
         rw (sooner-kept tiles p q qp, sooner-kept tiles q r rq)
-        (sooner-kept tiles p r (before-back tiles r q p rq qp) ∙ sym (sooner-kept tiles p q qp))
+        (sooner-kept tiles p r (before-trans false tiles r q p rq qp) ∙ sym (sooner-kept tiles p q qp))
   ]
 ]
 
 -- a pair that doesn't come before another isn't shorter
 pub before-span : (tiles : List Tile) (p q : Join) → is_before tiles p q ≡ false → span tiles q ≤ span tiles p
 before-span tiles p q later =
-    elim (no_by (span tiles p) (span tiles q) (by_number p.point q.point (nat_lt p.parent q.parent)) later) [
+    elim (says_by false (span tiles p) (span tiles q) (by_number p.point q.point (nat_lt p.parent q.parent)) later) [
       | inl less ↦ omega arith
       | inr same ↦ let e = same.0 in omega arith
     ]

@@ -1,3 +1,4 @@
+-- Prim's tree as points is a tree.
 use Rattle.std.proofs.Common.{◌≡◌, ℕ, zero, suc, ◌-◌, ◌<◌, inl, inr, true, false, Option, Some, None, IfSome, List, [], ◌∷◌, ◌++◌, length, fold, get_or, All, sum_by, refl, sym, ap, subst, ◌∙◌, arith}
 use Rattle.std.proofs.lemmas.Bool.{cases_eq, true≢false}
 use Rattle.std.proofs.lemmas.Bool.Decides.{nat_tests}
@@ -9,7 +10,7 @@ use Rattle.steiner_topology.specs.declared.point.Point.{Point}
 use Rattle.steiner_topology.specs.Tile.{Tile, distance, tile_at}
 use Rattle.steiner_topology.specs.Joins.{span, soonest, is_joined, open_pairs, with_join, joins_after, joins_of}
 use Rattle.steiner_topology.specs.Topology.{point, place_of, parent_of, hung, loose_points, with_pair, prim_points, wirelength}
-use Rattle.steiner_topology.specs.Spanning.{Leads, root, up, IsTree, total_span}
+use Rattle.steiner_topology.specs.Spanning.{LeadsUp, root, over, IsTopology, total_span}
 use Rattle.steiner_topology.proofs.JoinLemmas.{IsOpen, next-if, joins_after-all, joins_of-joined, is_joined-same, is_joined-other, above}
 use Rattle.steiner_topology.proofs.TopologyLemmas.{length-loose}
 use Rattle.steiner_topology.proofs.TreeLemmas.{place_of-hung, parent_of-hung_same, parent_of-hung_other, length-hung, sum_by-same, wire_of, sum-hung, IsHandled}
@@ -21,7 +22,7 @@ record Joining (tiles : List Tile) (joins : List Join) (points : List Point) : T
   loose : (v : ℕ) → v < length tiles → is_joined joins v ≡ false → parent_of points v ≡ v
   top : parent_of points 0 ≡ 0
   inside : All (λ p. p.parent < length points) points
-  leads : (v : ℕ) → v < length tiles → is_joined joins v ≡ true → Leads points v
+  leads : (v : ℕ) → v < length tiles → is_joined joins v ≡ true → LeadsUp points v
   wires : wirelength points ≡ total_span tiles joins
 
 -- at first
@@ -57,21 +58,21 @@ joining-first tiles some =
       top = parent 0 some;
       inside = All-from_get_or (λ p. p.parent < length points) points none inside;
       leads = λ v below joined.
-          let L : ℕ → Type 0 = λ n. Leads points n in
+          let L : ℕ → Type 0 = λ n. LeadsUp points n in
           let is : v ≡ 0 = grind (arith, nat_tests) in
           subst L (sym is) root;
       wires = sum_by-none (wire_of (place_of points)) points (All-from_get_or (λ p. wire_of (place_of points) p ≡ 0) points none wires);
     }
 
 -- hanging a loose point elsewhere keeps who leads to point 0
-leads-hung : (points : List Point) (v b : ℕ) → v < length points → parent_of points v ≡ v → (u : ℕ) → Leads points u → Leads (hung points v b) u
+leads-hung : (points : List Point) (v b : ℕ) → v < length points → parent_of points v ≡ v → (u : ℕ) → LeadsUp points u → LeadsUp (hung points v b) u
 leads-hung points v b below own _ root = root
-leads-hung points v b below own _ (up u rest) =
-    let L : ℕ → Type 0 = λ n. Leads (hung points v b) n in
-    let led : Leads (hung points v b) (parent_of points u) = leads-hung points v b below own (parent_of points u) rest in
+leads-hung points v b below own _ (over u rest) =
+    let L : ℕ → Type 0 = λ n. LeadsUp (hung points v b) n in
+    let led : LeadsUp (hung points v b) (parent_of points u) = leads-hung points v b below own (parent_of points u) rest in
     elim (cases_eq u v) [
       | inl is ↦ subst L (ap (parent_of points) is ∙ own ∙ sym is) led
-      | inr other ↦ up u (subst L (sym (parent_of-hung_other points v b u other)) led)
+      | inr other ↦ over u (subst L (sym (parent_of-hung_other points v b u other)) led)
     ]
 
 joining-more : (tiles : List Tile) (joins : List Join) (points : List Point) (p : Join) → IsOpen tiles joins p → Joining tiles joins points →
@@ -89,9 +90,9 @@ joining-more tiles joins points p opens so_far =
     let not_j : (v : ℕ) → is_joined (joins ++ p ∷ []) v ≡ false → v ≡ j → ⊥ =
     λ v out is. true≢false (sym (is_joined-same joins p) ∙ ap (λ (n : ℕ). is_joined (joins ++ p ∷ []) n) (sym is) ∙ out) in
     let wide : (q : Point) → q.parent < length points → q.parent < length new = λ q below. omega arith in
-    let lead : (v : ℕ) → v < length tiles → is_joined joins v ≡ true → Leads new v = λ v below joined.
+    let lead : (v : ℕ) → v < length tiles → is_joined joins v ≡ true → LeadsUp new v = λ v below joined.
     leads-hung points j p.parent j_in own v (so_far.leads v below joined) in
-    let L : ℕ → Type 0 = λ n. Leads new n in
+    let L : ℕ → Type 0 = λ n. LeadsUp new n in
     let places : (v : ℕ) → place_of new v ≡ place_of points v = λ v. place_of-hung points j p.parent v j_in in
     let same : (q : Point) → wire_of (place_of new) q ≡ wire_of (place_of points) q = λ q. ap (distance q.tile) (places q.parent) in
     let wires_same : wirelength new ≡ sum_by (wire_of (place_of points)) new =
@@ -116,8 +117,8 @@ joining-more tiles joins points p opens so_far =
           All-set P points j (point (place_of points j) p.parent) (omega arith) was;
       leads = λ v below joined. elim (cases_eq v j) [
         | inl is ↦
-            let on : Leads new (parent_of new j) = subst L (sym (parent_of-hung_same points j p.parent j_in)) (lead p.parent parent_inside opens.parent_joined) in
-            subst L (sym is) (up j on)
+            let on : LeadsUp new (parent_of new j) = subst L (sym (parent_of-hung_same points j p.parent j_in)) (lead p.parent parent_inside opens.parent_joined) in
+            subst L (sym is) (over j on)
         | inr other ↦ lead v below (sym (is_joined-other joins p v other) ∙ joined)
       ];
       wires = omega (arith, wires_same, change, nothing, way, total, before);
@@ -142,7 +143,7 @@ joining-after (suc n) tiles joins so_far =
 
 -- Prim's tree as points
 pub record IsPrimTree (tiles : List Tile) (points : List Point) : Type 0 where
-  pub tree : IsTree points
+  pub tree : IsTopology points
   pub size : length points ≡ length tiles
   pub places : (v : ℕ) → v < length tiles → place_of points v ≡ tile_at tiles v
   pub wires : wirelength points ≡ total_span tiles (joins_of tiles)

@@ -1,3 +1,4 @@
+-- The topology of three tiles is as short as any tree that joins them.
 use Rattle.std.proofs.Common.{◌≡◌, ℕ, zero, suc, ◌+◌, ◌-◌, ◌<◌, ◌≤◌, ◌⊎◌, inl, inr, min, max, Bool, true, false, ◌||◌, ◌==◌, Option, Some, None, List, [], ◌∷◌, ◌++◌, length, fold, refl, sym, ap, subst, ◌∙◌, arith}
 use Rattle.std.proofs.lemmas.Bool.{cases_eq, cases_Bool, true≢false}
 use Rattle.std.proofs.lemmas.Bool.Decides.{nat_tests}
@@ -6,8 +7,8 @@ use Rattle.steiner_topology.specs.declared.point.Point.{Point}
 use Rattle.gr_base.specs.Grid.{gap}
 use Rattle.steiner_topology.specs.Tile.{Tile, distance, middle, tile_at}
 use Rattle.steiner_topology.specs.Joins.{pair, soonest, is_joined, open_pairs, joins_after, joins_of}
-use Rattle.steiner_topology.specs.Topology.{loose_points, with_pair, handled, topology_of, wirelength}
-use Rattle.steiner_topology.specs.Spanning.{Reaches, begin, Spans, IsTree, IsLeast, total_span}
+use Rattle.steiner_topology.specs.Topology.{loose_points, with_pair, is_neighbour, saving, handled, topology_of, wirelength}
+use Rattle.steiner_topology.specs.Spanning.{Reaches, begin, Spans, IsTopology, IsLeast, total_span}
 use Rattle.steiner_topology.proofs.MedianLemmas.{spread, half_round, meets-round, distance-sym}
 use Rattle.steiner_topology.proofs.JoinLemmas.{IsOpen, next-open, next-none, joins_after-more}
 use Rattle.steiner_topology.proofs.Order.{same_pair}
@@ -198,9 +199,9 @@ round_last a b c = sums (spread a.0 c.0 b.0) (spread a.1 c.1 b.1) (spread a.0 b.
 abbrev points_by : List Tile → List Join → List Point
 points_by tiles joins = fold with_pair (loose_points tiles) joins
 
-tree_by : (tiles : List Tile) (joins : List Join) → 0 < length tiles → joins_of tiles ≡ joins → IsTree (points_by tiles joins)
+tree_by : (tiles : List Tile) (joins : List Join) → 0 < length tiles → joins_of tiles ≡ joins → IsTopology (points_by tiles joins)
 tree_by tiles joins some are =
-    let T : List Join → Type 0 = λ xs. IsTree (points_by tiles xs) in
+    let T : List Join → Type 0 = λ xs. IsTopology (points_by tiles xs) in
     let prim = prim_points-tree tiles some in
     subst T are prim.tree
 
@@ -211,13 +212,39 @@ topology_by tiles joins are = ap (λ (xs : List Join). fold handled (points_by t
 no_way : (t : Tile) → distance t t ≡ 0
 no_way t = omega arith
 
--- two points that hang on one share what they can
-shared : (points new : List Point) (a b c : Tile) → wirelength points ≡ distance b b + distance a b + distance c b →
-    wirelength new + distance b (middle a b c) ≤ wirelength points → wirelength new ≤ half_round a b c
-shared points new a b c wires saves =
+no_more : (a : ℕ) {b c : ℕ} → a ≤ b → b ≡ c → a ≤ c
+no_more a ab bc = omega arith
+
+-- what is left after the second join is handled
+last_turned : (tiles : List Tile) (p q : Join) (bound : ℕ) → joins_of tiles ≡ p ∷ q ∷ [] →
+    wirelength (handled (handled (points_by tiles (p ∷ q ∷ [])) p) q) ≤ bound → wirelength (topology_of tiles) ≤ bound
+last_turned tiles p q bound are small =
+    let W : ℕ → Type 0 = λ n. n ≤ bound in
+    subst W (sym (ap wirelength (topology_by tiles (p ∷ q ∷ []) are))) small
+
+-- two points that hang on one share what they can once the first is handled
+turned : (points : List Point) (p : Join) (k : ℕ) (a b c : Tile) → IsTopology points → p.point < length points → 0 < p.point →
+    k < length points → is_neighbour points p.point k ≡ true → saving points p.point k ≡ distance b (middle a b c) →
+    wirelength points ≡ distance b b + distance a b + distance c b → wirelength (handled points p) ≤ half_round a b c
+turned points p k a b c tree inside above near neighbour saved wires =
+    let done = handled-tree points p tree inside above in
+    let saves = done.saves k near neighbour in
     let round = meets-round a b c in
     let nothing = no_way b in
-    omega (arith, wires, saves, round, nothing)
+    omega (arith, wires, saves, saved, round, nothing)
+
+-- to handle the second join too makes nothing longer
+both_turned : (tiles : List Tile) (p q : Join) (bound : ℕ) → joins_of tiles ≡ p ∷ q ∷ [] → 0 < length tiles →
+    p.point < length (points_by tiles (p ∷ q ∷ [])) → 0 < p.point →
+    q.point < length (points_by tiles (p ∷ q ∷ [])) → 0 < q.point →
+    wirelength (handled (points_by tiles (p ∷ q ∷ [])) p) ≤ bound → wirelength (topology_of tiles) ≤ bound
+both_turned tiles p q bound are some p_in p_above q_in q_above small =
+    let points = points_by tiles (p ∷ q ∷ []) in
+    let first = handled-tree points p (tree_by tiles (p ∷ q ∷ []) some are) p_in p_above in
+    let many = first.many in
+    let second = handled-tree (handled points p) q first.tree (omega arith) q_above in
+    let shorter = second.shorter in
+    last_turned tiles p q bound are (omega arith)
 
 swapped : (w z x y : ℕ) → w ≡ 0 + z + x + y → w ≡ z + y + x
 swapped w z x y is = omega arith
@@ -231,71 +258,46 @@ swapped-sum w z x y is = omega arith
 chained : (w z x y z' y' : ℕ) → w ≡ 0 + z + x + y → z ≡ 0 → z' ≡ 0 → y ≡ y' → w ≡ z' + x + y'
 chained w z x y z' y' is none none' same = omega arith
 
-at_most : (a b c d : ℕ) → a ≤ b → b ≤ c → c ≡ d → a ≤ d
-at_most a b c d ab bc cd = omega arith
-
--- what is left after the second join is handled
-last_turn : (tiles : List Tile) (p q : Join) (bound : ℕ) → joins_of tiles ≡ p ∷ q ∷ [] →
-    wirelength (handled (handled (points_by tiles (p ∷ q ∷ [])) p) q) ≤ bound → wirelength (topology_of tiles) ≤ bound
-last_turn tiles p q bound are small =
-    let W : ℕ → Type 0 = λ n. n ≤ bound in
-    subst W (sym (ap wirelength (topology_by tiles (p ∷ q ∷ []) are))) small
-
 -- both hang on point 0
 star : (t0 t1 t2 : Tile) → joins_of (t0 ∷ t1 ∷ t2 ∷ []) ≡ pair 1 0 ∷ pair 2 0 ∷ [] → wirelength (topology_of (t0 ∷ t1 ∷ t2 ∷ [])) ≤ half_round t0 t1 t2
 star t0 t1 t2 are =
     let tiles : List Tile = t0 ∷ t1 ∷ t2 ∷ [] in
-    let joins : List Join = pair 1 0 ∷ pair 2 0 ∷ [] in
-    let points = points_by tiles joins in
-    let first = handled-tree points (pair 1 0) (tree_by tiles joins (omega arith) are) (omega arith) (omega arith) in
-    let one = handled points (pair 1 0) in
-    let many = first.many in
-    let second = handled-tree one (pair 2 0) first.tree (omega arith) (omega arith) in
+    let points = points_by tiles (pair 1 0 ∷ pair 2 0 ∷ []) in
+    let tree = tree_by tiles (pair 1 0 ∷ pair 2 0 ∷ []) (omega arith) are in
     let wires = straight (wirelength points) (distance t0 t0) (distance t1 t0) (distance t2 t0) refl in
-    last_turn tiles (pair 1 0) (pair 2 0) (half_round t0 t1 t2) are
-    (at_most (wirelength (handled one (pair 2 0))) (wirelength one) (half_round t1 t0 t2) (half_round t0 t1 t2) second.shorter
-    (shared points one t1 t0 t2 wires (first.saves 2 (omega arith) refl)) (round_first t0 t1 t2))
+    let first = turned points (pair 1 0) 2 t1 t0 t2 tree (omega arith) (omega arith) (omega arith) refl refl wires in
+    both_turned tiles (pair 1 0) (pair 2 0) (half_round t0 t1 t2) are (omega arith) (omega arith) (omega arith) (omega arith) (omega arith)
+    (no_more (wirelength (handled points (pair 1 0))) first (round_first t0 t1 t2))
 
 star_back : (t0 t1 t2 : Tile) → joins_of (t0 ∷ t1 ∷ t2 ∷ []) ≡ pair 2 0 ∷ pair 1 0 ∷ [] → wirelength (topology_of (t0 ∷ t1 ∷ t2 ∷ [])) ≤ half_round t0 t1 t2
 star_back t0 t1 t2 are =
-    let tiles : List Tile = t0 ∷ t1 ∷ t2 ∷ [] in
-    let joins : List Join = pair 2 0 ∷ pair 1 0 ∷ [] in
-    let points = points_by tiles joins in
-    let first = handled-tree points (pair 2 0) (tree_by tiles joins (omega arith) are) (omega arith) (omega arith) in
-    let one = handled points (pair 2 0) in
-    let many = first.many in
-    let second = handled-tree one (pair 1 0) first.tree (omega arith) (omega arith) in
-    let wires = swapped (wirelength points) (distance t0 t0) (distance t1 t0) (distance t2 t0) refl in
-    last_turn tiles (pair 2 0) (pair 1 0) (half_round t0 t1 t2) are
-    (at_most (wirelength (handled one (pair 1 0))) (wirelength one) (half_round t2 t0 t1) (half_round t0 t1 t2) second.shorter
-    (shared points one t2 t0 t1 wires (first.saves 1 (omega arith) refl)) (round_first t0 t2 t1 ∙ round_last t0 t1 t2))
+    let points = points_by (t0 ∷ t1 ∷ t2 ∷ []) (pair 2 0 ∷ pair 1 0 ∷ []) in
+    let first = turned points (pair 2 0) 1 t2 t0 t1 (tree_by (t0 ∷ t1 ∷ t2 ∷ []) (pair 2 0 ∷ pair 1 0 ∷ []) (omega arith) are)
+    (omega arith) (omega arith) (omega arith) refl refl (swapped (wirelength points) (distance t0 t0) (distance t1 t0) (distance t2 t0) refl) in
+    both_turned (t0 ∷ t1 ∷ t2 ∷ []) (pair 2 0) (pair 1 0) (half_round t0 t1 t2) are (omega arith) (omega arith) (omega arith) (omega arith) (omega arith)
+    (no_more (wirelength (handled points (pair 2 0))) first (round_first t0 t2 t1 ∙ round_last t0 t1 t2))
 
 -- one hangs on the other
 chain : (t0 t1 t2 : Tile) → joins_of (t0 ∷ t1 ∷ t2 ∷ []) ≡ pair 1 0 ∷ pair 2 1 ∷ [] → wirelength (topology_of (t0 ∷ t1 ∷ t2 ∷ [])) ≤ half_round t0 t1 t2
 chain t0 t1 t2 are =
     let tiles : List Tile = t0 ∷ t1 ∷ t2 ∷ [] in
-    let joins : List Join = pair 1 0 ∷ pair 2 1 ∷ [] in
-    let points = points_by tiles joins in
-    let second = handled-tree points (pair 2 1) (tree_by tiles joins (omega arith) are) (omega arith) (omega arith) in
-    let two = handled points (pair 2 1) in
+    let points = points_by tiles (pair 1 0 ∷ pair 2 1 ∷ []) in
+    let tree = tree_by tiles (pair 1 0 ∷ pair 2 1 ∷ []) (omega arith) are in
     let wires = chained (wirelength points) (distance t0 t0) (distance t2 t1) (distance t1 t0) (distance t1 t1) (distance t0 t1)
     (swapped-sum (wirelength points) (distance t0 t0) (distance t1 t0) (distance t2 t1) refl) (no_way t0) (no_way t1) (distance-sym t1 t0) in
-    last_turn tiles (pair 1 0) (pair 2 1) (half_round t0 t1 t2) are
-    (at_most (wirelength two) (wirelength two) (half_round t2 t1 t0) (half_round t0 t1 t2) (omega arith)
-    (shared points two t2 t1 t0 wires (second.saves 0 (omega arith) refl)) (round_last t2 t0 t1 ∙ round_first t0 t2 t1 ∙ round_last t0 t1 t2))
+    let second = turned points (pair 2 1) 0 t2 t1 t0 tree (omega arith) (omega arith) (omega arith) refl refl wires in
+    last_turned tiles (pair 1 0) (pair 2 1) (half_round t0 t1 t2) are
+    (no_more (wirelength (handled points (pair 2 1))) second (round_last t2 t0 t1 ∙ round_first t0 t2 t1 ∙ round_last t0 t1 t2))
 
 chain_back : (t0 t1 t2 : Tile) → joins_of (t0 ∷ t1 ∷ t2 ∷ []) ≡ pair 2 0 ∷ pair 1 2 ∷ [] → wirelength (topology_of (t0 ∷ t1 ∷ t2 ∷ [])) ≤ half_round t0 t1 t2
 chain_back t0 t1 t2 are =
-    let tiles : List Tile = t0 ∷ t1 ∷ t2 ∷ [] in
-    let joins : List Join = pair 2 0 ∷ pair 1 2 ∷ [] in
-    let points = points_by tiles joins in
-    let second = handled-tree points (pair 1 2) (tree_by tiles joins (omega arith) are) (omega arith) (omega arith) in
-    let two = handled points (pair 1 2) in
+    let points = points_by (t0 ∷ t1 ∷ t2 ∷ []) (pair 2 0 ∷ pair 1 2 ∷ []) in
     let wires = chained (wirelength points) (distance t0 t0) (distance t1 t2) (distance t2 t0) (distance t2 t2) (distance t0 t2)
     refl (no_way t0) (no_way t2) (distance-sym t2 t0) in
-    last_turn tiles (pair 2 0) (pair 1 2) (half_round t0 t1 t2) are
-    (at_most (wirelength two) (wirelength two) (half_round t1 t2 t0) (half_round t0 t1 t2) (omega arith)
-    (shared points two t1 t2 t0 wires (second.saves 0 (omega arith) refl)) (round_last t1 t0 t2 ∙ round_first t0 t1 t2))
+    let second = turned points (pair 1 2) 0 t1 t2 t0 (tree_by (t0 ∷ t1 ∷ t2 ∷ []) (pair 2 0 ∷ pair 1 2 ∷ []) (omega arith) are)
+    (omega arith) (omega arith) (omega arith) refl refl wires in
+    last_turned (t0 ∷ t1 ∷ t2 ∷ []) (pair 2 0) (pair 1 2) (half_round t0 t1 t2) are
+    (no_more (wirelength (handled points (pair 1 2))) second (round_last t1 t0 t2 ∙ round_first t0 t1 t2))
 
 -- what the two joins can be
 abbrev Are : (a b c d x y z w : ℕ) → Type 0

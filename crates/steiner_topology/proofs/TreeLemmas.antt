@@ -1,3 +1,4 @@
+-- A branch makes a tree of a tree, and saves what it is to save.
 use Rattle.std.proofs.Common.{◌≡◌, ℕ, zero, suc, ◌+◌, ◌<◌, ◌≤◌, ◌⊎◌, inl, inr, Bool, true, false, not, ◌&&◌, ◌||◌, ◌==◌, nat_lt, Option, Some, None, IfSome, List, [], ◌∷◌, length, filter, fold, get_or, All, sum_by, refl, sym, ap, subst, ◌∙◌, arith}
 use Rattle.std.specs.List.{range_with_len}
 use Rattle.std.proofs.lemmas.Bool.{cases_lt, cases_eq, cases_Bool}
@@ -9,7 +10,7 @@ use Rattle.steiner_topology.specs.declared.point.Join.{Join}
 use Rattle.steiner_topology.specs.declared.point.Point.{Point}
 use Rattle.steiner_topology.specs.Tile.{Tile, distance}
 use Rattle.steiner_topology.specs.Topology.{point, place_of, parent_of, hung, is_neighbour, meeting, saving, better, best_neighbour, with_branch, branched, branched_if, handled, wirelength}
-use Rattle.steiner_topology.specs.Spanning.{Leads, root, up, IsTree}
+use Rattle.steiner_topology.specs.Spanning.{LeadsUp, root, over, IsTopology}
 use Rattle.steiner_topology.proofs.TopologyLemmas.{branched_if-yes, branched_if-no}
 use Rattle.steiner_topology.proofs.MedianLemmas.{meets, distance-sym}
 
@@ -128,14 +129,14 @@ with_branch-branches points tile upper lower j upper_in lower_in j_in apart insi
     }
 
 -- a walk up to point 0 goes over the parent
-leads-up : (points : List Point) (v : ℕ) → Leads points v → 0 < v → Leads points (parent_of points v)
+leads-up : (points : List Point) (v : ℕ) → LeadsUp points v → 0 < v → LeadsUp points (parent_of points v)
 leads-up points _ root above = absurd (omega arith)
-leads-up points _ (up v rest) above = rest
+leads-up points _ (over v rest) above = rest
 
 -- what is over point 0 isn't its own parent
-leads-apart : (points : List Point) (v : ℕ) → Leads points v → 0 < v → parent_of points v ≡ v → ⊥
+leads-apart : (points : List Point) (v : ℕ) → LeadsUp points v → 0 < v → parent_of points v ≡ v → ⊥
 leads-apart points _ root above same = absurd (omega arith)
-leads-apart points _ (up v rest) above same =
+leads-apart points _ (over v rest) above same =
     leads-apart points (parent_of points v) rest (omega arith) (ap (parent_of points) same)
 
 -- where the new point's ends hang
@@ -151,40 +152,40 @@ pub record Hangs (points : List Point) (upper lower j : ℕ) : Type 0 where
 
 -- who led to point 0 still does
 leads-branch : (points new : List Point) (tile : Tile) (upper lower j : ℕ) → Hangs points upper lower j → Branches points tile upper lower j new →
-    All (λ p. p.parent < length points) points → (v : ℕ) → Leads points v → v < length points → Leads new v
+    All (λ p. p.parent < length points) points → (v : ℕ) → LeadsUp points v → v < length points → LeadsUp new v
 leads-branch points new tile upper lower j hangs branch inside _ root below = root
-leads-branch points new tile upper lower j hangs branch inside _ (up v rest) below =
+leads-branch points new tile upper lower j hangs branch inside _ (over v rest) below =
     let parent_below : parent_of points v < length points = All-get_or (λ p. p.parent < length points) points v none below inside in
-    let led : Leads new (parent_of points v) = leads-branch points new tile upper lower j hangs branch inside (parent_of points v) rest parent_below in
-    let L : ℕ → Type 0 = λ n. Leads new n in
-    let over_upper : Leads new upper → Leads new (length points) = λ h. up (length points) (subst L (sym branch.parent) h) in
-    let over_lower : Leads new lower → Leads new (length points) = λ h. subst L branch.lower_parent (leads-up new lower h hangs.lower_above) in
+    let led : LeadsUp new (parent_of points v) = leads-branch points new tile upper lower j hangs branch inside (parent_of points v) rest parent_below in
+    let L : ℕ → Type 0 = λ n. LeadsUp new n in
+    let over_upper : LeadsUp new upper → LeadsUp new (length points) = λ h. over (length points) (subst L (sym branch.parent) h) in
+    let over_lower : LeadsUp new lower → LeadsUp new (length points) = λ h. subst L branch.lower_parent (leads-up new lower h hangs.lower_above) in
     elim (cases_eq v lower) [
       | inl is ↦
           let at_branch = over_upper (subst L (ap (parent_of points) is ∙ hangs.lower_hangs) led) in
-          up v (subst L (sym (ap (parent_of new) is ∙ branch.lower_parent)) at_branch)
+          over v (subst L (sym (ap (parent_of new) is ∙ branch.lower_parent)) at_branch)
       | inr not_lower ↦ elim (cases_eq v j) [
         | inl is ↦
-            let led_j : Leads new (parent_of points j) = subst L (ap (parent_of points) is) led in
-            let at_branch : Leads new (length points) = elim hangs.j_hangs [
+            let led_j : LeadsUp new (parent_of points j) = subst L (ap (parent_of points) is) led in
+            let at_branch : LeadsUp new (length points) = elim hangs.j_hangs [
               | inl on_upper ↦ over_upper (subst L on_upper led_j)
               | inr on_lower ↦ over_lower (subst L on_lower led_j)
             ] in
-            up v (subst L (sym (ap (parent_of new) is ∙ branch.j_parent)) at_branch)
-        | inr not_j ↦ up v (subst L (sym (branch.others v below not_lower not_j)) led)
+            over v (subst L (sym (ap (parent_of new) is ∙ branch.j_parent)) at_branch)
+        | inr not_j ↦ over v (subst L (sym (branch.others v below not_lower not_j)) led)
       ]
     ]
 
 -- a tree with a new point is a tree
 tree-branch : (points new : List Point) (tile : Tile) (upper lower j : ℕ) → Hangs points upper lower j → Branches points tile upper lower j new →
-    IsTree points → IsTree new
+    IsTopology points → IsTopology new
 tree-branch points new tile upper lower j hangs branch tree =
     let size = branch.size in
     let some = tree.some in
-    let L : ℕ → Type 0 = λ n. Leads new n in
+    let L : ℕ → Type 0 = λ n. LeadsUp new n in
     let above = hangs.lower_above in
     let above_j = hangs.j_above in
-    let old : (v : ℕ) → v < length points → Leads new v =
+    let old : (v : ℕ) → v < length points → LeadsUp new v =
     λ v below. leads-branch points new tile upper lower j hangs branch tree.parents v (tree.leads v below) below in
     record {
       some = omega arith;
@@ -194,7 +195,7 @@ tree-branch points new tile upper lower j hangs branch tree =
         | inl was ↦ old v was
         | inr past ↦
             let is : v ≡ length points = omega arith in
-            up v (subst L (sym (ap (parent_of new) is ∙ branch.parent)) (old upper hangs.upper_in))
+            over v (subst L (sym (ap (parent_of new) is ∙ branch.parent)) (old upper hangs.upper_in))
       ];
     }
 
@@ -210,7 +211,7 @@ numbers_of i q j parent back is = (
   λ same. grind (arith, nat_tests),
   λ same. grind (arith, nat_tests),
   elim (cases_eq parent q) [
-    | inl over ↦ inl over
+    | inl is_q ↦ inl is_q
     | inr other ↦ inr (grind (arith, nat_tests))
   ],
 )
@@ -224,7 +225,7 @@ rival points j q is =
     record { other = found.0; apart = found.1; joined = found.2 }
 
 -- a branch at a neighbour
-pub hangs-branched : (points : List Point) (j q : ℕ) → IsTree points → j < length points → 0 < j → q < length points → Rival points j q →
+pub hangs-branched : (points : List Point) (j q : ℕ) → IsTopology points → j < length points → 0 < j → q < length points → Rival points j q →
     (upper : ℕ) × (lower : ℕ) × Hangs points upper lower j × (branched points j q ≡ with_branch points (meeting points j q) upper lower j) ×
     (((upper ≡ q) × (lower ≡ parent_of points j)) ⊎ ((upper ≡ parent_of points j) × (lower ≡ q)))
 hangs-branched points j q tree j_in j_above q_in rival_q =
@@ -278,14 +279,26 @@ hangs-branched points j q tree j_in j_above q_in rival_q =
           )
     ]
 
+-- two points that are two others lie where those do
+same_ends : (points : List Point) (m : Tile) (lower upper a b : ℕ) → lower ≡ a → upper ≡ b →
+    (distance (place_of points lower) (place_of points upper) ≡ distance (place_of points a) (place_of points b)) ×
+    (distance (place_of points lower) m ≡ distance (place_of points a) m) ×
+    (distance m (place_of points upper) ≡ distance m (place_of points b))
+same_ends points m lower upper a b is_a is_b = (
+  ap (λ (v : ℕ). distance (place_of points v) (place_of points upper)) is_a ∙
+  ap (λ (v : ℕ). distance (place_of points a) (place_of points v)) is_b,
+  ap (λ (v : ℕ). distance (place_of points v) m) is_a,
+  ap (λ (v : ℕ). distance m (place_of points v)) is_b,
+)
+
 -- a branch makes a tree of a tree, and saves what it is to save
 pub record Saves (points : List Point) (j q : ℕ) (new : List Point) : Type 0 where
-  pub tree : IsTree new
+  pub tree : IsTopology new
   pub size : length new ≡ length points + 1
   pub places : (u : ℕ) → u < length points → place_of new u ≡ place_of points u
   pub wires : wirelength new + saving points j q ≡ wirelength points
 
-pub branched-saves : (points : List Point) (j q : ℕ) → IsTree points → j < length points → 0 < j → q < length points → Rival points j q →
+pub branched-saves : (points : List Point) (j q : ℕ) → IsTopology points → j < length points → 0 < j → q < length points → Rival points j q →
     Saves points j q (branched points j q)
 branched-saves points j q tree j_in j_above q_in rival_q =
     let found = hangs-branched points j q tree j_in j_above q_in rival_q in
@@ -308,20 +321,10 @@ branched-saves points j q tree j_in j_above q_in rival_q =
     ap (λ (v : ℕ). wirelength made + distance (place_of points lower) (place_of points v) + distance (place_of points j) (place_of points i)) (sym hangs.lower_hangs) ∙ branch.wires in
     let saved : wirelength made + saving points j q ≡ wirelength points = elim found.4 [
       | inl ends ↦
-          let same : (distance (place_of points lower) (place_of points upper) ≡ distance (place_of points i) (place_of points q)) ×
-          (distance (place_of points lower) m ≡ distance (place_of points i) m) × (distance m (place_of points upper) ≡ distance m (place_of points q)) = (
-            ap (λ (v : ℕ). distance (place_of points v) (place_of points upper)) ends.1 ∙ ap (λ (v : ℕ). distance (place_of points i) (place_of points v)) ends.0,
-            ap (λ (v : ℕ). distance (place_of points v) m) ends.1,
-            ap (λ (v : ℕ). distance m (place_of points v)) ends.0,
-          ) in
+          let same = same_ends points m lower upper i q ends.1 ends.0 in
           omega (arith, wires, same.0, same.1, same.2, left, right, swap_i, swap_q, swap_iq)
       | inr ends ↦
-          let same : (distance (place_of points lower) (place_of points upper) ≡ distance (place_of points q) (place_of points i)) ×
-          (distance (place_of points lower) m ≡ distance (place_of points q) m) × (distance m (place_of points upper) ≡ distance m (place_of points i)) = (
-            ap (λ (v : ℕ). distance (place_of points v) (place_of points upper)) ends.1 ∙ ap (λ (v : ℕ). distance (place_of points q) (place_of points v)) ends.0,
-            ap (λ (v : ℕ). distance (place_of points v) m) ends.1,
-            ap (λ (v : ℕ). distance m (place_of points v)) ends.0,
-          ) in
+          let same = same_ends points m lower upper q i ends.1 ends.0 in
           omega (arith, wires, same.0, same.1, same.2, left, right, swap_i, swap_q, swap_iq)
     ] in
     subst P (sym found.3) (record {
@@ -423,14 +426,14 @@ best_from-most points j p (suc n) b a v low high passes = elim (cases_eq v b) [
 
 -- what the handling of a point leaves
 pub record Handled (points : List Point) (j : ℕ) (new : List Point) : Type 0 where
-  pub tree : IsTree new
+  pub tree : IsTopology new
   pub many : length points ≤ length new
   pub few : length new ≤ length points + 1
   pub places : (u : ℕ) → u < length points → place_of new u ≡ place_of points u
   pub shorter : wirelength new ≤ wirelength points
   pub saves : (q : ℕ) → q < length points → is_neighbour points j q ≡ true → wirelength new + saving points j q ≤ wirelength points
 
-handled-none : (points : List Point) (j : ℕ) → IsTree points → ((q : ℕ) → q < length points → is_neighbour points j q ≡ true → saving points j q ≤ 0) →
+handled-none : (points : List Point) (j : ℕ) → IsTopology points → ((q : ℕ) → q < length points → is_neighbour points j q ≡ true → saving points j q ≤ 0) →
     Handled points j points
 handled-none points j tree none_saves = record {
   tree = tree;
@@ -441,7 +444,7 @@ handled-none points j tree none_saves = record {
   saves = λ q below is. let least = none_saves q below is in omega arith;
 }
 
-handled-cases : (points : List Point) (j : ℕ) (o : Option ℕ) → IsTree points → j < length points → 0 < j →
+handled-cases : (points : List Point) (j : ℕ) (o : Option ℕ) → IsTopology points → j < length points → 0 < j →
     IfSome o (λ q. (q < length points) × (is_neighbour points j q ≡ true)) →
     ((q : ℕ) → q < length points → is_neighbour points j q ≡ true → saving points j q ≤ saved points j o) →
     Handled points j (branched_if points j o)
@@ -467,7 +470,7 @@ handled-cases points j (Some q) tree j_in j_above found most =
           })
     ]
 
-pub handled-tree : (points : List Point) (p : Join) → IsTree points → p.point < length points → 0 < p.point →
+pub handled-tree : (points : List Point) (p : Join) → IsTopology points → p.point < length points → 0 < p.point →
     Handled points p.point (handled points p)
 handled-tree points p tree j_in j_above =
     let j = p.point in
@@ -478,7 +481,7 @@ handled-tree points p tree j_in j_above =
 
 -- what the handling of several points leaves
 pub record Grown (points : List Point) (n : ℕ) (new : List Point) : Type 0 where
-  pub tree : IsTree new
+  pub tree : IsTopology new
   pub many : length points ≤ length new
   pub few : length new ≤ length points + n
   pub places : (u : ℕ) → u < length points → place_of new u ≡ place_of points u
@@ -488,7 +491,7 @@ pub record Grown (points : List Point) (n : ℕ) (new : List Point) : Type 0 whe
 abbrev pub IsHandled : ℕ → Join → Type 0
 IsHandled k p = (p.point < k) × (0 < p.point)
 
-pub fold-grown : (points : List Point) (joins : List Join) → IsTree points → All (IsHandled (length points)) joins →
+pub fold-grown : (points : List Point) (joins : List Join) → IsTopology points → All (IsHandled (length points)) joins →
     Grown points (length joins) (fold handled points joins)
 fold-grown points [] tree all = record {
   tree = tree;

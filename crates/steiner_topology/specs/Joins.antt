@@ -1,3 +1,4 @@
+-- Prim's tree: which pair of points is joined next.
 use Rattle.std.specs.Prelude.{ℕ, zero, suc, ◌-◌, ◌<◌, Bool, ◌||◌, ◌==◌, nat_lt, if◌then◌else◌, Option, Some, None, List, [], ◌∷◌, ◌++◌, length, map, filter, flat_map}
 use Rattle.std.specs.List.{list_any, range_with_len}
 use Rattle.steiner_topology.specs.declared.point.Join.{Join}

@@ -1,3 +1,4 @@
+-- Trees between tiles: what spans them, what a topology is, and how short it is.
 use Rattle.std.specs.Prelude.{◌≡◌, ℕ, ◌<◌, ◌≤◌, ◌⊎◌, Bool, ◌==◌, IsTrue, List, ◌++◌, length, All, Contains, sum_by}
 use Rattle.steiner_topology.specs.declared.point.Join.{Join}
 use Rattle.steiner_topology.specs.declared.point.Point.{Point}
@@ -39,13 +40,13 @@ abbrev pub IsLeast : List Tile → List Point → Type 0
 IsLeast tiles points = (further : List Tile) → IsShortest (tiles ++ further) points
 
 -- over its parents the point leads to point 0
-pub data Leads (points : List Point) : ℕ → Type 0 where
-  root : Leads points 0
-  up : (v : ℕ) → Leads points (parent_of points v) → Leads points v
+pub data LeadsUp (points : List Point) : ℕ → Type 0 where
+  root : LeadsUp points 0
+  over : (v : ℕ) → LeadsUp points (parent_of points v) → LeadsUp points v
 
 -- the points make a tree: point 0 is its own parent, parents are points, and each point leads to point 0
-pub record IsTree (points : List Point) : Type 0 where
+pub record IsTopology (points : List Point) : Type 0 where
   pub some : 0 < length points
   pub top : parent_of points 0 ≡ 0
   pub parents : All (λ p. p.parent < length points) points
-  pub leads : (v : ℕ) → v < length points → Leads points v
+  pub leads : (v : ℕ) → v < length points → LeadsUp points v

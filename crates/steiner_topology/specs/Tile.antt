@@ -1,3 +1,4 @@
+-- Tiles, their distances, and the tile in the middle of three.
 use Rattle.std.specs.Prelude.{ℕ, ◌+◌, min, max, List, slice_index_or}
 use Rattle.gr_base.specs.Grid.{gap}
 

@@ -1,7 +1,7 @@
 ghost use Rattle.std.specs.Prelude.{◌≡◌, ◌+◌, ◌*◌, ◌<◌, ◌≤◌, ◌^◌, length, map, take, fold, All, IfOk};
 ghost use Rattle.steiner_topology.specs.Joins.{AreInside, joins_of};
 ghost use Rattle.steiner_topology.specs.Topology.{with_pair, loose_points, topology_of, wirelength, tiles_of};
-ghost use Rattle.steiner_topology.specs.Spanning.{IsTree, IsSpanningTree, IsShortest, IsLeast, total_span};
+ghost use Rattle.steiner_topology.specs.Spanning.{IsTopology, IsSpanningTree, IsShortest, IsLeast, total_span};
 
 use crate::branch::handle;
 use crate::children::child_lists;
@@ -20,7 +20,7 @@ pub fn topology(alloc: Global, tiles: &[Tile]) -> Result<Topology, AllocError>
     ensures exact { IfOk result (λ t. t ≡ topology_of tiles.now) }
 
     // The points are a tree: the tiles come first, and there are fewer further points than tiles.
-    ensures tree { IfOk result IsTree }
+    ensures tree { IfOk result IsTopology }
     ensures tiles { IfOk result (λ t. take (length tiles.now) (tiles_of t) ≡ tiles.now) }
     ensures len { IfOk result (λ t. length t < 2 * length tiles.now) }
 

@@ -7,8 +7,6 @@ mod build;
 mod children;
 mod point;
 mod prim;
-#[cfg(test)]
-mod tests;
 mod tile;
 mod tree;
 

@@ -1,6 +1,6 @@
 ghost use Rattle.std.specs.Prelude.{◌≡◌, ◌<◌, ◌^◌, List, vec_len, length};
 ghost use Rattle.steiner_topology.specs.declared.point.Point.{Point};
-ghost use Rattle.steiner_topology.specs.Spanning.{IsTree};
+ghost use Rattle.steiner_topology.specs.Spanning.{IsTopology};
 
 use crate::point::{Point, Tile};
 use std::marker::Model;
@@ -17,7 +17,7 @@ impl Model for Topology {
 
     ghost view = { λ t. t.points.items };
 
-    ghost invariant = { λ t. (vec_len t.points < 2 ^ 32) × IsTree t.points.items };
+    ghost invariant = { λ t. (vec_len t.points < 2 ^ 32) × IsTopology t.points.items };
 }
 
 impl Topology {
@@ -25,7 +25,7 @@ impl Topology {
 
     pub(crate) fn from_points(points: Vec<Point>) -> Self
         requires few { vec_len points < 2 ^ 32 }
-        requires tree { IsTree points.items }
+        requires tree { IsTopology points.items }
         ensures { result ≡ points.items }
     {
         Topology { points }
@@ -34,7 +34,7 @@ impl Topology {
     /// How many points there are: the tiles, and the points where branches meet.
     pub fn len(&self) -> u32
         ensures len { result ≡ length self.now }
-        ensures tree { IsTree self.now }
+        ensures tree { IsTopology self.now }
     {
         self.points.len() as u32
     }

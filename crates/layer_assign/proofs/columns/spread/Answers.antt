@@ -11,16 +11,16 @@ sink-requires-clause-free c = λ layer le lt.
     let g = c.args.tree.now.shape in
     let up = c.requires.below in
     let top = c.requires.high in
-    let grown : Grows c.args.tree.now c.rise.new.tree (in_column g c.args.tile (c.args.layer + 1) (c.args.span.high + 1)) (vias g c.args.tile c.args.layer c.args.span.high) = c.in_ok-rise.ensures in
-    subst (λ (s : Shape). holds c.rise.new.tree (cell_on s c.args.tile layer) ≡ false) (sym grown.shape)
-    (free_still c.args.tree.now c.rise.new.tree (in_column g c.args.tile (c.args.layer + 1) (c.args.span.high + 1)) (vias g c.args.tile c.args.layer c.args.span.high) (cell_on g c.args.tile layer) grown
+    let widened : Grows c.args.tree.now c.rise.new.tree (in_column g c.args.tile (c.args.layer + 1) (c.args.span.high + 1)) (vias g c.args.tile c.args.layer c.args.span.high) = c.in_ok-rise.ensures in
+    subst (λ (s : Shape). holds c.rise.new.tree (cell_on s c.args.tile layer) ≡ false) (sym widened.shape)
+    (free_still c.args.tree.now c.rise.new.tree (in_column g c.args.tile (c.args.layer + 1) (c.args.span.high + 1)) (vias g c.args.tile c.args.layer c.args.span.high) (cell_on g c.args.tile layer) widened
     (c.requires.free layer (λ e. omega arith) (omega arith)) (column-out g c.args.tile (c.args.layer + 1) (c.args.span.high + 1) layer c.requires.tile (λ a b. omega arith)))
 
 pub returns : goal.returns
 returns c =
     let g = c.args.tree.now.shape in
-    let grown : Grows c.args.tree.now c.rise.new.tree (in_column g c.args.tile (c.args.layer + 1) (c.args.span.high + 1)) (vias g c.args.tile c.args.layer c.args.span.high) = c.in_ok-rise.ensures in
+    let widened : Grows c.args.tree.now c.rise.new.tree (in_column g c.args.tile (c.args.layer + 1) (c.args.span.high + 1)) (vias g c.args.tile c.args.layer c.args.span.high) = c.in_ok-rise.ensures in
     on_ok-one c.sink.result _ _ c.sink.ensures
     (λ sunk.
-    spread-all g c.args.tree.now c.rise.new.tree c.sink.new.tree c.args.tile c.args.layer c.args.span c.requires.tile c.requires.above c.requires.below c.requires.on grown
-    (subst (λ (s : Shape). Sunk s c.rise.new.tree c.sink.new.tree c.args.tile c.args.layer c.args.span.low) grown.shape sunk))
+    spread-all g c.args.tree.now c.rise.new.tree c.sink.new.tree c.args.tile c.args.layer c.args.span c.requires.tile c.requires.above c.requires.below c.requires.on widened
+    (subst (λ (s : Shape). Sunk s c.rise.new.tree c.sink.new.tree c.args.tile c.args.layer c.args.span.low) widened.shape sunk))

@@ -5,7 +5,7 @@ use Rattle.gr_base.specs.declared.grid.Edge.{Edge}
 use Rattle.gr_base.specs.declared.grid.Shape.{Shape}
 use Rattle.gr_base.specs.declared.grid.Way.{Way}
 use Rattle.layer_assign.specs.declared.span.Span.{Span}
-use Rattle.layer_assign.specs.Spans.{IsWithin, span_in, spans_of}
+use Rattle.layer_assign.specs.Spans.{IsWithin, growing, spans_of}
 use Rattle.layer_assign.specs.Choices.{entry, FollowsFrom}
 use Rattle.layer_assign.specs.Tables.{HasRows}
 use Rattle.layer_assign.proofs.FlatLemmas.{parent-before}
@@ -30,8 +30,8 @@ loop-node-init g c =
     subst (λ (n : ℕ). HasRows c.args.shape.layers n c.in_ok-least.least.items) c.len-nodes.ensures.len c.in_ok-least.ensures.rows in
     chosen-none c.args.shape (g.C.Costs.ways c.args.costs.now) (g.C.Costs.price c.args.costs.now) c.args.flat.now c.args.pins.now c.in_ok-least.least.items c.in_ok-choices.choices.items
     c.len-nodes.result c.len-nodes.ensures.tree c.requires.pins.cells c.len-nodes.ensures.len rows
-    (rows_at (length c.in_ok-choices.choices.items) c.len-nodes.result (length c.args.flat.now.nodes) c.count.result (spans_of c.args.shape.layers)
-    (omega (arith, c.in_ok-choices.ensures.len, c.in_ok-choices.choices.ok.0)) c.len-nodes.ensures.len c.count.ensures.count)
+    (rows_at (length c.in_ok-choices.choices.items) c.len-nodes.result (length c.args.flat.now.nodes) c.spans_of.result (spans_of c.args.shape.layers)
+    (omega (arith, c.in_ok-choices.ensures.len, c.in_ok-choices.choices.ok.0)) c.len-nodes.ensures.len c.spans_of.ensures.count)
     (λ u s lt within. c.in_ok-least.ensures.climbs u s (omega (arith, c.len-nodes.ensures.len)) within)
 
 pub choose_layers-requires-clause-layer : goal.choose_layers-requires-clause-layer
@@ -46,7 +46,7 @@ choose_layers-requires-clause-base g c =
     let read = slice_get_read c.in_ok-spans.spans.items (length c.in_ok-spans.spans.items) (c.loop-node.node - 1) c.index-base.result.now refl (omega arith) c.index-base.ensures in
     let base : c.index-base.result.now ≡ pin_span c.args.shape c.args.flat.now c.args.pins.now (c.loop-node.node - 1) =
     sym (span-read c.in_ok-spans.spans.items (c.loop-node.node - 1) c.index-base.result.now read) ∙ c.in_ok-spans.ensures.spans (c.loop-node.node - 1) (omega arith) in
-    subst (λ (s : Span). IsWithin c.args.shape.layers s) (sym base) (pin_span-within c.args.shape c.args.flat.now c.args.pins.now (c.loop-node.node - 1) c.requires.pins.cells)
+    subst (λ (s : Option Span). IsWithin c.args.shape.layers s) (sym base) (pin_span-within c.args.shape c.args.flat.now c.args.pins.now (c.loop-node.node - 1) c.requires.pins.cells)
 
 pub choose_layers-requires-clause-own : goal.choose_layers-requires-clause-own
 choose_layers-requires-clause-own g c =
@@ -77,7 +77,7 @@ loop-node-preserved g c =
 
 pub follow-requires-clause-within : goal.follow-requires-clause-within
 follow-requires-clause-within g c = λ node below.
-    subst (λ (s : Span). IsWithin c.args.shape.layers s) (sym (c.in_ok-spans.ensures.spans node below))
+    subst (λ (s : Option Span). IsWithin c.args.shape.layers s) (sym (c.in_ok-spans.ensures.spans node below))
     (pin_span-within c.args.shape c.args.flat.now c.args.pins.now node c.requires.pins.cells)
 
 pub follow-requires-clause-below : goal.follow-requires-clause-below
@@ -97,9 +97,9 @@ returns g c =
     let best =
     chosen-best c.args.shape (g.C.Costs.ways c.args.costs.now) (g.C.Costs.price c.args.costs.now) c.args.flat.now c.args.pins.now c.loop-node.least.items c.loop-node.choices.items
     c.loop-node.node c.len-nodes.ensures.tree c.requires.pins.cells (omega arith) c.loop-node.invariant in
-    let at : (xs : List ℕ) → FollowsFrom c.args.flat.now (span_in c.in_ok-spans.spans.items) (entry c.args.shape.layers c.deref.result.now) (λ node. get_or xs node 0) →
-    FollowsFrom c.args.flat.now (span_in c.in_ok-spans.spans.items) (entry c.args.shape.layers c.loop-node.choices.items) (λ node. get_or xs node 0) =
-    λ xs follows. subst (λ (ys : List ℕ). FollowsFrom c.args.flat.now (span_in c.in_ok-spans.spans.items) (entry c.args.shape.layers ys) (λ node. get_or xs node 0)) c.deref.ensures.value follows in
+    let at : (xs : List ℕ) → FollowsFrom c.args.flat.now (growing c.in_ok-spans.spans.items) (entry c.args.shape.layers c.deref.result.now) (λ node. get_or xs node 0) →
+    FollowsFrom c.args.flat.now (growing c.in_ok-spans.spans.items) (entry c.args.shape.layers c.loop-node.choices.items) (λ node. get_or xs node 0) =
+    λ xs follows. subst (λ (ys : List ℕ). FollowsFrom c.args.flat.now (growing c.in_ok-spans.spans.items) (entry c.args.shape.layers ys) (λ node. get_or xs node 0)) c.deref.ensures.value follows in
     if_ok-both c.follow.result _ _ _ (λ layers count follows.
     followed c.args.shape (g.C.Costs.ways c.args.costs.now) (g.C.Costs.price c.args.costs.now) c.args.flat.now c.args.pins.now (entry c.args.shape.layers c.loop-node.choices.items)
     c.in_ok-spans.spans.items layers.items c.len-nodes.ensures.tree c.requires.pins.cells c.in_ok-spans.ensures.spans best count (at layers.items follows)) c.follow.ensures.count c.follow.ensures.follows

@@ -2,12 +2,12 @@ use Rattle.std.proofs.Common.{◌≡◌, ℕ, ◌+◌, ◌*◌, ◌/◌, ◌%◌
 use Rattle.gr_base.specs.Trees.{TreeView}
 use Rattle.gr_base.specs.declared.grid.Shape.{Shape}
 use Rattle.layer_assign.specs.declared.span.Span.{Span}
-use Rattle.layer_assign.specs.Assignments.{tiles_of, tile_of}
+use Rattle.layer_assign.specs.Assignments.{tile_count, tile_of}
 use Rattle.layer_assign.specs.Raised.{in_column, is_via_of, Grows}
 use Rattle.layer_assign.proofs.PlantLemmas.{planted-free, planted}
 use Rattle.layer_assign.proofs.raised.plant.Goals as goal
 
-tiles-at : (g : Shape) (columns rows : ℕ) → columns ≡ g.columns → rows ≡ g.rows → columns * rows ≡ tiles_of g
+tiles-at : (g : Shape) (columns rows : ℕ) → columns ≡ g.columns → rows ≡ g.rows → columns * rows ≡ tile_count g
 tiles-at g columns rows first second = ap (λ (n : ℕ). n * rows) first ∙ ap (λ (n : ℕ). g.columns * n) second
 
 spread-at : (g h : Shape) (old new : TreeView) (tile same : ℕ) (s : Span) → h ≡ g → tile ≡ same → Grows old new (in_column h tile s.low (s.high + 1)) (is_via_of h tile s) →

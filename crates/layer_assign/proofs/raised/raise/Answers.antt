@@ -29,7 +29,7 @@ returns-clause-pins c =
     (λ r raised.
     raised-pins c.args.shape c.args.flat.now c.args.pins.now a (span_in c.in_ok-spans.spans.items) (Some (get_or c.args.pins.now 0 0)) r c.requires.flat c.met_spans.ensures.tree c.requires.pins
     c.in_ok-spans.ensures.spans
-    (subst (λ (xs : List Span). IsRaised c.args.shape c.args.flat.now a (span_in xs) (Some (get_or c.args.pins.now 0 0)) (λ _. true) 0 r) c.deref.ensures.value raised)) c.raise_from.ensures
+    (subst (λ (xs : List Span). IsRaised c.args.shape c.args.flat.now a (span_in xs) (Some (get_or c.args.pins.now 0 0)) (λ _. true) 0 r) c.deref.ensures.value raised)) c.raise_from.ensures.raised
 
 pub returns-clause-edges : goal.returns-clause-edges
 returns-clause-edges c =
@@ -38,4 +38,4 @@ returns-clause-edges c =
     (λ r raised e.
     raised-edges c.args.shape c.args.flat.now c.args.pins.now a (span_in c.in_ok-spans.spans.items) (Some (get_or c.args.pins.now 0 0)) r c.met_spans.ensures.tree
     c.in_ok-spans.ensures.spans
-    (subst (λ (xs : List Span). IsRaised c.args.shape c.args.flat.now a (span_in xs) (Some (get_or c.args.pins.now 0 0)) (λ _. true) 0 r) c.deref.ensures.value raised) e) c.raise_from.ensures
+    (subst (λ (xs : List Span). IsRaised c.args.shape c.args.flat.now a (span_in xs) (Some (get_or c.args.pins.now 0 0)) (λ _. true) 0 r) c.deref.ensures.value raised) e) c.raise_from.ensures.raised

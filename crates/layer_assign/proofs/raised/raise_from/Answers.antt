@@ -5,13 +5,13 @@ use Rattle.gr_base.specs.declared.grid.Shape.{Shape}
 use Rattle.gr_base.proofs.TreeLemmas.{node_with-at, cell_at-within}
 use Rattle.layer_assign.specs.declared.span.Span.{Span}
 use Rattle.layer_assign.specs.Spans.{span_in}
-use Rattle.layer_assign.specs.Assignments.{tiles_of, tile_of}
+use Rattle.layer_assign.specs.Assignments.{tile_count, tile_of}
 use Rattle.layer_assign.specs.Raising.{is_done, IsColumn, IsRaised}
 use Rattle.layer_assign.proofs.RaisingLemmas.{done-set, done-kept}
 use Rattle.layer_assign.proofs.SpanLemmas.{raised-as, raised-column}
 use Rattle.layer_assign.proofs.raised.raise_from.Goals as goal
 
-tiles-at : (g : Shape) (columns rows : ℕ) → columns ≡ g.columns → rows ≡ g.rows → columns * rows ≡ tiles_of g
+tiles-at : (g : Shape) (columns rows : ℕ) → columns ≡ g.columns → rows ≡ g.rows → columns * rows ≡ tile_count g
 tiles-at g columns rows first second = ap (λ (n : ℕ). n * rows) first ∙ ap (λ (n : ℕ). g.columns * n) second
 
 none_done : (n u : ℕ) → is_done (replicate n false) u ≡ false
@@ -54,8 +54,8 @@ raise_others-requires-clause-raised c =
     raised-as c.raise_ancestors.new.tree.shape c.in_ok-tree.tree.shape t a (span_in c.args.spans.now) (cell_at c.raise_ancestors.new.tree.nodes 0) (cell_at c.in_ok-tree.tree.nodes 0)
     (is_done c.raise_ancestors.new.done.items) 0 c.raise_ancestors.new.tree (sym raised.shape) (sym raised.starts) raised
 
-pub returns : goal.returns
-returns c =
+pub returns-clause-raised : goal.returns-clause-raised
+returns-clause-raised c =
     let g = c.args.shape in
     let t = c.args.flat.now in
     let a : ℕ → ℕ = λ node. get_or c.args.layers.now node 0 in

@@ -14,5 +14,5 @@ loop-layer-init c = refl
 
 pub loop-layer-preserved : goal.loop-layer-preserved
 loop-layer-preserved c =
-    more (offer c.args.shape c.args.limbs.now c.args.least.now c.args.up c.args.span) c.loop-layer.best c.better_of-best.result c.offer_of.result c.loop-layer.layer
+    more (offer c.args.shape c.args.limbs.now c.args.least.now c.args.parent c.args.span) c.loop-layer.best c.better_of-best.result c.offer_of.result c.loop-layer.layer
     c.loop-layer.invariant c.offer_of.ensures c.better_of-best.ensures

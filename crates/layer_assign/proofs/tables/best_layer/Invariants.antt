@@ -3,4 +3,4 @@ use Rattle.layer_assign.specs.Tables.{offer, best_below}
 use Rattle.layer_assign.proofs.tables.best_layer.Given as goal
 
 abbrev pub invariant-loop-layer : goal.invariant-loop-layer
-invariant-loop-layer l = l.best ≡ best_below (offer l.shape l.limbs l.least l.up l.span) l.layer
+invariant-loop-layer l = l.best ≡ best_below (offer l.shape l.limbs l.least l.parent l.span) l.layer

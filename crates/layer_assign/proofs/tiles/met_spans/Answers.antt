@@ -1,16 +1,56 @@
-use Rattle.std.proofs.Common.{◌≡◌, ℕ, true, None, length, get_or, sym, ap, ◌∙◌, arith}
-use Rattle.layer_assign.specs.Spans.{span_by}
-use Rattle.layer_assign.specs.Assignments.{ends_at}
-use Rattle.layer_assign.proofs.Problems.{pin_span, met-span}
+use Rattle.std.proofs.Common.{◌≡◌, ℕ, ◌+◌, ◌<◌, ◌≤◌, suc, Bool, if◌then◌else◌, Option, Some, Result, Ok, Err, IfOk, IsSome, List, length, get_or, add-one, sym, ap, subst, ◌∙◌, arith}
+use Rattle.layer_assign.specs.declared.span.Span.{Span}
+use Rattle.layer_assign.specs.Spans.{widened, growing, span_in, span_of, span_by}
+use Rattle.layer_assign.specs.Assignments.{ends_at, met}
+use Rattle.layer_assign.proofs.Problems.{pin_span}
+use Rattle.layer_assign.proofs.SpanLemmas.{met-found, met-some}
 use Rattle.layer_assign.proofs.tiles.met_spans.Goals as goal
 
-pub returns-clause-spans : goal.returns-clause-spans
-returns-clause-spans c = λ node below.
+follow-ok : {X E : Type 0} (r : Result X E) (P Q : X → Type 0) → ((x : X) → P x → Q x) → IfOk r P → IfOk r Q
+follow-ok (Ok x) P Q step p = step x p
+follow-ok (Err e) P Q step p = tt
+
+pub whole_spans-requires : goal.whole_spans-requires
+whole_spans-requires c = λ node lt.
     let a : ℕ → ℕ = λ k. get_or c.args.layers.now k 0 in
     let end = c.loop-node-test.false in
     let most = c.loop-node.invariant.most in
     let long = c.len-node-end.ensures.len in
-    let same : c.loop-node.node ≡ length c.args.flat.now.nodes = omega arith in
-    c.loop-node.invariant.spans node below
-    ∙ ap (λ (k : ℕ). span_by (ends_at c.args.flat.now) (pin_span c.args.shape c.args.flat.now c.args.pins.now) a node k) same
-    ∙ sym (met-span c.args.shape (λ _ _. true) (λ _. None) c.args.flat.now c.args.pins.now a node (length c.args.flat.now.nodes))
+    let count = c.loop-node.invariant.count in
+    let inside : node < length c.args.flat.now.nodes = let h = ap (λ (xs : List (Option Span)). length xs) c.deref.ensures.value in omega (arith, h, lt, count) in
+    subst (λ (o : Option Span). IsSome o)
+    (sym (ap (λ (xs : List (Option Span)). growing xs node) c.deref.ensures.value
+    ∙ met-found c.args.shape c.args.flat.now c.args.pins.now a c.loop-node.spans.items c.loop-node.node (omega arith) c.loop-node.invariant.spans node inside))
+    (met-some c.args.shape c.args.flat.now c.args.pins.now a node c.len-node-end.ensures.tree c.requires.pins inside)
+
+pub loop-node-preserved : goal.loop-node-preserved
+loop-node-preserved c =
+    let lt = c.loop-node-test.true in
+    let long = c.len-node-end.ensures.len in
+    let a : ℕ → ℕ = λ k. get_or c.args.layers.now k 0 in
+    record {
+      later = omega arith;
+      most = omega arith;
+      count = c.grow_spans.ensures.count;
+      spans = λ node below.
+          let so_far = c.loop-node.invariant.spans node below in
+          let choose : Option Span → ℕ → Option Span = λ s layer. if ends_at c.args.flat.now node c.loop-node.node then widened s layer else s in
+          rw add-one
+          (c.grow_spans.ensures.spans node below
+          ∙ ap (λ (s : Option Span). choose s c.layer.result) so_far
+          ∙ ap (λ (k : ℕ). choose (span_by (ends_at c.args.flat.now) (pin_span c.args.shape c.args.flat.now c.args.pins.now) a node c.loop-node.node) k) c.layer.ensures);
+    }
+
+pub returns-clause-spans : goal.returns-clause-spans
+returns-clause-spans c =
+    let a : ℕ → ℕ = λ k. get_or c.args.layers.now k 0 in
+    let end = c.loop-node-test.false in
+    let most = c.loop-node.invariant.most in
+    let long = c.len-node-end.ensures.len in
+    let count = c.loop-node.invariant.count in
+    let same = ap (λ (xs : List (Option Span)). length xs) c.deref.ensures.value in
+    follow-ok c.whole_spans.result _ _
+    (λ whole each node lt.
+    each node (omega (arith, same, lt, count))
+    ∙ ap (λ (xs : List (Option Span)). growing xs node) c.deref.ensures.value
+    ∙ met-found c.args.shape c.args.flat.now c.args.pins.now a c.loop-node.spans.items c.loop-node.node (omega arith) c.loop-node.invariant.spans node lt) c.whole_spans.ensures.spans

@@ -1,6 +1,6 @@
 use Rattle.std.proofs.Common.{Some, get_or, refl}
 use Rattle.std.proofs.lemmas.Option.{slice_get-get_or}
-use Rattle.maze_route.proofs.SpreadSteps.{chain-place, least-start, least-turn, least-done, no_slot}
+use Rattle.maze_route.proofs.ChainSteps.{chain-place, least-start, least-turn, least-done, no_slot}
 use Rattle.maze_route.proofs.bucket.least_key.Goals as goal
 
 pub bounds-slots-first : goal.bounds-slots-first

@@ -1,5 +1,5 @@
 use Rattle.maze_route.proofs.LengthLemmas.{to_go}
-use Rattle.maze_route.proofs.SpreadSteps.{IsLeastSoFar}
+use Rattle.maze_route.proofs.ChainSteps.{IsLeastSoFar}
 use Rattle.maze_route.proofs.bucket.least_key.Given as goal
 
 abbrev pub invariant-loop-at : goal.invariant-loop-at

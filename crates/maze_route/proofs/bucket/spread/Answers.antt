@@ -1,7 +1,7 @@
 use Rattle.std.proofs.Common.{ℕ, List, Option, None, length, get_or, refl, arith}
 use Rattle.std.proofs.lemmas.Option.{slice_get_read}
 use Rattle.maze_route.specs.declared.slot.Slot.{Slot}
-use Rattle.maze_route.proofs.SpreadSteps.{chain-place, turn-any, turn-less}
+use Rattle.maze_route.proofs.ChainSteps.{chain-place, turn-any, turn-less}
 use Rattle.maze_route.proofs.bucket.spread.Goals as goal
 
 pub index-slot-requires : goal.index-slot-requires

@@ -3,7 +3,7 @@ use Rattle.std.proofs.lemmas.Option.{slice_get_read}
 use Rattle.maze_route.specs.Buckets.{head_at}
 use Rattle.maze_route.specs.declared.slot.Slot.{Slot}
 use Rattle.maze_route.proofs.KeepLemmas.{free-first}
-use Rattle.maze_route.proofs.SpreadSteps.{chain-place, head-read}
+use Rattle.maze_route.proofs.ChainSteps.{chain-place, head-read}
 use Rattle.maze_route.proofs.first.take_first.Goals as goal
 
 pub index-slot-requires : goal.index-slot-requires

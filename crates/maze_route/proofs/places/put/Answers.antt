@@ -1,7 +1,7 @@
 use Rattle.std.proofs.Common.{length, refl, arith}
 use Rattle.std.proofs.lemmas.Option.{slice_get_read}
 use Rattle.maze_route.proofs.PlaceLemmas.{put-free}
-use Rattle.maze_route.proofs.SpreadSteps.{chain-place}
+use Rattle.maze_route.proofs.ChainSteps.{chain-place}
 use Rattle.maze_route.proofs.places.put.Goals as goal
 
 pub index-requires : goal.index-requires

@@ -3,9 +3,9 @@ use Rattle.std.proofs.lemmas.Option.{same_Some, unwrap_or-slice_get}
 use Rattle.cost_rules.specs.Prices.{ArePrices}
 use Rattle.gr_base.specs.declared.grid.Edge.{Edge}
 use Rattle.gr_base.specs.declared.grid.Shape.{Shape}
-use Rattle.maze_route.specs.Spreads.{Spreads}
+use Rattle.maze_route.specs.Handing.{HandsOn}
 use Rattle.maze_route.specs.Steps.{size_of, rest_of, pane_graph}
-use Rattle.maze_route.proofs.SpreadLemmas.{pane-rest}
+use Rattle.maze_route.proofs.HandingLemmas.{pane-rest}
 use Rattle.maze_route.proofs.TurnLemmas.{taken-has, is-some, stale-turn, settled-turn, stop-turn, end-turn, left_of, spot-rest}
 use Rattle.maze_route.proofs.search.search.Goals as goal
 
@@ -60,7 +60,7 @@ loop-key-preserved g c =
     let prices = subst P c.requires.costs (g.met.C.Costs.prices c.args.costs.now) in
     let is = sym c.at.ensures ∙ c.unwrap-label.ensures in
     let rest = spot-rest c.args.pane c.args.aim c.spot-spot.result c.in-Some.cell c.distance_to.result c.spot-spot.ensures.spot c.spot-spot.ensures.local c.distance_to.ensures.tiles in
-    let S : ℕ → Type 0 = λ n. Spreads c.args.pane price c.args.aim n c.unwrap-label.result (left_of c.loop-key.front c.pop.new.self) c.settle.new.front in
+    let S : ℕ → Type 0 = λ n. HandsOn c.args.pane price c.args.aim n c.unwrap-label.result (left_of c.loop-key.front c.pop.new.self) c.settle.new.front in
     let spreads = subst S c.spot-spot.ensures.local c.in_ok-settle.ensures in
     let turn = settled-turn c.args.pane c.args.tree.now (g.C.Costs.ways c.args.costs.now) price c.args.aim c.args.marks.now c.loop-key.nearest c.nearest_with-nearest.result
     (get_or c.args.marks.now c.in-Some.cell false) c.loop-key.front c.settle.new.front c.pop.new.self c.in-Some.key c.in-Some.cell c.unwrap-label.result prices
@@ -75,7 +75,7 @@ loop-key-smaller g c =
     let prices = subst P c.requires.costs (g.met.C.Costs.prices c.args.costs.now) in
     let is = sym c.at.ensures ∙ c.unwrap-label.ensures in
     let rest = spot-rest c.args.pane c.args.aim c.spot-spot.result c.in-Some.cell c.distance_to.result c.spot-spot.ensures.spot c.spot-spot.ensures.local c.distance_to.ensures.tiles in
-    let S : ℕ → Type 0 = λ n. Spreads c.args.pane price c.args.aim n c.unwrap-label.result (left_of c.loop-key.front c.pop.new.self) c.settle.new.front in
+    let S : ℕ → Type 0 = λ n. HandsOn c.args.pane price c.args.aim n c.unwrap-label.result (left_of c.loop-key.front c.pop.new.self) c.settle.new.front in
     let spreads = subst S c.spot-spot.ensures.local c.in_ok-settle.ensures in
     let turn = settled-turn c.args.pane c.args.tree.now (g.C.Costs.ways c.args.costs.now) price c.args.aim c.args.marks.now c.loop-key.nearest c.nearest_with-nearest.result
     (get_or c.args.marks.now c.in-Some.cell false) c.loop-key.front c.settle.new.front c.pop.new.self c.in-Some.key c.in-Some.cell c.unwrap-label.result prices

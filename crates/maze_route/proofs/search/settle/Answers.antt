@@ -1,6 +1,6 @@
 use Rattle.std.proofs.Common.{◌≡◌, ℕ, Option, refl, subst, ◌∙◌}
 use Rattle.gr_base.specs.declared.grid.Way.TheVariants.{East, North, Up}
-use Rattle.maze_route.specs.Spreads.{IsReach}
+use Rattle.maze_route.specs.Handing.{IsReach}
 use Rattle.maze_route.specs.Steps.{ahead_of, behind_of}
 use Rattle.maze_route.specs.declared.front.Front.{Front}
 use Rattle.maze_route.specs.declared.pane.Step.{Step}

@@ -7,7 +7,7 @@ use Rattle.layer_assign.specs.Assignments.{HasLayers}
 use Rattle.layer_assign.specs.Raised.{raised_edges}
 use Rattle.net_plan.specs.FlatTrees.{IsFlatTree}
 use Rattle.net_plan.specs.Prices.{price_of, ways_of}
-use Rattle.net_plan.proofs.FlatLemmas.{if-three}
+use Rattle.net_plan.proofs.FlatLemmas.{if-three, if-both}
 use Rattle.net_plan.proofs.PlanLemmas.{has-layers, are-layers, are-pins, net-of, pins-of, same-plan, same-net}
 use Rattle.net_plan.proofs.pattern.plan_tree.Goals as goal
 
@@ -42,14 +42,15 @@ returns-clause-plan g c =
     let shape : s ≡ d.frame.shape = c.shape-shape.ensures.shape ∙ ap (λ (x : CapacityView). x.shape) c.requires.capacity in
     let is_flat : IsFlatTree s price cells flat = subst (λ (x : Shape). IsFlatTree x price cells flat) (sym shape) c.in_ok-flat.ensures.tree in
     let pins = c.as_slice-pins.ensures ∙ sym (pins-of d c.args.net c.net.result.now c.net.ensures.net) in
-    if-three {P = λ t. t.shape ≡ s} {Q = λ t. cell_at t.nodes 0 ≡ slice_get cells 0} {R = λ t. (e : Edge) → edges_of t e ≡ raised_edges s flat cells layers e} c.raise.result
-    (λ t same driver edges.
+    if-three {P = λ t. IsTree t × (t.shape ≡ s)} {Q = λ t. cell_at t.nodes 0 ≡ slice_get cells 0} {R = λ t. (e : Edge) → edges_of t e ≡ raised_edges s flat cells layers e} c.raise.result
+    (λ t whole driver edges.
     same-plan s costs.capacity.now c.args.capacity.now costs.loads.now c.args.loads.now costs.rule.now.formula c.args.rule.now.formula costs.net c.args.net cells _ t
     c.shape-shape.ensures.shape c.new-costs.ensures.capacity c.new-costs.ensures.loads c.new-costs.ensures.formula c.new-costs.ensures.net pins (record {
-      shape = same;
+      tree = whole.0;
+      shape = whole.1;
       driver = driver;
       flat = flat;
-      tree = subst IsTree c.flat.view_is c.flat.invariant;
+      flat_tree = subst IsTree c.flat.view_is c.flat.invariant;
       layers = layers;
       is_flat = is_flat;
       assignment = c.in_ok-layers.ensures.assignment;
@@ -57,7 +58,7 @@ returns-clause-plan g c =
       first = c.in_ok-layers.ensures.first;
       edges = edges;
     }))
-    c.raise.ensures.shape c.raise.ensures.driver c.raise.ensures.edges
+    (if-both {P = IsTree} {Q = λ t. t.shape ≡ s} c.raise.result (λ t rooted same. (rooted, same)) c.raise.ensures.tree c.raise.ensures.shape) c.raise.ensures.driver c.raise.ensures.edges
 
 pub returns-clause-routes : goal.returns-clause-routes
 returns-clause-routes g c =

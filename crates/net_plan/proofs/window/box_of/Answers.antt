@@ -8,10 +8,10 @@ loop-cell-init c = box-first c.args.shape c.args.cells.now c.place_of-first.resu
 pub loop-cell-preserved : goal.loop-cell-preserved
 loop-cell-preserved c =
     let test = c.loop-cell-test.true in
-    box-more c.args.shape c.args.cells.now c.loop-cell.cell-index 0 c.place_of.result c.loop-cell.grown c.grown_to-grown.result (omega arith) c.place_of.ensures.place
-    c.grown_to-grown.ensures c.loop-cell.invariant
+    box-more c.args.shape c.args.cells.now c.loop-cell.cell-index 0 c.place_of.result c.loop-cell.held c.with-held.result (omega arith) c.place_of.ensures.place
+    c.with-held.ensures c.loop-cell.invariant
 
 pub returns : goal.returns
 returns c =
     let test = c.loop-cell-test.false in
-    box-whole c.args.shape c.args.cells.now c.loop-cell.cell-index c.loop-cell.grown (omega arith) c.loop-cell.invariant
+    box-whole c.args.shape c.args.cells.now c.loop-cell.cell-index c.loop-cell.held (omega arith) c.loop-cell.invariant

@@ -3,7 +3,7 @@ use Rattle.std.specs.declared.alloc.AllocError.{AllocError}
 use Rattle.steiner_topology.specs.declared.point.Point.{Point}
 use Rattle.steiner_topology.specs.Joins.{joins_of}
 use Rattle.steiner_topology.specs.Topology.{topology_of, wirelength, tiles_of}
-use Rattle.steiner_topology.specs.Spanning.{IsTree, IsShortest, IsLeast, total_span}
+use Rattle.steiner_topology.specs.Spanning.{IsTopology, IsShortest, IsLeast, total_span}
 use Rattle.steiner_topology.proofs.LawLemmas.{topology_of-tree, topology_of-tiles, length-topology_of, topology_of-prim, topology_of-shortest}
 use Rattle.steiner_topology.proofs.JoinLemmas.{length-joins_of}
 use Rattle.steiner_topology.proofs.SpanningLemmas.{joins_of-spans}
@@ -18,7 +18,7 @@ on_ok (Err e) all P is holds = tt
 pub returns-clause-tree : goal.returns-clause-tree
 returns-clause-tree c =
     let tiles = c.args.tiles.now in
-    on_ok c.build.result (topology_of tiles) IsTree c.build.ensures (topology_of-tree tiles c.requires.some)
+    on_ok c.build.result (topology_of tiles) IsTopology c.build.ensures (topology_of-tree tiles c.requires.some)
 
 pub returns-clause-tiles : goal.returns-clause-tiles
 returns-clause-tiles c =

@@ -4,7 +4,7 @@ use Rattle.std.specs.List.{filter_map}
 use Rattle.maze_route.specs.Buckets.{pair_in}
 use Rattle.maze_route.specs.Queues.{QueueView, Pops}
 use Rattle.maze_route.proofs.KeepLemmas.{nothing-waits}
-use Rattle.maze_route.proofs.SpreadSteps.{head-read}
+use Rattle.maze_route.proofs.ChainSteps.{head-read}
 use Rattle.maze_route.proofs.queue.BucketQueue.pop.Goals as goal
 
 pub returns-in_err-bucket : goal.returns-in_err-bucket

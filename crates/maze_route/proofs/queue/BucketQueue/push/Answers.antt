@@ -2,7 +2,7 @@ use Rattle.std.proofs.Common.{ℕ, ◌≤◌, None, true, get_or, refl, sym, ap,
 use Rattle.maze_route.specs.Queues.{QueueView}
 use Rattle.maze_route.specs.declared.slot.Slot.{Slot}
 use Rattle.maze_route.proofs.KeepLemmas.{push-keeps}
-use Rattle.maze_route.proofs.SpreadSteps.{head-read}
+use Rattle.maze_route.proofs.ChainSteps.{head-read}
 use Rattle.maze_route.proofs.queue.BucketQueue.push.Goals as goal
 
 pub invariant_of-self-2 : goal.invariant_of-self-2

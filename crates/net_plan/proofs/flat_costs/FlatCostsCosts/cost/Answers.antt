@@ -1,8 +1,8 @@
 use Rattle.std.proofs.Common.{ap, ◌∙◌}
 use Rattle.net_plan.specs.Prices.{price_of}
-use Rattle.layer_assign.specs.Assignments.{on_layer}
 use Rattle.net_plan.proofs.FlatPriceLemmas.{least-more}
 use Rattle.net_plan.proofs.flat_costs.FlatCostsCosts.cost.Goals as goal
+use Rattle.gr_base.specs.Grid.{on_layer}
 
 pub loop-layer-preserved : goal.loop-layer-preserved
 loop-layer-preserved g c =

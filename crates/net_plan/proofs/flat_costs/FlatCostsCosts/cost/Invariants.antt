@@ -1,9 +1,9 @@
 use Rattle.std.proofs.Common.{◌≡◌, None, map, fold}
 use Rattle.std.specs.List.{range_with_len}
 use Rattle.net_plan.specs.Prices.{price_of}
-use Rattle.layer_assign.specs.Assignments.{on_layer}
 use Rattle.net_plan.specs.FlatPrices.{lesser}
 use Rattle.net_plan.proofs.flat_costs.FlatCostsCosts.cost.Given as goal
+use Rattle.gr_base.specs.Grid.{on_layer}
 
 abbrev pub invariant-loop-layer : goal.invariant-loop-layer
 invariant-loop-layer g l =

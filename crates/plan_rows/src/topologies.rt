@@ -1,7 +1,6 @@
-use crate::tile::distance;
-use crate::{Point, Tile, Topology, topology};
 use std::alloc::{AllocError, Global};
 use std::test::Fail;
+use steiner_topology::{Point, Tile, Topology, topology};
 
 /// The topology's points, by its methods.
 fn points_of(alloc: Global, topology: &Topology) -> Result<Vec<Point>, AllocError> {
@@ -13,6 +12,11 @@ fn points_of(alloc: Global, topology: &Topology) -> Result<Vec<Point>, AllocErro
         })?;
     }
     Ok(points)
+}
+
+/// The distance between two tiles.
+fn distance(a: Tile, b: Tile) -> u64 {
+    u64::from(a.0.abs_diff(b.0)) + u64::from(a.1.abs_diff(b.1))
 }
 
 /// The sum of the distances from the points to their parents.

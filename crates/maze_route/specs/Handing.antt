@@ -1,8 +1,9 @@
+-- What it does to a front that a cell hands its label on.
 use Rattle.std.specs.Prelude.{◌≡◌, ℕ, ◌+◌, Bool, true, false, ◌&&◌, nat_le, List, [], ◌∷◌, Option, Some, None, slice_set}
 use Rattle.gr_base.specs.declared.grid.Edge.{Edge}
 use Rattle.maze_route.specs.Labels.{label_at, is_lower}
 use Rattle.maze_route.specs.Queues.{IsPushed}
-use Rattle.maze_route.specs.Search.{most_cost}
+use Rattle.maze_route.specs.Search.{most_distance}
 use Rattle.maze_route.specs.declared.front.Front.{Front}
 use Rattle.maze_route.specs.declared.pane.Pane.{Pane}
 use Rattle.maze_route.specs.declared.pane.Step.{Step}
@@ -26,7 +27,7 @@ IsReachIf false cost step before after = Stands before after
 
 -- a cost within the limit lowers a label that is higher
 abbrev pub does_lower : ℕ → Step → Front → Bool
-does_lower cost step before = nat_le cost most_cost && is_lower (label_at before.labels.costs.items step.cell) cost
+does_lower cost step before = nat_le cost most_distance && is_lower (label_at before.labels.costs.items step.cell) cost
 
 -- what a step from a cell with this label does
 abbrev pub IsReach : ℕ → Option Step → Front → Front → Type 0
@@ -41,5 +42,5 @@ AreReaches from (step ∷ next ∷ rest) before after =
     (between : Front) × (IsReach from step before between × AreReaches from (next ∷ rest) between after)
 
 -- what the steps from a cell with this label do
-abbrev pub Spreads : Pane → (Edge → Option ℕ) → Window → ℕ → ℕ → Front → Front → Type 0
-Spreads p price aim cell from before after = AreReaches from (steps_from p price aim cell) before after
+abbrev pub HandsOn : Pane → (Edge → Option ℕ) → Window → ℕ → ℕ → Front → Front → Type 0
+HandsOn p price aim cell from before after = AreReaches from (steps_from p price aim cell) before after

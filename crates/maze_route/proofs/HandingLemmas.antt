@@ -1,3 +1,4 @@
+-- A cell that hands its label on is relaxed.
 use Rattle.std.proofs.Common.{◌≡◌, ℕ, ◌<◌, inl, inr, Bool, length, Option, Some, None, IfSome, refl, ap, ◌∙◌}
 use Rattle.std.specs.Option.{option_map}
 use Rattle.cost_rules.specs.Prices.{ArePrices}
@@ -6,7 +7,7 @@ use Rattle.gr_base.specs.declared.grid.Way.{Way}
 use Rattle.gr_base.specs.declared.grid.Way.TheVariants.{East, North, Up}
 use Rattle.gr_base.specs.Trees.{TreeView}
 use Rattle.maze_route.specs.Search.{IsConsistent, HasCosts, IsRelaxed, IsSearching}
-use Rattle.maze_route.specs.Spreads.{Spreads}
+use Rattle.maze_route.specs.Handing.{HandsOn}
 use Rattle.maze_route.specs.Steps.{size_of, pane_step, pane_graph, rest_of, step_to, made_step, ahead_of, behind_of, steps_from}
 use Rattle.maze_route.specs.declared.front.Front.{Front}
 use Rattle.maze_route.specs.declared.pane.Pane.{Pane}
@@ -68,7 +69,7 @@ pane-rest p t ways price aim prices u v k taken = step-rest p ways price aim pri
 -- a settled cell is relaxed
 pub spread-grown : (p : Pane) (t : TreeView) (ways : ℕ → Way → Bool) (price : Edge → Option ℕ) (aim : Window) (cell from : ℕ) (before after : Front) → ArePrices p.grid ways price →
     IsSearching (pane_graph p t price) (rest_of p aim) (labels_of before) before.queue.pairs cell → labels_of before cell ≡ Some from →
-    length before.labels.costs.items ≡ size_of p → Spreads p price aim cell from before after →
+    length before.labels.costs.items ≡ size_of p → HandsOn p price aim cell from before after →
     (Grown (pane_graph p t price) (rest_of p aim) cell from before after) × IsRelaxed (pane_graph p t price) (labels_of after) cell from
 spread-grown p t ways price aim cell from before after prices searching is all spreads =
     let can = can-take p t price aim cell in

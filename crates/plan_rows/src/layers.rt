@@ -1,49 +1,7 @@
-ghost use Rattle.std.specs.Prelude.{◌≡◌, ℕ, ◌+◌, ◌*◌, ◌%◌, ◌≤◌, Bool, true, Some, ◌==◌, if◌then◌else◌, refl};
-ghost use Rattle.gr_base.specs.declared.grid.Edge.{Edge};
-ghost use Rattle.std.proofs.Common.{rules};
-
-use crate::{assign, raise};
-use cost_rules::Costs;
+use crate::priced::Priced;
 use gr_base::{Edge, RouteTree, Shape, Way};
+use layer_assign::{assign, raise};
 use std::test::Fail;
-
-/// Costs from 1 to 4 by the low cell, but for one, which has a cost of its own.
-#[derive(Clone, Copy)]
-struct Priced {
-    shape: Shape,
-    factor: u32,
-    low: u32,
-    cost: u64,
-    ghost least: { 1 ≤ cost },
-    ghost most: { cost ≤ 1048576 },
-}
-
-impl Costs for Priced {
-    ghost grid = { λ c. c.shape };
-
-    ghost ways = { λ _ _ _. true };
-
-    ghost price = { λ c e. Some (if e.low == c.low then c.cost else 1 + e.low * c.factor % 4) };
-
-    ghost prices = { λ c. record {
-      up = λ _. refl;
-      some = λ _ _. (λ _. refl, λ _. refl);
-      least = λ e _. Prim.search rules;
-      most = λ e _. Prim.search rules;
-    } };
-
-    fn goes(&self, _layer: u32, _way: Way) -> bool {
-        true
-    }
-
-    fn cost(&self, e: Edge) -> Option<u64> {
-        if e.low == self.low {
-            Some(self.cost)
-        } else {
-            Some(1 + u64::from(e.low) * u64::from(self.factor) % 4)
-        }
-    }
-}
 
 #[test]
 fn a_wire_climbs_to_a_cheaper_layer(rt: HostRuntime) -> Result<(), Fail> {
@@ -56,6 +14,7 @@ fn a_wire_climbs_to_a_cheaper_layer(rt: HostRuntime) -> Result<(), Fail> {
         shape,
         factor: 0,
         low: 0,
+        high: 1,
         cost: 10,
     };
     let layers = assign(alloc, &costs, shape, &flat, &[0, 1])?;
@@ -84,6 +43,7 @@ fn the_first_least_assignment_of_a_star(rt: HostRuntime) -> Result<(), Fail> {
         shape,
         factor: 3,
         low: 99,
+        high: 99,
         cost: 1,
     };
     let layers = assign(alloc, &costs, shape, &flat, &[12, 2])?;
@@ -110,6 +70,7 @@ fn equal_assignments_go_by_their_first_layers(rt: HostRuntime) -> Result<(), Fai
         shape,
         factor: 0,
         low: 0,
+        high: 1,
         cost: 9,
     };
     let layers = assign(alloc, &costs, shape, &flat, &[0, 2])?;
@@ -130,6 +91,7 @@ fn a_lone_tile_climbs_between_its_pins(rt: HostRuntime) -> Result<(), Fail> {
         shape,
         factor: 0,
         low: 0,
+        high: 1,
         cost: 1,
     };
     let layers = assign(alloc, &costs, shape, &flat, &[2, 0])?;

@@ -4,7 +4,7 @@ use Rattle.gr_base.specs.Designs.{DesignView}
 use Rattle.gr_base.specs.Grid.{cells_of}
 use Rattle.gr_base.specs.Names.{is_token}
 use Rattle.gr_base.specs.declared.grid.Shape.{Shape}
-use Rattle.net_plan.proofs.tests.design.Goals as goal
+use Rattle.plan_rows.proofs.designs.design.Goals as goal
 
 pub push_net-requires-clause-net : goal.push_net-requires-clause-net
 push_net-requires-clause-net c =

@@ -1,0 +1,28 @@
+use crate::priced::Priced;
+use gr_base::Shape;
+use pattern_route::pattern;
+use std::test::Fail;
+
+#[test]
+fn the_first_least_walk_is_taken(rt: HostRuntime) -> Result<(), Fail> {
+    let shape = Shape::new(3, 2, 1).ok_or("a grid")?;
+    assert_eq!(rt; shape.cells(), 6);
+    assert_eq!(rt; shape.layers(), 1);
+    for (cost, a, b, cells) in [
+        (9, 0, 5, [0, 1, 4, 5].as_slice()),
+        (1, 0, 5, [0, 3, 4, 5].as_slice()),
+        (1, 5, 0, [5, 2, 1, 0].as_slice()),
+        (9, 4, 4, [4].as_slice()),
+    ] {
+        let costs = Priced {
+            shape,
+            factor: 0,
+            low: 0,
+            high: 3,
+            cost,
+        };
+        let walk = pattern(rt.alloc(), &costs, shape, a, b)?;
+        assert_eq!(rt; walk.as_slice(), cells);
+    }
+    Ok(())
+}

@@ -1,0 +1,121 @@
+ghost use Rattle.std.specs.Prelude.{◌≡◌};
+ghost use Rattle.cost_rules.specs.Formulas.{IsInRange, cost_at};
+ghost use Rattle.cost_rules.specs.declared.site.Formula.TheVariants.{Flat};
+
+use crate::designs::{design, empty_loads, narrowed, open_frame, small_frame, wide_frame};
+use cost_rules::{CostRule, Formula, Site, first_cost};
+use gr_base::{Design, RouteTree};
+use grid_demand::Capacity;
+use net_plan::{maze_plan, pattern_plan};
+use std::alloc::Global;
+use std::test::Fail;
+
+/// The flat formula by cases.
+fn flat_by_cases(site: Site) -> u64
+    requires { IsInRange site }
+    ensures { result ≡ cost_at Flat site }
+{
+    let taken = site.demand + site.need;
+    if taken <= site.capacity {
+        1
+    } else {
+        (taken - site.capacity + 1).min(1_048_576)
+    }
+}
+
+/// The pattern plan of a design's first net over empty loads.
+fn pattern(alloc: Global, design: &Design) -> Result<RouteTree, Fail> {
+    let capacity = Capacity::of(alloc, design)?;
+    let loads = empty_loads(alloc, &capacity)?;
+    let rule = CostRule::new(Formula::First, first_cost);
+    if design.nets() == 0 || !design.routed(0) {
+        return Err(Fail::from("a routed net"));
+    }
+    Ok(pattern_plan(alloc, design, &capacity, &loads, 0, &rule)?)
+}
+
+/// Its maze plan with this margin and by this rule.
+fn maze(alloc: Global, design: &Design, margin: u32, rule: &CostRule) -> Result<RouteTree, Fail> {
+    let capacity = Capacity::of(alloc, design)?;
+    let loads = empty_loads(alloc, &capacity)?;
+    if design.nets() == 0 || !design.routed(0) {
+        return Err(Fail::from("a routed net"));
+    }
+    Ok(maze_plan(alloc, design, &capacity, &loads, 0, margin, rule)?)
+}
+
+/// Whether an edge of the tree joins two cells.
+fn joins(tree: &RouteTree, a: u32, b: u32) -> bool {
+    match (tree.node_at(a), tree.node_at(b)) {
+        (Some(a), Some(b)) => a != b && (tree.parent(a) == b || tree.parent(b) == a),
+        _ => false,
+    }
+}
+
+/// Whether the tree starts at cell 0, and its edges are those between these pairs of cells.
+fn has_edges(tree: &RouteTree, edges: &[(u32, u32)]) -> bool {
+    tree.node_at(0) == Some(0)
+        && tree.len() as usize == edges.len() + 1
+        && edges.iter().all(|&(a, b)| joins(tree, a, b))
+}
+
+#[test]
+fn a_net_of_two_pins_bends_once(rt: HostRuntime) -> Result<(), Fail> {
+    let design = design(rt.alloc(), small_frame(), 1, &[0, 5]).ok_or("a design")?;
+    let first = CostRule::new(Formula::First, first_cost);
+    let flat = pattern(rt.alloc(), &design)?;
+    assert!(rt; has_edges(&flat, &[(0, 1), (1, 2), (2, 8), (8, 11), (5, 11)]));
+    let tree = maze(rt.alloc(), &design, 0, &first)?;
+    assert!(rt; has_edges(&tree, &[(0, 6), (6, 9), (3, 9), (3, 4), (4, 5)]));
+    Ok(())
+}
+
+#[test]
+fn a_net_goes_round_a_narrow_edge(rt: HostRuntime) -> Result<(), Fail> {
+    let mut design = design(rt.alloc(), small_frame(), 1, &[0, 5]).ok_or("a design")?;
+    design.push_adjustment(narrowed(3))?;
+    design.push_adjustment(narrowed(1))?;
+    let tree = pattern(rt.alloc(), &design)?;
+    assert!(rt; has_edges(&tree, &[(0, 6), (6, 9), (3, 9), (3, 4), (4, 5)]));
+    Ok(())
+}
+
+#[test]
+fn three_pins_meet_at_a_median_tile(rt: HostRuntime) -> Result<(), Fail> {
+    let design = design(rt.alloc(), wide_frame(), 1, &[0, 3, 9]).ok_or("a design")?;
+    let tree = pattern(rt.alloc(), &design)?;
+    assert!(rt;
+        has_edges(
+            &tree,
+            &[(0, 1), (1, 2), (2, 3), (1, 13), (13, 17), (17, 21), (9, 21)]
+        )
+    );
+    Ok(())
+}
+
+/// The edge of cells 0 and 1 costs 9 and each other 1, by the caller's own function as by the
+/// library's: round the edge in the whole grid, and along it where the window is a row.
+#[test]
+fn a_rule_of_the_callers_gives_the_same_mazes(rt: HostRuntime) -> Result<(), Fail> {
+    let rule = CostRule::new(Formula::Flat, flat_by_cases);
+    for (margin, pins, edges) in [
+        (
+            1,
+            [0, 2].as_slice(),
+            [(2, 1), (1, 4), (4, 3), (3, 0)].as_slice(),
+        ),
+        (
+            1,
+            [0, 2, 4].as_slice(),
+            [(4, 3), (3, 0), (2, 1), (1, 4)].as_slice(),
+        ),
+        (0, [0, 2].as_slice(), [(2, 1), (1, 0)].as_slice()),
+        (0, [0, 1].as_slice(), [(0, 1)].as_slice()),
+    ] {
+        let mut design = design(rt.alloc(), open_frame(3), 7, pins).ok_or("a design")?;
+        design.push_adjustment(narrowed(0))?;
+        let tree = maze(rt.alloc(), &design, margin, &rule)?;
+        assert!(rt; has_edges(&tree, edges));
+    }
+    Ok(())
+}
