@@ -31,13 +31,13 @@ use Rattle.route_evaluator.proofs.CountLemmas.{times, vias-count, wires-count}
 use Rattle.route_evaluator.proofs.StepLemmas.{sum-next, sum-most}
 
 -- the edges that are gathered of a net are those of its set
-pub gathered-is : (d : DesignView) (s : SolutionView) (net : ℕ) (frame : Frame) (old : NumberSetView) (numbers : List ℕ) (runs : List Run) → IsOf d s → frame ≡ d.frame →
-    old ≡ empty_set (3 * cells_of d.frame.shape) → runs ≡ runs_at s net →
-    ((e : Edge) → edges_numbered numbers e ≡ (edges_numbered old.numbers e || list_any (λ run. covers frame.shape run e) runs)) →
+pub gathered-is : (d : DesignView) (s : SolutionView) (net : ℕ) (frame : Frame) (old numbers : List ℕ) (runs : List Run) → IsOf d s → frame ≡ d.frame →
+    old ≡ [] → runs ≡ runs_at s net →
+    ((e : Edge) → edges_numbered numbers e ≡ (edges_numbered old e || list_any (λ run. covers frame.shape run e) runs)) →
     edges_numbered numbers ≡ edges_by s net
 gathered-is d s net frame old numbers runs of same empty are gathered = fun_ext (λ e.
     gathered e
-    ∙ ap (λ (o : NumberSetView). edges_numbered o.numbers e || list_any (λ run. covers frame.shape run e) runs) empty
+    ∙ ap (λ (ns : List ℕ). edges_numbered ns e || list_any (λ run. covers frame.shape run e) runs) empty
     ∙ ap (λ (rs : List Run). list_any (λ run. covers frame.shape run e) rs) are
     ∙ ap (λ (g : Shape). list_any (λ run. covers g run e) (runs_at s net)) (ap (λ (f : Frame). f.shape) same ∙ sym of.shape))
 

@@ -59,7 +59,7 @@ pub gathered-runs : (d : DesignView) (s : SolutionView) (net : ℕ) (frame : Fra
     ((e : Edge) → edges_numbered edges.numbers e ≡ (edges_numbered t.edges.numbers e || list_any (λ run. covers frame.shape run e) runs)) →
     AreGathered d (edges_by s) net (with_edges t edges)
 gathered-runs d s net frame t edges runs of same are counted bound gathered =
-    let is = gathered-is d s net frame t.edges edges.numbers runs of same counted.edges are gathered in
+    let is = gathered-is d s net frame t.edges.numbers edges.numbers runs of same (ap (λ (set : NumberSetView). set.numbers) counted.edges) are gathered in
     record {
       tallied = tallied-with d (edges_by s) net t edges counted.tallied;
       bound = bound ∙ ap (λ (set : NumberSetView). set.bound) counted.edges;

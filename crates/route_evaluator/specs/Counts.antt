@@ -29,7 +29,7 @@ pub record AreTallied (d : DesignView) (sets : ℕ → Edges) (count : ℕ) (t :
   pub shape : t.loads.shape ≡ d.frame.shape
   pub demand : (e : Edge) → IsTrue (has_edge d.frame.shape e) → IsTrue (is_wire e) →
       demand_at t.loads e ≡ sum_before d count (λ net. if sets net e then need d net e else 0)
-  pub reached : t.reached ≡ empty_set (cells_of d.frame.shape)
+  pub reached : t.reached.cells ≡ empty_set (cells_of d.frame.shape)
   pub routed : t.routed ≡ count_by (is_routed d) (range_with_len 0 count)
   pub wires : t.wires ≡ sum_before d count (λ net. count_by (sets net) (wire_edges d.frame.shape))
   pub vias : t.vias ≡ sum_before d count (λ net. count_by (sets net) (via_edges d.frame.shape))

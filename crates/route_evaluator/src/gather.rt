@@ -1,19 +1,21 @@
 //! The edges that the runs of a net cover, and those of a tree.
-ghost use Rattle.std.specs.Prelude.{◌≡◌, ◌<◌, ◌≤◌, ◌*◌, ◌||◌, ℕ, length, slice_get, All, IfSome, OnOk, IsTrue};
+ghost use Rattle.std.specs.Prelude.{◌≡◌, ◌<◌, ◌≤◌, ◌*◌, ◌||◌, ℕ, length, slice_get, All, IfOk, IfSome, OnOk, IsTrue};
 ghost use Rattle.std.specs.List.{list_any};
 ghost use Rattle.std.specs.Option.{option_and_then};
 ghost use Rattle.gr_base.specs.declared.grid.Edge.{Edge};
 ghost use Rattle.gr_base.specs.Grid.{cells_of, has_edge, way_between};
 ghost use Rattle.gr_base.specs.Trees.{IsTree, edge_to_parent as parent_edge, edges_of};
 ghost use Rattle.solution_text.specs.Covers.{covers};
-ghost use Rattle.route_reader.specs.Solutions.{IsRun};
+ghost use Rattle.solution_text.specs.Runs.{LieIn};
+ghost use Rattle.route_reader.specs.Solutions.{IsOf, IsRun, edges_by};
 ghost use Rattle.route_evaluator.specs.EdgeNumbers.{edges_numbered};
 
 use crate::edge_numbers::edge_number;
 use crate::number_set::NumberSet;
-use gr_base::{Edge, RouteTree, Shape, Way};
+use gr_base::{Design, Edge, RouteTree, Shape, Way};
+use route_reader::Solution;
 use solution_text::Run;
-use std::alloc::AllocError;
+use std::alloc::{AllocError, Global};
 
 /// The way from a cell to another in one line with it.
 fn way_along(shape: Shape, low: u32, high: u32) -> Way
@@ -61,6 +63,25 @@ pub(crate) fn gather(edges: &mut NumberSet, shape: Shape, runs: &[Run]) -> Resul
         add_run(edges, shape, *run)?;
     }
     Ok(())
+}
+
+/// The set of edges that the runs of a net in a solution cover. The only error is want of memory.
+pub(crate) fn edges_of_net(
+    alloc: Global,
+    design: &Design,
+    solution: &Solution,
+    net: u32,
+) -> Result<NumberSet, AllocError>
+    requires of { IsOf design.now solution.now }
+    requires net { net < length design.now.nets }
+    ensures bound { IfOk result (λ set. set.bound ≡ 3 * cells_of design.now.frame.shape) }
+    ensures edges { IfOk result (λ set. edges_numbered set.numbers ≡ edges_by solution.now net) }
+    ensures grid { IfOk result (λ set. LieIn design.now.frame.shape (edges_numbered set.numbers)) }
+{
+    let shape = design.frame().shape;
+    let mut edges = NumberSet::new(alloc, 3 * shape.cells())?;
+    gather(&mut edges, shape, solution.runs(net))?;
+    Ok(edges)
 }
 
 /// Puts the edges of a tree into a set of edges.

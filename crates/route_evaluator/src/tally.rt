@@ -17,6 +17,7 @@ use crate::edge_numbers::{edge_with_number, is_via};
 use crate::flood::joins;
 use crate::gather::{gather, gather_tree};
 use crate::number_set::NumberSet;
+use crate::reached::Reached;
 use crate::verdict::Verdict;
 use gr_base::{Cells, Design, Routes};
 use grid_demand::{Capacity, Loads};
@@ -29,7 +30,7 @@ pub(crate) struct Tally {
     pub capacity: Capacity,
     pub loads: Loads,
     pub edges: NumberSet,
-    pub reached: NumberSet,
+    pub reached: Reached,
     pub wires: u64,
     pub vias: u64,
     pub routed: u32,
@@ -48,7 +49,7 @@ impl Tally {
             capacity,
             loads,
             edges: NumberSet::new(alloc, 3 * shape.cells())?,
-            reached: NumberSet::new(alloc, shape.cells())?,
+            reached: Reached::new(alloc, shape)?,
             wires: 0,
             vias: 0,
             routed: 0,
