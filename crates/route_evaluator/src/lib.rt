@@ -12,11 +12,7 @@ mod number_set;
 mod reached;
 mod straight_list;
 mod tally;
-#[cfg(test)]
-mod tests;
 mod tree_error;
-#[cfg(test)]
-mod tree_tests;
 mod verdict;
 
 pub use judgement::{evaluate, evaluate_routes};

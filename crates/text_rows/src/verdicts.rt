@@ -1,19 +1,20 @@
+//! Verdicts on solutions and on trees.
 ghost use Rattle.std.specs.Prelude.{◌≡◌, ◌≤◌, length, IfOk};
-ghost use Rattle.route_reader.specs.Solutions.{IsOf};
 
-use crate::{Verdict, evaluate, evaluate_routes};
+use crate::given::{design, solution};
 use gr_base::{Design, RouteTree, Routes, Shape};
-use gr_io::{MemoryShelf, Shelf, Slot};
-use ispd_reader::read_design;
-use route_reader::{Solution, read_solution};
+use route_evaluator::{Verdict, evaluate, evaluate_routes};
 use std::alloc::{AllocError, Global};
 use std::test::Fail;
 
-/// A grid of three by two tiles on two layers.
+/// A grid of three by two tiles on two layers, and the head of its one net, which lacks its pins.
 const GRID: &str = "grid 3 2 2\nvertical capacity 0 4\nhorizontal capacity 4 0\n\
     minimum width 1 1\nminimum spacing 1 1\nvia spacing 1 1\n0 0 10 10\nnum net 1\na 0 ";
 
-const TWO_PINS: &str = "2 1\n5 5 1\n25 15 1\n";
+/// One net of two pins on that grid.
+const WIDE: &str = "grid 3 2 2\nvertical capacity 0 4\nhorizontal capacity 4 0\n\
+    minimum width 1 1\nminimum spacing 1 1\nvia spacing 1 1\n0 0 10 10\nnum net 1\n\
+    a 0 2 1\n5 5 1\n25 15 1\n";
 
 /// Two nets on two tiles, with one wire edge that has room for one of them.
 const NARROW: &str = "grid 2 1 1\nvertical capacity 0\nhorizontal capacity 2\n\
@@ -31,21 +32,9 @@ const ROOM_FOR_ONE: &str = "grid 3 2 2\nvertical capacity 0 4\nhorizontal capaci
 const ROUTE: &str = "a 0 4\n(5,5,1)-(25,5,1)\n(15,5,1)-(25,5,1)\n(1,1,1)-(9,9,1)\n\
     (25,5,1)-(25,5,2)\n(25,5,2)-(25,15,2)\n(25,15,2)-(25,15,1)\n!\n";
 
-fn design(alloc: Global, text: &str) -> Result<Design, Fail> {
-    let mut shelf = MemoryShelf::new(alloc, Vec::new(alloc));
-    shelf.hold(alloc, "design", text.as_bytes())?;
-    shelf.reach(alloc, Slot::Design, "design")?;
-    Ok(read_design(alloc, &mut shelf)?)
-}
-
-fn solution(alloc: Global, design: &Design, text: &str) -> Result<Solution, Fail>
-    ensures { IfOk result (IsOf design.now) }
-{
-    let mut shelf = MemoryShelf::new(alloc, Vec::new(alloc));
-    shelf.hold(alloc, "solution", text.as_bytes())?;
-    shelf.reach(alloc, Slot::Solution, "solution")?;
-    Ok(read_solution(alloc, &mut shelf, design)?)
-}
+/// The same without its last segment.
+const CUT: &str = "a 0 4\n(5,5,1)-(25,5,1)\n(15,5,1)-(25,5,1)\n(1,1,1)-(9,9,1)\n\
+    (25,5,1)-(25,5,2)\n(25,5,2)-(25,15,2)\n!\n";
 
 fn judge(alloc: Global, design_text: &str, text: &str, via_cost: u32) -> Result<Verdict, Fail>
     requires { via_cost ≤ 1000 }
@@ -67,42 +56,37 @@ fn numbers(verdict: &Verdict) -> (u32, u128, u64, u128, u128) {
 }
 
 #[test]
-fn edges_count_once_and_vias_their_cost(rt: HostRuntime) -> Result<(), Fail> {
+fn solutions_are_judged(rt: HostRuntime) -> Result<(), Fail> {
     let alloc = rt.alloc();
-    let text = format!(in alloc; "{GRID}{TWO_PINS}")?;
-    for (via_cost, wirelength) in [(1, 5), (3, 9)] {
+    for (design, text, via_cost, wanted, unjoined) in [
+        // An edge counts once, and a via edge its cost.
+        (WIDE, ROUTE, 1, (1, 0, 0, 5, 2), [].as_slice()),
+        (WIDE, ROUTE, 3, (1, 0, 0, 9, 2), [].as_slice()),
+        // A pin that no walk reaches.
+        (WIDE, CUT, 1, (1, 0, 0, 4, 1), [0].as_slice()),
+        (WIDE, "", 1, (1, 0, 0, 0, 0), [0].as_slice()),
+        // Two nets on one edge.
+        (
+            NARROW,
+            "a 0\n(5,5,1)-(15,5,1)\n!\nb 1\n(5,5,1)-(15,5,1)\n!\n",
+            1,
+            (2, 2, 2, 2, 0),
+            [].as_slice(),
+        ),
+        // The nets come in the design's order, and not in the solution's.
+        (
+            NARROW,
+            "b 1\n!\na 0\n!\n",
+            1,
+            (2, 0, 0, 0, 0),
+            [0, 1].as_slice(),
+        ),
+    ] {
         assert!(rt; via_cost <= 1000);
-        let verdict = judge(alloc, &text, ROUTE, via_cost)?;
-        assert_eq!(rt; numbers(&verdict), (1, 0, 0, wirelength, 2));
-        assert!(rt; verdict.unjoined.as_slice().is_empty());
+        let verdict = judge(alloc, design, text, via_cost)?;
+        assert_eq!(rt; numbers(&verdict), wanted, "{text}");
+        assert_eq!(rt; verdict.unjoined.as_slice(), unjoined, "{text}");
     }
-    Ok(())
-}
-
-#[test]
-fn a_pin_that_no_walk_reaches(rt: HostRuntime) -> Result<(), Fail> {
-    let alloc = rt.alloc();
-    let text = format!(in alloc; "{GRID}{TWO_PINS}")?;
-    let cut = ROUTE.replace(alloc, "(25,15,2)-(25,15,1)\n", "")?;
-    for (solution, wirelength, vias) in [(cut.as_str(), 4, 1), ("", 0, 0)] {
-        let verdict = judge(alloc, &text, solution, 1)?;
-        assert_eq!(rt; numbers(&verdict), (1, 0, 0, wirelength, vias));
-        assert_eq!(rt; verdict.unjoined.as_slice(), [0].as_slice());
-    }
-    Ok(())
-}
-
-#[test]
-fn nets_share_an_edge(rt: HostRuntime) -> Result<(), Fail> {
-    let alloc = rt.alloc();
-    let both = "a 0\n(5,5,1)-(15,5,1)\n!\nb 1\n(5,5,1)-(15,5,1)\n!\n";
-    let verdict = judge(alloc, NARROW, both, 1)?;
-    assert_eq!(rt; numbers(&verdict), (2, 2, 2, 2, 0));
-    assert!(rt; verdict.unjoined.as_slice().is_empty());
-    // The nets come in the design's order, and not in the solution's.
-    let verdict = judge(alloc, NARROW, "b 1\n!\na 0\n!\n", 1)?;
-    assert_eq!(rt; numbers(&verdict), (2, 0, 0, 0, 0));
-    assert_eq!(rt; verdict.unjoined.as_slice(), [0, 1].as_slice());
     Ok(())
 }
 
@@ -173,13 +157,14 @@ fn trees_are_judged_by_their_edges(rt: HostRuntime) -> Result<(), Fail> {
     assert!(rt; design.nets() == 2);
     assert!(rt; shape.columns == 3 && shape.rows == 2 && shape.layers == 2);
     // Both nets are on the edge between the cells 0 and 1, and take 2 each of its capacity of 2.
-    let first = over_the_second_layer(alloc, shape)?;
-    let verdict = judge_trees(alloc, &design, first, east(alloc, shape, true)?)?;
-    assert_eq!(rt; numbers(&verdict), (2, 2, 2, 10, 2));
-    assert!(rt; verdict.unjoined.as_slice().is_empty());
-    let first = over_the_second_layer(alloc, shape)?;
-    let verdict = judge_trees(alloc, &design, first, east(alloc, shape, false)?)?;
-    assert_eq!(rt; numbers(&verdict), (2, 0, 0, 9, 2));
-    assert_eq!(rt; verdict.unjoined.as_slice(), [1].as_slice());
+    for (joined, wanted, unjoined) in [
+        (true, (2, 2, 2, 10, 2), [].as_slice()),
+        (false, (2, 0, 0, 9, 2), [1].as_slice()),
+    ] {
+        let first = over_the_second_layer(alloc, shape)?;
+        let verdict = judge_trees(alloc, &design, first, east(alloc, shape, joined)?)?;
+        assert_eq!(rt; numbers(&verdict), wanted);
+        assert_eq!(rt; verdict.unjoined.as_slice(), unjoined);
+    }
     Ok(())
 }
