@@ -1,18 +1,17 @@
 -- The edges of a set are a tree exactly where the tree of the cells that they reach has as many edges and each pin.
 use Rattle.std.proofs.Common.{◌≡◌, ℕ, ◌+◌, ◌<◌, ◌≤◌, inl, inr, Bool, true, false, ◌==◌, List, [], ◌∷◌, get_or, length, All, Some, IsTrue, refl, sym, ap, subst, ◌∙◌, arith}
 use Rattle.std.specs.List.{list_all}
-use Rattle.std.proofs.lemmas.Bool.{or_cases, or_left, or_right, and_parts, and_from, eqb-true, false≢true}
+use Rattle.std.proofs.lemmas.Bool.{or_cases, or_right, and_parts, and_from, eqb-true, false≢true}
 use Rattle.std.proofs.lemmas.Bool.Decides.{nat_tests}
 use Rattle.std.proofs.lemmas.List.Elements.{All-nil, All-cons}
 use Rattle.std.proofs.lemmas.Option.{same_Some}
 use Rattle.gr_base.specs.declared.grid.Edge.{Edge}
 use Rattle.gr_base.specs.declared.grid.Shape.{Shape}
 use Rattle.gr_base.specs.Grid.{high_of, has_edge, Joins}
-use Rattle.gr_base.specs.EdgeSets.{Edges, is_edge, set_of}
+use Rattle.gr_base.specs.EdgeSets.{Edges}
 use Rattle.gr_base.specs.Trees.{TreeView, cell_at, holds, IsTree, is_among, edges_of}
 use Rattle.gr_base.proofs.GridLemmas.{joins-swap}
-use Rattle.gr_base.proofs.TreeEdges.{is_edge-refl, found-at}
-use Rattle.gr_base.proofs.TreeDistinct.{is_edge-same}
+use Rattle.gr_base.proofs.TreeEdges.{found-at}
 use Rattle.solution_text.specs.Runs.{LieIn}
 use Rattle.solution_text.proofs.CoverLemmas.{bool-same}
 use Rattle.route_evaluator.specs.NetTrees.{StepsTo, IsPath, OnePath, IsTouched, AreTree, HasJust}

@@ -1,5 +1,7 @@
+-- The list of a set's numbers, and its marks.
 use Rattle.std.proofs.Common.{◌≡◌, ℕ, zero, suc, ◌+◌, ◌<◌, ◌≤◌, ◌==◌, ◌||◌, inl, inr, Bool, true, false, not, cond, List, [], ◌∷◌, ◌++◌, length, get_or, set, count_by, if◌then◌else◌, refl, sym, ap, subst, ◌∙◌, arith}
 use Rattle.std.specs.List.{list_any}
+use Rattle.std.proofs.Math.Bool.{or-true, or-false}
 use Rattle.std.proofs.lemmas.Bool.{cases_Bool, cases_eq, false≢true}
 use Rattle.std.proofs.lemmas.Bool.Decides.{nat_tests}
 use Rattle.std.proofs.lemmas.List.{length-set, length-append, get_or-set_same, get_or-set_other}
@@ -13,18 +15,6 @@ use Rattle.route_evaluator.specs.NumberSetStore.{AreMarked}
 pub has-push : (numbers : List ℕ) (n m : ℕ) → has_number (numbers ++ n ∷ []) m ≡ (has_number numbers m || (m == n))
 has-push numbers n m =
     list_any-append (λ other. m == other) numbers (n ∷ []) ∙ ap (λ (b : Bool). has_number numbers m || b) (or-false (m == n))
-  where
-    or-false : (b : Bool) → (b || false) ≡ b
-    or-false true = refl
-    or-false false = refl
-
-or-true : (b : Bool) → (b || true) ≡ true
-or-true true = refl
-or-true false = refl
-
-or-none : (b : Bool) → (b || false) ≡ b
-or-none true = refl
-or-none false = refl
 
 -- where none passes a test, none is counted
 pub count-none : {X : Type 0} (p : X → Bool) (xs : List X) → list_any p xs ≡ false → count_by p xs ≡ 0
@@ -75,7 +65,7 @@ marked-push bound numbers new marks n keeps below fresh pushed =
           | inr other ↦
               let test : (m == n) ≡ false = grind (arith, nat_tests) in
               get_or-set_other marks n m true false other ∙ keeps.marked m
-              ∙ sym (has-push numbers n m ∙ ap (λ (b : Bool). has_number numbers m || b) test ∙ or-none (has_number numbers m))
+              ∙ sym (has-push numbers n m ∙ ap (λ (b : Bool). has_number numbers m || b) test ∙ or-false (has_number numbers m))
         ]
 
     stands : (m : ℕ) → count_by (λ other. m == other) (numbers ++ n ∷ []) ≤ 1

@@ -1,20 +1,21 @@
 -- The tree of the cells that a flood reached, each hung on the one that it was reached from.
-use Rattle.std.proofs.Common.{◌≡◌, ℕ, ◌+◌, ◌<◌, ◌≤◌, inl, inr, Bool, true, false, cond, ◌||◌, ◌==◌, List, [], ◌∷◌, ◌++◌, map, length, get_or, take, Option, Some, None, is_some, slice_get, IsTrue, refl, sym, ap, subst, ◌∙◌, arith}
-use Rattle.std.specs.List.{list_any, filter_map, cons_option}
-use Rattle.std.specs.Option.{option_map, option_to_list}
-use Rattle.std.proofs.lemmas.Bool.{cases_Bool, cases_eq, or_cases, both_ways, false≢true}
+use Rattle.std.proofs.Common.{◌≡◌, ℕ, ◌+◌, ◌<◌, ◌≤◌, inl, inr, Bool, true, false, cond, ◌||◌, ◌==◌, List, [], ◌∷◌, ◌++◌, map, length, get_or, take, Option, Some, is_some, slice_get, refl, sym, ap, subst, ◌∙◌, arith}
+use Rattle.std.specs.List.{list_any, cons_option}
+use Rattle.std.specs.Option.{option_to_list}
+use Rattle.std.proofs.lemmas.Bool.{cases_Bool, or_cases, false≢true}
 use Rattle.std.proofs.lemmas.Bool.Decides.{nat_tests}
 use Rattle.std.proofs.lemmas.Grind.{get_or_default_zero}
 use Rattle.std.proofs.lemmas.List.{length-append, length-map, length-take-le, get_or-take, map-append, take_all, take_more}
-use Rattle.std.proofs.lemmas.Option.{none-some, slice_get-get_or, slice_get-map}
+use Rattle.std.proofs.lemmas.Option.{slice_get-get_or, slice_get-map}
 use Rattle.gr_base.specs.declared.grid.Edge.{Edge}
 use Rattle.gr_base.specs.declared.grid.Shape.{Shape}
 use Rattle.gr_base.specs.declared.tree.Node.{Node}
-use Rattle.gr_base.specs.Grid.{cells_of, steps_between, AreNeighbours, edge_of, Joins}
+use Rattle.gr_base.specs.Grid.{cells_of, edge_of}
 use Rattle.gr_base.specs.EdgeSets.{Edges, is_edge, set_of}
 use Rattle.gr_base.specs.Trees.{TreeView, node_of, cell_at, has_cell, node_with, holds, IsTree, IsWalkTo, attached, tree_edges, edges_of}
+use Rattle.gr_base.proofs.General.{eqb-swap}
 use Rattle.gr_base.proofs.TreeLemmas.{found-any}
-use Rattle.gr_base.proofs.TreeEdges.{edge_of-swap, edge_of-self}
+use Rattle.gr_base.proofs.TreeEdges.{edge_of-swap, near-from, edge_of-self}
 use Rattle.gr_base.proofs.TreeGrowth.{adds-edges, attached-tree, edges-hung}
 use Rattle.gr_base.proofs.TreeDistinct.{is_edge-same}
 use Rattle.route_evaluator.specs.Floods.{IsFlood, IsReach}
@@ -35,9 +36,6 @@ pub record IsPlanted (g : Shape) (set : Edges) (cells : List ℕ) (count : ℕ) 
   pub nodes : cells_in t.nodes ≡ take count cells
   pub within : (e : Edge) → edges_of t e ≡ true → set e ≡ true
   pub size : length (tree_edges t) + 1 ≡ count
-
-eqb-swap : (a b : ℕ) → (a == b) ≡ (b == a)
-eqb-swap a b = grind (arith, nat_tests)
 
 held-cells : (nodes : List Node) (cell : ℕ) → is_some (node_with nodes cell) ≡ has_number (cells_in nodes) cell
 held-cells nodes cell = found-any 0 nodes cell ∙ any nodes
@@ -78,16 +76,6 @@ planted-first g set first cells parents t flood is =
         nothing (y ∷ ys) = refl
 
 -- ---- one more cell
-
-neighbours-from : (g : Shape) (a b : ℕ) (e : Edge) → edge_of g a b ≡ Some e → AreNeighbours g a b
-neighbours-from g a b e is =
-    elim (cases_eq (steps_between g a b) 1) [
-      | inl one ↦ one
-      | inr other ↦
-          let test : (steps_between g a b == 1) ≡ false = grind (arith, nat_tests) in
-          let none : edge_of g a b ≡ None = rw test refl in
-          absurd (none-some e (sym none ∙ is))
-    ]
 
 -- a cell isn't among those before it
 fresh-cell : (cells : List ℕ) (place : ℕ) → place < length cells → times cells (get_or cells place 0) ≤ 1 → has_number (take place cells) (get_or cells place 0) ≡ false
@@ -137,10 +125,17 @@ module _ (g : Shape) (set : Edges) (first : ℕ) (cells parents : List ℕ) (flo
       inside = subst (λ (s : Shape). cell < cells_of s) (sym planted.shape) (flood.inside place 0 below);
       outside = held-is cell ∙ fresh-cell cells place below (once cell);
       once = let test : (from == cell) ≡ false = (let ne = joins-apart g step.edge from cell step.joins in grind (arith, nat_tests)) in rw test refl;
-      neighbours = neighbours-from t.shape cell from step.edge edge-is;
+      neighbours = near-from t.shape cell from step.edge edge-is;
     },
     held-from,
   )
+
+  -- the parent's place is its node
+  pub parent-node : cell_at t.nodes parent ≡ Some from
+  parent-node =
+      sym (slice_get-map (λ (node : Node). node.cell) t.nodes parent) ∙ ap (λ (xs : List ℕ). slice_get xs parent) planted.nodes
+      ∙ slice_get-get_or (take place cells) parent 0 (omega (arith, length-take-le place cells (omega arith), earlier))
+      ∙ ap (λ (n : ℕ). Some n) (get_or-take place cells parent 0 earlier)
 
   pub planted-next : IsPlanted g set cells (place + 1) (attached t walk)
   planted-next =

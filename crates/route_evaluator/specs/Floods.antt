@@ -42,9 +42,11 @@ pub record IsFlood (g : Shape) (set : Edges) (first count : ℕ) (cells parents 
   pub led : All (Leads g set first) cells
   pub inside : All (λ cell. cell < cells_of g) cells
   pub long : length parents ≡ length cells
-  pub came : (place : ℕ) → 0 < place → place < length cells → CameFrom g set cells place (slice_index_or parents place 0)
+  pub came : (place : ℕ) → 0 < place → place < length cells →
+      CameFrom g set cells place (slice_index_or parents place 0)
   pub within : count ≤ length cells
-  pub around : (place cell : ℕ) → place < count → StepsTo g set (slice_index_or cells place 0) cell → has_number cells cell ≡ true
+  pub around : (place cell : ℕ) → place < count → StepsTo g set (slice_index_or cells place 0) cell →
+      has_number cells cell ≡ true
 
 -- a tree of edges of the set, with just these cells, from which no edge of the set leads to another cell
 pub record IsReach (g : Shape) (set : Edges) (first : ℕ) (cells : List ℕ) (t : TreeView) : Type 0 where

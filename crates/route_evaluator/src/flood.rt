@@ -108,7 +108,8 @@ pub(crate) fn joins(
     requires reached { reached.old.cells ≡ empty_set (cells_of shape) }
     requires pins { All (λ pin. pin < cells_of shape) pins.now }
     requires driver { 0 < length pins.now }
-    ensures joined { IfOk result (λ joined. IsTrue joined ↔ IsJoined shape (edges_numbered edges.now.numbers) pins.now) }
+    ensures joined { IfOk result
+        (λ joined. IsTrue joined ↔ IsJoined shape (edges_numbered edges.now.numbers) pins.now) }
     ensures clear { OnOk result (reached.new.cells ≡ reached.old.cells) }
 {
     flood(reached, edges, shape, pins[0])?;

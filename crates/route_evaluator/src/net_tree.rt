@@ -1,15 +1,13 @@
-ghost use Rattle.std.specs.Prelude.{◌≡◌, ◌<◌, ◌*◌, Some, Err, length, slice_get, All, IsTrue, IfOk, OnOk};
-ghost use Rattle.gr_base.specs.declared.frame.Net.{Net as NetView};
+ghost use Rattle.std.specs.Prelude.{◌≡◌, ◌<◌, ◌*◌, Err, length, slice_get, All, IsTrue, IfOk, OnOk};
 ghost use Rattle.gr_base.specs.Designs.{is_routed, pins_at};
 ghost use Rattle.gr_base.specs.Grid.{cells_of};
-ghost use Rattle.gr_base.specs.Plans.{Routes as RoutesNet};
 ghost use Rattle.gr_base.specs.Trees.{IsTree, cell_at, holds};
 ghost use Rattle.solution_text.specs.Runs.{LieIn};
 ghost use Rattle.route_reader.specs.Solutions.{IsOf, edges_by};
 ghost use Rattle.route_evaluator.specs.EdgeNumbers.{edges_numbered};
 ghost use Rattle.route_evaluator.specs.NumberSets.{empty_set};
 ghost use Rattle.route_evaluator.specs.Floods.{IsReach};
-ghost use Rattle.route_evaluator.specs.NetTrees.{AreTree, HasJust};
+ghost use Rattle.route_evaluator.specs.NetTrees.{AreTree, HasJust, IsNetRoute};
 
 use crate::flood::flood;
 use crate::gather::edges_of_net;
@@ -33,7 +31,7 @@ pub fn tree_of(
     requires routed { IsTrue (is_routed design.now net) }
     ensures tree { IfOk result IsTree }
     ensures edges { IfOk result (HasJust (edges_by solution.now net)) }
-    ensures routes { IfOk result (λ t. (n : NetView) → slice_get design.now.nets net ≡ Some n → RoutesNet design.now.frame.shape n t) }
+    ensures routes { IfOk result (IsNetRoute design.now net) }
     ensures ok { OnOk result (AreTree design.now.frame.shape (edges_by solution.now net) (pins_at design.now net)) }
     ensures not_tree { result ≡ Err TreeError.NotTree →
         ¬ AreTree design.now.frame.shape (edges_by solution.now net) (pins_at design.now net) }
@@ -91,8 +89,8 @@ fn tree_from(
     let cells = reached.cells.numbers();
     let mut tree = RouteTree::start(alloc, shape, first)?;
     for place in 1..cells.len() {
-        let parent = reached.parents[place] as usize;
-        tree.attach(&[cells[place], cells[parent]])?;
+        let parent = reached.parents[place];
+        tree.hang(parent, &[cells[place], cells[parent as usize]])?;
     }
     Ok(tree)
 }

@@ -1,5 +1,4 @@
-use Rattle.std.proofs.Common.{◌≡◌, ◌<◌, ◌≤◌, ℕ, List, get_or, length, refl, ap, subst, sym, ◌∙◌, arith}
-use Rattle.gr_base.specs.Grid.{cells_of}
+use Rattle.std.proofs.Common.{◌≡◌, ◌<◌, ℕ, List, get_or, length, refl, ap, subst, ◌∙◌, arith}
 use Rattle.route_evaluator.specs.EdgeNumbers.{edges_numbered}
 use Rattle.route_evaluator.specs.Floods.{IsFlood, spread_from}
 use Rattle.route_evaluator.specs.NumberSets.{NumberSetView, with_number}

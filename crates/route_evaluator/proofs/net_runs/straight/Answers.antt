@@ -1,8 +1,8 @@
-use Rattle.std.proofs.Common.{◌≡◌, List, All, IsTrue, map, sym, ap, subst, ◌∙◌}
+use Rattle.std.proofs.Common.{List, All, IsTrue, map, sym, ap, subst, ◌∙◌}
 use Rattle.std.proofs.Math.Path.{fun_ext}
 use Rattle.gr_base.specs.declared.frame.Frame.{Frame}
 use Rattle.gr_base.specs.declared.grid.Edge.{Edge}
-use Rattle.gr_base.specs.EdgeSets.{Edges, set_of}
+use Rattle.gr_base.specs.EdgeSets.{set_of}
 use Rattle.gr_base.specs.Grid.{has_edge}
 use Rattle.solution_text.specs.Runs.{runs_of}
 use Rattle.route_evaluator.specs.EdgeNumbers.{edge_numbered}

@@ -1,8 +1,7 @@
-use Rattle.std.proofs.Common.{◌≡◌, ◌+◌, ◌≤◌, ℕ, List, length, get_or, refl, sym, ap, subst, ◌∙◌, arith}
+use Rattle.std.proofs.Common.{◌≡◌, ◌+◌, ℕ, List, length, sym, ap, subst, arith}
 use Rattle.gr_base.specs.Trees.{TreeView}
 use Rattle.route_evaluator.specs.EdgeNumbers.{edges_numbered}
-use Rattle.route_evaluator.specs.Floods.{IsFlood, IsReach}
-use Rattle.route_evaluator.proofs.PlantLemmas.{IsPlanted, flood-same, planted-first, walk-to, planted-next, planted-all}
+use Rattle.route_evaluator.proofs.PlantLemmas.{IsPlanted, flood-same, planted-first, walk-to, parent-node, planted-next, planted-all}
 use Rattle.route_evaluator.proofs.net_tree.tree_from.Goals as goal
 
 pub loop-place-init : goal.loop-place-init
@@ -11,21 +10,28 @@ loop-place-init c =
     (flood-same c.args.shape (edges_numbered c.args.edges.now.numbers) c.args.first c.flood.new.reached.cells.numbers c.numbers-cells.result.now
     c.flood.new.reached.parents.items c.numbers-cells.ensures.numbers c.in_ok-flood.ensures.flood) c.in_ok-tree.ensures.tree
 
-pub attach-requires : goal.attach-requires
-attach-requires c =
+pub hang-requires-clause-walk : goal.hang-requires-clause-walk
+hang-requires-clause-walk c =
     walk-to c.args.shape (edges_numbered c.args.edges.now.numbers) c.args.first c.numbers-cells.result.now c.flood.new.reached.parents.items
     (flood-same c.args.shape (edges_numbered c.args.edges.now.numbers) c.args.first c.flood.new.reached.cells.numbers c.numbers-cells.result.now
     c.flood.new.reached.parents.items c.numbers-cells.ensures.numbers c.in_ok-flood.ensures.flood)
-    c.numbers-cells.ensures.once c.loop-place.place c.index.result.now c.loop-place.auto.place c.loop-place-test.true c.index.ensures c.loop-place.tree c.loop-place.invariant
+    c.numbers-cells.ensures.once c.loop-place.place c.index-parent.result.now c.loop-place.auto.place c.loop-place-test.true c.index-parent.ensures c.loop-place.tree c.loop-place.invariant
+
+pub hang-requires-clause-parent : goal.hang-requires-clause-parent
+hang-requires-clause-parent c =
+    parent-node c.args.shape (edges_numbered c.args.edges.now.numbers) c.args.first c.numbers-cells.result.now c.flood.new.reached.parents.items
+    (flood-same c.args.shape (edges_numbered c.args.edges.now.numbers) c.args.first c.flood.new.reached.cells.numbers c.numbers-cells.result.now
+    c.flood.new.reached.parents.items c.numbers-cells.ensures.numbers c.in_ok-flood.ensures.flood)
+    c.numbers-cells.ensures.once c.loop-place.place c.index-parent.result.now c.loop-place.auto.place c.loop-place-test.true c.index-parent.ensures c.loop-place.tree c.loop-place.invariant
 
 pub loop-place-preserved : goal.loop-place-preserved
 loop-place-preserved c =
     subst (λ (t : TreeView). IsPlanted c.args.shape (edges_numbered c.args.edges.now.numbers) c.numbers-cells.result.now (c.loop-place.place + 1) t)
-    (sym c.in_ok-attach.ensures.ok)
+    (sym c.in_ok-hang.ensures.ok)
     (planted-next c.args.shape (edges_numbered c.args.edges.now.numbers) c.args.first c.numbers-cells.result.now c.flood.new.reached.parents.items
     (flood-same c.args.shape (edges_numbered c.args.edges.now.numbers) c.args.first c.flood.new.reached.cells.numbers c.numbers-cells.result.now
     c.flood.new.reached.parents.items c.numbers-cells.ensures.numbers c.in_ok-flood.ensures.flood)
-    c.numbers-cells.ensures.once c.loop-place.place c.index.result.now c.loop-place.auto.place c.loop-place-test.true c.index.ensures c.loop-place.tree c.loop-place.invariant)
+    c.numbers-cells.ensures.once c.loop-place.place c.index-parent.result.now c.loop-place.auto.place c.loop-place-test.true c.index-parent.ensures c.loop-place.tree c.loop-place.invariant)
 
 pub returns-clause-tree : goal.returns-clause-tree
 returns-clause-tree c =
