@@ -36,56 +36,49 @@ const ROUTE: &str = "a 0 4\n(5,5,1)-(25,5,1)\n(15,5,1)-(25,5,1)\n(1,1,1)-(9,9,1)
 const CUT: &str = "a 0 4\n(5,5,1)-(25,5,1)\n(15,5,1)-(25,5,1)\n(1,1,1)-(9,9,1)\n\
     (25,5,1)-(25,5,2)\n(25,5,2)-(25,15,2)\n!\n";
 
-fn judge(alloc: Global, design_text: &str, text: &str, via_cost: u32) -> Result<Verdict, Fail>
+/// The two nets on the one edge.
+const BOTH: &str = "a 0\n(5,5,1)-(15,5,1)\n!\nb 1\n(5,5,1)-(15,5,1)\n!\n";
+
+/// What a verdict says: routed, total, max, wirelength and vias, and behind them the unjoined nets.
+fn told(alloc: Global, verdict: &Verdict) -> Result<String, Fail> {
+    let mut told = format!(in alloc;
+        "{} {} {} {} {}:",
+        verdict.routed, verdict.total, verdict.max, verdict.wirelength, verdict.vias
+    )?;
+    for net in verdict.unjoined.as_slice() {
+        told.push_str(&format!(in alloc; " {net}")?)?;
+    }
+    Ok(told)
+}
+
+/// What is said of a solution of a design.
+fn judge(alloc: Global, design_text: &str, text: &str, via_cost: u32) -> Result<String, Fail>
     requires { via_cost ≤ 1000 }
 {
     let design = design(alloc, design_text)?;
     let solution = solution(alloc, &design, text)?;
-    Ok(evaluate(alloc, &design, &solution, via_cost)?)
-}
-
-/// The numbers of a verdict: routed, total, max, wirelength and vias.
-fn numbers(verdict: &Verdict) -> (u32, u128, u64, u128, u128) {
-    (
-        verdict.routed,
-        verdict.total,
-        verdict.max,
-        verdict.wirelength,
-        verdict.vias,
-    )
+    let verdict = evaluate(alloc, &design, &solution, via_cost)?;
+    told(alloc, &verdict)
 }
 
 #[test]
 fn solutions_are_judged(rt: HostRuntime) -> Result<(), Fail> {
     let alloc = rt.alloc();
-    for (design, text, via_cost, wanted, unjoined) in [
+    for (design, text, via_cost, wanted) in [
         // An edge counts once, and a via edge its cost.
-        (WIDE, ROUTE, 1, (1, 0, 0, 5, 2), [].as_slice()),
-        (WIDE, ROUTE, 3, (1, 0, 0, 9, 2), [].as_slice()),
+        (WIDE, ROUTE, 1, "1 0 0 5 2:"),
+        (WIDE, ROUTE, 3, "1 0 0 9 2:"),
         // A pin that no walk reaches.
-        (WIDE, CUT, 1, (1, 0, 0, 4, 1), [0].as_slice()),
-        (WIDE, "", 1, (1, 0, 0, 0, 0), [0].as_slice()),
+        (WIDE, CUT, 1, "1 0 0 4 1: 0"),
+        (WIDE, "", 1, "1 0 0 0 0: 0"),
         // Two nets on one edge.
-        (
-            NARROW,
-            "a 0\n(5,5,1)-(15,5,1)\n!\nb 1\n(5,5,1)-(15,5,1)\n!\n",
-            1,
-            (2, 2, 2, 2, 0),
-            [].as_slice(),
-        ),
+        (NARROW, BOTH, 1, "2 2 2 2 0:"),
         // The nets come in the design's order, and not in the solution's.
-        (
-            NARROW,
-            "b 1\n!\na 0\n!\n",
-            1,
-            (2, 0, 0, 0, 0),
-            [0, 1].as_slice(),
-        ),
+        (NARROW, "b 1\n!\na 0\n!\n", 1, "2 0 0 0 0: 0 1"),
     ] {
         assert!(rt; via_cost <= 1000);
-        let verdict = judge(alloc, design, text, via_cost)?;
-        assert_eq!(rt; numbers(&verdict), wanted, "{text}");
-        assert_eq!(rt; verdict.unjoined.as_slice(), unjoined, "{text}");
+        let told = judge(alloc, design, text, via_cost)?;
+        assert_eq!(rt; told.as_str(), wanted, "{text}");
     }
     Ok(())
 }
@@ -93,19 +86,36 @@ fn solutions_are_judged(rt: HostRuntime) -> Result<(), Fail> {
 #[test]
 fn nets_of_many_pins_are_not_routed(rt: HostRuntime) -> Result<(), Fail> {
     let alloc = rt.alloc();
-    for (pins, routed) in [(1000, 1), (1001, 0)] {
+    for (pins, wanted) in [(1000, "1 0 0 0 0:"), (1001, "0 0 0 0 0:")] {
         let mut text = format!(in alloc; "{GRID}{pins} 1\n")?;
         for _ in 0..pins {
             text.push_str("5 5 1\n")?;
         }
-        let verdict = judge(alloc, &text, "a 0\n!\n", 1)?;
-        assert_eq!(rt; numbers(&verdict), (routed, 0, 0, 0, 0));
-        assert!(rt; verdict.unjoined.as_slice().is_empty());
+        let told = judge(alloc, &text, "a 0\n!\n", 1)?;
+        assert_eq!(rt; told.as_str(), wanted, "{pins}");
     }
     Ok(())
 }
 
-/// A tree from cell 0 along the first layer, up, north on the second layer, and down to cell 5.
+/// What is said of two trees of two nets, at a via cost of 3.
+fn judge_trees(
+    alloc: Global,
+    design: &Design,
+    first: RouteTree,
+    second: RouteTree,
+) -> Result<String, Fail>
+    requires nets { length design.now.nets ≡ 2 }
+    requires first { first.shape ≡ design.now.frame.shape }
+    requires second { second.shape ≡ design.now.frame.shape }
+{
+    let mut routes = Routes::new(alloc, 2)?;
+    routes.set(0, first);
+    routes.set(1, second);
+    let verdict = evaluate_routes(alloc, design, &routes, 3)?;
+    told(alloc, &verdict)
+}
+
+/// A tree along the first layer, up, north on the second layer, and down.
 fn over_the_second_layer(alloc: Global, shape: Shape) -> Result<RouteTree, AllocError>
     requires columns { shape.columns ≡ 3 }
     requires rows { shape.rows ≡ 2 }
@@ -113,8 +123,7 @@ fn over_the_second_layer(alloc: Global, shape: Shape) -> Result<RouteTree, Alloc
     ensures { IfOk result (λ tree. tree.shape ≡ shape) }
 {
     let mut tree = RouteTree::start(alloc, shape, 0)?;
-    tree.attach(&[2, 1, 0])?;
-    tree.attach(&[5, 11, 8, 2])?;
+    tree.attach(&[5, 11, 8, 2, 1, 0])?;
     Ok(tree)
 }
 
@@ -132,23 +141,6 @@ fn east(alloc: Global, shape: Shape, joined: bool) -> Result<RouteTree, AllocErr
     Ok(tree)
 }
 
-/// The verdict on two trees of two nets, at a via cost of 3.
-fn judge_trees(
-    alloc: Global,
-    design: &Design,
-    first: RouteTree,
-    second: RouteTree,
-) -> Result<Verdict, AllocError>
-    requires nets { length design.now.nets ≡ 2 }
-    requires first { first.shape ≡ design.now.frame.shape }
-    requires second { second.shape ≡ design.now.frame.shape }
-{
-    let mut routes = Routes::new(alloc, 2)?;
-    routes.set(0, first);
-    routes.set(1, second);
-    evaluate_routes(alloc, design, &routes, 3)
-}
-
 #[test]
 fn trees_are_judged_by_their_edges(rt: HostRuntime) -> Result<(), Fail> {
     let alloc = rt.alloc();
@@ -156,15 +148,12 @@ fn trees_are_judged_by_their_edges(rt: HostRuntime) -> Result<(), Fail> {
     let shape = design.frame().shape;
     assert!(rt; design.nets() == 2);
     assert!(rt; shape.columns == 3 && shape.rows == 2 && shape.layers == 2);
-    // Both nets are on the edge between the cells 0 and 1, and take 2 each of its capacity of 2.
-    for (joined, wanted, unjoined) in [
-        (true, (2, 2, 2, 10, 2), [].as_slice()),
-        (false, (2, 0, 0, 9, 2), [1].as_slice()),
-    ] {
+    // Where both nets are on the edge between the cells 0 and 1, they take 2 each of its 2.
+    for (joined, wanted) in [(true, "2 2 2 10 2:"), (false, "2 0 0 9 2: 1")] {
         let first = over_the_second_layer(alloc, shape)?;
-        let verdict = judge_trees(alloc, &design, first, east(alloc, shape, joined)?)?;
-        assert_eq!(rt; numbers(&verdict), wanted);
-        assert_eq!(rt; verdict.unjoined.as_slice(), unjoined);
+        let second = east(alloc, shape, joined)?;
+        let told = judge_trees(alloc, &design, first, second)?;
+        assert_eq!(rt; told.as_str(), wanted);
     }
     Ok(())
 }

@@ -4,7 +4,7 @@ use Rattle.std.proofs.lemmas.Bool.{false≢true}
 use Rattle.std.proofs.lemmas.Option.{slice_get_cases}
 use Rattle.gr_base.specs.Designs.{DesignView, is_routed_net}
 use Rattle.gr_base.specs.Trees.{TreeView, tree_at}
-use Rattle.route_writer.specs.Routed.{AreRouted}
+use Rattle.straight_runs.specs.Routed.{AreRouted}
 use Rattle.text_rows.proofs.writing.write_one.Goals as goal
 
 -- a design of one net is routed by one tree
