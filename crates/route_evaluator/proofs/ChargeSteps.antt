@@ -1,3 +1,4 @@
+-- The demand for wire edges, edge after edge of a net.
 use Rattle.std.proofs.Common.{◌≡◌, ℕ, ◌+◌, ◌*◌, ◌<◌, ◌≤◌, ◌==◌, inl, inr, Bool, true, false, cond, List, [], length, get_or, take, if◌then◌else◌, IsTrue, refl, sym, ap, subst, ◌∙◌, arith}
 use Rattle.std.proofs.lemmas.Bool.{cases_Bool, eq-eqb, both_ways}
 use Rattle.std.proofs.lemmas.List.{take_more}
@@ -9,6 +10,7 @@ use Rattle.gr_base.proofs.TreeDistinct.{is_edge-same}
 use Rattle.grid_demand.specs.LoadSums.{LoadsView, demand_at, charged}
 use Rattle.grid_demand.specs.Tables.{CapacityView, need_at}
 use Rattle.grid_demand.proofs.ChargeLemmas.{demand-charged}
+use Rattle.route_evaluator.specs.Counts.{IsCharged}
 use Rattle.route_evaluator.specs.EdgeNumbers.{edge_number, edge_numbered, edges_numbered}
 use Rattle.route_evaluator.proofs.EdgeNumberLemmas.{number-numbered, is_edge-number}
 use Rattle.route_evaluator.proofs.CountLemmas.{times, times-has}
@@ -80,7 +82,7 @@ gained-before c net numbers i f old mid within is once edge wire before =
 
 -- each edge stands once
 pub gained-all : (c : CapacityView) (net : ℕ) (numbers : List ℕ) (old new : LoadsView) → ((n : ℕ) → times numbers n ≤ 1) → HasGained c net numbers old new →
-    (e : Edge) → IsTrue (has_edge old.shape e) → IsTrue (is_wire e) → demand_at new e ≡ demand_at old e + (if edges_numbered numbers e then need_at c net e else 0)
+    IsCharged c net (edges_numbered numbers) old new
 gained-all c net numbers old new once all e edge wire =
     all e edge wire ∙ ap (λ (n : ℕ). demand_at old e + need_at c net e * n) (times-has numbers (edge_number e) (once (edge_number e)))
     ∙ whole (edges_numbered numbers e) (demand_at old e) (need_at c net e)

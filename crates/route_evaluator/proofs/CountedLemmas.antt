@@ -1,6 +1,7 @@
+-- One more net is counted.
 use Rattle.std.proofs.Common.{◌≡◌, ◌↔◌, ℕ, zero, suc, ◌+◌, ◌-◌, ◌*◌, ◌^◌, ◌<◌, ◌≤◌, ◌||◌, ◌&&◌, inl, inr, Bool, true, false, List, [], ◌∷◌, length, map, All, Option, Some, IfSome, slice_get, count_by, if◌then◌else◌, IsTrue, sym, ap, subst, ◌∙◌, arith}
 use Rattle.std.proofs.Math.Path.{fun_ext}
-use Rattle.std.specs.List.{list_any, range_with_len}
+use Rattle.std.specs.List.{range_with_len}
 use Rattle.std.proofs.lemmas.Bool.{or_cases, and_parts, false≢true}
 use Rattle.std.proofs.lemmas.List.FromFn.{length-map-range_with_len}
 use Rattle.std.proofs.lemmas.List.Sums.{count_by-le-length, length-filter}
@@ -24,28 +25,28 @@ use Rattle.solution_text.specs.declared.run.Run.{Run}
 use Rattle.solution_text.specs.Covers.{is_on, covers}
 use Rattle.solution_text.specs.Runs.{LieIn}
 use Rattle.route_reader.specs.Solutions.{SolutionView, IsOf, edges_by, runs_at}
-use Rattle.route_evaluator.specs.Counts.{sum_before}
+use Rattle.route_evaluator.specs.Counts.{sum_before, IsCharged}
 use Rattle.route_evaluator.specs.EdgeNumbers.{edges_numbered, is_via_number}
-use Rattle.route_evaluator.specs.NumberSets.{NumberSetView, empty_set}
+use Rattle.route_evaluator.specs.Gathers.{covered_by, Adds}
+use Rattle.route_evaluator.specs.NumberSets.{NumberSetView}
 use Rattle.route_evaluator.proofs.CountLemmas.{times, vias-count, wires-count}
 use Rattle.route_evaluator.proofs.StepLemmas.{sum-next, sum-most}
 
 -- the edges that are gathered of a net are those of its set
-pub gathered-is : (d : DesignView) (s : SolutionView) (net : ℕ) (frame : Frame) (old : NumberSetView) (numbers : List ℕ) (runs : List Run) → IsOf d s → frame ≡ d.frame →
-    old ≡ empty_set (3 * cells_of d.frame.shape) → runs ≡ runs_at s net →
-    ((e : Edge) → edges_numbered numbers e ≡ (edges_numbered old.numbers e || list_any (λ run. covers frame.shape run e) runs)) →
-    edges_numbered numbers ≡ edges_by s net
+pub gathered-is : (d : DesignView) (s : SolutionView) (net : ℕ) (frame : Frame) (old numbers : List ℕ) (runs : List Run) → IsOf d s → frame ≡ d.frame →
+    old ≡ [] → runs ≡ runs_at s net →
+    Adds (covered_by frame.shape runs) old numbers → edges_numbered numbers ≡ edges_by s net
 gathered-is d s net frame old numbers runs of same empty are gathered = fun_ext (λ e.
     gathered e
-    ∙ ap (λ (o : NumberSetView). edges_numbered o.numbers e || list_any (λ run. covers frame.shape run e) runs) empty
-    ∙ ap (λ (rs : List Run). list_any (λ run. covers frame.shape run e) rs) are
-    ∙ ap (λ (g : Shape). list_any (λ run. covers g run e) (runs_at s net)) (ap (λ (f : Frame). f.shape) same ∙ sym of.shape))
+    ∙ ap (λ (ns : List ℕ). edges_numbered ns e || covered_by frame.shape runs e) empty
+    ∙ ap (λ (rs : List Run). covered_by frame.shape rs e) are
+    ∙ ap (λ (g : Shape). covered_by g (runs_at s net) e) (ap (λ (f : Frame). f.shape) same ∙ sym of.shape))
 
 -- they are the grid's
-covered-edge : (g : Shape) (runs : List Run) (e : Edge) → list_any (λ run. covers g run e) runs ≡ true → IsTrue (has_edge g e)
+covered-edge : (g : Shape) (runs : List Run) (e : Edge) → covered_by g runs e ≡ true → IsTrue (has_edge g e)
 covered-edge g [] e has = absurd (false≢true has)
 covered-edge g (run ∷ runs) e has =
-    elim (or_cases (covers g run e) (list_any (λ r. covers g r e) runs) has) [
+    elim (or_cases (covers g run e) (covered_by g runs e) has) [
       | inl here ↦ (and_parts (has_edge g e) (is_on g run e.low) (and_parts (has_edge g e && is_on g run e.low) (is_on g run (high_of g e)) here).0).0
       | inr later ↦ covered-edge g runs e later
     ]
@@ -137,8 +138,7 @@ vias-room d sets k design below =
 pub demand-next : (d : DesignView) (sets : ℕ → Edges) (k : ℕ) (numbers : List ℕ) (capacity : CapacityView) (old new : LoadsView) → is_routed d k ≡ true →
     edges_numbered numbers ≡ sets k → capacity ≡ capacity_of d → old.shape ≡ d.frame.shape →
     ((e : Edge) → IsTrue (has_edge d.frame.shape e) → IsTrue (is_wire e) → demand_at old e ≡ sum_before d k (λ net. if sets net e then need d net e else 0)) →
-    ((e : Edge) → IsTrue (has_edge old.shape e) → IsTrue (is_wire e) →
-    demand_at new e ≡ demand_at old e + (if edges_numbered numbers e then need_at capacity k e else 0)) →
+    IsCharged capacity k (edges_numbered numbers) old new →
     (e : Edge) → IsTrue (has_edge d.frame.shape e) → IsTrue (is_wire e) → demand_at new e ≡ sum_before d (k + 1) (λ net. if sets net e then need d net e else 0)
 demand-next d sets k numbers capacity old new routed same of shape before charged e edge wire =
     charged e (subst (λ (g : Shape). IsTrue (has_edge g e)) (sym shape) edge) wire

@@ -1,4 +1,6 @@
+-- Edges by their numbers.
 use Rattle.std.proofs.Common.{◌≡◌, ℕ, ◌+◌, ◌*◌, ◌/◌, ◌%◌, ◌<◌, ◌==◌, ◌||◌, inl, inr, Bool, true, false, List, ◌∷◌, [], ◌++◌, if◌then◌else◌, refl, sym, ap, ◌∙◌, arith}
+use Rattle.std.proofs.Math.Bool.{or-true, or-false}
 use Rattle.std.proofs.lemmas.Bool.{cases_Bool, cases_eq, eq-eqb, eqb-true, false≢true}
 use Rattle.std.proofs.lemmas.Bool.Decides.{nat_tests}
 use Rattle.gr_base.proofs.TreeDistinct.{is_edge-same}
@@ -76,18 +78,10 @@ is_edge-number e f =
 chosen : (b c : Bool) (numbers : List ℕ) (n m : ℕ) → has_number numbers n ≡ b → (m == n) ≡ c →
     has_number (if b then numbers else numbers ++ n ∷ []) m ≡ (has_number numbers m || c)
 chosen false c numbers n m is test = has-push numbers n m ∙ ap (λ (t : Bool). has_number numbers m || t) test
-chosen true false numbers n m is test = or-none (has_number numbers m)
-  where
-    or-none : (b : Bool) → b ≡ (b || false)
-    or-none true = refl
-    or-none false = refl
+chosen true false numbers n m is test = sym (or-false (has_number numbers m))
 chosen true true numbers n m is test =
     let same : m ≡ n = eqb-true m n test in
     ap (has_number numbers) same ∙ is ∙ sym (or-true (has_number numbers m))
-  where
-    or-true : (b : Bool) → (b || true) ≡ true
-    or-true true = refl
-    or-true false = refl
 
 pub has-with : (numbers : List ℕ) (n m : ℕ) → has_number (with_number numbers n) m ≡ (has_number numbers m || (m == n))
 has-with numbers n m = chosen (has_number numbers n) (m == n) numbers n m refl refl

@@ -1,5 +1,7 @@
-use Rattle.std.proofs.Common.{◌≡◌, ℕ, suc, ◌+◌, ◌*◌, ◌<◌, ◌≤◌, inl, inr, min, max, Bool, true, false, ◌||◌, List, length, get_or, take, IsTrue, refl, sym, ap, subst, ◌∙◌, arith}
+-- The edges of runs, put into a set one after another.
+use Rattle.std.proofs.Common.{◌≡◌, ℕ, suc, ◌+◌, ◌*◌, ◌<◌, ◌≤◌, inl, inr, min, max, Bool, ◌||◌, List, length, get_or, take, IsTrue, sym, ap, subst, ◌∙◌, arith}
 use Rattle.std.proofs.Math.Nat.{mul-le-mul_right}
+use Rattle.std.proofs.Math.Bool.{or-false, or_assoc}
 use Rattle.std.proofs.lemmas.Bool.{cases_lt}
 use Rattle.std.proofs.lemmas.List.Folds.{list_any_more}
 use Rattle.std.specs.List.{list_any}
@@ -13,6 +15,7 @@ use Rattle.solution_text.specs.Covers.{covers}
 use Rattle.solution_text.proofs.RunLemmas.{stride-positive}
 use Rattle.route_reader.specs.Solutions.{IsRun}
 use Rattle.route_evaluator.specs.EdgeNumbers.{edge_number, edges_numbered}
+use Rattle.route_evaluator.specs.Gathers.{covered_by, Adds}
 use Rattle.route_evaluator.specs.NumberSets.{with_number}
 use Rattle.route_evaluator.proofs.EdgeNumberLemmas.{edges-with}
 use Rattle.route_evaluator.proofs.LineLemmas.{IsLine, on_line, line-edge, line-high, line-covers, run-line}
@@ -30,20 +33,12 @@ pub record IsUnderWay (g : Shape) (run : Run) (way : Way) (low : ℕ) (old new :
   pub at : low ≡ first_of run + steps * stride g way
   pub edges : (e : Edge) → edges_numbered new e ≡ (edges_numbered old e || on_line g way (first_of run) steps e)
 
-or-false : (b : Bool) → b ≡ (b || false)
-or-false true = refl
-or-false false = refl
-
-or-assoc : (a b c : Bool) → ((a || b) || c) ≡ (a || (b || c))
-or-assoc true b c = refl
-or-assoc false b c = refl
-
 pub under-start : (g : Shape) (run : Run) (way : Way) (low : ℕ) (old : List ℕ) → low ≡ first_of run → IsUnderWay g run way low old old
 under-start g run way low old is = record {
   steps = 0;
   most = omega arith;
   at = is ∙ omega arith;
-  edges = λ e. or-false (edges_numbered old e);
+  edges = λ e. sym (or-false (edges_numbered old e));
 }
 
 abbrev LineOf : Shape → Run → Way → Type 0
@@ -88,12 +83,12 @@ under-next g run way low next old new more is same under less put on =
           ap (λ (ns : List ℕ). edges_numbered ns e) put
           ∙ edges-with new (edge_at low way) e
           ∙ ap (λ (b : Bool). b || is_edge e (edge_at low way)) (under.edges e)
-          ∙ or-assoc (edges_numbered old e) (on_line g way (first_of run) under.steps e) (is_edge e (edge_at low way))
+          ∙ or_assoc (edges_numbered old e) (on_line g way (first_of run) under.steps e) (is_edge e (edge_at low way))
           ∙ ap (λ (n : ℕ). edges_numbered old e || (on_line g way (first_of run) under.steps e || is_edge e (edge_at n way))) here;
     }
 
 pub under-end : (g : Shape) (run : Run) (way : Way) (low : ℕ) (old new : List ℕ) → IsRun g run → way ≡ way_between g (first_of run) (last_of run) →
-    IsUnderWay g run way low old new → last_of run ≤ low → (e : Edge) → edges_numbered new e ≡ (edges_numbered old e || covers g run e)
+    IsUnderWay g run way low old new → last_of run ≤ low → Adds (covers g run) old new
 under-end g run way low old new is same under done e =
     let line = line-of g run way is same in
     let count : ℕ = steps_between g (first_of run) (last_of run) in
@@ -113,12 +108,10 @@ under-end g run way low old new is same under done e =
 
 -- one more run
 pub gather-next : (g : Shape) (runs : List Run) (i : ℕ) (d : Run) (old before after : List ℕ) → i < length runs →
-    ((e : Edge) → edges_numbered before e ≡ (edges_numbered old e || list_any (λ run. covers g run e) (take i runs))) →
-    ((e : Edge) → edges_numbered after e ≡ (edges_numbered before e || covers g (get_or runs i d) e)) →
-    (e : Edge) → edges_numbered after e ≡ (edges_numbered old e || list_any (λ run. covers g run e) (take (i + 1) runs))
+    Adds (covered_by g (take i runs)) old before → Adds (covers g (get_or runs i d)) before after → Adds (covered_by g (take (i + 1) runs)) old after
 gather-next g runs i d old before after within done more e =
     let covered : Run → Bool = λ run. covers g run e in
     more e
     ∙ ap (λ (b : Bool). b || covers g (get_or runs i d) e) (done e)
-    ∙ or-assoc (edges_numbered old e) (list_any covered (take i runs)) (covers g (get_or runs i d) e)
+    ∙ or_assoc (edges_numbered old e) (list_any covered (take i runs)) (covers g (get_or runs i d) e)
     ∙ ap (λ (b : Bool). edges_numbered old e || b) (sym (list_any_more covered runs i d within))

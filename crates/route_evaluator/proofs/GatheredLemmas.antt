@@ -1,31 +1,22 @@
+-- The edges of the next net, gathered.
 use Rattle.std.proofs.Common.{◌≡◌, ℕ, ◌||◌, List, Option, Some, sym, ap, subst, ◌∙◌}
 use Rattle.std.proofs.Math.Path.{fun_ext}
-use Rattle.std.specs.List.{list_any}
-use Rattle.std.specs.Option.{IsSomeAnd}
 use Rattle.gr_base.proofs.TreeEdges.{tree-grid_edges}
 use Rattle.gr_base.specs.Designs.{DesignView}
 use Rattle.gr_base.specs.EdgeSets.{Edges}
 use Rattle.gr_base.specs.Trees.{TreeView, IsTree, edges_of, edges_or_none, route_edges, tree_at}
 use Rattle.gr_base.specs.declared.frame.Frame.{Frame}
-use Rattle.gr_base.specs.declared.grid.Edge.{Edge}
 use Rattle.gr_base.specs.declared.grid.Shape.{Shape}
 use Rattle.grid_demand.proofs.LoadSteps.{tree-edge}
 use Rattle.solution_text.specs.declared.run.Run.{Run}
-use Rattle.solution_text.specs.Covers.{covers}
 use Rattle.solution_text.specs.Runs.{LieIn}
 use Rattle.route_reader.specs.Solutions.{SolutionView, IsOf, edges_by, runs_at}
 use Rattle.route_evaluator.specs.Counts.{AreTallied, AreCounted, AreGathered}
 use Rattle.route_evaluator.specs.EdgeNumbers.{edges_numbered}
+use Rattle.route_evaluator.specs.Gathers.{covered_by, Adds}
 use Rattle.route_evaluator.specs.NumberSets.{NumberSetView}
 use Rattle.route_evaluator.specs.declared.tally.Tally.{Tally}
 use Rattle.route_evaluator.proofs.CountedLemmas.{gathered-is, gathered-grid}
-
--- what is said of the tree that was found, and of the one that stands there
-pub found-is : (P : TreeView → Type 0) (o : Option TreeView) (tree : TreeView) → o ≡ Some tree → IsSomeAnd o P → P tree
-found-is P o tree is has = subst (λ (p : Option TreeView). IsSomeAnd p P) is has
-
-pub found-has : (P : TreeView → Type 0) (o : Option TreeView) (tree : TreeView) → o ≡ Some tree → P tree → IsSomeAnd o P
-found-has P o tree is has = subst (λ (p : Option TreeView). IsSomeAnd p P) (sym is) has
 
 -- what was counted, with other edges
 abbrev pub with_edges : Tally → NumberSetView → Tally
@@ -56,10 +47,10 @@ tallied-with d sets count t edges tallied = record {
 -- once the edges that the next net's runs cover are put into no edges
 pub gathered-runs : (d : DesignView) (s : SolutionView) (net : ℕ) (frame : Frame) (t : Tally) (edges : NumberSetView) (runs : List Run) → IsOf d s → frame ≡ d.frame →
     runs ≡ runs_at s net → AreCounted d (edges_by s) net t → edges.bound ≡ t.edges.bound →
-    ((e : Edge) → edges_numbered edges.numbers e ≡ (edges_numbered t.edges.numbers e || list_any (λ run. covers frame.shape run e) runs)) →
+    Adds (covered_by frame.shape runs) t.edges.numbers edges.numbers →
     AreGathered d (edges_by s) net (with_edges t edges)
 gathered-runs d s net frame t edges runs of same are counted bound gathered =
-    let is = gathered-is d s net frame t.edges edges.numbers runs of same counted.edges are gathered in
+    let is = gathered-is d s net frame t.edges.numbers edges.numbers runs of same (ap (λ (set : NumberSetView). set.numbers) counted.edges) are gathered in
     record {
       tallied = tallied-with d (edges_by s) net t edges counted.tallied;
       bound = bound ∙ ap (λ (set : NumberSetView). set.bound) counted.edges;
@@ -70,7 +61,7 @@ gathered-runs d s net frame t edges runs of same are counted bound gathered =
 -- once the edges of the next net's tree are put into no edges
 pub gathered-tree : (d : DesignView) (trees : List (Option TreeView)) (net : ℕ) (tree : TreeView) (t : Tally) (edges : NumberSetView) → tree_at trees net ≡ Some tree →
     tree.shape ≡ d.frame.shape → IsTree tree → AreCounted d (route_edges trees) net t → edges.bound ≡ t.edges.bound →
-    ((e : Edge) → edges_numbered edges.numbers e ≡ (edges_numbered t.edges.numbers e || edges_of tree e)) →
+    Adds (edges_of tree) t.edges.numbers edges.numbers →
     AreGathered d (route_edges trees) net (with_edges t edges)
 gathered-tree d trees net tree t edges at shape whole counted bound gathered =
     let is : edges_numbered edges.numbers ≡ edges_of tree =

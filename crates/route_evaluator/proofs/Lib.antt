@@ -10,11 +10,9 @@ pub mod CountedLemmas
 pub mod VerdictLemmas
 pub mod PathLemmas
 pub mod TreePaths
-pub mod EdgeTableLemmas
-pub mod TreeFloodLemmas
+pub mod ListedLemmas
+pub mod PlantLemmas
 pub mod NetTreeLemmas
-pub mod RunEdges
-pub mod NetSets
 pub mod GatheredLemmas
 pub mod TreeGather
 pub mod RouteTrees

@@ -1,47 +1,30 @@
-use Rattle.std.proofs.Common.{◌≡◌, ℕ, ◌<◌, inl, inr, Bool, true, false, ◌==◌, List, [], ◌∷◌, get_or, length, All, Some, IsTrue, refl, sym, ap, subst, ◌∙◌, arith}
+-- The edges of a set are a tree exactly where the tree of the cells that they reach has as many edges and each pin.
+use Rattle.std.proofs.Common.{◌≡◌, ℕ, ◌+◌, ◌<◌, ◌≤◌, inl, inr, Bool, true, false, ◌==◌, List, [], ◌∷◌, get_or, length, All, Some, IsTrue, refl, sym, ap, subst, ◌∙◌, arith}
 use Rattle.std.specs.List.{list_all}
-use Rattle.std.proofs.lemmas.Bool.{or_cases, or_left, or_right, and_parts, and_from, eqb-true, false≢true}
+use Rattle.std.proofs.lemmas.Bool.{or_cases, or_right, and_parts, and_from, eqb-true, false≢true}
 use Rattle.std.proofs.lemmas.Bool.Decides.{nat_tests}
 use Rattle.std.proofs.lemmas.List.Elements.{All-nil, All-cons}
 use Rattle.std.proofs.lemmas.Option.{same_Some}
 use Rattle.gr_base.specs.declared.grid.Edge.{Edge}
 use Rattle.gr_base.specs.declared.grid.Shape.{Shape}
 use Rattle.gr_base.specs.Grid.{high_of, has_edge, Joins}
-use Rattle.gr_base.specs.EdgeSets.{Edges, is_edge, set_of}
+use Rattle.gr_base.specs.EdgeSets.{Edges}
 use Rattle.gr_base.specs.Trees.{TreeView, cell_at, holds, IsTree, is_among, edges_of}
 use Rattle.gr_base.proofs.GridLemmas.{joins-swap}
-use Rattle.gr_base.proofs.TreeEdges.{is_edge-refl, found-at}
-use Rattle.gr_base.proofs.TreeDistinct.{is_edge-same}
+use Rattle.gr_base.proofs.TreeEdges.{found-at}
 use Rattle.solution_text.specs.Runs.{LieIn}
 use Rattle.solution_text.proofs.CoverLemmas.{bool-same}
 use Rattle.route_evaluator.specs.NetTrees.{StepsTo, IsPath, OnePath, IsTouched, AreTree, HasJust}
-use Rattle.route_evaluator.specs.TreeFlood.{IsGrown, IsClosed}
+use Rattle.route_evaluator.specs.EdgeNumbers.{edges_numbered}
+use Rattle.route_evaluator.specs.Floods.{IsReach}
+use Rattle.route_evaluator.specs.NumberSets.{has_number}
+use Rattle.route_evaluator.proofs.CountLemmas.{times}
+use Rattle.route_evaluator.proofs.ListedLemmas.{none-left, as-many}
 use Rattle.route_evaluator.proofs.PathLemmas.{step-more, path-more, joins-apart, among-first}
 use Rattle.route_evaluator.proofs.TreePaths.{one-path, ends-held}
-use Rattle.route_evaluator.proofs.TreeFloodLemmas.{joins-edge_of}
+use Rattle.route_evaluator.proofs.FloodLemmas.{joins-edge_of}
 
--- ---- tests of all edges and of all pins
-
-pub all-of : (p : Edge → Bool) (edges : List Edge) → list_all p edges ≡ true → (e : Edge) → set_of edges e ≡ true → p e ≡ true
-all-of p [] all e here = absurd (false≢true here)
-all-of p (x ∷ edges) all e here =
-    let parts = and_parts (p x) (list_all p edges) all in
-    elim (or_cases (is_edge e x) (set_of edges e) here) [
-      | inl same ↦ ap p (is_edge-same e x same) ∙ parts.0
-      | inr later ↦ all-of p edges parts.1 e later
-    ]
-
-pub of-all : (p : Edge → Bool) (edges : List Edge) → ((e : Edge) → set_of edges e ≡ true → p e ≡ true) → list_all p edges ≡ true
-of-all p [] each = refl
-of-all p (x ∷ edges) each =
-    and_from (p x) (list_all p edges) (each x (or_left (is_edge x x) (set_of edges x) (is_edge-refl x)))
-    (of-all p edges (λ e here. each e (or_right (is_edge e x) (set_of edges e) here)))
-
-pub All-edges : (P : Edge → Type 0) (edges : List Edge) → ((e : Edge) → set_of edges e ≡ true → P e) → All P edges
-All-edges P [] each = All-nil P
-All-edges P (x ∷ edges) each =
-    All-cons P x edges (each x (or_left (is_edge x x) (set_of edges x) (is_edge-refl x)))
-    (All-edges P edges (λ e here. each e (or_right (is_edge e x) (set_of edges e) here)))
+-- ---- tests of all pins
 
 pub all-pins : (p : ℕ → Bool) (pins : List ℕ) → list_all p pins ≡ true → (pin : ℕ) → is_among pins pin ≡ true → p pin ≡ true
 all-pins p [] all pin here = absurd (false≢true here)
@@ -67,9 +50,9 @@ All-pins p (x ∷ pins) all =
 -- ---- a closed tree
 
 -- the cells of a path that begins in a closed tree are the tree's
-path-held : (set : Edges) (t : TreeView) → IsClosed set t → (a b : ℕ) (path : List ℕ) → holds t a ≡ true → IsPath t.shape set a b path → holds t b ≡ true
+path-held : (set : Edges) (t : TreeView) → ((cell other : ℕ) → holds t cell ≡ true → StepsTo t.shape set cell other → holds t other ≡ true) → (a b : ℕ) (path : List ℕ) → holds t a ≡ true → IsPath t.shape set a b path → holds t b ≡ true
 path-held set t is a b [] held leads = let P : ℕ → Type 0 = λ c. holds t c ≡ true in subst P leads held
-path-held set t is a b (next ∷ after) held leads = path-held set t is next b after (is.closed a held next leads.0) leads.2
+path-held set t is a b (next ∷ after) held leads = path-held set t is next b after (is a next held leads.0) leads.2
 
 joins-ends : (g : Shape) (e : Edge) → IsTrue (has_edge g e) → Joins g e e.low (high_of g e)
 joins-ends g e edge = record { edge = edge; ends = inl (refl, refl) }
@@ -78,7 +61,7 @@ alone : (a b : ℕ) → (a ≡ b → ⊥) → is_among (b ∷ []) a ≡ false
 alone a b apart = let test : (b == a) ≡ false = grind (arith, nat_tests) in rw test refl
 
 module _ (set : Edges) (t : TreeView) (pins : List ℕ) (driver : ℕ) (tree : IsTree t) (in_grid : LieIn t.shape set) (within : (e : Edge) → edges_of t e ≡ true → set e ≡ true)
-    (closed : IsClosed set t) (first : cell_at t.nodes 0 ≡ Some driver) (is_pin : is_among pins driver ≡ true) where
+    (closed : (cell other : ℕ) → holds t cell ≡ true → StepsTo t.shape set cell other → holds t other ≡ true) (first : cell_at t.nodes 0 ≡ Some driver) (is_pin : is_among pins driver ≡ true) where
   -- an edge of the set between two cells of the tree is one of the tree's, where one path alone leads from the one to the other
   only-edge : (e : Edge) → set e ≡ true → holds t e.low ≡ true → holds t (high_of t.shape e) ≡ true → OnePath t.shape set e.low (high_of t.shape e) → edges_of t e ≡ true
   only-edge e here low high only =
@@ -136,42 +119,41 @@ are-tree set t pins tree in_grid just pinned = λ a b touched_a touched_b.
           | inr high ↦ subst H high (ends-held t tree e (high_of t.shape e) e.low inside (joins-swap t.shape e e.low (high_of t.shape e) joins))
         ]
 
--- ---- what the flood shows of a list of edges
-
-module _ (g : Shape) (edges : List Edge) (pins : List ℕ) (driver : ℕ) (in_grid : LieIn g (set_of edges)) (set : Edges) (is : (e : Edge) → set e ≡ set_of edges e)
-    (t : TreeView) (used : List Edge) (grown : IsGrown set t used) (shape : t.shape ≡ g) (closed : IsClosed set t) (first : cell_at t.nodes 0 ≡ Some driver)
-    (is_pin : is_among pins driver ≡ true) (reached : Edges) (reached_is : (e : Edge) → reached e ≡ set_of used e) where
-  within-grid : LieIn t.shape (set_of edges)
-  within-grid = let P : Shape → Type 0 = λ s. LieIn s (set_of edges) in subst P (sym shape) in_grid
-
-  pub used-in_grid : (e : Edge) → set_of used e ≡ true → IsTrue (has_edge g e)
-  used-in_grid e here = in_grid e (sym (is e) ∙ grown.within e (sym (grown.listed e) ∙ here))
-
-  pub has-just : list_all reached edges ≡ true → HasJust (set_of edges) t
-  has-just all = λ e.
-      bool-same (edges_of t e) (set_of edges e) (λ here. sym (is e) ∙ grown.within e here)
-      (λ here. sym (grown.listed e) ∙ sym (reached_is e) ∙ all-of reached edges all e here)
-
-  pub is-tree : list_all reached edges ≡ true → list_all (holds t) pins ≡ true → AreTree g (set_of edges) pins
-  is-tree all held =
-      let P : Shape → Type 0 = λ s. AreTree s (set_of edges) pins in
-      subst P shape (are-tree (set_of edges) t pins grown.tree within-grid (has-just all) (all-pins (holds t) pins held))
-
-  same-closed : IsClosed (set_of edges) t
-  same-closed = record { closed = λ cell held other step. closed.closed cell held other (step-more t.shape (set_of edges) set (λ e here. is e ∙ here) cell other step) }
-
-  at-shape : AreTree g (set_of edges) pins → AreTree t.shape (set_of edges) pins
-  at-shape are = let P : Shape → Type 0 = λ s. AreTree s (set_of edges) pins in subst P (sym shape) are
-
-  pub no-edge-left : AreTree g (set_of edges) pins → list_all reached edges ≡ true
-  no-edge-left are = of-all reached edges (λ e here.
-      reached_is e ∙ grown.listed e
-      ∙ all-edges (set_of edges) t pins driver grown.tree within-grid (λ d inside. sym (is d) ∙ grown.within d inside) same-closed first is_pin (at-shape are) e here)
-
-  pub no-pin-left : AreTree g (set_of edges) pins → list_all (holds t) pins ≡ true
-  no-pin-left are = pins-all (holds t) pins (λ pin here.
-      every-pin (set_of edges) t pins driver grown.tree within-grid (λ d inside. sym (is d) ∙ grown.within d inside) same-closed first is_pin (at-shape are) pin here)
+-- ---- what the tree of the reached cells shows of the set
 
 pub first-pin : (pins : List ℕ) → 0 < length pins → is_among pins (get_or pins 0 0) ≡ true
 first-pin [] some = absurd (omega arith)
 first-pin (pin ∷ pins) some = among-first pin pins
+
+module _ (g : Shape) (numbers pins cells : List ℕ) (t : TreeView) (in_grid : LieIn g (edges_numbered numbers)) (some : 0 < length pins)
+    (reach : IsReach g (edges_numbered numbers) (get_or pins 0 0) cells t) where
+  abbrev set : Edges
+  set = edges_numbered numbers
+
+  within-grid : LieIn t.shape set
+  within-grid = subst (λ (s : Shape). LieIn s set) (sym reach.shape) in_grid
+
+  pub has-just : length numbers + 1 ≡ length t.nodes → HasJust set t
+  has-just size = λ e.
+      bool-same (edges_of t e) (set e) (reach.within e) (none-left numbers t reach.tree reach.within (omega (arith, size, reach.count)) e)
+
+  pub pins-held : list_all (has_number cells) pins ≡ true → (pin : ℕ) → is_among pins pin ≡ true → holds t pin ≡ true
+  pins-held all pin here = reach.held pin ∙ all-pins (has_number cells) pins all pin here
+
+  pub is-tree : length numbers + 1 ≡ length t.nodes → list_all (has_number cells) pins ≡ true → AreTree g set pins
+  is-tree size all =
+      subst (λ (s : Shape). AreTree s set pins) reach.shape (are-tree set t pins reach.tree within-grid (has-just size) (pins-held all))
+
+  module _ (are : AreTree g set pins) where
+    are-here : AreTree t.shape set pins
+    are-here = subst (λ (s : Shape). AreTree s set pins) (sym reach.shape) are
+
+    pub as-many-edges : ((n : ℕ) → times numbers n ≤ 1) → length numbers + 1 ≡ length t.nodes
+    as-many-edges once =
+        let all = all-edges set t pins (get_or pins 0 0) reach.tree within-grid reach.within reach.closed reach.start (first-pin pins some) are-here in
+        omega (arith, as-many numbers t reach.tree reach.within once all, reach.count)
+
+    pub no-pin-left : list_all (has_number cells) pins ≡ true
+    no-pin-left = pins-all (has_number cells) pins (λ pin here.
+        sym (reach.held pin)
+        ∙ every-pin set t pins (get_or pins 0 0) reach.tree within-grid reach.within reach.closed reach.start (first-pin pins some) are-here pin here)

@@ -1,4 +1,7 @@
+-- The list of a set's numbers, and its marks.
 use Rattle.std.proofs.Common.{◌≡◌, ℕ, zero, suc, ◌+◌, ◌<◌, ◌≤◌, ◌==◌, ◌||◌, inl, inr, Bool, true, false, not, cond, List, [], ◌∷◌, ◌++◌, length, get_or, set, count_by, if◌then◌else◌, refl, sym, ap, subst, ◌∙◌, arith}
+use Rattle.std.specs.List.{list_any}
+use Rattle.std.proofs.Math.Bool.{or-true, or-false}
 use Rattle.std.proofs.lemmas.Bool.{cases_Bool, cases_eq, false≢true}
 use Rattle.std.proofs.lemmas.Bool.Decides.{nat_tests}
 use Rattle.std.proofs.lemmas.List.{length-set, length-append, get_or-set_same, get_or-set_other}
@@ -12,31 +15,19 @@ use Rattle.route_evaluator.specs.NumberSetStore.{AreMarked}
 pub has-push : (numbers : List ℕ) (n m : ℕ) → has_number (numbers ++ n ∷ []) m ≡ (has_number numbers m || (m == n))
 has-push numbers n m =
     list_any-append (λ other. m == other) numbers (n ∷ []) ∙ ap (λ (b : Bool). has_number numbers m || b) (or-false (m == n))
-  where
-    or-false : (b : Bool) → (b || false) ≡ b
-    or-false true = refl
-    or-false false = refl
 
-or-true : (b : Bool) → (b || true) ≡ true
-or-true true = refl
-or-true false = refl
-
-or-none : (b : Bool) → (b || false) ≡ b
-or-none true = refl
-or-none false = refl
-
--- a number that isn't in the list stands there no time
-pub count-none : (numbers : List ℕ) (n : ℕ) → has_number numbers n ≡ false → count_by (λ other. n == other) numbers ≡ 0
-count-none [] n none = refl
-count-none (x ∷ xs) n none =
-    elim (cases_Bool (n == x)) [
+-- where none passes a test, none is counted
+pub count-none : {X : Type 0} (p : X → Bool) (xs : List X) → list_any p xs ≡ false → count_by p xs ≡ 0
+count-none p [] none = refl
+count-none p (x ∷ xs) none =
+    elim (cases_Bool (p x)) [
       | inl same ↦
-          let has : has_number (x ∷ xs) n ≡ true = rw same refl in
+          let has : list_any p (x ∷ xs) ≡ true = rw same refl in
           absurd (false≢true (sym none ∙ has))
       | inr other ↦
-          let rest : has_number xs n ≡ false = rw other at none in
-          let one : cond {A = ℕ} (n == x) 1 0 ≡ 0 = rw other refl in
-          omega (arith, sum_by-cons (λ (y : ℕ). cond (n == y) 1 0) x xs, one, count-none xs n rest)
+          let rest : list_any p xs ≡ false = rw other at none in
+          let one : cond {A = ℕ} (p x) 1 0 ≡ 0 = rw other refl in
+          omega (arith, sum_by-cons (λ y. cond (p y) 1 0) x xs, one, count-none p xs rest)
     ]
 
 -- one more mark leaves one place less without a mark
@@ -74,7 +65,7 @@ marked-push bound numbers new marks n keeps below fresh pushed =
           | inr other ↦
               let test : (m == n) ≡ false = grind (arith, nat_tests) in
               get_or-set_other marks n m true false other ∙ keeps.marked m
-              ∙ sym (has-push numbers n m ∙ ap (λ (b : Bool). has_number numbers m || b) test ∙ or-none (has_number numbers m))
+              ∙ sym (has-push numbers n m ∙ ap (λ (b : Bool). has_number numbers m || b) test ∙ or-false (has_number numbers m))
         ]
 
     stands : (m : ℕ) → count_by (λ other. m == other) (numbers ++ n ∷ []) ≤ 1
@@ -82,7 +73,7 @@ marked-push bound numbers new marks n keeps below fresh pushed =
         let more = sum_by_push (λ (other : ℕ). cond (m == other) 1 0) numbers n in
         elim (cases_eq m n) [
           | inl same ↦
-              let none = count-none numbers m (ap (has_number numbers) same ∙ fresh) in
+              let none = count-none (λ other. m == other) numbers (ap (has_number numbers) same ∙ fresh) in
               let test : (m == n) ≡ true = grind (arith, nat_tests) in
               let one : cond {A = ℕ} (m == n) 1 0 ≡ 1 = rw test refl in
               omega (arith, more, one, none)

@@ -1,3 +1,4 @@
+-- Paths along the edges of a set.
 use Rattle.std.proofs.Common.{◌≡◌, ℕ, ◌<◌, ◌⊎◌, inl, inr, true, false, ◌==◌, List, [], ◌∷◌, ◌++◌, refl, sym, ap, subst, ◌∙◌, arith}
 use Rattle.std.proofs.lemmas.Bool.{cases_Bool, cases_eq, or_cases, or_left, or_right, eqb-true, eq-eqb, false≢true, false_from_ne_true}
 use Rattle.std.proofs.lemmas.List.Folds.{list_any-append}

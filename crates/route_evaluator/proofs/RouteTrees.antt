@@ -1,19 +1,20 @@
+-- The trees of the nets so far.
 use Rattle.std.proofs.Common.{◌≡◌, ℕ, ◌+◌, ◌<◌, inl, inr, false, List, Option, Some, IsTrue, subst, arith}
 use Rattle.std.proofs.lemmas.Bool.{both_ways, cases_lt}
 use Rattle.std.specs.Option.{IsSomeAnd}
 use Rattle.gr_base.specs.Designs.{DesignView, is_routed}
 use Rattle.gr_base.specs.Trees.{TreeView, IsTree, tree_at}
-use Rattle.route_evaluator.proofs.GatheredLemmas.{found-is}
+use Rattle.gr_base.proofs.General.{and-some}
 
 -- the trees of the routed nets below a number are trees
-abbrev pub AreTrees : DesignView → List (Option TreeView) → ℕ → Type 0
-AreTrees d trees count = (net : ℕ) → (tree : TreeView) → net < count → IsTrue (is_routed d net) → tree_at trees net ≡ Some tree → IsTree tree
+abbrev pub AreTreesBefore : DesignView → List (Option TreeView) → ℕ → Type 0
+AreTreesBefore d trees count = (net : ℕ) → (tree : TreeView) → net < count → IsTrue (is_routed d net) → tree_at trees net ≡ Some tree → IsTree tree
 
-pub trees-none : (d : DesignView) (trees : List (Option TreeView)) → AreTrees d trees 0
+pub trees-none : (d : DesignView) (trees : List (Option TreeView)) → AreTreesBefore d trees 0
 trees-none d trees net tree below routed at = absurd (omega (arith, below))
 
-trees-more : (d : DesignView) (trees : List (Option TreeView)) (k : ℕ) → AreTrees d trees k →
-    ((tree : TreeView) → IsTrue (is_routed d k) → tree_at trees k ≡ Some tree → IsTree tree) → AreTrees d trees (k + 1)
+trees-more : (d : DesignView) (trees : List (Option TreeView)) (k : ℕ) → AreTreesBefore d trees k →
+    ((tree : TreeView) → IsTrue (is_routed d k) → tree_at trees k ≡ Some tree → IsTree tree) → AreTreesBefore d trees (k + 1)
 trees-more d trees k are last net tree below routed at =
     elim (cases_lt net k) [
       | inl less ↦ are net tree less routed at
@@ -23,8 +24,8 @@ trees-more d trees k are last net tree below routed at =
     ]
 
 -- after a net that isn't routed, and after one whose tree is one
-pub trees-skip : (d : DesignView) (trees : List (Option TreeView)) (k : ℕ) → is_routed d k ≡ false → AreTrees d trees k → AreTrees d trees (k + 1)
+pub trees-skip : (d : DesignView) (trees : List (Option TreeView)) (k : ℕ) → is_routed d k ≡ false → AreTreesBefore d trees k → AreTreesBefore d trees (k + 1)
 trees-skip d trees k off are = trees-more d trees k are (λ tree routed at. absurd (both_ways (is_routed d k) off routed))
 
-pub trees-next : (d : DesignView) (trees : List (Option TreeView)) (k : ℕ) → IsSomeAnd (tree_at trees k) IsTree → AreTrees d trees k → AreTrees d trees (k + 1)
-trees-next d trees k is are = trees-more d trees k are (λ tree routed at. found-is IsTree (tree_at trees k) tree at is)
+pub trees-next : (d : DesignView) (trees : List (Option TreeView)) (k : ℕ) → IsSomeAnd (tree_at trees k) IsTree → AreTreesBefore d trees k → AreTreesBefore d trees (k + 1)
+trees-next d trees k is are = trees-more d trees k are (λ tree routed at. and-some IsTree (tree_at trees k) tree at is)

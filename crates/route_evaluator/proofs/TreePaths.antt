@@ -1,5 +1,6 @@
-use Rattle.std.proofs.Common.{◌≡◌, ℕ, zero, suc, ◌+◌, ◌<◌, ◌≤◌, ◌⊎◌, inl, inr, true, false, ◌||◌, ◌==◌, List, [], ◌∷◌, ◌++◌, length, take, get_or, Option, Some, None, is_some, slice_get, IfSome, refl, sym, ap, subst, ◌∙◌, append-nil, arith}
-use Rattle.std.specs.List.{list_any, filter_map, cons_option}
+-- Along the edges of a tree one path leads from each of its cells to each other.
+use Rattle.std.proofs.Common.{◌≡◌, ℕ, zero, suc, ◌+◌, ◌<◌, ◌≤◌, ◌⊎◌, inl, inr, true, false, ◌||◌, ◌==◌, List, [], ◌∷◌, ◌++◌, length, take, get_or, Option, Some, None, is_some, slice_get, refl, sym, ap, subst, ◌∙◌, append-nil, arith}
+use Rattle.std.specs.List.{filter_map, cons_option}
 use Rattle.std.specs.Option.{option_and_then}
 use Rattle.std.proofs.lemmas.Bool.{cases_Bool, or_cases, or_left, or_right, eqb-true, false≢true}
 use Rattle.std.proofs.lemmas.List.{take_more, take_all, length-take-le}
@@ -9,43 +10,22 @@ use Rattle.std.proofs.lemmas.Option.{none-some, same_Some, slice_get-get_or}
 use Rattle.gr_base.specs.declared.grid.Edge.{Edge}
 use Rattle.gr_base.specs.declared.grid.Shape.{Shape}
 use Rattle.gr_base.specs.declared.tree.Node.{Node}
-use Rattle.gr_base.specs.Grid.{cells_of, edge_of, Joins}
+use Rattle.gr_base.specs.Grid.{edge_of, Joins}
 use Rattle.gr_base.specs.EdgeSets.{Edges, is_edge, set_of}
 use Rattle.gr_base.specs.Trees.{TreeView, node_of, cell_at, node_with, holds, AllHang, IsTree, edge_to_parent, edges_of}
-use Rattle.gr_base.proofs.GridLemmas.{edge_of-joins, joins-swap}
-use Rattle.gr_base.proofs.TreeLemmas.{cell_at-take, cell-inside, hangs-at, read-cell, found-append, parent-of}
+use Rattle.gr_base.proofs.GridLemmas.{joins-swap}
+use Rattle.gr_base.proofs.TreeLemmas.{root-cell, cell_at-take, cell-inside, hangs-at, read-cell, found-append, parent-of}
 use Rattle.gr_base.proofs.TreeEdges.{found-at, edge_of-some, is_edge-refl}
-use Rattle.gr_base.proofs.TreeDistinct.{is_edge-same, AllHang-take}
+use Rattle.gr_base.proofs.TreeDistinct.{is_edge-same, gives, joins-of, AllHang-take}
 use Rattle.gr_base.proofs.TreeGrowth.{parent-held}
 use Rattle.route_evaluator.specs.NetTrees.{StepsTo, OnePath}
 use Rattle.route_evaluator.proofs.PathLemmas.{step-more, joins-apart, joins-other, joins-same, path-more, SomePath, path-before, path-join, path-back, path-none, Sprouts, NoTwo, no-two-more}
-
--- a node of the list gives the edge
-abbrev Gives : (Node → Option Edge) → Edge → List Node → Type 0
-Gives f e xs = (k : ℕ) × (x : Node) × (slice_get xs k ≡ Some x) × (f x ≡ Some e)
-
-gives_either : (f : Node → Option Edge) (e : Edge) (x : Node) (xs : List Node) (o : Option Edge) → f x ≡ o →
-    list_any (is_edge e) (cons_option o (filter_map f xs)) ≡ true → (set_of (filter_map f xs) e ≡ true → Gives f e xs) → Gives f e (x ∷ xs)
-gives_either f e x xs None at is later = let rest = later is in (suc rest.0, rest.1, rest.2, rest.3)
-gives_either f e x xs (Some other) at is later =
-    elim (or_cases (is_edge e other) (set_of (filter_map f xs) e) is) [
-      | inl same ↦ (0, x, refl, at ∙ ap (λ (d : Edge). Some d) (sym (is_edge-same e other same)))
-      | inr more ↦ let rest = later more in (suc rest.0, rest.1, rest.2, rest.3)
-    ]
-
-gives : (f : Node → Option Edge) (e : Edge) (xs : List Node) → set_of (filter_map f xs) e ≡ true → Gives f e xs
-gives f e [] is = absurd (false≢true is)
-gives f e (x ∷ xs) is = gives_either f e x xs (f x) refl is (λ later. gives f e xs later)
 
 -- the two cells that a node's edge joins
 edge-parts : (g : Shape) (node : Node) (o : Option ℕ) (e : Edge) → option_and_then (λ cell. edge_of g node.cell cell) o ≡ Some e →
     (c : ℕ) × (o ≡ Some c) × (edge_of g node.cell c ≡ Some e)
 edge-parts g node None e is = absurd (none-some e is)
 edge-parts g node (Some c) e is = (c, refl, is)
-
-pub joins-of : (g : Shape) (a b : ℕ) (e : Edge) → a < cells_of g → b < cells_of g → edge_of g a b ≡ Some e → Joins g e a b
-joins-of g a b e first second is =
-    let P : Option Edge → Type 0 = λ o. IfSome o (λ d. Joins g d a b) in subst P is (edge_of-joins g a b first second)
 
 -- an edge that was added at the end is in the list
 last-edge : (edges : List Edge) (o : Option Edge) (e : Edge) → o ≡ Some e → set_of (edges ++ cons_option o []) e ≡ true
@@ -85,10 +65,10 @@ module _ (g : Shape) (nodes : List Node) (hanging : AllHang g [] nodes) where
   pub end-held : (k : ℕ) (e : Edge) (a b : ℕ) → set_of (first-edges k) e ≡ true → Joins g e a b → held k a
   end-held k e a b is joins =
       let found = gives (edge_to_parent g nodes) e (take k nodes) is in
-      let x : Node = found.1 in
-      let h = hung k found.0 x e found.2 found.3 in
+      let x : Node = found.1.0 in
+      let h = hung k found.0 x e found.1.1.0 found.1.1.1 in
       let P : ℕ → Type 0 = λ c. held k c in
-      let own : held k x.cell = found-at (take k nodes) found.0 x.cell (read-cell (take k nodes) found.0 x found.2) in
+      let own : held k x.cell = found-at (take k nodes) found.0 x.cell (read-cell (take k nodes) found.0 x found.1.1.0) in
       elim joins.ends [
         | inl f ↦ elim h.joins.ends [ inl s ↦ subst P (sym s.0 ∙ f.0) own | inr s ↦ subst P (sym s.0 ∙ f.0) h.near ]
         | inr f ↦ elim h.joins.ends [ inl s ↦ subst P (sym s.1 ∙ f.1) h.near | inr s ↦ subst P (sym s.1 ∙ f.1) own ]
@@ -242,10 +222,6 @@ module _ (g : Shape) (nodes : List Node) (hanging : AllHang g [] nodes) where
       let down = to-root root is (length nodes) (omega arith) b to in
       let both = path-join g set a root b up.0 up.1 (path-back g set b root down.0 down.1) in
       record { path = both.0; leads = both.1; only = λ other leads. no-two-first (length nodes) (omega arith) a b other both.0 leads both.1 }
-
-root-cell : (nodes : List Node) → 0 < length nodes → (c : ℕ) × (cell_at nodes 0 ≡ Some c)
-root-cell [] some = absurd (omega arith)
-root-cell (root ∷ others) some = (root.cell, refl)
 
 -- between two cells of a tree exactly one path leads along its edges
 pub one-path : (t : TreeView) → IsTree t → (a b : ℕ) → holds t a ≡ true → holds t b ≡ true → OnePath t.shape (edges_of t) a b

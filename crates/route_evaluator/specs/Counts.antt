@@ -1,4 +1,5 @@
-use Rattle.std.specs.Prelude.{◌≡◌, ◌↔◌, ℕ, ◌*◌, ◌<◌, Bool, List, [], ◌∷◌, ◌++◌, Contains, count_by, sum_by, filter, if◌then◌else◌, IsTrue}
+-- What is counted of the nets of a solution, one after another.
+use Rattle.std.specs.Prelude.{◌≡◌, ◌↔◌, ℕ, ◌*◌, ◌+◌, ◌^◌, ◌<◌, ◌≤◌, Bool, List, [], ◌∷◌, ◌++◌, length, Contains, count_by, sum_by, filter, if◌then◌else◌, IsTrue}
 use Rattle.std.specs.List.{range_with_len}
 use Rattle.std.specs.List.Sorted.{IsStrictlyIncreasing}
 use Rattle.gr_base.specs.Capacities.{need}
@@ -7,13 +8,14 @@ use Rattle.gr_base.specs.EdgeSets.{Edges}
 use Rattle.gr_base.specs.Grid.{cells_of, has_edge, is_wire}
 use Rattle.gr_base.specs.Sums.{wire_edges, via_edges}
 use Rattle.gr_base.specs.declared.grid.Edge.{Edge}
-use Rattle.grid_demand.specs.LoadSums.{demand_at}
-use Rattle.grid_demand.specs.Tables.{capacity_of}
+use Rattle.grid_demand.specs.LoadSums.{LoadsView, demand_at}
+use Rattle.grid_demand.specs.Tables.{CapacityView, capacity_of, need_at}
 use Rattle.solution_text.specs.Runs.{LieIn}
 use Rattle.route_evaluator.specs.EdgeNumbers.{edges_numbered}
 use Rattle.route_evaluator.specs.NumberSets.{empty_set}
-use Rattle.route_evaluator.specs.Verdicts.{IsUnjoined}
+use Rattle.route_evaluator.specs.Verdicts.{IsUnjoined, IsVerdict}
 use Rattle.route_evaluator.specs.declared.tally.Tally.{Tally}
+use Rattle.route_evaluator.specs.declared.verdict.Verdict.{Verdict}
 
 -- the sum of what f gives for each routed net below a number
 abbrev pub sum_before : DesignView → ℕ → (ℕ → ℕ) → ℕ
@@ -29,7 +31,7 @@ pub record AreTallied (d : DesignView) (sets : ℕ → Edges) (count : ℕ) (t :
   pub shape : t.loads.shape ≡ d.frame.shape
   pub demand : (e : Edge) → IsTrue (has_edge d.frame.shape e) → IsTrue (is_wire e) →
       demand_at t.loads e ≡ sum_before d count (λ net. if sets net e then need d net e else 0)
-  pub reached : t.reached ≡ empty_set (cells_of d.frame.shape)
+  pub reached : t.reached.cells ≡ empty_set (cells_of d.frame.shape)
   pub routed : t.routed ≡ count_by (is_routed d) (range_with_len 0 count)
   pub wires : t.wires ≡ sum_before d count (λ net. count_by (sets net) (wire_edges d.frame.shape))
   pub vias : t.vias ≡ sum_before d count (λ net. count_by (sets net) (via_edges d.frame.shape))
@@ -47,3 +49,22 @@ pub record AreGathered (d : DesignView) (sets : ℕ → Edges) (net : ℕ) (t : 
   pub bound : t.edges.bound ≡ 3 * cells_of d.frame.shape
   pub edges : edges_numbered t.edges.numbers ≡ sets net
   pub inside : LieIn d.frame.shape (edges_numbered t.edges.numbers)
+
+-- each wire edge has room for the need of one more net
+abbrev pub HasRoom : LoadsView → Type 0
+HasRoom l = (e : Edge) → IsTrue (has_edge l.shape e) → IsTrue (is_wire e) → demand_at l e ≤ 2 ^ 62
+
+-- each wire edge of the set gained the net's need, and no other edge anything
+abbrev pub IsCharged : CapacityView → ℕ → Edges → (old new : LoadsView) → Type 0
+IsCharged c net set old new =
+    (e : Edge) → IsTrue (has_edge old.shape e) → IsTrue (is_wire e) →
+    demand_at new e ≡ demand_at old e + (if set e then need_at c net e else 0)
+
+-- the net whose edges were gathered is counted
+abbrev pub CountsNet : DesignView → ℕ → (old new : Tally) → Type 0
+CountsNet d net old new = (sets : ℕ → Edges) → AreGathered d sets net old → AreCounted d sets (net + 1) new
+
+-- the verdict says what was counted of all nets
+abbrev pub TellsOf : ℕ → Tally → Verdict → Type 0
+TellsOf via_cost t v =
+    (d : DesignView) → (sets : ℕ → Edges) → AreCounted d sets (length d.nets) t → IsVerdict d via_cost sets v

@@ -2,9 +2,7 @@ pub mod Verdicts
 pub mod NumberSets
 pub mod NumberSetStore
 pub mod EdgeNumbers
-pub mod Floods
+pub mod Gathers
 pub mod Counts
 pub mod NetTrees
-pub mod WayApart
-pub mod EdgeTables
-pub mod TreeFlood
+pub mod Floods

@@ -1,10 +1,14 @@
--- When the edges of a net are a tree: between any two of the cells that they and the net's pins touch, exactly one path leads.
-use Rattle.std.specs.Prelude.{◌≡◌, ◌⊎◌, ℕ, false, List, [], ◌∷◌, IsTrue}
+-- When the edges of a net are a tree: between any two of the cells that they and the net's pins touch, exactly one
+-- path leads.
+use Rattle.std.specs.Prelude.{◌≡◌, ◌⊎◌, ℕ, false, List, [], ◌∷◌, Option, Some, slice_get, IsTrue}
 use Rattle.gr_base.specs.declared.grid.Edge.{Edge}
 use Rattle.gr_base.specs.declared.grid.Shape.{Shape}
 use Rattle.gr_base.specs.Grid.{high_of, Joins}
 use Rattle.gr_base.specs.EdgeSets.{Edges}
-use Rattle.gr_base.specs.Trees.{TreeView, edges_of, is_among}
+use Rattle.gr_base.specs.Designs.{DesignView, is_routed}
+use Rattle.gr_base.specs.Plans.{IsRouteOf}
+use Rattle.gr_base.specs.Trees.{TreeView, IsTree, edges_of, is_among, tree_at}
+use Rattle.gr_base.specs.declared.frame.Net.{Net}
 
 -- an edge of the set joins the two cells
 pub record StepsTo (g : Shape) (set : Edges) (a b : ℕ) : Type 0 where
@@ -39,3 +43,12 @@ AreTree g set pins = (a b : ℕ) → IsTouched g set pins a → IsTouched g set 
 -- the tree has just the edges of the set
 abbrev pub HasJust : Edges → TreeView → Type 0
 HasJust set t = (e : Edge) → edges_of t e ≡ set e
+
+-- the tree routes the net with this number
+abbrev pub IsNetRoute : DesignView → ℕ → TreeView → Type 0
+IsNetRoute d net t = (value : Net) → slice_get d.nets net ≡ Some value → IsRouteOf d.frame.shape value t
+
+-- what stands for each routed net is a tree
+abbrev pub AreTrees : DesignView → List (Option TreeView) → Type 0
+AreTrees d trees =
+    (net : ℕ) → (tree : TreeView) → IsTrue (is_routed d net) → tree_at trees net ≡ Some tree → IsTree tree

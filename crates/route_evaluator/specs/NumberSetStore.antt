@@ -1,3 +1,4 @@
+-- How a set of numbers is kept: a list, and a mark for each of its numbers.
 use Rattle.std.specs.Prelude.{◌≡◌, ◌==◌, ℕ, ◌+◌, ◌<◌, ◌≤◌, Bool, false, not, List, All, length, count_by, slice_index_or}
 use Rattle.route_evaluator.specs.NumberSets.{NumberSetView, has_number}
 use Rattle.route_evaluator.specs.declared.number_set.NumberSet.TheInside.{Inside}

@@ -1,3 +1,4 @@
+-- Sets of numbers, in the order in which they came.
 use Rattle.std.specs.Prelude.{ℕ, Bool, ◌==◌, List, ◌∷◌, [], ◌++◌, if◌then◌else◌}
 use Rattle.std.specs.List.{list_any}
 

@@ -1,3 +1,4 @@
+-- What a verdict says of routes.
 use Rattle.std.specs.Prelude.{◌≡◌, ◌↔◌, ℕ, length, Contains, count_by, IsTrue}
 use Rattle.std.specs.List.{range_with_len}
 use Rattle.std.specs.List.Sorted.{IsStrictlyIncreasing}

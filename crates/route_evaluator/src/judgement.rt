@@ -1,7 +1,8 @@
-ghost use Rattle.std.specs.Prelude.{◌≡◌, ◌≤◌, ℕ, Some, IfOk, OnOk, IsTrue, IsSomeAnd};
-ghost use Rattle.gr_base.specs.Designs.{is_routed};
-ghost use Rattle.gr_base.specs.Trees.{TreeView, IsTree, route_edges, tree_at};
+ghost use Rattle.std.specs.Prelude.{◌≤◌, IfOk, OnOk};
+ghost use Rattle.gr_base.specs.Trees.{route_edges};
 ghost use Rattle.route_reader.specs.Solutions.{IsOf, edges_by};
+ghost use Rattle.straight_runs.specs.Routed.{AreRouted};
+ghost use Rattle.route_evaluator.specs.NetTrees.{AreTrees};
 ghost use Rattle.route_evaluator.specs.Verdicts.{IsVerdict};
 
 use crate::tally::Tally;
@@ -41,10 +42,10 @@ pub fn evaluate_routes(
     routes: &Routes,
     via_cost: u32,
 ) -> Result<Verdict, AllocError>
-    requires routes { (net : ℕ) → IsTrue (is_routed design.now net) → IsSomeAnd (tree_at routes.now net) (λ tree. tree.shape ≡ design.now.frame.shape) }
+    requires routes { AreRouted design.now routes.now }
     requires cost { via_cost ≤ 1000 }
     ensures verdict { IfOk result (IsVerdict design.now via_cost (route_edges routes.now)) }
-    ensures trees { OnOk result ((net : ℕ) → (tree : TreeView) → IsTrue (is_routed design.now net) → tree_at routes.now net ≡ Some tree → IsTree tree) }
+    ensures trees { OnOk result (AreTrees design.now routes.now) }
 {
     let mut tally = Tally::new(alloc, design)?;
     for net in 0..design.nets() {

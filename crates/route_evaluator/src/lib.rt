@@ -3,23 +3,16 @@
 #![tactic(auto)]
 
 mod edge_numbers;
-mod edge_table;
-mod edge_tree;
 mod flood;
 mod gather;
 mod judgement;
 mod net_runs;
 mod net_tree;
 mod number_set;
-mod run_edges;
+mod reached;
 mod straight_list;
 mod tally;
-#[cfg(test)]
-mod tests;
 mod tree_error;
-mod tree_flood;
-#[cfg(test)]
-mod tree_tests;
 mod verdict;
 
 pub use judgement::{evaluate, evaluate_routes};

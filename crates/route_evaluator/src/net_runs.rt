@@ -2,7 +2,8 @@ ghost use Rattle.std.specs.Prelude.{◌≡◌, ◌<◌, length, IfOk};
 ghost use Rattle.solution_text.specs.Runs.{runs_of};
 ghost use Rattle.route_reader.specs.Solutions.{IsOf, edges_by};
 
-use crate::run_edges::edges_along;
+use crate::edge_numbers::edges_with_numbers;
+use crate::gather::edges_of_net;
 use crate::straight_list::Straight;
 use gr_base::Design;
 use route_reader::Solution;
@@ -21,10 +22,10 @@ pub fn straight(
     requires net { net < length design.now.nets }
     ensures { IfOk result (λ straight. straight ≡ runs_of design.now.frame.shape (edges_by solution.now net)) }
 {
-    let shape = design.frame().shape;
-    let edges = edges_along(alloc, shape, solution.runs(net))?;
+    let set = edges_of_net(alloc, design, solution, net)?;
+    let edges = edges_with_numbers(alloc, set.numbers())?;
     let mut runs = Vec::new(alloc);
     let mut lows = Vec::new(alloc);
-    gather_runs(&mut runs, &mut lows, shape, &edges)?;
+    gather_runs(&mut runs, &mut lows, design.frame().shape, &edges)?;
     Ok(Straight { runs })
 }

@@ -1,4 +1,5 @@
 ghost use Rattle.std.specs.Prelude.{◌≡◌, ◌==◌, ℕ, ◌<◌, ◌≤◌, false, length, count_by, slice_index_or, All, IfOk, OnOk, if◌then◌else◌};
+ghost use Rattle.std.specs.List.{list_all};
 ghost use Rattle.route_evaluator.specs.NumberSets.{has_number, empty_set, set_with};
 
 use std::alloc::{AllocError, Global};
@@ -54,6 +55,19 @@ impl NumberSet {
         ensures { result ≡ has_number self.now.numbers number }
     {
         self.marks[number as usize]
+    }
+
+    /// Whether the set has all these numbers.
+    pub(crate) fn has_all(&self, numbers: &[u32]) -> bool
+        requires { All (λ n. n < self.now.bound) numbers.now }
+        ensures { result ≡ list_all (has_number self.now.numbers) numbers.now }
+    {
+        for number in numbers {
+            if !self.has(*number) {
+                return false;
+            }
+        }
+        true
     }
 
     /// Puts a number in, behind the others, if it isn't one of them. The only error is want of

@@ -1,22 +1,18 @@
 //! What is counted of the nets of a solution.
-ghost use Rattle.std.specs.Prelude.{◌≡◌, ◌<◌, ◌≤◌, ◌*◌, ◌+◌, ◌-◌, ◌^◌, ℕ, length, count_by, IfOk, OnOk, IsTrue, IsSomeAnd, if◌then◌else◌};
-ghost use Rattle.gr_base.specs.declared.grid.Edge.{Edge};
-ghost use Rattle.gr_base.specs.Designs.{DesignView, is_routed};
+ghost use Rattle.std.specs.Prelude.{◌≡◌, ◌+◌, ℕ, count_by, IfOk, OnOk, IsTrue, IsSomeAnd};
+ghost use Rattle.gr_base.specs.Designs.{is_routed};
 ghost use Rattle.gr_base.specs.EdgeSets.{Edges};
-ghost use Rattle.gr_base.specs.Grid.{cells_of, has_edge, is_wire};
 ghost use Rattle.gr_base.specs.Trees.{IsTree, route_edges, tree_at};
 ghost use Rattle.solution_text.specs.Runs.{LieIn};
 ghost use Rattle.route_reader.specs.Solutions.{IsOf, edges_by};
-ghost use Rattle.grid_demand.specs.LoadSums.{demand_at};
-ghost use Rattle.grid_demand.specs.Tables.{need_at};
 ghost use Rattle.route_evaluator.specs.EdgeNumbers.{edges_numbered, is_via_number};
-ghost use Rattle.route_evaluator.specs.Counts.{AreCounted, AreGathered, noted};
-ghost use Rattle.route_evaluator.specs.Verdicts.{IsVerdict};
+ghost use Rattle.route_evaluator.specs.Counts.{AreCounted, AreGathered, CountsNet, HasRoom, IsCharged, TellsOf, noted};
 
 use crate::edge_numbers::{edge_with_number, is_via};
 use crate::flood::joins;
 use crate::gather::{gather, gather_tree};
 use crate::number_set::NumberSet;
+use crate::reached::Reached;
 use crate::verdict::Verdict;
 use gr_base::{Cells, Design, Routes};
 use grid_demand::{Capacity, Loads};
@@ -29,7 +25,7 @@ pub(crate) struct Tally {
     pub capacity: Capacity,
     pub loads: Loads,
     pub edges: NumberSet,
-    pub reached: NumberSet,
+    pub reached: Reached,
     pub wires: u64,
     pub vias: u64,
     pub routed: u32,
@@ -48,7 +44,7 @@ impl Tally {
             capacity,
             loads,
             edges: NumberSet::new(alloc, 3 * shape.cells())?,
-            reached: NumberSet::new(alloc, shape.cells())?,
+            reached: Reached::new(alloc, shape)?,
             wires: 0,
             vias: 0,
             routed: 0,
@@ -98,7 +94,7 @@ impl Tally {
     fn count_gathered(&mut self, design: &Design, net: u32) -> Result<(), AllocError>
         requires routed { IsTrue (is_routed design.now net) }
         requires gathered { (sets : ℕ → Edges) × AreGathered design.now sets net self.old }
-        ensures { OnOk result ((sets : ℕ → Edges) → AreGathered design.now sets net self.old → AreCounted design.now sets (net + 1) self.new) }
+        ensures { OnOk result (CountsNet design.now net self.old self.new) }
     {
         let shape = design.frame().shape;
         let pins = design.net(net).pins.as_slice();
@@ -116,7 +112,7 @@ impl Tally {
     /// The verdict on all nets, at a cost for each via edge.
     pub(crate) fn verdict(self, via_cost: u32) -> Verdict
         requires { self.capacity.shape ≡ self.loads.shape }
-        ensures { (d : DesignView) → (sets : ℕ → Edges) → AreCounted d sets (length d.nets) self → IsVerdict d via_cost sets result }
+        ensures { TellsOf via_cost self result }
     {
         let vias = u128::from(self.vias);
         Verdict {
@@ -134,10 +130,9 @@ impl Tally {
 fn charge(loads: &mut Loads, capacity: &Capacity, net: u32, edges: &NumberSet)
     requires shape { capacity.now.shape ≡ loads.old.shape }
     requires grid { LieIn loads.old.shape (edges_numbered edges.now.numbers) }
-    requires room { (e : Edge) → IsTrue (has_edge loads.old.shape e) → IsTrue (is_wire e) → demand_at loads.old e ≤ 2 ^ 62 }
+    requires room { HasRoom loads.old }
     ensures shape { loads.new.shape ≡ loads.old.shape }
-    ensures demand { (e : Edge) → IsTrue (has_edge loads.old.shape e) → IsTrue (is_wire e) →
-        demand_at loads.new e ≡ demand_at loads.old e + (if edges_numbered edges.now.numbers e then need_at capacity.now net e else 0) }
+    ensures demand { IsCharged capacity.now net (edges_numbered edges.now.numbers) loads.old loads.new }
 {
     for number in edges.numbers() {
         if !is_via(*number) {

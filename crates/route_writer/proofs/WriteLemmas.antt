@@ -1,3 +1,4 @@
+-- The text that is written so far, and what is gathered of it.
 use Rattle.std.proofs.Common.{◌≡◌, ℕ, zero, suc, ◌+◌, ◌-◌, ◌≤◌, true, false, List, [], ◌∷◌, ◌++◌, length, Option, Some, None, Result, Ok, Err, slice_get, refl, sym, ap, ◌∙◌, append_assoc, append-nil, arith}
 use Rattle.std.specs.List.{flat_map, range_with_len}
 use Rattle.std.proofs.lemmas.List.Concat.{flat_map-append}
@@ -56,12 +57,18 @@ module _ (d : DesignView) (sets : ℕ → Edges) where
       let by : Option Net → List ℕ = λ o. text_of_net d.frame o (sets net) in
       ap by at ∙ rw (sym (ap is_routed_net at) ∙ on) refl
 
--- a routed net with a tree
-pub text-routed : (d : DesignView) (trees : List (Option TreeView)) (net : ℕ) (value : Net) (tree : TreeView) → slice_get d.nets net ≡ Some value →
-    is_routed d net ≡ true → tree_at trees net ≡ Some tree → text_at d (route_edges trees) net ≡ record_text d.frame value (edges_of tree)
-text-routed d trees net value tree at on has =
-    let by_tree : Option TreeView → List ℕ = λ o. record_text d.frame value (edges_or_none o) in
-    text-of d (route_edges trees) net value at on ∙ ap by_tree has
+-- the text of one more net: nothing, or its record
+pub text-skip_next : (d : DesignView) (sets : ℕ → Edges) (net : ℕ) → is_routed d net ≡ false → text_before d sets (net + 1) ≡ text_before d sets net
+text-skip_next d sets net off =
+    before-more d sets net ∙ ap (λ (t : List ℕ). text_before d sets net ++ t) (text-skip d sets net off) ∙ append-nil (text_before d sets net)
+
+pub text-next : (d : DesignView) (trees : List (Option TreeView)) (net : ℕ) (value : Net) (tree : TreeView) → slice_get d.nets net ≡ Some value →
+    is_routed d net ≡ true → tree_at trees net ≡ Some tree →
+    text_before d (route_edges trees) (net + 1) ≡ text_before d (route_edges trees) net ++ record_text d.frame value (edges_of tree)
+text-next d trees net value tree at on has =
+    before-more d (route_edges trees) net
+    ∙ ap (λ (t : List ℕ). text_before d (route_edges trees) net ++ t)
+    (text-of d (route_edges trees) net value at on ∙ ap (λ (o : Option TreeView). record_text d.frame value (edges_or_none o)) has)
 
 pub on-err : {A E : Type 0} (r : Result A E) (P : Type 0) → P → OnErr r P
 on-err (Ok a) P p = tt

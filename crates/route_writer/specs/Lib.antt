@@ -1,1 +1,1 @@
-pub mod Routed
+pub mod RouteTexts

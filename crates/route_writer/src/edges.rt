@@ -9,11 +9,9 @@ pub fn gather_edges(edges: &mut Vec<Edge>, tree: &RouteTree) -> Result<(), Alloc
     ensures edges { OnOk result (edges.new.items ≡ tree_edges tree.now) }
     ensures grid { HasGridEdges tree.now }
 {
-    let shape = tree.shape();
     edges.clear();
-    // Node 0 is its own parent, and no edge joins a cell to itself.
     for node in 0..tree.len() {
-        let Some(edge) = shape.edge_between(tree.cell(node), tree.cell(tree.parent(node))) else {
+        let Some(edge) = tree.edge_to_parent(node) else {
             continue;
         };
         edges.push(edge)?;

@@ -10,6 +10,3 @@ mod write;
 
 pub use error::WriteError;
 pub use write::write_solution;
-
-#[cfg(test)]
-mod tests;

@@ -4,6 +4,7 @@ ghost use Rattle.std.specs.List.{flat_map};
 ghost use Rattle.gr_base.specs.Trees.{edges_of};
 ghost use Rattle.solution_text.specs.Runs.{runs_of};
 ghost use Rattle.solution_text.specs.WrittenText.{segment_line, record_text};
+ghost use Rattle.route_writer.specs.RouteTexts.{heading_text};
 
 use crate::edges::gather_edges;
 use crate::runs::put_runs;
@@ -43,7 +44,8 @@ impl Draft {
         tree: &RouteTree,
     ) -> Result<(), AllocError>
         requires { tree.now.shape ≡ design.now.frame.shape }
-        ensures { OnOk result (self.new.text.items ≡ self.old.text.items ++ record_text design.now.frame net.now (edges_of tree.now)) }
+        ensures { OnOk result
+            (self.new.text.items ≡ self.old.text.items ++ record_text design.now.frame net.now (edges_of tree.now)) }
     {
         put_heading(&mut self.text, net)?;
         self.put_segments(design, tree)?;
@@ -71,7 +73,7 @@ impl Draft {
 
 /// Puts the line of a net's name and id behind the text.
 fn put_heading(text: &mut Vec<u8>, net: &Net) -> Result<(), AllocError>
-    ensures { OnOk result (text.new.items ≡ text.old.items ++ (net.now.name ++ codes " " ++ decimal net.now.id ++ codes "\n")) }
+    ensures { OnOk result (text.new.items ≡ text.old.items ++ heading_text net.now) }
 {
     text.extend_from_slice(net.name.bytes())?;
     text.extend_from_slice(b" ")?;

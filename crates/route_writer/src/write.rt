@@ -1,10 +1,8 @@
 ghost use Rattle.std.specs.Prelude.{◌≡◌, ◌<◌, ◌≤◌, ◌++◌, [], length, Err, IsTrue, OnOk, OnErr};
-ghost use Rattle.gr_base.specs.Grid.{cells_of};
 ghost use Rattle.gr_io.specs.Counts.{Rose};
 ghost use Rattle.gr_io.specs.Parts.{AppendsPart};
-ghost use Rattle.solution_text.specs.WrittenText.{written_text};
-ghost use Rattle.route_writer.specs.Routed.{AreRouted};
-ghost use Rattle.gr_base.specs.Trees.{route_edges};
+ghost use Rattle.straight_runs.specs.Routed.{AreRouted};
+ghost use Rattle.route_writer.specs.RouteTexts.{routes_text};
 
 use crate::error::WriteError;
 use crate::record::Draft;
@@ -20,7 +18,8 @@ fn flush<K: Sink>(sink: &mut K, text: &mut Vec<u8>) -> Result<(), Failed>
     ensures ok { OnOk result (IsTrue K.tells → K.written sink.new ≡ K.written sink.old ++ text.old.items) }
     ensures empty { OnOk result (text.new.items ≡ []) }
     ensures quiet { OnOk result (K.faults sink.new ≡ K.faults sink.old) }
-    ensures prefix { OnErr result (IsTrue K.tells → AppendsPart (K.written sink.old) (K.written sink.new) text.old.items) }
+    ensures prefix { OnErr result
+        (IsTrue K.tells → AppendsPart (K.written sink.old) (K.written sink.new) text.old.items) }
     ensures failed { OnErr result (Rose (K.faults sink.old) (K.faults sink.new)) }
     ensures faults_kept { K.faults sink.old ≤ K.faults sink.new }
 {
@@ -39,9 +38,11 @@ pub fn write_solution<K: Sink>(
     routes: &Routes,
 ) -> Result<(), WriteError>
     requires { AreRouted design.now routes.now }
-    ensures ok { OnOk result (IsTrue K.tells → K.written sink.new ≡ K.written sink.old ++ written_text design.now (route_edges routes.now)) }
+    ensures ok { OnOk result
+        (IsTrue K.tells → K.written sink.new ≡ K.written sink.old ++ routes_text design.now routes.now) }
     ensures quiet { OnOk result (K.faults sink.new ≡ K.faults sink.old) }
-    ensures prefix { OnErr result (IsTrue K.tells → AppendsPart (K.written sink.old) (K.written sink.new) (written_text design.now (route_edges routes.now))) }
+    ensures prefix { OnErr result
+        (IsTrue K.tells → AppendsPart (K.written sink.old) (K.written sink.new) (routes_text design.now routes.now)) }
     ensures failed { result ≡ Err WriteError.Failed → Rose (K.faults sink.old) (K.faults sink.new) }
     ensures no_memory { result ≡ Err WriteError.NoMemory → K.faults sink.new ≡ K.faults sink.old }
     ensures faults_kept { K.faults sink.old ≤ K.faults sink.new }

@@ -1,3 +1,4 @@
+-- The ends of runs are cells of the grid.
 use Rattle.std.proofs.Common.{◌≡◌, ℕ, zero, suc, ◌+◌, ◌<◌, inl, inr, List, ◌++◌, map, All, IsTrue, sym, subst, arith}
 use Rattle.std.specs.List.{filter, range_with_len}
 use Rattle.std.proofs.lemmas.Bool.{cases_Bool}

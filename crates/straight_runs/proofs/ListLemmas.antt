@@ -1,3 +1,4 @@
+-- The runs of a set's edges of one way, by the list of their low ends.
 use Rattle.std.proofs.Common.{◌≡◌, ℕ, zero, suc, ◌+◌, ◌-◌, ◌<◌, ◌≤◌, inl, inr, Bool, true, false, ◌&&◌, ◌==◌, not, nat_le, List, [], ◌∷◌, ◌++◌, map, length, get_or, take, cond, if◌then◌else◌, refl, sym, ap, ◌∙◌, subst, All, IsTrue, append-nil, arith}
 use Rattle.std.specs.List.{list_any, filter, range_with_len}
 use Rattle.std.specs.List.Sorted.{IsStrictlyIncreasing}
@@ -11,40 +12,15 @@ use Rattle.std.proofs.lemmas.List.Kept.{IsStrictlyIncreasing-filter}
 use Rattle.gr_base.specs.declared.grid.Edge.{Edge}
 use Rattle.gr_base.specs.declared.grid.Shape.{Shape}
 use Rattle.gr_base.specs.declared.grid.Way.{Way}
-use Rattle.gr_base.specs.declared.grid.Way.TheVariants.{East, North, Up}
 use Rattle.gr_base.specs.Grid.{cells_of, edge_at, stride, has_edge}
 use Rattle.gr_base.specs.EdgeSets.{Edges, is_way, is_edge, set_of}
 use Rattle.gr_base.proofs.GridLemmas.{edge-low}
+use Rattle.gr_base.proofs.TreeDistinct.{is_edge-same, is_way-same}
+use Rattle.gr_base.proofs.TreeEdges.{is_way-refl}
 use Rattle.solution_text.specs.declared.run.Run.{Run}
 use Rattle.solution_text.specs.Runs.{LieIn, arrives, begins, reach, run_from, runs_of_way}
 use Rattle.solution_text.proofs.RunLemmas.{stride-positive}
 use Rattle.straight_runs.specs.Lows.{lows_below, is_low, edges_from, AreLows}
-
--- ---- ways and edges
-
-pub way-same : (way : Way) → is_way way way ≡ true
-way-same East = refl
-way-same North = refl
-way-same Up = refl
-
-pub way-is : (a b : Way) → is_way a b ≡ true → a ≡ b
-way-is East East h = refl
-way-is East North h = absurd (false≢true h)
-way-is East Up h = absurd (false≢true h)
-way-is North East h = absurd (false≢true h)
-way-is North North h = refl
-way-is North Up h = absurd (false≢true h)
-way-is Up East h = absurd (false≢true h)
-way-is Up North h = absurd (false≢true h)
-way-is Up Up h = refl
-
-edge-is : (e f : Edge) → is_edge e f ≡ true → e ≡ f
-edge-is e f h =
-    let parts = and_parts (e.low == f.low) (is_way e.way f.way) h in
-    let low : e.low ≡ f.low = let t = parts.0 in grind (arith, nat_tests) in
-    let by_low : ℕ → Edge = λ n. edge_at n e.way in
-    let by_way : Way → Edge = λ w. edge_at f.low w in
-    ap by_low low ∙ ap by_way (way-is e.way f.way parts.1)
 
 -- the edges of a list are the grid's where each in the list is
 pub list-within : (g : Shape) (edges : List Edge) → All (λ e. IsTrue (has_edge g e)) edges → LieIn g (set_of edges)
@@ -53,7 +29,7 @@ list-within g (f ∷ edges) all e h =
     elim (or_cases (is_edge e f) (list_any (is_edge e) edges) h) [
       | inl here ↦
           let P : Edge → Type 0 = λ x. IsTrue (has_edge g x) in
-          subst P (sym (edge-is e f here)) (All-head P f edges all)
+          subst P (sym (is_edge-same e f here)) (All-head P f edges all)
       | inr later ↦ list-within g edges (All-tail (λ x. IsTrue (has_edge g x)) f edges all) e later
     ]
 
@@ -85,7 +61,7 @@ module _ (g : Shape) (set : Edges) (within : LieIn g set) (way : Way) where
 
 -- an edge from a low end
 pub edge-from : (way : Way) (lows : List ℕ) (cell : ℕ) → edges_from way lows (edge_at cell way) ≡ is_low lows cell
-edge-from way lows cell = ap (λ (b : Bool). b && is_low lows cell) (way-same way)
+edge-from way lows cell = ap (λ (b : Bool). b && is_low lows cell) (is_way-refl way)
 
 pub begins-is : (g : Shape) (way : Way) (lows : List ℕ) (cell : ℕ) → is_low lows cell ≡ true →
     begins g (edges_from way lows) way cell ≡ not (nat_le (stride g way) cell && is_low lows (cell - stride g way))
@@ -219,7 +195,7 @@ module _ (g : Shape) (set : Edges) (within : LieIn g set) (way : Way) (lows : Li
         within = λ e h.
             let parts = and_parts (is_way way e.way) (is_low lows e.low) h in
             let P : Way → Type 0 = λ w. IsTrue (has_edge g (edge_at e.low w)) in
-            subst P (way-is way e.way parts.0) (within (edge_at e.low way) (sym (edge-agrees e.low) ∙ edge-from way lows e.low ∙ parts.1));
+            subst P (is_way-same way e.way parts.0) (within (edge_at e.low way) (sym (edge-agrees e.low) ∙ edge-from way lows e.low ∙ parts.1));
         rising = subst P (sym is) (lows-rise (cells_of g) set way);
         all = is ∙ filter_agree (λ cell. set (edge_at cell way)) (λ cell. edges_from way lows (edge_at cell way)) (λ cell. sym (edge-agrees cell)) (range_with_len 0 (cells_of g));
       }

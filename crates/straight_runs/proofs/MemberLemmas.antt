@@ -1,3 +1,4 @@
+-- The search in a rising list of low ends.
 use Rattle.std.proofs.Common.{◌≡◌, ℕ, ◌<◌, ◌≤◌, inl, inr, true, ◌==◌, List, length, get_or, Result, Ok, Err, sym, ap, arith}
 use Rattle.std.specs.List.Sorted.{IsStrictlyIncreasing}
 use Rattle.std.specs.Result.{MatchResult, is_ok}

@@ -1,3 +1,4 @@
+-- Runs whose ends are cells of the grid.
 use Rattle.std.specs.Prelude.{◌<◌}
 use Rattle.gr_base.specs.declared.grid.Shape.{Shape}
 use Rattle.gr_base.specs.Grid.{cells_of}

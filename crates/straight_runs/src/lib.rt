@@ -4,5 +4,4 @@
 mod lows;
 mod runs;
 
-pub use lows::{gather_lows, has_low};
 pub use runs::gather_runs;

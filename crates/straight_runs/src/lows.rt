@@ -35,9 +35,10 @@ fn push_lows(lows: &mut Vec<u32>, edges: &[Edge], way: Way) -> Result<(), AllocE
 }
 
 /// Replaces the list by the low ends of the edges that go this way, rising and each once.
-pub fn gather_lows(lows: &mut Vec<u32>, edges: &[Edge], way: Way) -> Result<(), AllocError>
+pub(crate) fn gather_lows(lows: &mut Vec<u32>, edges: &[Edge], way: Way) -> Result<(), AllocError>
     ensures { OnOk result
-        ((cells : ℕ) → All (λ e. e.low < cells) edges.now → lows.new.items ≡ lows_below cells (set_of edges.now) way) }
+        ((cells : ℕ) → All (λ e. e.low < cells) edges.now →
+        lows.new.items ≡ lows_below cells (set_of edges.now) way) }
 {
     push_lows(lows, edges, way)?;
     lows.sort_unstable();
@@ -46,7 +47,7 @@ pub fn gather_lows(lows: &mut Vec<u32>, edges: &[Edge], way: Way) -> Result<(), 
 }
 
 /// Whether a cell is among the low ends.
-pub fn has_low(lows: &[u32], cell: u32) -> bool
+pub(crate) fn has_low(lows: &[u32], cell: u32) -> bool
     requires { IsStrictlyIncreasing lows.now }
     ensures { result ≡ list_any (λ low. cell == low) lows.now }
 {

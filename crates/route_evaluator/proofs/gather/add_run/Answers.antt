@@ -17,30 +17,30 @@ way-same g run way low high is from to =
 pub loop-low-init : goal.loop-low-init
 loop-low-init c = record {
   bound = refl;
-  under = under-start c.args.shape c.args.run c.way_along-way.result c.min-low.result c.args.edges.now.numbers c.min-low.ensures;
+  under = under-start c.args.shape c.args.run c.way_between-way.result c.min-low.result c.args.edges.now.numbers c.min-low.ensures;
 }
 
 pub insert-requires : goal.insert-requires
 insert-requires c =
-    let way = way-same c.args.shape c.args.run c.way_along-way.result c.min-low.result c.max-high.result c.way_along-way.ensures c.min-low.ensures c.max-high.ensures in
-    let edge = under-edge c.args.shape c.args.run c.way_along-way.result c.loop-low.low c.args.edges.now.numbers c.loop-low.edges.numbers c.requires.run way
+    let way = way-same c.args.shape c.args.run c.way_between-way.result c.min-low.result c.max-high.result c.way_between-way.ensures c.min-low.ensures c.max-high.ensures in
+    let edge = under-edge c.args.shape c.args.run c.way_between-way.result c.loop-low.low c.args.edges.now.numbers c.loop-low.edges.numbers c.requires.run way
     c.loop-low.invariant.under (omega (arith, c.max-high.ensures, c.loop-low-test.true)) in
-    let under = number-under c.loop-low.low _ c.way_along-way.result (edge-low c.args.shape _ edge) in
+    let under = number-under c.loop-low.low _ c.way_between-way.result (edge-low c.args.shape _ edge) in
     omega (arith, under, c.edge_number.ensures, c.loop-low.invariant.bound, c.requires.bound)
 
 pub high-low-requires : goal.high-low-requires
 high-low-requires c =
-    let way = way-same c.args.shape c.args.run c.way_along-way.result c.min-low.result c.max-high.result c.way_along-way.ensures c.min-low.ensures c.max-high.ensures in
-    under-edge c.args.shape c.args.run c.way_along-way.result c.loop-low.low c.args.edges.now.numbers c.loop-low.edges.numbers c.requires.run way
+    let way = way-same c.args.shape c.args.run c.way_between-way.result c.min-low.result c.max-high.result c.way_between-way.ensures c.min-low.ensures c.max-high.ensures in
+    under-edge c.args.shape c.args.run c.way_between-way.result c.loop-low.low c.args.edges.now.numbers c.loop-low.edges.numbers c.requires.run way
     c.loop-low.invariant.under (omega (arith, c.max-high.ensures, c.loop-low-test.true))
 
 pub loop-low-preserved : goal.loop-low-preserved
 loop-low-preserved c =
-    let way = way-same c.args.shape c.args.run c.way_along-way.result c.min-low.result c.max-high.result c.way_along-way.ensures c.min-low.ensures c.max-high.ensures in
+    let way = way-same c.args.shape c.args.run c.way_between-way.result c.min-low.result c.max-high.result c.way_between-way.ensures c.min-low.ensures c.max-high.ensures in
     record {
       bound = ap (λ (s : NumberSetView). s.bound) c.in_ok-insert.ensures ∙ c.loop-low.invariant.bound;
       under =
-          under-next c.args.shape c.args.run c.way_along-way.result c.loop-low.low c.high-low.result c.args.edges.now.numbers c.loop-low.edges.numbers c.insert.new.self.numbers
+          under-next c.args.shape c.args.run c.way_between-way.result c.loop-low.low c.high-low.result c.args.edges.now.numbers c.loop-low.edges.numbers c.insert.new.self.numbers
           c.requires.run way c.loop-low.invariant.under (omega (arith, c.max-high.ensures, c.loop-low-test.true))
           (ap (λ (s : NumberSetView). s.numbers) c.in_ok-insert.ensures ∙ ap (λ (n : ℕ). with_number c.loop-low.edges.numbers n) c.edge_number.ensures)
           c.high-low.ensures.high;
@@ -51,6 +51,6 @@ returns-clause-bound c = c.loop-low.invariant.bound
 
 pub returns-clause-edges : goal.returns-clause-edges
 returns-clause-edges c =
-    let way = way-same c.args.shape c.args.run c.way_along-way.result c.min-low.result c.max-high.result c.way_along-way.ensures c.min-low.ensures c.max-high.ensures in
-    under-end c.args.shape c.args.run c.way_along-way.result c.loop-low.low c.args.edges.now.numbers c.loop-low.edges.numbers c.requires.run way
+    let way = way-same c.args.shape c.args.run c.way_between-way.result c.min-low.result c.max-high.result c.way_between-way.ensures c.min-low.ensures c.max-high.ensures in
+    under-end c.args.shape c.args.run c.way_between-way.result c.loop-low.low c.args.edges.now.numbers c.loop-low.edges.numbers c.requires.run way
     c.loop-low.invariant.under (omega (arith, c.max-high.ensures, c.loop-low-test.false))

@@ -1,15 +1,25 @@
-use Rattle.std.proofs.Common.{sym, ap, ◌∙◌}
+use Rattle.std.proofs.Common.{List, All, IsTrue, map, sym, ap, subst, ◌∙◌}
+use Rattle.std.proofs.Math.Path.{fun_ext}
 use Rattle.gr_base.specs.declared.frame.Frame.{Frame}
-use Rattle.gr_base.specs.declared.grid.Shape.{Shape}
-use Rattle.gr_base.specs.EdgeSets.{Edges, set_of}
+use Rattle.gr_base.specs.declared.grid.Edge.{Edge}
+use Rattle.gr_base.specs.EdgeSets.{set_of}
+use Rattle.gr_base.specs.Grid.{has_edge}
 use Rattle.solution_text.specs.Runs.{runs_of}
-use Rattle.route_evaluator.proofs.NetSets.{net-set}
+use Rattle.route_evaluator.specs.EdgeNumbers.{edge_numbered}
+use Rattle.route_evaluator.proofs.ListedLemmas.{listed, listed-inside}
 use Rattle.route_evaluator.proofs.net_runs.straight.Goals as goal
+
+pub gather_runs-requires : goal.gather_runs-requires
+gather_runs-requires c =
+    subst (λ (f : Frame). All (λ e. IsTrue (has_edge f.shape e)) c.deref.result.now) (sym c.frame.ensures.frame)
+    (subst (λ (edges : List Edge). All (λ e. IsTrue (has_edge c.args.design.now.frame.shape e)) edges)
+    (sym (c.deref.ensures.value ∙ c.in_ok-edges.ensures ∙ ap (map edge_numbered) c.numbers.ensures.numbers))
+    (listed-inside c.args.design.now.frame.shape c.in_ok-set.set.numbers c.in_ok-set.ensures.grid))
 
 pub returns : goal.returns
 returns c =
-    let shape = ap (λ (f : Frame). f.shape) c.frame.ensures.frame in
-    let set = net-set c.args.solution.now c.args.net c.frame.result.now.shape c.runs.result.now c.in_ok-edges.edges.items c.deref.result.now (shape ∙ sym c.requires.of.shape) c.runs.ensures.runs c.deref.ensures.value c.in_ok-edges.ensures.edges in
     c.in_ok-gather_runs.ensures.runs
-    ∙ ap (λ (g : Shape). runs_of g (set_of c.deref.result.now)) shape
-    ∙ ap (λ (s : Edges). runs_of c.args.design.now.frame.shape s) set
+    ∙ ap (λ (f : Frame). runs_of f.shape (set_of c.deref.result.now)) c.frame.ensures.frame
+    ∙ ap (λ (edges : List Edge). runs_of c.args.design.now.frame.shape (set_of edges))
+    (c.deref.ensures.value ∙ c.in_ok-edges.ensures ∙ ap (map edge_numbered) c.numbers.ensures.numbers)
+    ∙ ap (runs_of c.args.design.now.frame.shape) (fun_ext (listed c.in_ok-set.set.numbers) ∙ c.in_ok-set.ensures.edges)

@@ -1,9 +1,9 @@
-use Rattle.std.proofs.Common.{◌≡◌, ℕ, ◌+◌, ◌≤◌, List, ◌++◌, length, IsTrue, sym, ap, ◌∙◌, append-nil, arith}
+use Rattle.std.proofs.Common.{◌+◌, ◌≤◌, length, IsTrue, sym, ap, ◌∙◌, arith}
 use Rattle.std.specs.Option.{option_copied}
 use Rattle.gr_base.specs.Trees.{edges_of, route_edges}
 use Rattle.gr_io.specs.Parts.{AppendsPart}
 use Rattle.solution_text.specs.WrittenText.{record_text, written_text}
-use Rattle.route_writer.proofs.WriteLemmas.{text_before, text_behind, before-more, before-behind, text-skip, text-routed, on-err, stands-same, stands-put, stands-flushed, stands-part, stands-cut}
+use Rattle.route_writer.proofs.WriteLemmas.{text_before, text_behind, before-behind, text-skip_next, text-next, on-err, stands-same, stands-put, stands-flushed, stands-part, stands-cut}
 use Rattle.route_writer.proofs.write.write_solution.Goals as goal
 
 pub loop-net-preserved-then-not-routed : goal.loop-net-preserved-then-not-routed
@@ -11,8 +11,7 @@ loop-net-preserved-then-not-routed g c =
     let d = c.args.design.now in
     let sets = route_edges c.args.routes.now in
     let n = c.loop-net.net in
-    let same : text_before d sets (n + 1) ≡ text_before d sets n =
-    before-more d sets n ∙ ap (λ (t : List ℕ). text_before d sets n ++ t) (text-skip d sets n (sym c.routed.ensures ∙ c.if-not-routed.true)) ∙ append-nil (text_before d sets n) in
+    let same = text-skip_next d sets n (sym c.routed.ensures ∙ c.if-not-routed.true) in
     record {
       quiet = c.loop-net.invariant.quiet;
       stands = λ tells. stands-same (text_before d sets (n + 1)) same (c.loop-net.invariant.stands tells);
@@ -36,11 +35,9 @@ loop-net-preserved-then-len-lt-FULL g c =
     let sets = route_edges c.args.routes.now in
     let n = c.loop-net.net in
     let added = record_text d.frame c.net.result.now (edges_of c.unwrap-tree.result.now) in
-    let more : text_before d sets (n + 1) ≡ text_before d sets n ++ added =
-    before-more d sets n
-    ∙ ap (λ (t : List ℕ). text_before d sets n ++ t)
-    (text-routed d c.args.routes.now n c.net.result.now c.unwrap-tree.result.now c.net.ensures.net (sym c.routed.ensures ∙ c.if-not-routed.false)
-    (sym c.get.ensures ∙ ap option_copied c.unwrap-tree.ensures)) in
+    let more =
+    text-next d c.args.routes.now n c.net.result.now c.unwrap-tree.result.now c.net.ensures.net (sym c.routed.ensures ∙ c.if-not-routed.false)
+    (sym c.get.ensures ∙ ap option_copied c.unwrap-tree.ensures) in
     record {
       quiet = c.loop-net.invariant.quiet;
       stands = λ tells. stands-put added c.put_record.new.self.text.items (text_before d sets (n + 1)) c.in_ok-put_record.ensures more (c.loop-net.invariant.stands tells);
@@ -53,11 +50,9 @@ returns-in_err-flush-clause-prefix g c =
     let n = c.loop-net.net in
     let most : n + 1 ≤ length d.nets = let e = c.nets-net-end.ensures.nets in let lt = c.loop-net-test.true in omega arith in
     let added = record_text d.frame c.net.result.now (edges_of c.unwrap-tree.result.now) in
-    let more : text_before d sets (n + 1) ≡ text_before d sets n ++ added =
-    before-more d sets n
-    ∙ ap (λ (t : List ℕ). text_before d sets n ++ t)
-    (text-routed d c.args.routes.now n c.net.result.now c.unwrap-tree.result.now c.net.ensures.net (sym c.routed.ensures ∙ c.if-not-routed.false)
-    (sym c.get.ensures ∙ ap option_copied c.unwrap-tree.ensures)) in
+    let more =
+    text-next d c.args.routes.now n c.net.result.now c.unwrap-tree.result.now c.net.ensures.net (sym c.routed.ensures ∙ c.if-not-routed.false)
+    (sym c.get.ensures ∙ ap option_copied c.unwrap-tree.ensures) in
     let old = g.K.Sink.written c.args.sink.now in
     let now = g.K.Sink.written c.flush.new.sink in
     let part : IsTrue g.K.Sink.tells → AppendsPart old now (written_text d sets) = λ tells.
@@ -71,11 +66,9 @@ loop-net-preserved g c =
     let sets = route_edges c.args.routes.now in
     let n = c.loop-net.net in
     let added = record_text d.frame c.net.result.now (edges_of c.unwrap-tree.result.now) in
-    let more : text_before d sets (n + 1) ≡ text_before d sets n ++ added =
-    before-more d sets n
-    ∙ ap (λ (t : List ℕ). text_before d sets n ++ t)
-    (text-routed d c.args.routes.now n c.net.result.now c.unwrap-tree.result.now c.net.ensures.net (sym c.routed.ensures ∙ c.if-not-routed.false)
-    (sym c.get.ensures ∙ ap option_copied c.unwrap-tree.ensures)) in
+    let more =
+    text-next d c.args.routes.now n c.net.result.now c.unwrap-tree.result.now c.net.ensures.net (sym c.routed.ensures ∙ c.if-not-routed.false)
+    (sym c.get.ensures ∙ ap option_copied c.unwrap-tree.ensures) in
     record {
       quiet = c.in_ok-flush.ensures.quiet ∙ c.loop-net.invariant.quiet;
       stands = λ tells.

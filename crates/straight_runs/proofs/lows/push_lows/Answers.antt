@@ -2,7 +2,8 @@ use Rattle.std.proofs.Common.{◌≡◌, ℕ, ◌<◌, List, [], ◌∷◌, ◌+
 use Rattle.std.proofs.lemmas.List.Elements.{All-push, All-same}
 use Rattle.gr_base.specs.declared.grid.Edge.{Edge}
 use Rattle.gr_base.specs.declared.grid.Way.TheVariants.{East}
-use Rattle.straight_runs.proofs.LowLemmas.{is_among, low-push}
+use Rattle.straight_runs.specs.Lows.{is_low}
+use Rattle.straight_runs.proofs.LowLemmas.{low-push}
 use Rattle.straight_runs.proofs.lows.push_lows.Goals as goal
 
 pub loop-edge-preserved : goal.loop-edge-preserved
@@ -12,7 +13,7 @@ loop-edge-preserved c =
     let pushed : c.push.new.self.items ≡ c.loop-edge.lows.items ++ at.low ∷ [] = c.in_ok-push.ensures.items in
     record {
       members = λ cell.
-          ap (λ (l : List ℕ). is_among l cell) pushed
+          ap (λ (l : List ℕ). is_low l cell) pushed
           ∙ low-push c.args.way c.loop-edge.lows.items c.args.edges.now c.loop-edge.edge-index at d c.loop-edge-test.true refl (sym c.is_same.ensures ∙ c.if-not-is_same.false)
           c.loop-edge.invariant.members cell;
       within = λ cells all.
