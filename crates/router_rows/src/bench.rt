@@ -41,7 +41,8 @@ impl Bench {
         self.texts.push(Held {
             name: String::from_str(alloc, name)?,
             bytes: Vec::new(alloc),
-        })
+        })?;
+        Ok(())
     }
 
     /// Adds a part to the text that was begun last.
@@ -71,11 +72,9 @@ impl Bench {
     ) -> Result<Left, AllocError> {
         let alloc = rt.alloc();
         let mut shelf = self.shelf(alloc, devices, cut)?;
-        let write = devices.write.max(1);
-        let fails = |call| vec![in alloc; call];
-        let mut out = MemorySink::new(alloc, devices.room, write, fails(devices.out)?)?;
-        let mut err = MemorySink::new(alloc, devices.room, write, fails(devices.err)?)?;
-        let ended = run(rt, alloc, words, &mut shelf, &mut out, &mut err, rules);
+        let mut out = sink_of(alloc, devices, devices.out)?;
+        let mut err = sink_of(alloc, devices, devices.err)?;
+        let ended = end_of(rt, words, &mut shelf, &mut out, &mut err, rules);
         Ok(Left { ended, out, err })
     }
 
@@ -99,6 +98,24 @@ impl Bench {
         shelf.piece(devices.read.max(1));
         Ok(shelf)
     }
+}
+
+/// A sink of which this call fails.
+fn sink_of(alloc: Global, devices: Devices, call: u64) -> Result<MemorySink, AllocError> {
+    let fails = vec![in alloc; call]?;
+    MemorySink::new(alloc, devices.room, devices.write.max(1), fails)
+}
+
+/// How the command ends. What is proved of it is not needed here.
+fn end_of<R: AllocGlobal>(
+    rt: &R,
+    words: &[String],
+    shelf: &mut MemoryShelf,
+    out: &mut MemorySink,
+    err: &mut MemorySink,
+    rules: &Rules,
+) -> Ended {
+    run(rt, rt.alloc(), words, shelf, out, err, rules)
 }
 
 /// The first bytes of a text, at most so many.

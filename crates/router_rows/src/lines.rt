@@ -5,6 +5,7 @@ use crate::told;
 use cost_rules::Rules;
 use gr_text::Text;
 use std::alloc::{AllocError, Global};
+use std::ops::Range;
 
 /// Does what a line asks for, and gives what is to be printed of it.
 pub(crate) fn carry_out<R: AllocGlobal>(
@@ -14,20 +15,22 @@ pub(crate) fn carry_out<R: AllocGlobal>(
     line: &str,
 ) -> Result<Text, AllocError> {
     let alloc = rt.alloc();
-    let (command, rest) = line.split_once(' ').unwrap_or((line, ""));
+    let (command, rest) = word_in(line);
     match command {
         "text" => bench.begin(alloc, rest)?,
         "|" => {
             bench.add(rest)?;
             bench.add("\n")?;
         }
+        "crlf" => {
+            bench.add(rest)?;
+            bench.add("\r\n")?;
+        }
         "&" => bench.add(rest)?,
         "times" => add_times(bench, rest)?,
         "set" => bench.devices = changed(bench.devices, rest),
         "ample" => bench.devices = Devices::ample(),
-        "run" => return run(rt, bench, rules, line, rest),
-        "each" => return each(rt, bench, rules, line, rest),
-        "cut" => return cut(rt, bench, rules, line, rest),
+        "run" | "each" | "cut" => return told_of(rt, bench, rules, line, command, rest),
         _ => return echoed(alloc, line),
     }
     Ok(Text::new(alloc))
@@ -50,9 +53,14 @@ fn words_of(alloc: Global, line: &str) -> Result<Vec<String>, AllocError> {
     Ok(words)
 }
 
+/// The first word of a line's rest, and what follows it.
+fn word_in(rest: &str) -> (&str, &str) {
+    rest.split_once(' ').unwrap_or((rest, ""))
+}
+
 /// A number and what follows it.
-fn number_in(text: &str) -> (u64, &str) {
-    let (number, rest) = text.split_once(' ').unwrap_or((text, ""));
+fn number_in(rest: &str) -> (u64, &str) {
+    let (number, rest) = word_in(rest);
     (number.parse::<u64>().unwrap_or(0), rest)
 }
 
@@ -66,61 +74,79 @@ fn add_times(bench: &mut Bench, rest: &str) -> Result<(), AllocError> {
 
 /// The devices with the change that the rest of a line names.
 fn changed(devices: Devices, rest: &str) -> Devices {
-    let (name, rest) = rest.split_once(' ').unwrap_or((rest, ""));
+    let (name, rest) = word_in(rest);
     devices.with(name, number_in(rest).0).unwrap_or(devices)
 }
 
-fn run<R: AllocGlobal>(
+/// The line itself, and what is told of the runs that it asks for.
+fn told_of<R: AllocGlobal>(
     rt: &R,
     bench: &Bench,
     rules: &Rules,
     line: &str,
+    command: &str,
     rest: &str,
 ) -> Result<Text, AllocError> {
     let alloc = rt.alloc();
-    let words = words_of(alloc, rest)?;
-    let left = bench.run(rt, rules, bench.devices, None, &words)?;
     let mut text = echoed(alloc, line)?;
-    text.put(told::whole(alloc, &left)?.bytes())?;
+    let told = match command {
+        "each" => {
+            let (device, rest) = word_in(rest);
+            let (most, rest) = number_in(rest);
+            let words = words_of(alloc, rest)?;
+            let steps = 1..(most as usize).saturating_add(1);
+            swept(rt, bench, rules, &words, Sweep::Call(device), steps)?
+        }
+        "cut" => {
+            let (name, rest) = word_in(rest);
+            let words = words_of(alloc, rest)?;
+            let steps = 0..bench.size_of(name).saturating_add(1);
+            swept(rt, bench, rules, &words, Sweep::Cut(name), steps)?
+        }
+        _ => {
+            let words = words_of(alloc, rest)?;
+            let left = bench.run(rt, rules, bench.devices, None, &words)?;
+            told::whole(alloc, &left)?
+        }
+    };
+    text.put(told.bytes())?;
     Ok(text)
 }
 
-fn each<R: AllocGlobal>(
-    rt: &R,
-    bench: &Bench,
-    rules: &Rules,
-    line: &str,
-    rest: &str,
-) -> Result<Text, AllocError> {
-    let alloc = rt.alloc();
-    let (device, rest) = rest.split_once(' ').unwrap_or((rest, ""));
-    let (most, rest) = number_in(rest);
-    let words = words_of(alloc, rest)?;
-    let done = bench.run(rt, rules, bench.devices, None, &words)?;
-    let mut text = echoed(alloc, line)?;
-    for call in 1..=most {
-        let devices = bench.devices.with(device, call).unwrap_or(bench.devices);
-        let left = bench.run(rt, rules, devices, None, &words)?;
-        text.put(told::line(alloc, call as usize, &left, &done)?.bytes())?;
-    }
-    Ok(text)
+/// What changes from run to run: the call of a device that fails, or how much is left of a text.
+#[derive(Clone, Copy)]
+enum Sweep<'a> {
+    Call(&'a str),
+    Cut(&'a str),
 }
 
-fn cut<R: AllocGlobal>(
+/// The devices, and the text that is cut, at a step of a sweep.
+fn setting<'a>(
+    devices: Devices,
+    sweep: Sweep<'a>,
+    step: usize,
+) -> (Devices, Option<(&'a str, usize)>) {
+    match sweep {
+        Sweep::Call(device) => (devices.with(device, step as u64).unwrap_or(devices), None),
+        Sweep::Cut(name) => (devices, Some((name, step))),
+    }
+}
+
+/// A line for each step of a sweep, beside what the words leave without it.
+fn swept<R: AllocGlobal>(
     rt: &R,
     bench: &Bench,
     rules: &Rules,
-    line: &str,
-    rest: &str,
+    words: &[String],
+    sweep: Sweep<'_>,
+    steps: Range<usize>,
 ) -> Result<Text, AllocError> {
-    let alloc = rt.alloc();
-    let (name, rest) = rest.split_once(' ').unwrap_or((rest, ""));
-    let words = words_of(alloc, rest)?;
-    let done = bench.run(rt, rules, bench.devices, None, &words)?;
-    let mut text = echoed(alloc, line)?;
-    for size in 0..=bench.size_of(name) {
-        let left = bench.run(rt, rules, bench.devices, Some((name, size)), &words)?;
-        text.put(told::line(alloc, size, &left, &done)?.bytes())?;
+    let done = bench.run(rt, rules, bench.devices, None, words)?;
+    let mut told = Text::new(rt.alloc());
+    for step in steps {
+        let (devices, cut) = setting(bench.devices, sweep, step);
+        let left = bench.run(rt, rules, devices, cut, words)?;
+        told.put(told::line(rt.alloc(), step, &left, &done)?.bytes())?;
     }
-    Ok(text)
+    Ok(told)
 }

@@ -3,7 +3,8 @@
 //! A line of standard input is one of these; each other line is printed as it stands.
 //!
 //! - `text NAME` begins a text, in place of an earlier one of that name;
-//! - `| PART` adds a line to it, `& PART` a part without a line's end, `times N PART` so many parts;
+//! - `| PART` adds a line to it, `crlf PART` one that ends with CR LF, `& PART` a part without a
+//!   line's end, `times N PART` so many parts;
 //! - `set DEVICE N` sets a bound of the devices, or the call of one that fails (0: none); `ample`
 //!   sets all back;
 //! - `run WORD ..` runs the command, and prints its status, what out and err gained, and the book;

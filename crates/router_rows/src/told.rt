@@ -130,7 +130,7 @@ fn put_reply(told: &mut Text, reply: Reply) -> Result<(), AllocError> {
         Reply::NotBooked => told.put(b": not booked")?,
         Reply::Marked { overflow } => {
             told.put(b": overflow ")?;
-            told.put_number(overflow as i128)?;
+            told.put_number(i128::try_from(overflow).unwrap_or(i128::MAX))?;
         }
     }
     told.put(b"\n")
