@@ -5,7 +5,7 @@ ghost use Rattle.gr_base.specs.Grid.{cells_of};
 ghost use Rattle.solution_text.specs.Runs.{LieIn};
 ghost use Rattle.route_evaluator.specs.EdgeNumbers.{edges_numbered};
 ghost use Rattle.route_evaluator.specs.NumberSets.{empty_set};
-ghost use Rattle.route_evaluator.specs.Floods.{spread_along, spread_from, IsFlood};
+ghost use Rattle.route_evaluator.specs.Floods.{spread_along, IsFlood};
 
 use crate::edge_numbers::edge_number;
 use crate::number_set::NumberSet;
@@ -43,27 +43,6 @@ fn spread_along(
     Ok(())
 }
 
-/// Reaches the neighbours of a cell to which an edge of the set leads.
-fn spread(
-    cells: &mut NumberSet,
-    edges: &NumberSet,
-    shape: Shape,
-    cell: u32,
-) -> Result<(), AllocError>
-    requires edges { edges.now.bound ≡ 3 * cells_of shape }
-    requires grid { LieIn shape (edges_numbered edges.now.numbers) }
-    requires cells { cells.old.bound ≡ cells_of shape }
-    requires cell { cell < cells_of shape }
-    ensures bound { OnOk result (cells.new.bound ≡ cells.old.bound) }
-    ensures cells { OnOk result
-        (cells.new.numbers ≡ spread_from shape (edges_numbered edges.now.numbers) cell cells.old.numbers) }
-{
-    spread_along(cells, edges, shape, Way::East, cell)?;
-    spread_along(cells, edges, shape, Way::North, cell)?;
-    spread_along(cells, edges, shape, Way::Up, cell)?;
-    Ok(())
-}
-
 /// Reaches the cells to which walks along the edges of the set lead from a cell, in the order of a
 /// breadth-first search.
 pub(crate) fn flood(
@@ -86,7 +65,9 @@ pub(crate) fn flood(
     let mut at = 0;
     while at < reached.cells.numbers().len() {
         let cell = reached.cells.numbers()[at];
-        spread(&mut reached.cells, edges, shape, cell)?;
+        spread_along(&mut reached.cells, edges, shape, Way::East, cell)?;
+        spread_along(&mut reached.cells, edges, shape, Way::North, cell)?;
+        spread_along(&mut reached.cells, edges, shape, Way::Up, cell)?;
         reached
             .parents
             .resize(reached.cells.numbers().len(), at as u32)?;

@@ -62,7 +62,7 @@ pub text-skip_next : (d : DesignView) (sets : ℕ → Edges) (net : ℕ) → is_
 text-skip_next d sets net off =
     before-more d sets net ∙ ap (λ (t : List ℕ). text_before d sets net ++ t) (text-skip d sets net off) ∙ append-nil (text_before d sets net)
 
-pub text-next : (d : DesignView) (trees : List (Option TreeView)) (net : ℕ) (value : Net) (tree : TreeView) → slice_get d.nets net ≡ Some value →
+text-next : (d : DesignView) (trees : List (Option TreeView)) (net : ℕ) (value : Net) (tree : TreeView) → slice_get d.nets net ≡ Some value →
     is_routed d net ≡ true → tree_at trees net ≡ Some tree →
     text_before d (route_edges trees) (net + 1) ≡ text_before d (route_edges trees) net ++ record_text d.frame value (edges_of tree)
 text-next d trees net value tree at on has =
@@ -86,13 +86,20 @@ stands-first old gathered text none empty = record { done = []; is = sym (append
 pub stands-same : {old written gathered text : List ℕ} (more : List ℕ) → more ≡ text → Stands old written gathered text → Stands old written gathered more
 stands-same more same s = record { done = s.done; is = s.is; whole = s.whole ∙ sym same }
 
-pub stands-put : {old written gathered text : List ℕ} (added next more : List ℕ) → next ≡ gathered ++ added → more ≡ text ++ added →
+stands-put : {old written gathered text : List ℕ} (added next more : List ℕ) → next ≡ gathered ++ added → more ≡ text ++ added →
     Stands old written gathered text → Stands old written next more
 stands-put {gathered = gathered} added next more put longer s = record {
   done = s.done;
   is = s.is;
   whole = ap (λ (t : List ℕ). s.done ++ t) put ∙ sym (append_assoc s.done gathered added) ∙ ap (λ (t : List ℕ). t ++ added) s.whole ∙ sym longer;
 }
+
+-- the record of a routed net is gathered
+pub stands-record : {old written gathered : List ℕ} (d : DesignView) (trees : List (Option TreeView)) (net : ℕ) (value : Net) (tree : TreeView) (next : List ℕ) →
+    slice_get d.nets net ≡ Some value → is_routed d net ≡ true → tree_at trees net ≡ Some tree → next ≡ gathered ++ record_text d.frame value (edges_of tree) →
+    Stands old written gathered (text_before d (route_edges trees) net) → Stands old written next (text_before d (route_edges trees) (net + 1))
+stands-record d trees net value tree next at on has put s =
+    stands-put (record_text d.frame value (edges_of tree)) next (text_before d (route_edges trees) (net + 1)) put (text-next d trees net value tree at on has) s
 
 pub stands-flushed : {old written gathered text : List ℕ} (next left : List ℕ) → next ≡ written ++ gathered → left ≡ [] → Stands old written gathered text →
     Stands old next left text

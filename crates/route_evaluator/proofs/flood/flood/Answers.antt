@@ -1,6 +1,8 @@
 use Rattle.std.proofs.Common.{◌≡◌, ◌<◌, ℕ, List, get_or, length, refl, ap, subst, ◌∙◌, arith}
+use Rattle.gr_base.specs.declared.grid.Way.{Way}
+use Rattle.gr_base.specs.declared.grid.Way.TheVariants.{North, Up}
 use Rattle.route_evaluator.specs.EdgeNumbers.{edges_numbered}
-use Rattle.route_evaluator.specs.Floods.{IsFlood, spread_from}
+use Rattle.route_evaluator.specs.Floods.{IsFlood, spread_along, spread_from}
 use Rattle.route_evaluator.specs.NumberSets.{NumberSetView, with_number}
 use Rattle.route_evaluator.proofs.FloodLemmas.{flood-start, flood-next}
 use Rattle.route_evaluator.proofs.flood.flood.Goals as goal
@@ -19,19 +21,23 @@ pub loop-at-preserved : goal.loop-at-preserved
 loop-at-preserved c =
     let at : ℕ = c.loop-at.at in
     let cells : List ℕ = c.loop-at.reached.cells.numbers in
-    let new : List ℕ = c.spread.new.cells.numbers in
+    let new : List ℕ = c.spread_along-in-loop-at-2.new.cells.numbers in
     let flood = c.loop-at.invariant.flood in
     let long : length c.numbers.result.now ≡ length cells = ap (λ (xs : List ℕ). length xs) c.numbers.ensures.numbers in
     let size : length c.numbers-in-loop-at-2.result.now ≡ length new = ap (λ (xs : List ℕ). length xs) c.numbers-in-loop-at-2.ensures.numbers in
     let below : at < length cells = omega (arith, long, c.loop-at-test.true) in
     let old : length c.loop-at.reached.parents.items ≡ length cells = flood.long in
     let count = c.loop-at.reached.parents.ok.0 in
+    let along : Way → List ℕ → List ℕ = λ way xs. spread_along c.args.shape (edges_numbered c.args.edges.now.numbers) way (get_or c.numbers-in-loop-at.result.now at 0) xs in
+    let spread = c.in_ok-spread_along-3.ensures.cells ∙ ap (along Up) (c.in_ok-spread_along-2.ensures.cells ∙ ap (along North) c.in_ok-spread_along.ensures.cells) in
     record {
-      bound = c.in_ok-spread.ensures.bound ∙ c.loop-at.invariant.bound;
+      bound =
+          c.in_ok-spread_along-3.ensures.bound ∙ c.in_ok-spread_along-2.ensures.bound ∙ c.in_ok-spread_along.ensures.bound
+          ∙ c.loop-at.invariant.bound;
       flood =
           flood-next c.args.shape (edges_numbered c.args.edges.now.numbers) c.args.first at cells c.loop-at.reached.parents.items new c.resize.new.self.items
           c.requires.grid flood below
-          (c.in_ok-spread.ensures.cells
+          (spread
           ∙ ap (λ (xs : List ℕ). spread_from c.args.shape (edges_numbered c.args.edges.now.numbers) (get_or xs at 0) cells) c.numbers-in-loop-at.ensures.numbers)
           (omega (arith, size, c.in_ok-resize.ensures.len, c.resize.new.self.ok.0))
           (λ k less old_k. c.in_ok-resize.ensures.by_index.0 k 0 (omega (arith, size, less)) (omega (arith, count, old, old_k)))

@@ -1,9 +1,9 @@
 use Rattle.std.proofs.Common.{◌+◌, ◌≤◌, length, IsTrue, sym, ap, ◌∙◌, arith}
 use Rattle.std.specs.Option.{option_copied}
-use Rattle.gr_base.specs.Trees.{edges_of, route_edges}
+use Rattle.gr_base.specs.Trees.{route_edges}
 use Rattle.gr_io.specs.Parts.{AppendsPart}
-use Rattle.solution_text.specs.WrittenText.{record_text, written_text}
-use Rattle.route_writer.proofs.WriteLemmas.{text_before, text_behind, before-behind, text-skip_next, text-next, on-err, stands-same, stands-put, stands-flushed, stands-part, stands-cut}
+use Rattle.solution_text.specs.WrittenText.{written_text}
+use Rattle.route_writer.proofs.WriteLemmas.{text_before, text_behind, before-behind, text-skip_next, on-err, stands-same, stands-record, stands-flushed, stands-part, stands-cut}
 use Rattle.route_writer.proofs.write.write_solution.Goals as goal
 
 pub loop-net-preserved-then-not-routed : goal.loop-net-preserved-then-not-routed
@@ -34,13 +34,12 @@ loop-net-preserved-then-len-lt-FULL g c =
     let d = c.args.design.now in
     let sets = route_edges c.args.routes.now in
     let n = c.loop-net.net in
-    let added = record_text d.frame c.net.result.now (edges_of c.unwrap-tree.result.now) in
-    let more =
-    text-next d c.args.routes.now n c.net.result.now c.unwrap-tree.result.now c.net.ensures.net (sym c.routed.ensures ∙ c.if-not-routed.false)
-    (sym c.get.ensures ∙ ap option_copied c.unwrap-tree.ensures) in
     record {
       quiet = c.loop-net.invariant.quiet;
-      stands = λ tells. stands-put added c.put_record.new.self.text.items (text_before d sets (n + 1)) c.in_ok-put_record.ensures more (c.loop-net.invariant.stands tells);
+      stands = λ tells.
+          stands-record d c.args.routes.now n c.net.result.now c.unwrap-tree.result.now c.put_record.new.self.text.items c.net.ensures.net
+          (sym c.routed.ensures ∙ c.if-not-routed.false) (sym c.get.ensures ∙ ap option_copied c.unwrap-tree.ensures) c.in_ok-put_record.ensures
+          (c.loop-net.invariant.stands tells);
     }
 
 pub returns-in_err-flush-clause-prefix : goal.returns-in_err-flush-clause-prefix
@@ -49,15 +48,13 @@ returns-in_err-flush-clause-prefix g c =
     let sets = route_edges c.args.routes.now in
     let n = c.loop-net.net in
     let most : n + 1 ≤ length d.nets = let e = c.nets-net-end.ensures.nets in let lt = c.loop-net-test.true in omega arith in
-    let added = record_text d.frame c.net.result.now (edges_of c.unwrap-tree.result.now) in
-    let more =
-    text-next d c.args.routes.now n c.net.result.now c.unwrap-tree.result.now c.net.ensures.net (sym c.routed.ensures ∙ c.if-not-routed.false)
-    (sym c.get.ensures ∙ ap option_copied c.unwrap-tree.ensures) in
     let old = g.K.Sink.written c.args.sink.now in
     let now = g.K.Sink.written c.flush.new.sink in
     let part : IsTrue g.K.Sink.tells → AppendsPart old now (written_text d sets) = λ tells.
     stands-cut now (written_text d sets) (text_behind d sets (n + 1)) (before-behind d sets (n + 1) most) (c.in_err-flush.ensures.prefix tells)
-    (stands-put added c.put_record.new.self.text.items (text_before d sets (n + 1)) c.in_ok-put_record.ensures more (c.loop-net.invariant.stands tells)) in
+    (stands-record d c.args.routes.now n c.net.result.now c.unwrap-tree.result.now c.put_record.new.self.text.items c.net.ensures.net
+    (sym c.routed.ensures ∙ c.if-not-routed.false) (sym c.get.ensures ∙ ap option_copied c.unwrap-tree.ensures) c.in_ok-put_record.ensures
+    (c.loop-net.invariant.stands tells)) in
     on-err c.from_residual-in_err-flush.result (IsTrue g.K.Sink.tells → AppendsPart old now (written_text d sets)) part
 
 pub loop-net-preserved : goal.loop-net-preserved
@@ -65,15 +62,13 @@ loop-net-preserved g c =
     let d = c.args.design.now in
     let sets = route_edges c.args.routes.now in
     let n = c.loop-net.net in
-    let added = record_text d.frame c.net.result.now (edges_of c.unwrap-tree.result.now) in
-    let more =
-    text-next d c.args.routes.now n c.net.result.now c.unwrap-tree.result.now c.net.ensures.net (sym c.routed.ensures ∙ c.if-not-routed.false)
-    (sym c.get.ensures ∙ ap option_copied c.unwrap-tree.ensures) in
     record {
       quiet = c.in_ok-flush.ensures.quiet ∙ c.loop-net.invariant.quiet;
       stands = λ tells.
           stands-flushed (g.K.Sink.written c.flush.new.sink) c.flush.new.text.items (c.in_ok-flush.ensures.ok tells) c.in_ok-flush.ensures.empty
-          (stands-put added c.put_record.new.self.text.items (text_before d sets (n + 1)) c.in_ok-put_record.ensures more (c.loop-net.invariant.stands tells));
+          (stands-record d c.args.routes.now n c.net.result.now c.unwrap-tree.result.now c.put_record.new.self.text.items c.net.ensures.net
+          (sym c.routed.ensures ∙ c.if-not-routed.false) (sym c.get.ensures ∙ ap option_copied c.unwrap-tree.ensures) c.in_ok-put_record.ensures
+          (c.loop-net.invariant.stands tells));
     }
 
 pub returns-in_err-flush-2-clause-prefix : goal.returns-in_err-flush-2-clause-prefix
