@@ -17,10 +17,10 @@ abbrev pub last_tree : List Entry → Option TreeView
 last_tree h = tree_of (slice_get h (length h - 1))
 
 -- the hand's claim of a net for a tree that was planned from the whole history, with the reply to it
-abbrev pub hand_claim : CapacityView → List Entry → ℕ → TreeView → Option ℕ → PlanKind → Entry
+abbrev pub hand_claim : BookView → ℕ → TreeView → Option ℕ → PlanKind → Entry
 hand_claim b net t slack kind =
-    let claim = claim_of net t slack (length h) kind in
-    entry_of hand (Claims claim) (reply_to_claim c h claim)
+    let claim = claim_of net t slack (length b.history) kind in
+    entry_of hand (Claims claim) (reply_to_claim b.capacity b.history claim)
 
 -- a net of the design isn't booked, and a tree for it lies in the design's grid
 pub record IsFree (c : CapacityView) (h : List Entry) (net : ℕ) (t : TreeView) : Type 0 where

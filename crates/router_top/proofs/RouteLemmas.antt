@@ -17,7 +17,7 @@ use Rattle.gr_base.proofs.TreeEdges.{joins-pins}
 use Rattle.grid_demand.specs.Tables.{CapacityView, capacity_of}
 use Rattle.book_state.specs.Books.{nets_of, booked}
 use Rattle.book_state.specs.declared.entry.Entry.{Entry}
-use Rattle.route_writer.specs.Routed.{AreRouted}
+use Rattle.straight_runs.specs.Routed.{AreRouted}
 use Rattle.round_core.proofs.TurnLemmas.{routed-net}
 use Rattle.round_core.specs.Rounds.{IsRouteOfNet}
 use Rattle.router_top.specs.Routing.{AllJoined, AreTrees}

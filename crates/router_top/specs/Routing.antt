@@ -15,7 +15,7 @@ use Rattle.book_state.specs.Views.{BookView}
 use Rattle.book_state.specs.declared.entry.Entry.{Entry}
 use Rattle.route_evaluator.specs.Verdicts.{IsVerdict}
 use Rattle.route_evaluator.specs.declared.verdict.Verdict.{Verdict}
-use Rattle.route_writer.specs.Routed.{AreRouted}
+use Rattle.straight_runs.specs.Routed.{AreRouted}
 use Rattle.solution_text.specs.Cover.{cover}
 use Rattle.solution_text.specs.WrittenText.{written_text}
 use Rattle.gr_io.specs.Devices.{Reading}

@@ -3,7 +3,7 @@ ghost use Rattle.std.specs.Prelude.{◌≡◌, IfOk};
 ghost use Rattle.gr_base.specs.Designs.{IsDesign};
 ghost use Rattle.gr_base.specs.Trees.{route_edges};
 ghost use Rattle.gr_io.specs.Devices.{device_of, reading_of};
-ghost use Rattle.route_writer.specs.Routed.{AreRouted};
+ghost use Rattle.straight_runs.specs.Routed.{AreRouted};
 ghost use Rattle.solution_text.specs.WrittenText.{written_text};
 ghost use Rattle.router_top.specs.Commands.{rounds_back};
 ghost use Rattle.router_top.specs.Leaving.{IsWritten, Leaves};
