@@ -160,3 +160,7 @@ choosing-turn g ways price t node up base old before new after now more number s
     subst P (sym at)
     (subst Q (sym writes.layer)
     (choosing-more g ways price t node base old before new after number s b.layer b.cost below (omega (arith, parent)) within is (found.best b writes.is_best) so_far))
+
+-- prices of a shape by another name
+pub prices-at : (g h : Shape) (ways : ℕ → Way → Bool) (price : Edge → Option ℕ) → g ≡ h → ArePrices g ways price → ArePrices h ways price
+prices-at g h ways price same prices = subst (λ (s : Shape). ArePrices s ways price) same prices

@@ -395,3 +395,7 @@ spread-all g old mid new tile layer s inside above below on up down =
     own false true false false has = refl
     own false false true false has = refl
     own false false false false has = refl
+
+-- the cell of a tile by another name of the shape
+pub at-shape : (g h : Shape) (tile layer cell : ℕ) → h ≡ g → cell ≡ cell_on h tile layer → cell ≡ cell_on g tile layer
+at-shape g h tile layer cell same is = is ∙ ap (λ (s : Shape). cell_on s tile layer) same

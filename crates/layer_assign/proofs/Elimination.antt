@@ -3,7 +3,7 @@ use Rattle.std.proofs.Common.{Option, Some, None, ◌≡◌, ◌≢◌, ℕ, suc
 use Rattle.std.proofs.lemmas.Bool.{cases_eq, cases_Bool}
 use Rattle.std.proofs.lemmas.Bool.Decides.{nat_tests}
 use Rattle.layer_assign.specs.declared.span.Span.{Span}
-use Rattle.layer_assign.specs.Spans.{widened, climb, IsSpan, IsWithin, span_by}
+use Rattle.layer_assign.specs.Spans.{widened, climb, IsWithin, span_by}
 use Rattle.layer_assign.specs.Choices.{IsBest}
 use Rattle.layer_assign.proofs.Sums.{sums, sums-same, sums-changed, sums-at}
 

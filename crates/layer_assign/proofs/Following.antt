@@ -1,8 +1,9 @@
 -- Layers that follow choices, and the spans to which tiles grow.
-use Rattle.std.proofs.Common.{◌≡◌, ℕ, suc, zero, ◌<◌, inl, inr, Bool, List, [], ◌∷◌, ◌++◌, length, get_or, Option, Some, slice_get, unwrap_or, if◌then◌else◌, refl, sym, ap, subst, ◌∙◌, arith}
+use Rattle.std.proofs.Common.{◌≡◌, ℕ, suc, zero, ◌<◌, inl, inr, Bool, List, [], ◌∷◌, ◌++◌, length, get_or, Option, Some, slice_get, if◌then◌else◌, refl, sym, ap, subst, ◌∙◌, arith}
 use Rattle.std.proofs.lemmas.Bool.{cases_eq, cases_Bool}
 use Rattle.std.proofs.lemmas.List.{length-append, get_or_append_left, get_or_push}
 use Rattle.std.specs.Option.{option_and_then}
+use Rattle.std.proofs.lemmas.Option.{slice_get_read}
 use Rattle.gr_base.specs.Trees.{TreeView}
 use Rattle.layer_assign.specs.declared.span.Span.{Span}
 use Rattle.layer_assign.specs.Spans.{widened, IsWithin, span_by, growing}
@@ -12,6 +13,13 @@ use Rattle.layer_assign.proofs.Elimination.{widened-within}
 -- the span of a node that is read from a list
 pub span-read : (spans : List (Option Span)) (node : ℕ) (s : Option Span) → slice_get spans node ≡ Some s → growing spans node ≡ s
 span-read spans node s is = ap (λ (o : Option (Option Span)). option_and_then (λ (r : Option Span). r) o) is
+
+-- what is read of the spans so far is within the grid where they all are
+pub span-inside : (layers count : ℕ) (spans : List (Option Span)) (u : ℕ) (s : Option Span) → length spans ≡ count → u < count → s ≡ get_or spans u s →
+    ((v : ℕ) → v < count → IsWithin layers (growing spans v)) → (growing spans u ≡ s) × IsWithin layers s
+span-inside layers count spans u s long below read within =
+    let at = span-read spans u s (slice_get_read spans (length spans) u s refl (omega arith) read) in
+    (at, subst (λ (r : Option Span). IsWithin layers r) at (within u below))
 
 -- a span depends on the layers of nodes below alone, and on the tile's first span
 pub span_by-alike : (ends : ℕ → ℕ → Bool) (first : ℕ → Option Span) (a b : ℕ → ℕ) (u i : ℕ) → ((k : ℕ) → k < i → a k ≡ b k) → span_by ends first a u i ≡ span_by ends first b u i

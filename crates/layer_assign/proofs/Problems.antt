@@ -1,5 +1,5 @@
 -- The assignments of a flat tree's edges, as a problem for the elimination.
-use Rattle.std.proofs.Common.{◌≡◌, ℕ, suc, zero, ◌+◌, ◌<◌, ◌≤◌, Bool, true, false, ◌&&◌, ◌==◌, nat_lt, min, max, if◌then◌else◌, inl, inr, List, [], ◌∷◌, ◌++◌, length, map, filter, fold, All, Option, Some, None, unwrap_or, IsTrue, refl, sym, ap, ◌∙◌, append_assoc, arith}
+use Rattle.std.proofs.Common.{◌≡◌, ℕ, suc, zero, ◌+◌, ◌<◌, Bool, true, false, ◌&&◌, ◌==◌, nat_lt, if◌then◌else◌, inl, inr, List, [], ◌∷◌, ◌++◌, length, map, filter, fold, All, Option, Some, None, unwrap_or, IsTrue, refl, sym, ap, ◌∙◌, append_assoc, arith}
 use Rattle.std.proofs.lemmas.Bool.{cases_Bool, both_ways}
 use Rattle.std.proofs.lemmas.Bool.Decides.{nat_tests}
 use Rattle.std.proofs.lemmas.List.{append-nil, map-append}
@@ -14,7 +14,7 @@ use Rattle.gr_base.specs.declared.grid.Edge.{Edge}
 use Rattle.gr_base.specs.declared.grid.Shape.{Shape}
 use Rattle.gr_base.specs.declared.grid.Way.{Way}
 use Rattle.layer_assign.specs.declared.span.Span.{Span}
-use Rattle.layer_assign.specs.Spans.{span_of, widened, climb, IsSpan, IsWithin}
+use Rattle.layer_assign.specs.Spans.{span_of, widened, climb, IsWithin}
 use Rattle.layer_assign.specs.Assignments.{tile_of, level_of, parent_of, tile_at, goes_on, may_take, wire_cost, ends_at, pin_layers, met_below, cost_of}
 use Rattle.layer_assign.specs.Choices.{Follows, AreBest}
 use Rattle.layer_assign.proofs.Sums.{sums, sums-range, sums-same, range-more}

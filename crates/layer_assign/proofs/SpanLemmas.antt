@@ -1,5 +1,5 @@
 -- The spans of all tiles in the end, and the tree that is raised from them.
-use Rattle.std.proofs.Common.{◌≡◌, ◌≢◌, ℕ, suc, zero, ◌+◌, ◌<◌, ◌≤◌, inl, inr, Bool, true, false, ◌&&◌, ◌||◌, ◌==◌, not, List, [], ◌∷◌, length, map, filter, fold, get_or, All, Option, Some, None, unwrap_or, IsSome, IsTrue, refl, sym, ap, subst, ◌∙◌, arith}
+use Rattle.std.proofs.Common.{◌≡◌, ◌≢◌, ℕ, suc, zero, ◌+◌, ◌<◌, inl, inr, Bool, true, false, ◌&&◌, ◌||◌, ◌==◌, not, List, [], ◌∷◌, length, map, filter, fold, get_or, All, Option, Some, None, unwrap_or, IsSome, IsTrue, refl, sym, ap, subst, ◌∙◌, arith}
 use Rattle.std.proofs.lemmas.Bool.{cases_Bool, cases_eq, cases_lt, eq-eqb}
 use Rattle.std.proofs.lemmas.Bool.Decides.{nat_tests}
 use Rattle.std.specs.List.{list_any, range_with_len}
@@ -11,7 +11,7 @@ use Rattle.gr_base.specs.declared.grid.Edge.{Edge}
 use Rattle.gr_base.specs.declared.grid.Shape.{Shape}
 use Rattle.gr_base.proofs.TreeLemmas.{some_from, node_with-at, cell_at-within}
 use Rattle.layer_assign.specs.declared.span.Span.{Span}
-use Rattle.layer_assign.specs.Spans.{widened, growing, span_of, span_by, IsSpan, IsWithin}
+use Rattle.layer_assign.specs.Spans.{widened, growing, span_of, span_by, IsWithin}
 use Rattle.layer_assign.specs.Assignments.{IsFlat, tile_of, level_of, cell_on, tile_at, parent_of, ends_at, met, ArePins}
 use Rattle.layer_assign.specs.Raised.{in_column, is_via_of, is_via_in, is_wire_of, raised_edges}
 use Rattle.layer_assign.specs.Raising.{any_below, IsIn, HoldEdges, IsRaised, IsColumn}

@@ -1,10 +1,10 @@
 -- Assignments of a flat tree's edges to layers: what they may be, what they cost, and which is the first least one.
-use Rattle.std.specs.Prelude.{◌≡◌, ℕ, ◌+◌, ◌*◌, ◌/◌, ◌%◌, ◌<◌, ◌≤◌, Bool, false, ◌&&◌, ◌||◌, ◌==◌, nat_lt, List, ◌++◌, All, length, map, filter, sum_by, Option, unwrap_or, slice_get, IsTrue}
+use Rattle.std.specs.Prelude.{◌≡◌, ℕ, ◌+◌, ◌*◌, ◌/◌, ◌%◌, ◌<◌, ◌≤◌, Bool, false, ◌&&◌, ◌||◌, ◌==◌, nat_lt, List, ◌++◌, All, length, map, filter, sum_by, Option, unwrap_or, IsTrue}
 use Rattle.std.specs.List.{range_with_len}
 use Rattle.std.specs.Option.{option_map, option_and_then}
 use Rattle.gr_base.specs.ParentEdges.{parent_edge}
-use Rattle.gr_base.specs.Grid.{cells_of, edge_at, on_layer}
-use Rattle.gr_base.specs.Trees.{TreeView, cell_at, parent_at, holds, edge_to_parent}
+use Rattle.gr_base.specs.Grid.{cells_of, on_layer}
+use Rattle.gr_base.specs.Trees.{TreeView, cell_at, parent_at, holds}
 use Rattle.gr_base.specs.declared.grid.Edge.{Edge}
 use Rattle.gr_base.specs.declared.grid.Shape.{Shape}
 use Rattle.gr_base.specs.declared.grid.Way.{Way}
@@ -70,7 +70,8 @@ met_below g t pins a node number =
 abbrev pub met : Shape → TreeView → List ℕ → (ℕ → ℕ) → ℕ → List ℕ
 met g t pins a node = met_below g t pins a node (length t.nodes)
 
--- the cost of an assignment: what its wire edges cost, and the climbs from the least to the greatest layer that meet in each tile
+-- the cost of an assignment: what its wire edges cost, and the climbs from the least to the greatest layer that meet
+-- in each tile
 abbrev pub cost_of : Shape → (Edge → Option ℕ) → TreeView → List ℕ → (ℕ → ℕ) → ℕ
 cost_of g price t pins a =
     sum_by (λ node. wire_cost g price t node (a node)) (range_with_len 0 (length t.nodes))
@@ -78,13 +79,15 @@ cost_of g price t pins a =
 
 -- no assignment costs less
 abbrev pub IsLeast : Shape → (ℕ → Way → Bool) → (Edge → Option ℕ) → TreeView → List ℕ → (ℕ → ℕ) → Type 0
-IsLeast g ways price t pins a = (b : ℕ → ℕ) → IsAssignment g ways t b → cost_of g price t pins a ≤ cost_of g price t pins b
+IsLeast g ways price t pins a = (b : ℕ → ℕ) → IsAssignment g ways t b →
+    cost_of g price t pins a ≤ cost_of g price t pins b
 
 -- two assignments are alike before a node
 abbrev pub AreAlike : (ℕ → ℕ) → (ℕ → ℕ) → ℕ → Type 0
 AreAlike a b node = (other : ℕ) → 0 < other → other < node → a other ≡ b other
 
--- of the assignments of equal cost this is the first: where another is like it before a node, the other's layer at the node isn't less
+-- of the assignments of equal cost this is the first: where another is like it before a node, the other's layer at
+-- the node isn't less
 abbrev pub IsFirst : Shape → (ℕ → Way → Bool) → (Edge → Option ℕ) → TreeView → List ℕ → (ℕ → ℕ) → Type 0
 IsFirst g ways price t pins a =
     (b : ℕ → ℕ) → IsAssignment g ways t b → cost_of g price t pins b ≡ cost_of g price t pins a →

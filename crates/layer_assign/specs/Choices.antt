@@ -22,15 +22,19 @@ entry layers table node s = slice_index table (node * spans_of layers + span_num
 -- each node's layer is the choice for the span that its parent's tile has before
 abbrev pub Follows : Shape → TreeView → List ℕ → (ℕ → Option Span → ℕ) → (ℕ → ℕ) → Type 0
 Follows g t pins choice a =
-    (node : ℕ) → 0 < node → node < length t.nodes → a node ≡ choice node (span_of (met_below g t pins a (parent_of t node) node))
+    (node : ℕ) → 0 < node → node < length t.nodes →
+    a node ≡ choice node (span_of (met_below g t pins a (parent_of t node) node))
 
 -- each node's layer is the choice for the span that its parent's tile has before, from the tiles' first spans
 abbrev pub FollowsFrom : TreeView → (ℕ → Option Span) → (ℕ → Option Span → ℕ) → (ℕ → ℕ) → Type 0
 FollowsFrom t first choice a =
-    (node : ℕ) → 0 < node → node < length t.nodes → a node ≡ choice node (span_by (ends_at t) first a (parent_of t node) node)
+    (node : ℕ) → 0 < node → node < length t.nodes →
+    a node ≡ choice node (span_by (ends_at t) first a (parent_of t node) node)
 
 -- choices that lead to the first least assignment
-pub record AreBest (g : Shape) (ways : ℕ → Way → Bool) (price : Edge → Option ℕ) (t : TreeView) (pins : List ℕ) (choice : ℕ → Option Span → ℕ) : Type 0 where
-  pub allowed : (node : ℕ) → 0 < node → node < length t.nodes → (s : Option Span) → IsWithin g.layers s → IsTrue (may_take g ways t node (choice node s))
+pub record AreBest (g : Shape) (ways : ℕ → Way → Bool) (price : Edge → Option ℕ) (t : TreeView) (pins : List ℕ)
+    (choice : ℕ → Option Span → ℕ) : Type 0 where
+  pub allowed : (node : ℕ) → 0 < node → node < length t.nodes → (s : Option Span) → IsWithin g.layers s →
+      IsTrue (may_take g ways t node (choice node s))
   pub least : (a : ℕ → ℕ) → IsAssignment g ways t a → Follows g t pins choice a → IsLeast g ways price t pins a
   pub first : (a : ℕ → ℕ) → IsAssignment g ways t a → Follows g t pins choice a → IsFirst g ways price t pins a

@@ -19,7 +19,8 @@ is_wire_of g t a node e = unwrap_or (option_map (λ f. is_edge e (on_layer g (a 
 
 -- the cell is a tile's, on a layer from one and below another
 abbrev pub in_column : Shape → ℕ → ℕ → ℕ → ℕ → Bool
-in_column g tile from end cell = (tile_of g cell == tile) && nat_le from (level_of g cell) && nat_lt (level_of g cell) end
+in_column g tile from end cell =
+    (tile_of g cell == tile) && nat_le from (level_of g cell) && nat_lt (level_of g cell) end
 
 -- the edge is a via edge of a tile between the least and the greatest layer of a span
 abbrev pub is_via_of : Shape → ℕ → Span → Edge → Bool
@@ -30,11 +31,13 @@ abbrev pub is_via_in : Shape → ℕ → Option Span → Edge → Bool
 is_via_in g tile None e = false
 is_via_in g tile (Some s) e = is_via_of g tile s e
 
--- the edges of an assignment: its wire edges, and in each tile the via edges between the least and the greatest layer that meet there
+-- the edges of an assignment: its wire edges, and in each tile the via edges between the least and the greatest
+-- layer that meet there
 abbrev pub raised_edges : Shape → TreeView → List ℕ → (ℕ → ℕ) → Edges
 raised_edges g t pins a e =
     list_any (λ node. is_wire_of g t a node e) (range_with_len 0 (length t.nodes))
-    || list_any (λ node. is_via_in g (tile_at t node) (span_of (met g t pins a node)) e) (range_with_len 0 (length t.nodes))
+    || list_any (λ node. is_via_in g (tile_at t node) (span_of (met g t pins a node)) e)
+    (range_with_len 0 (length t.nodes))
 
 -- the layers are the grid's, for each node but node 0
 pub record AreLayers (g : Shape) (t : TreeView) (layers : List ℕ) : Type 0 where

@@ -5,7 +5,7 @@ use Rattle.gr_base.specs.declared.grid.Edge.{Edge}
 use Rattle.gr_base.specs.declared.grid.Shape.{Shape}
 use Rattle.layer_assign.specs.declared.span.Span.{Span}
 use Rattle.layer_assign.specs.Spans.{IsSpan}
-use Rattle.layer_assign.specs.Assignments.{tile_of, tile_at, parent_of}
+use Rattle.layer_assign.specs.Assignments.{cell_on, tile_of, tile_at, parent_of}
 use Rattle.layer_assign.specs.Raised.{is_wire_of, is_via_of, in_column}
 
 -- f holds of a number below one
@@ -16,6 +16,10 @@ any_below f (suc n) = any_below f n || f n
 -- the node's tile is done
 abbrev pub is_done : List Bool → ℕ → Bool
 is_done done node = unwrap_or (slice_get done node) false
+
+-- no cell of the tile is in the tree
+abbrev pub IsFree : TreeView → ℕ → Type 0
+IsFree t tile = (layer : ℕ) → layer < t.shape.layers → holds t (cell_on t.shape tile layer) ≡ false
 
 -- the layer lies in the span
 pub record IsIn (s : Span) (layer : ℕ) : Type 0 where
@@ -32,11 +36,14 @@ pub record HoldEdges (g : Shape) (t : TreeView) (a : ℕ → ℕ) (spans : ℕ �
 abbrev pub Links : TreeView → ℕ → ℕ → ℕ → Type 0
 Links t edge from to = ((from ≡ edge) × (to ≡ parent_of t edge)) ⊎ ((to ≡ edge) × (from ≡ parent_of t edge))
 
--- the tree has the cells of the tiles that are done, their via edges, and the wire edges of their nodes but the open one
-pub record IsRaised (g : Shape) (t : TreeView) (a : ℕ → ℕ) (spans : ℕ → Span) (first : Option ℕ) (done : ℕ → Bool) (left : ℕ) (r : TreeView) : Type 0 where
+-- the tree has the cells of the tiles that are done, their via edges, and the wire edges of their nodes but the open
+-- one
+pub record IsRaised (g : Shape) (t : TreeView) (a : ℕ → ℕ) (spans : ℕ → Span) (first : Option ℕ) (done : ℕ → Bool)
+    (left : ℕ) (r : TreeView) : Type 0 where
   pub shape : r.shape ≡ g
   pub starts : cell_at r.nodes 0 ≡ first
-  pub cells_are : (cell : ℕ) → holds r cell ≡ any_below (λ node. done node && in_column g (tile_at t node) (spans node).low ((spans node).high + 1) cell) (length t.nodes)
+  pub cells_are : (cell : ℕ) → holds r cell ≡ any_below (λ node.
+      done node && in_column g (tile_at t node) (spans node).low ((spans node).high + 1) cell) (length t.nodes)
   pub edges_are : (e : Edge) → edges_of r e ≡
       (any_below (λ node. done node && is_via_of g (tile_at t node) (spans node) e) (length t.nodes)
       || any_below (λ node. (done node && not (node == left)) && is_wire_of g t a node e) (length t.nodes))

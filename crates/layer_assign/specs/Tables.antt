@@ -22,12 +22,14 @@ IsSmall layers table node = (s : Option Span) → IsWithin layers s → entry la
 -- what a node's edge on a layer and the limb below it cost, if the layer goes the edge's way
 abbrev pub limb_cost : Shape → (Edge → Option ℕ) → TreeView → List ℕ → ℕ → Option Span → ℕ → Option ℕ
 limb_cost g price t costs node base layer =
-    option_map (λ wire. wire + entry g.layers costs node (widened base layer)) (option_and_then (λ e. price (on_layer g layer e)) (parent_edge t node))
+    option_map (λ wire. wire + entry g.layers costs node (widened base layer))
+    (option_and_then (λ e. price (on_layer g layer e)) (parent_edge t node))
 
 -- a layer with its cost, from what the limb costs on each layer and the row of the parent's costs
 abbrev pub offer : Shape → List (Option ℕ) → List ℕ → ℕ → Option Span → ℕ → Option Best
 offer g limbs costs parent s layer =
-    option_map (λ limb. record { layer = layer; cost = limb + entry g.layers costs parent (widened s layer) }) (option_and_then (λ o. o) (slice_get limbs layer))
+    option_map (λ limb. record { layer = layer; cost = limb + entry g.layers costs parent (widened s layer) })
+    (option_and_then (λ o. o) (slice_get limbs layer))
 
 -- of two offers the first, unless the second costs less
 abbrev pub better : Option Best → Option Best → Option Best

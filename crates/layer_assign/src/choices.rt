@@ -73,7 +73,8 @@ fn choose_layer(
     requires limbs { (other : ℕ) → other < shape.layers →
         IfSome (option_and_then (λ (o : Option ℕ). o) (slice_get limbs.now other)) (λ cost. cost ≤ 2 ^ 50 + most_cost) }
     requires some { IsSome (best_below (offer shape limbs.now least.old.items parent span) shape.layers) }
-    ensures { Writes shape.layers parent node span (best_below (offer shape limbs.now least.old.items parent span) shape.layers)
+    ensures { Writes shape.layers parent node span
+        (best_below (offer shape limbs.now least.old.items parent span) shape.layers)
         least.old.items least.new.items choices.old.items choices.new.items }
 {
     let best = best_layer(shape, limbs, least, parent, span).unwrap();

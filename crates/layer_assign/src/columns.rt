@@ -16,7 +16,8 @@ pub(crate) fn hang(tree: &mut RouteTree, cell: u32, on: u32) -> Result<(), Alloc
     requires outside { holds tree.old cell ≡ false }
     requires on { IsTrue (holds tree.old on) }
     requires near { AreNeighbours tree.old.shape cell on }
-    ensures { OnOk result (Grows tree.old tree.new (λ other. cell == other) (set_of (walk_edges tree.old.shape (cell ∷ on ∷ [])))) }
+    ensures { OnOk result (Grows tree.old tree.new (λ other. cell == other)
+        (set_of (walk_edges tree.old.shape (cell ∷ on ∷ [])))) }
 {
     tree.attach(&[cell, on])
 }
@@ -37,9 +38,11 @@ pub(crate) fn rise(tree: &mut RouteTree, tile: u32, from: u32, to: u32) -> Resul
     requires layers { to < tree.old.shape.layers }
     requires up { from ≤ to }
     requires on { IsTrue (holds tree.old (cell_on tree.old.shape tile from)) }
-    requires free { (layer : ℕ) → from < layer → layer ≤ to → holds tree.old (cell_on tree.old.shape tile layer) ≡ false }
+    requires free { (layer : ℕ) → from < layer → layer ≤ to →
+        holds tree.old (cell_on tree.old.shape tile layer) ≡ false }
     ensures { OnOk result (Grows tree.old tree.new
-        (in_column tree.old.shape tile (from + 1) (to + 1)) (λ e. is_way e.way Up && in_column tree.old.shape tile from to e.low)) }
+        (in_column tree.old.shape tile (from + 1) (to + 1))
+        (λ e. is_way e.way Up && in_column tree.old.shape tile from to e.low)) }
 {
     let shape = tree.shape();
     for layer in from..to {
@@ -58,7 +61,8 @@ pub(crate) fn sink(tree: &mut RouteTree, tile: u32, from: u32, to: u32) -> Resul
     requires layers { from < tree.old.shape.layers }
     requires down { to ≤ from }
     requires on { IsTrue (holds tree.old (cell_on tree.old.shape tile from)) }
-    requires free { (layer : ℕ) → to ≤ layer → layer < from → holds tree.old (cell_on tree.old.shape tile layer) ≡ false }
+    requires free { (layer : ℕ) → to ≤ layer → layer < from →
+        holds tree.old (cell_on tree.old.shape tile layer) ≡ false }
     ensures { OnOk result (Grows tree.old tree.new
         (in_column tree.old.shape tile to from) (λ e. is_way e.way Up && in_column tree.old.shape tile to from e.low)) }
 {
@@ -85,7 +89,8 @@ pub(crate) fn spread(
     requires above { span.low ≤ layer }
     requires below { layer ≤ span.high }
     requires on { IsTrue (holds tree.old (cell_on tree.old.shape tile layer)) }
-    requires free { (other : ℕ) → other ≢ layer → other < tree.old.shape.layers → holds tree.old (cell_on tree.old.shape tile other) ≡ false }
+    requires free { (other : ℕ) → other ≢ layer → other < tree.old.shape.layers →
+        holds tree.old (cell_on tree.old.shape tile other) ≡ false }
     ensures { OnOk result (Grows tree.old tree.new
         (in_column tree.old.shape tile span.low (span.high + 1)) (is_via_of tree.old.shape tile span)) }
 {

@@ -34,7 +34,8 @@ pub fn assign<C: Costs>(
     requires pins { ArePins shape flat.now pins.now }
     requires layers { HasLayers shape (C.ways costs.now) flat.now }
     ensures nodes { IfOk result (λ layers. length layers ≡ length flat.now.nodes) }
-    ensures assignment { IfOk result (λ layers. IsAssignment shape (C.ways costs.now) flat.now (λ node. slice_index layers node)) }
+    ensures assignment { IfOk result (λ layers. IsAssignment shape (C.ways costs.now) flat.now
+        (λ node. slice_index layers node)) }
     ensures least { IfOk result (λ layers.
         IsLeast shape (C.ways costs.now) (C.price costs.now) flat.now pins.now (λ node. slice_index layers node)) }
     ensures first { IfOk result (λ layers.
@@ -56,7 +57,8 @@ fn first_least<C: Costs>(
     requires flat { IsFlat shape flat.now.shape }
     requires pins { ArePins shape flat.now pins.now }
     requires layers { HasLayers shape (C.ways costs.now) flat.now }
-    ensures { IfOk result (λ layers. IsFirstLeast shape (C.ways costs.now) (C.price costs.now) flat.now pins.now layers.items) }
+    ensures { IfOk result (λ layers.
+        IsFirstLeast shape (C.ways costs.now) (C.price costs.now) flat.now pins.now layers.items) }
 {
     let mut spans = pin_spans(alloc, shape, flat, pins)?;
     let nodes = flat.len();

@@ -6,7 +6,7 @@ ghost use Rattle.gr_base.specs.declared.grid.Edge.{Edge as EdgeView};
 ghost use Rattle.layer_assign.specs.Spans.{IsWithin, span_in};
 ghost use Rattle.layer_assign.specs.Assignments.{IsFlat, tile_count, cell_on, tile_of, level_of, tile_at, parent_of, ArePins};
 ghost use Rattle.layer_assign.specs.Raised.{in_column, is_via_of, is_wire_of, Grows, AreLayers, raised_edges};
-ghost use Rattle.layer_assign.specs.Raising.{is_done, IsIn, HoldEdges, Links, IsRaised, IsColumn};
+ghost use Rattle.layer_assign.specs.Raising.{is_done, IsFree, IsIn, HoldEdges, Links, IsRaised, IsColumn};
 
 use crate::columns::{cell_at_level, hang, spread};
 use crate::layers::Layers;
@@ -60,9 +60,11 @@ fn raise_from(
     requires spans { HoldEdges shape flat.now (λ node. slice_index layers.now node) (span_in spans.now) }
     requires cell { cell < cells_of shape }
     requires tile { IsTrue (holds flat.now (tile_of shape cell)) }
-    requires span { (node : ℕ) → node_with flat.now.nodes (tile_of shape cell) ≡ Some node → IsIn (span_in spans.now node) (level_of shape cell) }
+    requires span { (node : ℕ) → node_with flat.now.nodes (tile_of shape cell) ≡ Some node →
+        IsIn (span_in spans.now node) (level_of shape cell) }
     ensures tree { IfOk result IsTree }
-    ensures raised { IfOk result (λ tree. IsRaised shape flat.now (λ node. slice_index layers.now node) (span_in spans.now)
+    ensures raised { IfOk result (λ tree. IsRaised shape flat.now (λ node. slice_index layers.now node)
+        (span_in spans.now)
         (Some cell) (λ _. true) 0 tree) }
 {
     let tile = cell % (shape.columns() * shape.rows());
@@ -100,11 +102,13 @@ fn enter(
     requires tile { tile < tile_count tree.old.shape }
     requires layer { IsIn span layer }
     requires high { span.high < tree.old.shape.layers }
-    requires near { AreNeighbours tree.old.shape (cell_on tree.old.shape tile layer) (cell_on tree.old.shape from layer) }
+    requires near { AreNeighbours tree.old.shape (cell_on tree.old.shape tile layer)
+        (cell_on tree.old.shape from layer) }
     requires on { IsTrue (holds tree.old (cell_on tree.old.shape from layer)) }
-    requires free { (other : ℕ) → other < tree.old.shape.layers → holds tree.old (cell_on tree.old.shape tile other) ≡ false }
+    requires free { IsFree tree.old tile }
     ensures { OnOk result (Grows tree.old tree.new (in_column tree.old.shape tile span.low (span.high + 1))
-        (λ e. set_of (walk_edges tree.old.shape (cell_on tree.old.shape tile layer ∷ cell_on tree.old.shape from layer ∷ [])) e
+        (λ e. set_of (walk_edges tree.old.shape
+        (cell_on tree.old.shape tile layer ∷ cell_on tree.old.shape from layer ∷ [])) e
         || is_via_of tree.old.shape tile span e)) }
 {
     let shape = tree.shape();
@@ -143,8 +147,9 @@ fn visit(
     requires from { from < length flat.now.nodes }
     requires to { to < length flat.now.nodes }
     requires links { Links flat.now edge from to }
-    requires on { IsTrue (holds tree.old (cell_on tree.old.shape (tile_at flat.now from) (slice_index layers.now edge))) }
-    requires free { (other : ℕ) → other < tree.old.shape.layers → holds tree.old (cell_on tree.old.shape (tile_at flat.now to) other) ≡ false }
+    requires on { IsTrue (holds tree.old (cell_on tree.old.shape (tile_at flat.now from)
+        (slice_index layers.now edge))) }
+    requires free { IsFree tree.old (tile_at flat.now to) }
     ensures { OnOk result (Grows tree.old tree.new
         (in_column tree.old.shape (tile_at flat.now to) (span_in spans.now to).low ((span_in spans.now to).high + 1))
         (λ e. is_wire_of tree.old.shape flat.now (λ node. slice_index layers.now node) edge e
@@ -180,7 +185,8 @@ fn raise_ancestors(
         (cell_at tree.old.nodes 0) (is_done done.old.items) start tree.old }
     ensures marks { length done.new.items ≡ length flat.now.nodes }
     ensures root { OnOk result (is_done done.new.items 0 ≡ true) }
-    ensures raised { OnOk result (IsRaised tree.old.shape flat.now (λ node. slice_index layers.now node) (span_in spans.now)
+    ensures raised { OnOk result (IsRaised tree.old.shape flat.now (λ node. slice_index layers.now node)
+        (span_in spans.now)
         (cell_at tree.old.nodes 0) (is_done done.new.items) 0 tree.new) }
 {
     let mut node = start;

@@ -12,7 +12,7 @@ ghost use Rattle.layer_assign.specs.Choices.{entry};
 ghost use Rattle.layer_assign.specs.Tables.{HasRows, IsSmall, limb_cost, offer, better, best_below};
 
 use crate::span::{Best, Span};
-use crate::spans::{climb, widened, next_span, span_number, spans_of};
+use crate::spans::{climb, next_span, span_number, spans_of, widened};
 use cost_rules::Costs;
 use gr_base::{Edge, RouteTree, Shape};
 use std::alloc::{AllocError, Global};
@@ -73,7 +73,8 @@ pub(crate) fn limb_costs<C: Costs>(
     ensures costs { (layer : ℕ) → layer < shape.layers →
         slice_get result layer ≡ Some (limb_cost shape (C.price costs.now) flat.now least.now node base layer) }
     ensures most { (layer : ℕ) → layer < shape.layers →
-        IfSome (limb_cost shape (C.price costs.now) flat.now least.now node base layer) (λ cost. cost ≤ 2 ^ 50 + most_cost) }
+        IfSome (limb_cost shape (C.price costs.now) flat.now least.now node base layer)
+        (λ cost. cost ≤ 2 ^ 50 + most_cost) }
     ensures tree { IsTree flat.now }
 {
     let edge = flat.edge_to_parent(node).unwrap();
@@ -97,7 +98,8 @@ fn offer_of(
     requires span { IsWithin shape.layers span }
     requires parent { parent < most_cells }
     requires row { parent * spans_of shape.layers + spans_of shape.layers ≤ length least.now }
-    requires small { (other : ℕ) → other < shape.layers → entry shape.layers least.now parent (widened span other) ≤ 2 ^ 50 }
+    requires small { (other : ℕ) → other < shape.layers →
+        entry shape.layers least.now parent (widened span other) ≤ 2 ^ 50 }
     requires limbs { (other : ℕ) → other < shape.layers →
         IfSome (option_and_then (λ (o : Option ℕ). o) (slice_get limbs.now other)) (λ cost. cost ≤ 2 ^ 50 + most_cost) }
     ensures { result ≡ offer shape limbs.now least.now parent span layer }
@@ -129,7 +131,8 @@ pub(crate) fn best_layer(
     requires span { IsWithin shape.layers span }
     requires parent { parent < most_cells }
     requires row { parent * spans_of shape.layers + spans_of shape.layers ≤ length least.now }
-    requires small { (other : ℕ) → other < shape.layers → entry shape.layers least.now parent (widened span other) ≤ 2 ^ 50 }
+    requires small { (other : ℕ) → other < shape.layers →
+        entry shape.layers least.now parent (widened span other) ≤ 2 ^ 50 }
     requires limbs { (other : ℕ) → other < shape.layers →
         IfSome (option_and_then (λ (o : Option ℕ). o) (slice_get limbs.now other)) (λ cost. cost ≤ 2 ^ 50 + most_cost) }
     ensures { result ≡ best_below (offer shape limbs.now least.now parent span) shape.layers }

@@ -44,7 +44,8 @@ pub(crate) fn grow_spans(spans: &mut Vec<Option<Span>>, flat: &RouteTree, node: 
     requires count { length spans.old.items ≡ length flat.now.nodes }
     ensures count { length spans.new.items ≡ length flat.now.nodes }
     ensures spans { (other : ℕ) → other < length flat.now.nodes → growing spans.new.items other ≡
-        (if ends_at flat.now other node then widened (growing spans.old.items other) layer else growing spans.old.items other) }
+        (if ends_at flat.now other node then widened (growing spans.old.items other) layer
+        else growing spans.old.items other) }
 {
     let parent = flat.parent(node) as usize;
     spans[parent] = widened(spans[parent], layer);
@@ -62,10 +63,12 @@ pub(crate) fn follow(
     requires count { length spans.old.items ≡ length flat.now.nodes }
     requires within { (node : ℕ) → node < length flat.now.nodes → IsWithin shape.layers (growing spans.old.items node) }
     requires rows { HasRows shape.layers (length flat.now.nodes) choices.now }
-    requires below { (node : ℕ) → (s : Option SpanView) → 0 < node → node < length flat.now.nodes → IsWithin shape.layers s →
+    requires below { (node : ℕ) → (s : Option SpanView) → 0 < node → node < length flat.now.nodes →
+        IsWithin shape.layers s →
         entry shape.layers choices.now node s < shape.layers }
     ensures count { IfOk result (λ layers. length layers.items ≡ length flat.now.nodes) }
-    ensures follows { IfOk result (λ layers. FollowsFrom flat.now (growing spans.old.items) (entry shape.layers choices.now)
+    ensures follows { IfOk result (λ layers. FollowsFrom flat.now (growing spans.old.items)
+        (entry shape.layers choices.now)
         (λ node. slice_index layers.items node)) }
 {
     let mut layers = vec![in alloc; 0]?;
@@ -90,7 +93,8 @@ pub(crate) fn met_spans(
     requires layers { AreLayers shape flat.now layers.now }
     ensures count { IfOk result (λ spans. length spans.items ≡ length flat.now.nodes) }
     ensures spans { IfOk result (λ spans. (node : ℕ) → node < length flat.now.nodes →
-        Some (span_in spans.items node) ≡ span_of (met shape flat.now pins.now (λ other. slice_index layers.now other) node)) }
+        Some (span_in spans.items node) ≡ span_of (met shape flat.now pins.now
+        (λ other. slice_index layers.now other) node)) }
     ensures tree { IsTree flat.now }
 {
     let mut spans = pin_spans(alloc, shape, flat, pins)?;

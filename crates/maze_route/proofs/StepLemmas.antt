@@ -1,8 +1,7 @@
 -- Steps between the cells of a window.
-use Rattle.std.proofs.Common.{◌≡◌, ℕ, ◌+◌, ◌-◌, ◌<◌, ◌≤◌, ◌⊎◌, inl, inr, Bool, true, false, ◌&&◌, ◌==◌, nat_lt, min, Option, Some, None, IfSome, if◌then◌else◌, IsTrue, refl, sym, ap, subst, ◌∙◌, arith}
+use Rattle.std.proofs.Common.{◌≡◌, ℕ, ◌+◌, ◌-◌, ◌<◌, ◌≤◌, ◌⊎◌, inl, inr, Bool, true, false, ◌&&◌, nat_lt, Option, Some, None, IfSome, if◌then◌else◌, IsTrue, refl, sym, ap, subst, ◌∙◌, arith}
 use Rattle.std.specs.Prelude.{option_and_then}
 use Rattle.std.specs.Option.{option_map}
-use Rattle.std.proofs.lemmas.Bool.{cases_eq}
 use Rattle.std.proofs.lemmas.Bool.Decides.{nat_tests}
 use Rattle.std.proofs.lemmas.Option.{none-some, same_Some}
 use Rattle.gr_base.proofs.TreeEdges.{edge_of-swap}
@@ -11,7 +10,7 @@ use Rattle.gr_base.specs.declared.grid.Edge.{Edge}
 use Rattle.gr_base.specs.declared.grid.Shape.{Shape}
 use Rattle.gr_base.specs.declared.grid.Way.{Way}
 use Rattle.gr_base.specs.declared.grid.Way.TheVariants.{East, North, Up}
-use Rattle.gr_base.specs.Grid.{cells_of, number_of, place_at, IsInside, beyond, steps_between, stride, high_of, has_room, has_edge, edge_at, edge_of, Joins}
+use Rattle.gr_base.specs.Grid.{cells_of, number_of, place_at, IsInside, beyond, stride, high_of, has_room, has_edge, edge_at, edge_of, Joins}
 use Rattle.gr_base.proofs.GridLemmas.{number-place, place-inside, same_cell, place-number, number-below, high-number, edge-room, place-high, high-below, edge-beyond, edge-of-beyond, edge_of-joins}
 use Rattle.maze_route.specs.Panes.{out_of}
 use Rattle.cost_rules.specs.Prices.{ArePrices}

@@ -32,7 +32,8 @@ abbrev pub first_closer : Pane → (Edge → Option ℕ) → Window → (ℕ →
 first_closer p price aim label cell left = first_some (map (closer_of label left) (steps_from p price aim cell))
 
 -- a cell whose label is within the bound of the search
-pub record IsNear (p : Pane) (t : TreeView) (price : Edge → Option ℕ) (aim : Window) (label : ℕ → Option ℕ) (cell left : ℕ) : Type 0 where
+pub record IsNear (p : Pane) (t : TreeView) (price : Edge → Option ℕ) (aim : Window) (label : ℕ → Option ℕ)
+    (cell left : ℕ) : Type 0 where
   pub inside : cell < size_of p
   pub labelled : label cell ≡ Some left
   pub bound : ℕ

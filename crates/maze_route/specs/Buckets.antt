@@ -15,7 +15,8 @@ pub record IsBucket (last key bucket : ℕ) : Type 0 where
 -- the places of a chain, from its head on
 abbrev pub IsChain : List Slot → Option ℕ → List ℕ → Type 0
 IsChain slots head [] = head ≡ None
-IsChain slots head (place ∷ places) = (head ≡ Some place) × IsSomeAnd (slice_get slots place) (λ slot. IsChain slots slot.next places)
+IsChain slots head (place ∷ places) =
+    (head ≡ Some place) × IsSomeAnd (slice_get slots place) (λ slot. IsChain slots slot.next places)
 
 -- the first place of a bucket
 abbrev pub head_at : List (Option ℕ) → ℕ → Option ℕ
@@ -39,7 +40,8 @@ pub record AreChains (slots : List Slot) (heads : List (Option ℕ)) (last : ℕ
 -- the free places are a chain
 pub record AreFree (slots : List Slot) (free : Option ℕ) (places : List ℕ) : Type 0 where
   pub linked : IsChain slots free places
-  pub only : (place : ℕ) → IsTrue (is_among places place) → IsSomeAnd (slice_get slots place) (λ slot. slot.taken ≡ false)
+  pub only : (place : ℕ) → IsTrue (is_among places place) →
+      IsSomeAnd (slice_get slots place) (λ slot. slot.taken ≡ false)
 
 pub record Keeps (slots : List Slot) (heads : List (Option ℕ)) (free : Option ℕ) (last : ℕ) : Type 0 where
   pub size : length heads ≡ 65
@@ -51,7 +53,8 @@ pub record Keeps (slots : List Slot) (heads : List (Option ℕ)) (free : Option 
 -- the first bucket that has a place
 abbrev pub IsFirstFull : List (Option ℕ) → Option ℕ → Type 0
 IsFirstFull heads None = (bucket : ℕ) → bucket < 65 → head_at heads bucket ≡ None
-IsFirstFull heads (Some bucket) = (bucket < 65) × (IsSome (head_at heads bucket) × ((lower : ℕ) → lower < bucket → head_at heads lower ≡ None))
+IsFirstFull heads (Some bucket) =
+    (bucket < 65) × (IsSome (head_at heads bucket) × ((lower : ℕ) → lower < bucket → head_at heads lower ≡ None))
 
 -- a chain begins at this place
 pub record BeginsChain (slots : List Slot) (first : ℕ) : Type 0 where
@@ -62,7 +65,8 @@ pub record BeginsChain (slots : List Slot) (first : ℕ) : Type 0 where
 pub record IsLeastKey (slots : List Slot) (first least : ℕ) : Type 0 where
   pub places : List ℕ
   pub linked : IsChain slots (Some first) places
-  pub least_of : (place : ℕ) (slot : Slot) → IsTrue (is_among places place) → slice_get slots place ≡ Some slot → least ≤ slot.key
+  pub least_of : (place : ℕ) (slot : Slot) → IsTrue (is_among places place) → slice_get slots place ≡ Some slot →
+      least ≤ slot.key
   pub place : ℕ
   pub slot : Slot
   pub among : IsTrue (is_among places place)

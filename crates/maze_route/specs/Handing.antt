@@ -32,7 +32,8 @@ does_lower cost step before = nat_le cost most_distance && is_lower (label_at be
 -- what a step from a cell with this label does
 abbrev pub IsReach : ℕ → Option Step → Front → Front → Type 0
 IsReach from None before after = Stands before after
-IsReach from (Some step) before after = IsReachIf (does_lower (from + step.cost) step before) (from + step.cost) step before after
+IsReach from (Some step) before after =
+    IsReachIf (does_lower (from + step.cost) step before) (from + step.cost) step before after
 
 -- what these steps do one after another
 abbrev pub AreReaches : ℕ → List (Option Step) → Front → Front → Type 0

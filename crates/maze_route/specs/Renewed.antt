@@ -23,7 +23,8 @@ pub record HasFirst (slots : List Slot) (heads : List (Option ℕ)) (free : Opti
   pub renewed : IsRenewed slots heads free last
 
 -- a pair of the last key is taken out, and no key is less
-pub record IsTakenOut (slots after : List Slot) (heads : List (Option ℕ)) (free : Option ℕ) (last : ℕ) (slot : Slot) : Type 0 where
+pub record IsTakenOut (slots after : List Slot) (heads : List (Option ℕ)) (free : Option ℕ) (last : ℕ)
+    (slot : Slot) : Type 0 where
   pub keeps : Keeps after heads free last
   pub pairs : IsPermutation (filter_map pair_in slots) ((slot.key, slot.cell) ∷ filter_map pair_in after)
   pub least : All (λ (p : ℕ × ℕ). last ≤ p.0) (filter_map pair_in after)

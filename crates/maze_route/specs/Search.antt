@@ -28,19 +28,23 @@ AreWalked graph label = (v cost : ℕ) → label v ≡ Some cost → Reaches gra
 
 -- no label falls through a step from this cell
 abbrev pub IsRelaxed : Graph → (ℕ → Option ℕ) → ℕ → ℕ → Type 0
-IsRelaxed graph label u cost = (v k : ℕ) → graph.step u v ≡ Some k → cost + k ≤ most_distance → IsAtMost (label v) (cost + k)
+IsRelaxed graph label u cost = (v k : ℕ) → graph.step u v ≡ Some k → cost + k ≤ most_distance →
+    IsAtMost (label v) (cost + k)
 
 -- labels that are distances as far as a walk and its rest come to at most the bound
 pub record AreGuided (graph : Graph) (rest : ℕ → ℕ) (label : ℕ → Option ℕ) (bound : ℕ) : Type 0 where
   pub sources : HasSources graph label
   pub walked : AreWalked graph label
-  pub relaxed : (u v cost k : ℕ) → label u ≡ Some cost → graph.step u v ≡ Some k → cost + k + rest v ≤ bound → IsAtMost (label v) (cost + k)
+  pub relaxed : (u v cost k : ℕ) → label u ≡ Some cost → graph.step u v ≡ Some k → cost + k + rest v ≤ bound →
+      IsAtMost (label v) (cost + k)
 
 -- labels during the search: each labelled cell but an open one waits or is relaxed
-pub record IsSearching (graph : Graph) (rest : ℕ → ℕ) (label : ℕ → Option ℕ) (pairs : List (ℕ × ℕ)) (open_cell : ℕ) : Type 0 where
+pub record IsSearching (graph : Graph) (rest : ℕ → ℕ) (label : ℕ → Option ℕ) (pairs : List (ℕ × ℕ))
+    (open_cell : ℕ) : Type 0 where
   pub walked : AreWalked graph label
   pub small : (v cost : ℕ) → label v ≡ Some cost → cost ≤ most_distance
-  pub settled : (v cost : ℕ) → label v ≡ Some cost → v ≢ open_cell → Contains pairs (cost + rest v, v) ⊎ IsRelaxed graph label v cost
+  pub settled : (v cost : ℕ) → label v ≡ Some cost → v ≢ open_cell →
+      Contains pairs (cost + rest v, v) ⊎ IsRelaxed graph label v cost
   pub queued : (key v : ℕ) → Contains pairs (key, v) → IsSomeAnd (label v) (λ cost. cost + rest v ≤ key)
 
 -- a cell marked as a goal

@@ -36,7 +36,9 @@ pub record IsSpot (p : Pane) (spot : Spot) : Type 0 where
 -- steps and walks by numbers in the window
 abbrev pub pane_step : Pane → (Edge → Option ℕ) → ℕ → ℕ → Option ℕ
 pane_step p price m n =
-    if nat_lt m (size_of p) && nat_lt n (size_of p) then window_step p.grid p.window price (cell_in p m) (cell_in p n) else None
+    if nat_lt m (size_of p) && nat_lt n (size_of p)
+    then window_step p.grid p.window price (cell_in p m) (cell_in p n)
+    else None
 
 abbrev pub pane_source : Pane → TreeView → ℕ → Bool
 pane_source p t n = nat_lt n (size_of p) && holds t (cell_in p n)
@@ -81,7 +83,8 @@ step_to p price aim from (Some to) = option_map (made_step p aim to) (pane_step 
 -- the neighbours of a cell by rising number
 abbrev pub sides : Shape → ℕ → List (Option ℕ)
 sides s n =
-    behind_of s n Up ∷ behind_of s n North ∷ behind_of s n East ∷ ahead_of s n East ∷ ahead_of s n North ∷ ahead_of s n Up ∷ []
+    behind_of s n Up ∷ behind_of s n North ∷ behind_of s n East ∷ ahead_of s n East ∷ ahead_of s n North ∷
+    ahead_of s n Up ∷ []
 
 -- the steps from a cell, by rising number of the neighbour
 abbrev pub steps_from : Pane → (Edge → Option ℕ) → Window → ℕ → List (Option Step)

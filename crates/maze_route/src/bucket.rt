@@ -49,7 +49,8 @@ pub(crate) fn spread(
     first: Option<u32>,
 )
     requires { IsSpread slots.old.items heads.old first last }
-    ensures { (free : Option ℕ) (bucket : ℕ) (pairs : List (ℕ × ℕ)) → IsSpreading slots.old.items heads.old free first last bucket pairs →
+    ensures { (free : Option ℕ) (bucket : ℕ) (pairs : List (ℕ × ℕ)) →
+        IsSpreading slots.old.items heads.old free first last bucket pairs →
         IsSpreading slots.new.items heads.new free None last bucket pairs }
 {
     let mut at = first;

@@ -16,7 +16,8 @@ pub(crate) fn renew(
     first: u32,
 ) -> u64
     requires { IsRenewable slots.old.items heads.old last bucket first }
-    ensures renewed { (free : Option ℕ) → Keeps slots.old.items heads.old free last → IsRenewed slots.new.items heads.new free result }
+    ensures renewed { (free : Option ℕ) → Keeps slots.old.items heads.old free last →
+        IsRenewed slots.new.items heads.new free result }
     ensures pairs { filter_map pair_in slots.new.items ≡ filter_map pair_in slots.old.items }
 {
     if bucket == 0 {
@@ -35,7 +36,8 @@ pub(crate) fn take_first(
     free: &mut Option<u32>,
 ) -> Slot
     requires { HasFirst slots.old.items heads.old free.old }
-    ensures { (last : ℕ) → IsRenewed slots.old.items heads.old free.old last → IsTakenOut slots.old.items slots.new.items heads.new free.new last result }
+    ensures { (last : ℕ) → IsRenewed slots.old.items heads.old free.old last →
+        IsTakenOut slots.old.items slots.new.items heads.new free.new last result }
 {
     let place = heads[0].unwrap();
     let slot = slots[place as usize];

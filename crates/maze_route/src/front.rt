@@ -38,7 +38,8 @@ impl Labels {
         requires cell { cell < length self.old.costs.items }
         requires cost { cost < unreached }
         ensures lower { result ≡ is_lower (label_at self.old.costs.items cell) cost }
-        ensures costs { self.new.costs.items ≡ (if result then slice_set self.old.costs.items cell cost else self.old.costs.items) }
+        ensures costs { self.new.costs.items ≡
+            (if result then slice_set self.old.costs.items cell cost else self.old.costs.items) }
         ensures size { length self.new.costs.items ≡ length self.old.costs.items }
     {
         let lower = cost < self.costs[cell as usize];

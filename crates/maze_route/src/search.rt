@@ -49,9 +49,11 @@ fn seeded(alloc: Global, pane: Pane, aim: Window, tree: &RouteTree) -> Result<Fr
     requires grid { tree.now.shape ≡ pane.grid }
     requires tree { TreeLiesIn pane.window tree.now }
     ensures size { IfOk result (λ front. length front.labels.costs.items ≡ size_of pane) }
-    ensures sources { (price : Edge → Option ℕ) → IfOk result (λ front. HasSources (pane_graph pane tree.now price) (label_at front.labels.costs.items)) }
+    ensures sources { (price : Edge → Option ℕ) →
+        IfOk result (λ front. HasSources (pane_graph pane tree.now price) (label_at front.labels.costs.items)) }
     ensures searching { (price : Edge → Option ℕ) → IfOk result (λ front.
-        IsSearching (pane_graph pane tree.now price) (rest_of pane aim) (label_at front.labels.costs.items) front.queue.pairs (size_of pane)) }
+        IsSearching (pane_graph pane tree.now price) (rest_of pane aim)
+        (label_at front.labels.costs.items) front.queue.pairs (size_of pane)) }
 {
     let mut front = Front {
         labels: Labels::new(alloc, pane.size())?,

@@ -4,7 +4,7 @@ use Rattle.std.specs.Option.{option_map}
 use Rattle.std.proofs.lemmas.Bool.Decides.{nat_tests}
 use Rattle.std.proofs.lemmas.List.Elements.{All-get_or}
 use Rattle.std.proofs.lemmas.Option.{slice_get_within, get_or_from_slice_get}
-use Rattle.gr_base.specs.ParentEdges.{parent_edge}
+use Rattle.layer_assign.proofs.Problems.{may-below}
 use Rattle.gr_base.proofs.GridLemmas.{edge-room}
 use Rattle.gr_base.specs.Designs.{DesignView, IsFrame, IsDesign, IsNet, is_routed, is_routed_net, pins_in, pins_at}
 use Rattle.gr_base.specs.Grid.{cells_of, place_at}
@@ -72,21 +72,11 @@ routed-few d number net is routed =
     few n test = grind (arith, nat_tests)
 
 -- an assignment names layers of the grid
-assigned-below : (g : Shape) (ways : ℕ → Way → Bool) (layer : ℕ) (o : Option Edge) → unwrap_or (option_map (goes_on g ways layer) o) false ≡ true → layer < g.layers
-assigned-below g ways layer None may = absurd (false-true may)
-  where
-    false-true : false ≡ true → ⊥
-    false-true e = cc
-assigned-below g ways layer (Some e) may = below layer g.layers (ways layer e.way) may
-  where
-    below : (a b : ℕ) (c : Bool) → (nat_lt a b && c) ≡ true → a < b
-    below a b c both = grind (arith, nat_tests)
-
 pub are-layers : (g : Shape) (ways : ℕ → Way → Bool) (t : TreeView) (layers : List ℕ) → length layers ≡ length t.nodes →
     IsAssignment g ways t (λ node. slice_index layers node) → AreLayers g t layers
 are-layers g ways t layers count assigned = record {
   nodes = count;
-  below = λ node later below. assigned-below g ways (slice_index layers node) (parent_edge t node) (assigned node later below);
+  below = λ node later below. may-below g ways t node (slice_index layers node) (assigned node later below);
 }
 
 -- the same plan, where the grid, the capacity and so on are the same

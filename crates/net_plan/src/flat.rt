@@ -116,7 +116,8 @@ fn walk_up<C: Costs>(
     requires inside { AreTilesIn shape topology.now }
     requires point { point < length topology.now }
     ensures walk { IfOk result (λ cells. cells ≡ walk_up shape (C.price costs.now) topology.now point) }
-    ensures direct { IfOk result (IsDirect shape (cell_at_point shape topology.now point) (cell_above shape topology.now point)) }
+    ensures direct { IfOk result (IsDirect shape (cell_at_point shape topology.now point)
+        (cell_above shape topology.now point)) }
 {
     let from = cell_of_tile(shape, topology.tile(point));
     let to = cell_of_tile(shape, topology.tile(topology.parent(point)));

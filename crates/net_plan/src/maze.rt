@@ -37,7 +37,8 @@ pub fn maze_plan(
     requires loads { loads.now.shape ≡ design.now.frame.shape }
     requires demand { HasBoundedDemand loads.now }
     ensures plan { IfOk result (IsMaze capacity.now loads.now rule.now.formula net (pins_at design.now net) margin) }
-    ensures only { IfOk result (IsOnlyMaze capacity.now loads.now rule.now.formula net (pins_at design.now net) margin) }
+    ensures only { IfOk result (IsOnlyMaze capacity.now loads.now rule.now.formula net
+        (pins_at design.now net) margin) }
     ensures routes { (wanted : Net) → slice_get design.now.nets net ≡ Some wanted →
         IfOk result (IsRouteOf design.now.frame.shape wanted) }
 {

@@ -1,16 +1,14 @@
 -- Places on lines, and the edges between them.
-use Rattle.std.proofs.Common.{◌≡◌, ◌≢◌, ℕ, ◌+◌, ◌*◌, ◌<◌, ◌≤◌, inl, inr, Bool, false, ◌==◌, min, Option, Some, None, IsTrue, unwrap_or, if◌then◌else◌, refl, sym, ap, subst, ◌∙◌, arith}
+use Rattle.std.proofs.Common.{◌≡◌, ◌≢◌, ℕ, ◌+◌, ◌*◌, ◌<◌, ◌≤◌, inl, inr, min, Option, Some, IsTrue, unwrap_or, refl, sym, ap, subst, ◌∙◌, arith}
 use Rattle.std.specs.Prelude.{option_and_then}
 use Rattle.std.proofs.Math.Nat.{le-mul_of_pos_right}
-use Rattle.std.proofs.lemmas.Bool.{cases_lt, cases_eq}
-use Rattle.std.proofs.lemmas.Bool.Decides.{nat_tests}
+use Rattle.std.proofs.lemmas.Bool.{cases_lt}
 use Rattle.gr_base.proofs.TreeEdges.{edge_of-swap}
 use Rattle.gr_base.specs.declared.grid.Cell.{Cell}
 use Rattle.gr_base.specs.declared.grid.Edge.{Edge}
 use Rattle.gr_base.specs.declared.grid.Shape.{Shape}
 use Rattle.gr_base.specs.declared.grid.Way.{Way}
-use Rattle.gr_base.specs.declared.grid.Way.TheVariants.{East, North, Up}
-use Rattle.gr_base.specs.Grid.{number_of, place_at, IsInside, beyond, steps_between, edge_at, edge_of, has_edge, is_wire}
+use Rattle.gr_base.specs.Grid.{number_of, place_at, IsInside, beyond, edge_at, edge_of, has_edge, is_wire}
 use Rattle.gr_base.proofs.GridLemmas.{some_columns, few_cells, place-number, number-below, edge-of-beyond, edge-beyond}
 use Rattle.pattern_route.specs.declared.line.Axis.{Axis}
 use Rattle.pattern_route.specs.declared.line.Axis.TheVariants.{Columns, Rows}

@@ -24,7 +24,9 @@ impl Costs for Priced {
 
     ghost ways = { λ _ _ _. true };
 
-    ghost price = { λ c e. Some (if (e.low == c.low) && (high_of c.shape e == c.high) then c.cost else 1 + e.low * c.factor % 4) };
+    ghost price = { λ c e. Some (if (e.low == c.low) && (high_of c.shape e == c.high)
+        then c.cost
+        else 1 + e.low * c.factor % 4) };
 
     ghost prices = { λ c. record {
       up = λ _. refl;

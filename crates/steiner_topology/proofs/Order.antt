@@ -1,6 +1,6 @@
 -- The order of pairs: it is transitive, and one of two comes first.
 use Rattle.std.proofs.Common.{◌≡◌, ℕ, ◌<◌, ◌≤◌, ◌⊎◌, inl, inr, Bool, true, false, nat_lt, Option, Some, None, List, refl, sym, ap, subst, ◌∙◌, arith}
-use Rattle.std.proofs.lemmas.Bool.{cases_order, cases_Bool, true≢false}
+use Rattle.std.proofs.lemmas.Bool.{cases_order, cases_Bool}
 use Rattle.std.proofs.lemmas.Bool.Decides.{nat_tests}
 use Rattle.steiner_topology.specs.declared.point.Join.{Join}
 use Rattle.steiner_topology.specs.Tile.{Tile}

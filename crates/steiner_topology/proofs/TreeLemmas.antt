@@ -286,7 +286,7 @@ same_ends : (points : List Point) (m : Tile) (lower upper a b : ℕ) → lower �
     (distance m (place_of points upper) ≡ distance m (place_of points b))
 same_ends points m lower upper a b is_a is_b = (
   ap (λ (v : ℕ). distance (place_of points v) (place_of points upper)) is_a ∙
-  ap (λ (v : ℕ). distance (place_of points a) (place_of points v)) is_b,
+      ap (λ (v : ℕ). distance (place_of points a) (place_of points v)) is_b,
   ap (λ (v : ℕ). distance (place_of points v) m) is_a,
   ap (λ (v : ℕ). distance m (place_of points v)) is_b,
 )

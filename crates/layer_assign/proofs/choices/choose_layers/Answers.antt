@@ -1,18 +1,11 @@
-use Rattle.std.proofs.Common.{◌≡◌, ℕ, Bool, Option, refl, sym, subst, arith}
-use Rattle.cost_rules.specs.Prices.{ArePrices}
-use Rattle.gr_base.specs.declared.grid.Edge.{Edge}
-use Rattle.gr_base.specs.declared.grid.Shape.{Shape}
-use Rattle.gr_base.specs.declared.grid.Way.{Way}
+use Rattle.std.proofs.Common.{refl, sym, arith}
 use Rattle.layer_assign.specs.Spans.{widened, span_at}
 use Rattle.layer_assign.specs.Tables.{offer, best_below}
-use Rattle.layer_assign.proofs.Choosing.{choosing-none, choosing-turn, choosing-done, still_small, finds}
+use Rattle.layer_assign.proofs.Choosing.{choosing-none, choosing-turn, choosing-done, still_small, finds, prices-at}
 use Rattle.layer_assign.proofs.Elimination.{widened-within}
 use Rattle.layer_assign.proofs.FlatLemmas.{few, parent-at}
 use Rattle.layer_assign.proofs.TableLemmas.{turn-within, turn-numbered, turn-next}
 use Rattle.layer_assign.proofs.choices.choose_layers.Goals as goal
-
-prices-at : (g h : Shape) (ways : ℕ → Way → Bool) (price : Edge → Option ℕ) → g ≡ h → ArePrices g ways price → ArePrices h ways price
-prices-at g h ways price same prices = subst (λ (s : Shape). ArePrices s ways price) same prices
 
 pub loop-init : goal.loop-init
 unfolding span_at

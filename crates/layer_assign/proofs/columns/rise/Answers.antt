@@ -1,11 +1,6 @@
-use Rattle.std.proofs.Common.{◌≡◌, ℕ, ◌+◌, ap, ◌∙◌, arith}
-use Rattle.gr_base.specs.declared.grid.Shape.{Shape}
-use Rattle.layer_assign.specs.Assignments.{cell_on}
-use Rattle.layer_assign.proofs.ColumnLemmas.{risen-none, risen-more, rise-outside, rise-on, near_up}
+use Rattle.std.proofs.Common.{◌+◌, arith}
+use Rattle.layer_assign.proofs.ColumnLemmas.{risen-none, risen-more, rise-outside, rise-on, near_up, at-shape}
 use Rattle.layer_assign.proofs.columns.rise.Goals as goal
-
-at-shape : (g h : Shape) (tile layer cell : ℕ) → h ≡ g → cell ≡ cell_on h tile layer → cell ≡ cell_on g tile layer
-at-shape g h tile layer cell same is = is ∙ ap (λ (s : Shape). cell_on s tile layer) same
 
 pub loop-layer-init : goal.loop-layer-init
 loop-layer-init c = record {

@@ -1,9 +1,6 @@
-use Rattle.std.proofs.Common.{◌≡◌, ℕ, ◌-◌, ◌*◌, ◌<◌, Bool, List, length, get_or, Option, Result, Ok, Err, IfOk, refl, sym, ap, subst, ◌∙◌, arith}
+use Rattle.std.proofs.Common.{◌≡◌, ℕ, ◌-◌, ◌*◌, ◌<◌, List, length, get_or, Option, Result, Ok, Err, IfOk, refl, sym, ap, subst, ◌∙◌, arith}
 use Rattle.std.proofs.lemmas.Option.{slice_get_read}
-use Rattle.cost_rules.specs.Prices.{ArePrices}
-use Rattle.gr_base.specs.declared.grid.Edge.{Edge}
-use Rattle.gr_base.specs.declared.grid.Shape.{Shape}
-use Rattle.gr_base.specs.declared.grid.Way.{Way}
+use Rattle.layer_assign.proofs.Choosing.{prices-at}
 use Rattle.layer_assign.specs.declared.span.Span.{Span}
 use Rattle.layer_assign.specs.Spans.{IsWithin, growing, spans_of}
 use Rattle.layer_assign.specs.Choices.{entry, FollowsFrom}
@@ -13,9 +10,6 @@ use Rattle.layer_assign.proofs.Following.{span-read}
 use Rattle.layer_assign.proofs.Problems.{pin_span, pin_span-within, may-below}
 use Rattle.layer_assign.proofs.Turns.{chosen-none, chosen-more, chosen-small, chosen-best, followed}
 use Rattle.layer_assign.proofs.first_least.first_least.Goals as goal
-
-prices-at : (g h : Shape) (ways : ℕ → Way → Bool) (price : Edge → Option ℕ) → g ≡ h → ArePrices g ways price → ArePrices h ways price
-prices-at g h ways price same prices = subst (λ (s : Shape). ArePrices s ways price) same prices
 
 rows_at : (long nodes n count spans : ℕ) → long ≡ nodes * count → nodes ≡ n → count ≡ spans → long ≡ n * spans
 rows_at long nodes n count spans is first second = is ∙ ap (λ (k : ℕ). k * count) first ∙ ap (λ (k : ℕ). n * k) second

@@ -1,6 +1,6 @@
-use Rattle.std.proofs.Common.{◌≡◌, ℕ, ◌+◌, ◌-◌, ◌*◌, ◌/◌, ◌<◌, Option, Some, sym, ap, subst, ◌∙◌, arith}
+use Rattle.std.proofs.Common.{◌≡◌, ℕ, ◌+◌, ◌-◌, ◌*◌, ◌/◌, ◌<◌, Option, Some, sym, ap, subst, ◌∙◌}
 use Rattle.layer_assign.specs.declared.span.Span.{Span}
-use Rattle.layer_assign.specs.Spans.{IsWithin, triangle, span_number, spans_of}
+use Rattle.layer_assign.specs.Spans.{triangle, span_number, spans_of}
 use Rattle.layer_assign.proofs.TableLemmas.{triangle-half, number-within}
 use Rattle.layer_assign.proofs.spans.span_number.Goals as goal
 

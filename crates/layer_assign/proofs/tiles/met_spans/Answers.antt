@@ -1,7 +1,7 @@
-use Rattle.std.proofs.Common.{◌≡◌, ℕ, ◌+◌, ◌<◌, ◌≤◌, suc, Bool, if◌then◌else◌, Option, Some, Result, Ok, Err, IfOk, IsSome, List, length, get_or, add-one, sym, ap, subst, ◌∙◌, arith}
+use Rattle.std.proofs.Common.{ℕ, ◌<◌, if◌then◌else◌, Option, Result, Ok, Err, IfOk, IsSome, List, length, get_or, add-one, sym, ap, subst, ◌∙◌, arith}
 use Rattle.layer_assign.specs.declared.span.Span.{Span}
-use Rattle.layer_assign.specs.Spans.{widened, growing, span_in, span_of, span_by}
-use Rattle.layer_assign.specs.Assignments.{ends_at, met}
+use Rattle.layer_assign.specs.Spans.{widened, growing, span_by}
+use Rattle.layer_assign.specs.Assignments.{ends_at}
 use Rattle.layer_assign.proofs.Problems.{pin_span}
 use Rattle.layer_assign.proofs.SpanLemmas.{met-found, met-some}
 use Rattle.layer_assign.proofs.tiles.met_spans.Goals as goal

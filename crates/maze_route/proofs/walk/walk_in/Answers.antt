@@ -1,15 +1,13 @@
-use Rattle.std.proofs.Common.{◌≡◌, ℕ, ◌<◌, Bool, Option, List, All, IsTrue, length, map, refl, sym, ap, subst, ◌∙◌}
+use Rattle.std.proofs.Common.{◌≡◌, ℕ, ◌<◌, Bool, Option, List, All, length, map, refl, sym, ap, subst, ◌∙◌}
 use Rattle.cost_rules.specs.Prices.{ArePrices}
 use Rattle.gr_base.specs.declared.grid.Edge.{Edge}
 use Rattle.gr_base.specs.declared.grid.Shape.{Shape}
 use Rattle.gr_base.specs.Trees.{is_among}
-use Rattle.maze_route.specs.Ends.{IsFirstOf}
 use Rattle.maze_route.specs.Labels.{label_at}
 use Rattle.maze_route.specs.Search.{is_marked}
 use Rattle.maze_route.specs.Steps.{size_of, local_of, pane_graph}
 use Rattle.maze_route.specs.Walks.{IsFirstGoal}
-use Rattle.maze_route.specs.declared.pane.Reached.{Reached}
-use Rattle.maze_route.proofs.GoalLemmas.{locals-below, can-reach, finds-first, found-first, walk-least, some-source, lies-in, some-locals, result-then}
+use Rattle.maze_route.proofs.GoalLemmas.{locals-below, can-reach, finds-first, found-of, walk-least, some-source, lies-in, some-locals, result-then}
 use Rattle.maze_route.proofs.walk.walk_in.Goals as goal
 
 pub box_of-aim-requires : goal.box_of-aim-requires
@@ -59,38 +57,28 @@ pub walk_back-requires : goal.walk_back-requires
 walk_back-requires g c =
     let price : Edge → Option ℕ = g.C.Costs.price c.args.costs.now in
     let P : Shape → Type 0 = λ s. ArePrices s (g.C.Costs.ways c.args.costs.now) price in
-    let prices = subst P c.requires.grid (g.met.C.Costs.prices c.args.costs.now) in
     let p = c.args.pane in
-    let label : ℕ → Option ℕ = label_at c.in_ok-labels.labels.costs.items in
-    let ends = c.deref-4.result.now in
-    let are : ends ≡ map (local_of p) c.args.goals.now = c.deref-4.ensures.value ∙ c.in_ok-ends.ensures in
-    let B : List ℕ → Type 0 = λ xs. All (λ e. e < size_of p) xs in
-    let below = subst B (sym are) (locals-below p c.args.goals.now (size_of p) refl c.requires.goals) in
-    let marked = λ (n : ℕ). ap (λ (xs : List Bool). is_marked xs n) c.deref-3.ensures.value ∙ c.in_ok-marks.ensures.marks n ∙ ap (λ (xs : List ℕ). is_among xs n) (c.deref-2.ensures.value ∙ sym c.deref-4.ensures.value) in
-    let free = λ (end : ℕ) (among : IsTrue (is_among ends end)). c.box_of-aim.ensures end (ap (λ (xs : List ℕ). is_among xs end) (c.deref.ensures.value ∙ sym c.deref-4.ensures.value) ∙ among) in
-    let Q : Option Reached → Type 0 = λ o. IsFirstOf label ends o in
-    let first = subst Q c.unwrap-goal.ensures c.first_reached.ensures in
-    let found = found-first p c.args.tree.now (g.C.Costs.ways c.args.costs.now) price c.box_of-aim.result c.deref-3.result.now label ends c.unwrap-goal.result prices
-    c.in_ok-labels.ensures.found marked free below first in
+    let are : c.deref-4.result.now ≡ map (local_of p) c.args.goals.now = c.deref-4.ensures.value ∙ c.in_ok-ends.ensures in
+    let found =
+    found-of p c.args.tree.now (g.C.Costs.ways c.args.costs.now) price c.box_of-aim.result c.deref-3.result.now (label_at c.in_ok-labels.labels.costs.items) c.args.goals.now
+    c.deref-4.result.now c.deref.result.now c.deref-2.result.now c.first_reached.result c.unwrap-goal.result (subst P c.requires.grid (g.met.C.Costs.prices c.args.costs.now))
+    c.in_ok-labels.ensures.found are (c.deref.ensures.value ∙ sym c.deref-4.ensures.value) (c.deref-2.ensures.value ∙ sym c.deref-4.ensures.value)
+    (λ n. ap (λ (xs : List Bool). is_marked xs n) c.deref-3.ensures.value ∙ c.in_ok-marks.ensures.marks n)
+    c.box_of-aim.ensures c.requires.goals c.first_reached.ensures c.unwrap-goal.ensures in
     record { grid = c.requires.grid; size = c.in_ok-labels.ensures.size; near = found.near }
 
 pub returns : goal.returns
 returns g c =
     let price : Edge → Option ℕ = g.C.Costs.price c.args.costs.now in
     let P : Shape → Type 0 = λ s. ArePrices s (g.C.Costs.ways c.args.costs.now) price in
-    let prices = subst P c.requires.grid (g.met.C.Costs.prices c.args.costs.now) in
     let p = c.args.pane in
-    let label : ℕ → Option ℕ = label_at c.in_ok-labels.labels.costs.items in
-    let ends = c.deref-4.result.now in
-    let are : ends ≡ map (local_of p) c.args.goals.now = c.deref-4.ensures.value ∙ c.in_ok-ends.ensures in
-    let B : List ℕ → Type 0 = λ xs. All (λ e. e < size_of p) xs in
-    let below = subst B (sym are) (locals-below p c.args.goals.now (size_of p) refl c.requires.goals) in
-    let marked = λ (n : ℕ). ap (λ (xs : List Bool). is_marked xs n) c.deref-3.ensures.value ∙ c.in_ok-marks.ensures.marks n ∙ ap (λ (xs : List ℕ). is_among xs n) (c.deref-2.ensures.value ∙ sym c.deref-4.ensures.value) in
-    let free = λ (end : ℕ) (among : IsTrue (is_among ends end)). c.box_of-aim.ensures end (ap (λ (xs : List ℕ). is_among xs end) (c.deref.ensures.value ∙ sym c.deref-4.ensures.value) ∙ among) in
-    let Q : Option Reached → Type 0 = λ o. IsFirstOf label ends o in
-    let first = subst Q c.unwrap-goal.ensures c.first_reached.ensures in
-    let found = found-first p c.args.tree.now (g.C.Costs.ways c.args.costs.now) price c.box_of-aim.result c.deref-3.result.now label ends c.unwrap-goal.result prices
-    c.in_ok-labels.ensures.found marked free below first in
+    let are : c.deref-4.result.now ≡ map (local_of p) c.args.goals.now = c.deref-4.ensures.value ∙ c.in_ok-ends.ensures in
+    let found =
+    found-of p c.args.tree.now (g.C.Costs.ways c.args.costs.now) price c.box_of-aim.result c.deref-3.result.now (label_at c.in_ok-labels.labels.costs.items) c.args.goals.now
+    c.deref-4.result.now c.deref.result.now c.deref-2.result.now c.first_reached.result c.unwrap-goal.result (subst P c.requires.grid (g.met.C.Costs.prices c.args.costs.now))
+    c.in_ok-labels.ensures.found are (c.deref.ensures.value ∙ sym c.deref-4.ensures.value) (c.deref-2.ensures.value ∙ sym c.deref-4.ensures.value)
+    (λ n. ap (λ (xs : List Bool). is_marked xs n) c.deref-3.ensures.value ∙ c.in_ok-marks.ensures.marks n)
+    c.box_of-aim.ensures c.requires.goals c.first_reached.ensures c.unwrap-goal.ensures in
     let G : List ℕ → Type 0 = λ xs. IsFirstGoal (pane_graph p c.args.tree.now price) xs c.unwrap-goal.result.cell in
     let goal_is = subst G are found.goal in
     result-then c.walk_back.result _ _ c.walk_back.ensures (λ cells walk.
