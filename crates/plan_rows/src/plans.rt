@@ -1,27 +1,11 @@
-ghost use Rattle.std.specs.Prelude.{◌≡◌};
-ghost use Rattle.cost_rules.specs.Formulas.{IsInRange, cost_at};
-ghost use Rattle.cost_rules.specs.declared.site.Formula.TheVariants.{Flat};
-
 use crate::designs::{design, empty_loads, narrowed, open_frame, small_frame, wide_frame};
-use cost_rules::{CostRule, Formula, Site, first_cost};
+use crate::own_rule::flat_by_cases;
+use cost_rules::{CostRule, Formula, first_cost};
 use gr_base::{Design, RouteTree};
 use grid_demand::Capacity;
 use net_plan::{maze_plan, pattern_plan};
 use std::alloc::Global;
 use std::test::Fail;
-
-/// The flat formula by cases.
-fn flat_by_cases(site: Site) -> u64
-    requires { IsInRange site }
-    ensures { result ≡ cost_at Flat site }
-{
-    let taken = site.demand + site.need;
-    if taken <= site.capacity {
-        1
-    } else {
-        (taken - site.capacity + 1).min(1_048_576)
-    }
-}
 
 /// The pattern plan of a design's first net over empty loads.
 fn pattern(alloc: Global, design: &Design) -> Result<RouteTree, Fail> {

@@ -1,0 +1,165 @@
+//! Capacity and loads.
+ghost use Rattle.std.specs.Prelude.{◌≡◌, IfSome, IfOk};
+ghost use Rattle.gr_base.specs.Designs.{IsFrame};
+ghost use Rattle.grid_demand.specs.LoadSums.{no_loads, added, marked};
+
+use crate::designs::narrowed;
+use gr_base::{Cells, Design, Edge, Frame, Layer, Name, Net, RouteTree, Shape, Way};
+use grid_demand::{Capacity, Loads, loads_are_sums};
+use std::alloc::{AllocError, Global};
+use std::test::Fail;
+
+/// A layer for wires along rows.
+const LOW: Layer = Layer {
+    vertical: 0,
+    horizontal: 4,
+    width: 2,
+    spacing: 1,
+    via: 0,
+};
+
+/// A layer for wires along columns, wider and further apart.
+const HIGH: Layer = Layer {
+    vertical: 6,
+    horizontal: 0,
+    width: 5,
+    spacing: 2,
+    via: 0,
+};
+
+/// A grid of 3 by 2 tiles with a low and a high layer.
+fn frame() -> Frame
+    ensures frame { IsFrame result }
+    ensures columns { result.shape.columns ≡ 3 }
+    ensures rows { result.shape.rows ≡ 2 }
+    ensures layers { result.shape.layers ≡ 2 }
+{
+    let mut layers = [LOW; 16];
+    layers[1] = HIGH;
+    Frame {
+        shape: Shape {
+            columns: 3,
+            rows: 2,
+            layers: 2,
+        },
+        layers,
+        lower_x: 0,
+        lower_y: 0,
+        tile_width: 10,
+        tile_height: 10,
+    }
+}
+
+/// A design on that frame with one net, and two adjustments of the edge of cells 0 and 1.
+fn design(alloc: Global) -> Option<Design>
+    ensures columns { IfSome result (λ d. d.frame.shape.columns ≡ 3) }
+    ensures rows { IfSome result (λ d. d.frame.shape.rows ≡ 2) }
+    ensures layers { IfSome result (λ d. d.frame.shape.layers ≡ 2) }
+{
+    let Ok(mut design) = Design::new(alloc, frame()) else {
+        return None;
+    };
+    let Ok(name) = Name::from_bytes(alloc, b"a") else {
+        return None;
+    };
+    let mut pins = Cells::new(alloc);
+    let Ok(()) = pins.push(0) else {
+        return None;
+    };
+    let net = Net {
+        name,
+        id: 7,
+        width: 3,
+        pins,
+    };
+    let Ok(()) = design.push_net(net) else {
+        return None;
+    };
+    let Ok(()) = design.push_adjustment(narrowed(9)) else {
+        return None;
+    };
+    let Ok(()) = design.push_adjustment(narrowed(2)) else {
+        return None;
+    };
+    Some(design)
+}
+
+#[test]
+fn the_last_adjustment_counts(rt: HostRuntime) -> Result<(), Fail> {
+    let design = design(rt.alloc()).expect(&rt, "memory for a design");
+    let capacity = Capacity::of(rt.alloc(), &design)?;
+    let shape = capacity.shape();
+    for (a, b, most, usable, need) in [
+        (0, 1, 2, true, 4),
+        (1, 2, 4, true, 4),
+        (0, 3, 0, false, 4),
+        (7, 10, 6, true, 7),
+    ] {
+        assert!(rt; a < shape.cells() && b < shape.cells());
+        let e = shape.edge_between(a, b).expect(&rt, "neighbours");
+        assert!(rt; e.way != Way::Up);
+        assert_eq!(rt;
+            (capacity.at(e), capacity.usable(e)),
+            (most, usable),
+            "edge {e:?}"
+        );
+        assert_eq!(rt; capacity.need(0, e), need, "edge {e:?}");
+    }
+    Ok(())
+}
+
+/// A tree that goes east, up and north from cell 0 to cell 10.
+fn bent_tree(alloc: Global, shape: Shape) -> Result<RouteTree, AllocError>
+    requires columns { shape.columns ≡ 3 }
+    requires rows { shape.rows ≡ 2 }
+    requires layers { shape.layers ≡ 2 }
+    ensures { IfOk result (λ tree. tree.shape ≡ shape) }
+{
+    let mut tree = RouteTree::start(alloc, shape, 0)?;
+    tree.attach(&[10, 7, 1, 0])?;
+    Ok(tree)
+}
+
+/// Loads with one tree of net 0, marked once.
+fn marked_loads(alloc: Global, capacity: &Capacity, tree: &RouteTree) -> Result<Loads, AllocError>
+    requires { tree.now.shape ≡ capacity.now.shape }
+    ensures { IfOk result (λ loads. loads ≡ marked capacity.now (added capacity.now 0 tree.now (no_loads capacity.now.shape))) }
+{
+    let mut loads = Loads::new(alloc, capacity)?;
+    loads.add(capacity, 0, tree);
+    loads.mark(capacity);
+    Ok(loads)
+}
+
+#[test]
+fn a_tree_is_added_and_taken(rt: HostRuntime) -> Result<(), Fail> {
+    let design = design(rt.alloc()).expect(&rt, "memory for a design");
+    let capacity = Capacity::of(rt.alloc(), &design)?;
+    let tree = bent_tree(rt.alloc(), capacity.shape())?;
+    let mut loads = marked_loads(rt.alloc(), &capacity, &tree)?;
+    let over = (loads.over_total(&capacity), loads.over_max(&capacity));
+    assert_eq!(rt; over, (3, 2));
+    let e = Edge {
+        low: 7,
+        way: Way::North,
+    };
+    assert_eq!(rt; (loads.demand(e), loads.marks(e)), (7, 1));
+    loads.take(&capacity, 0, &tree);
+    assert_eq!(rt; loads.over_total(&capacity), 0);
+    loads_are_sums();
+    Ok(())
+}
+
+#[test]
+fn one_edge_is_charged(rt: HostRuntime) -> Result<(), Fail> {
+    let design = design(rt.alloc()).expect(&rt, "memory for a design");
+    let capacity = Capacity::of(rt.alloc(), &design)?;
+    let mut loads = Loads::new(rt.alloc(), &capacity)?;
+    let e = Edge {
+        low: 7,
+        way: Way::North,
+    };
+    loads.charge(&capacity, 0, e);
+    assert_eq!(rt; (loads.demand(e), loads.over_total(&capacity)), (7, 1));
+    Ok(())
+}
