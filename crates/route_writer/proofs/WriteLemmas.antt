@@ -8,6 +8,7 @@ use Rattle.gr_base.specs.EdgeSets.{Edges}
 use Rattle.gr_io.specs.Parts.{AppendsPart}
 use Rattle.gr_base.specs.Trees.{TreeView, edges_of, tree_at, edges_or_none, route_edges}
 use Rattle.std.specs.Result.{OnErr}
+use Rattle.route_writer.specs.RouteTexts.{net_text}
 use Rattle.solution_text.specs.WrittenText.{record_text, text_of_net, written_text}
 
 -- the text of the first nets
@@ -57,18 +58,11 @@ module _ (d : DesignView) (sets : ℕ → Edges) where
       let by : Option Net → List ℕ = λ o. text_of_net d.frame o (sets net) in
       ap by at ∙ rw (sym (ap is_routed_net at) ∙ on) refl
 
--- the text of one more net: nothing, or its record
-pub text-skip_next : (d : DesignView) (sets : ℕ → Edges) (net : ℕ) → is_routed d net ≡ false → text_before d sets (net + 1) ≡ text_before d sets net
-text-skip_next d sets net off =
-    before-more d sets net ∙ ap (λ (t : List ℕ). text_before d sets net ++ t) (text-skip d sets net off) ∙ append-nil (text_before d sets net)
-
-text-next : (d : DesignView) (trees : List (Option TreeView)) (net : ℕ) (value : Net) (tree : TreeView) → slice_get d.nets net ≡ Some value →
-    is_routed d net ≡ true → tree_at trees net ≡ Some tree →
-    text_before d (route_edges trees) (net + 1) ≡ text_before d (route_edges trees) net ++ record_text d.frame value (edges_of tree)
-text-next d trees net value tree at on has =
-    before-more d (route_edges trees) net
-    ∙ ap (λ (t : List ℕ). text_before d (route_edges trees) net ++ t)
-    (text-of d (route_edges trees) net value at on ∙ ap (λ (o : Option TreeView). record_text d.frame value (edges_or_none o)) has)
+-- the record of a routed net with a tree
+pub text-routed : (d : DesignView) (trees : List (Option TreeView)) (net : ℕ) (value : Net) (tree : TreeView) → slice_get d.nets net ≡ Some value →
+    is_routed d net ≡ true → tree_at trees net ≡ Some tree → net_text d trees net ≡ record_text d.frame value (edges_of tree)
+text-routed d trees net value tree at on has =
+    text-of d (route_edges trees) net value at on ∙ ap (λ (o : Option TreeView). record_text d.frame value (edges_or_none o)) has
 
 pub on-err : {A E : Type 0} (r : Result A E) (P : Type 0) → P → OnErr r P
 on-err (Ok a) P p = tt
@@ -83,9 +77,6 @@ pub record Stands (old written gathered text : List ℕ) : Type 0 where
 pub stands-first : (old gathered text : List ℕ) → gathered ≡ [] → text ≡ [] → Stands old old gathered text
 stands-first old gathered text none empty = record { done = []; is = sym (append-nil old); whole = none ∙ sym empty }
 
-pub stands-same : {old written gathered text : List ℕ} (more : List ℕ) → more ≡ text → Stands old written gathered text → Stands old written gathered more
-stands-same more same s = record { done = s.done; is = s.is; whole = s.whole ∙ sym same }
-
 stands-put : {old written gathered text : List ℕ} (added next more : List ℕ) → next ≡ gathered ++ added → more ≡ text ++ added →
     Stands old written gathered text → Stands old written next more
 stands-put {gathered = gathered} added next more put longer s = record {
@@ -94,12 +85,11 @@ stands-put {gathered = gathered} added next more put longer s = record {
   whole = ap (λ (t : List ℕ). s.done ++ t) put ∙ sym (append_assoc s.done gathered added) ∙ ap (λ (t : List ℕ). t ++ added) s.whole ∙ sym longer;
 }
 
--- the record of a routed net is gathered
-pub stands-record : {old written gathered : List ℕ} (d : DesignView) (trees : List (Option TreeView)) (net : ℕ) (value : Net) (tree : TreeView) (next : List ℕ) →
-    slice_get d.nets net ≡ Some value → is_routed d net ≡ true → tree_at trees net ≡ Some tree → next ≡ gathered ++ record_text d.frame value (edges_of tree) →
+-- the record of one more net is gathered
+pub stands-net : {old written gathered : List ℕ} (d : DesignView) (trees : List (Option TreeView)) (net : ℕ) (next : List ℕ) → next ≡ gathered ++ net_text d trees net →
     Stands old written gathered (text_before d (route_edges trees) net) → Stands old written next (text_before d (route_edges trees) (net + 1))
-stands-record d trees net value tree next at on has put s =
-    stands-put (record_text d.frame value (edges_of tree)) next (text_before d (route_edges trees) (net + 1)) put (text-next d trees net value tree at on has) s
+stands-net d trees net next put s =
+    stands-put (net_text d trees net) next (text_before d (route_edges trees) (net + 1)) put (before-more d (route_edges trees) net) s
 
 pub stands-flushed : {old written gathered text : List ℕ} (next left : List ℕ) → next ≡ written ++ gathered → left ≡ [] → Stands old written gathered text →
     Stands old next left text

@@ -1,14 +1,18 @@
 -- The text of routes, and its parts.
-use Rattle.std.specs.Prelude.{ℕ, List, ◌++◌, Option, codes}
+use Rattle.std.specs.Prelude.{ℕ, List, ◌++◌, Option, slice_get, codes}
 use Rattle.std.specs.Fmt.{decimal}
 use Rattle.gr_base.specs.Designs.{DesignView}
 use Rattle.gr_base.specs.Trees.{TreeView, route_edges}
 use Rattle.gr_base.specs.declared.frame.Net.{Net}
-use Rattle.solution_text.specs.WrittenText.{written_text}
+use Rattle.solution_text.specs.WrittenText.{text_of_net, written_text}
 
 -- the line of a net's name and id
 abbrev pub heading_text : Net → List ℕ
 heading_text net = net.name ++ codes " " ++ decimal net.id ++ codes "\n"
+
+-- the record of a net that is routed, by the edges of its tree
+abbrev pub net_text : DesignView → List (Option TreeView) → ℕ → List ℕ
+net_text d trees net = text_of_net d.frame (slice_get d.nets net) (route_edges trees net)
 
 -- the text of the edges of each net's tree
 abbrev pub routes_text : DesignView → List (Option TreeView) → List ℕ

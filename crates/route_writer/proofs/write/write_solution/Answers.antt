@@ -1,24 +1,12 @@
-use Rattle.std.proofs.Common.{◌+◌, ◌≤◌, length, IsTrue, sym, ap, ◌∙◌, arith}
-use Rattle.std.specs.Option.{option_copied}
+use Rattle.std.proofs.Common.{◌+◌, ◌≤◌, length, IsTrue, ◌∙◌, arith}
 use Rattle.gr_base.specs.Trees.{route_edges}
 use Rattle.gr_io.specs.Parts.{AppendsPart}
 use Rattle.solution_text.specs.WrittenText.{written_text}
-use Rattle.route_writer.proofs.WriteLemmas.{text_before, text_behind, before-behind, text-skip_next, on-err, stands-same, stands-record, stands-flushed, stands-part, stands-cut}
+use Rattle.route_writer.proofs.WriteLemmas.{text_behind, before-behind, on-err, stands-net, stands-flushed, stands-part, stands-cut}
 use Rattle.route_writer.proofs.write.write_solution.Goals as goal
 
-pub loop-net-preserved-then-not-routed : goal.loop-net-preserved-then-not-routed
-loop-net-preserved-then-not-routed g c =
-    let d = c.args.design.now in
-    let sets = route_edges c.args.routes.now in
-    let n = c.loop-net.net in
-    let same = text-skip_next d sets n (sym c.routed.ensures ∙ c.if-not-routed.true) in
-    record {
-      quiet = c.loop-net.invariant.quiet;
-      stands = λ tells. stands-same (text_before d sets (n + 1)) same (c.loop-net.invariant.stands tells);
-    }
-
-pub returns-in_err-put_record-clause-prefix : goal.returns-in_err-put_record-clause-prefix
-returns-in_err-put_record-clause-prefix g c =
+pub returns-in_err-put_net-clause-prefix : goal.returns-in_err-put_net-clause-prefix
+returns-in_err-put_net-clause-prefix g c =
     let d = c.args.design.now in
     let sets = route_edges c.args.routes.now in
     let n = c.loop-net.net in
@@ -37,8 +25,7 @@ loop-net-preserved-then-len-lt-FULL g c =
     record {
       quiet = c.loop-net.invariant.quiet;
       stands = λ tells.
-          stands-record d c.args.routes.now n c.net.result.now c.unwrap-tree.result.now c.put_record.new.self.text.items c.net.ensures.net
-          (sym c.routed.ensures ∙ c.if-not-routed.false) (sym c.get.ensures ∙ ap option_copied c.unwrap-tree.ensures) c.in_ok-put_record.ensures
+          stands-net d c.args.routes.now n c.put_net.new.draft.text.items c.in_ok-put_net.ensures
           (c.loop-net.invariant.stands tells);
     }
 
@@ -52,8 +39,7 @@ returns-in_err-flush-clause-prefix g c =
     let now = g.K.Sink.written c.flush.new.sink in
     let part : IsTrue g.K.Sink.tells → AppendsPart old now (written_text d sets) = λ tells.
     stands-cut now (written_text d sets) (text_behind d sets (n + 1)) (before-behind d sets (n + 1) most) (c.in_err-flush.ensures.prefix tells)
-    (stands-record d c.args.routes.now n c.net.result.now c.unwrap-tree.result.now c.put_record.new.self.text.items c.net.ensures.net
-    (sym c.routed.ensures ∙ c.if-not-routed.false) (sym c.get.ensures ∙ ap option_copied c.unwrap-tree.ensures) c.in_ok-put_record.ensures
+    (stands-net d c.args.routes.now n c.put_net.new.draft.text.items c.in_ok-put_net.ensures
     (c.loop-net.invariant.stands tells)) in
     on-err c.from_residual-in_err-flush.result (IsTrue g.K.Sink.tells → AppendsPart old now (written_text d sets)) part
 
@@ -66,8 +52,7 @@ loop-net-preserved g c =
       quiet = c.in_ok-flush.ensures.quiet ∙ c.loop-net.invariant.quiet;
       stands = λ tells.
           stands-flushed (g.K.Sink.written c.flush.new.sink) c.flush.new.text.items (c.in_ok-flush.ensures.ok tells) c.in_ok-flush.ensures.empty
-          (stands-record d c.args.routes.now n c.net.result.now c.unwrap-tree.result.now c.put_record.new.self.text.items c.net.ensures.net
-          (sym c.routed.ensures ∙ c.if-not-routed.false) (sym c.get.ensures ∙ ap option_copied c.unwrap-tree.ensures) c.in_ok-put_record.ensures
+          (stands-net d c.args.routes.now n c.put_net.new.draft.text.items c.in_ok-put_net.ensures
           (c.loop-net.invariant.stands tells));
     }
 
