@@ -1,3 +1,4 @@
+-- The places of a caller in a history.
 use Rattle.std.proofs.Common.{◌≡◌, ℕ, ◌==◌, true, false, List, Some, slice_get, ap, ◌∙◌, arith}
 use Rattle.std.proofs.lemmas.Bool.Decides.{nat_tests}
 use Rattle.book_state.specs.declared.entry.Entry.{Entry}

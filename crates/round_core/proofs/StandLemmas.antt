@@ -1,3 +1,4 @@
+-- Which nets are booked after claims, releases, turns and rounds, and at each mark.
 use Rattle.std.proofs.Common.{◌≡◌, ◌⊎◌, ℕ, suc, zero, ◌+◌, ◌*◌, ◌<◌, ◌≤◌, inl, inr, Bool, true, false, cond, List, [], ◌∷◌, ◌++◌, filter, length, take, get_or, All, slice_get, Option, Some, None, is_some, IsSome, IsSomeAnd, if◌then◌else◌, IsTrue, refl, sym, ap, subst, ◌∙◌, arith}
 use Rattle.std.specs.List.{range_with_len, position}
 use Rattle.std.specs.Option.{option_map}

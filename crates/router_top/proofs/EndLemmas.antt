@@ -6,11 +6,11 @@ use Rattle.gr_io.specs.Parts.{AppendsPart}
 use Rattle.ispd_reader.specs.declared.fault.DesignFault.{DesignFault as DesignFaultKind}
 use Rattle.solution_text.specs.declared.fault.SolutionFault.{SolutionFault as SolutionFaultKind}
 use Rattle.router_top.specs.Commands.{HandedBack, Command}
-use Rattle.router_top.specs.Ends.{LeavesFor, upto, onward, Ends}
+use Rattle.router_top.specs.Ends.{LeavesFor, upto, afterwards, Ends}
 use Rattle.router_top.specs.Leaving.{IsDone, IsFaulty, FailsToRead, FailsToWrite, WantsMemory, IsSilent, Leaves}
 use Rattle.router_top.specs.Orders.{command_of}
 use Rattle.router_top.specs.Statuses.{is_status, ReportsDesignFault, ReportsSolutionFault, IsAnswer, IsByStatus}
-use Rattle.router_top.specs.Stops.{status_of, line_of, IsToldOrNot, Finishes}
+use Rattle.router_top.specs.Stops.{status_of, told_line, IsToldOrNot, Finishes}
 use Rattle.router_top.specs.Words.{Order}
 use Rattle.router_top.specs.declared.stop.Outcome.{Outcome}
 use Rattle.router_top.specs.declared.stop.Outcome.TheVariants.{Whole, Open}
@@ -20,16 +20,16 @@ use Rattle.router_top.proofs.CommandLaws.{IsLawful, lawful}
 
 -- err up to the moment at which it is told, and from there on
 module _ (err : Device) (faults : ℕ) (written : List ℕ) where
-  untouched-both : IsUntouched (upto err faults written) → IsUntouched (onward err faults written) → IsUntouched err
+  untouched-both : IsUntouched (upto err faults written) → IsUntouched (afterwards err faults written) → IsUntouched err
   untouched-both first second = record { faults = second.faults ∙ first.faults; written = λ tells. second.written tells ∙ first.written tells }
 
-  gains-then : (text : List ℕ) → Gains (upto err faults written) text → IsUntouched (onward err faults written) → Gains err text
+  gains-then : (text : List ℕ) → Gains (upto err faults written) text → IsUntouched (afterwards err faults written) → Gains err text
   gains-then text first second = record { faults = second.faults ∙ first.faults; written = λ tells. second.written tells ∙ first.written tells }
 
-  part-then : (text : List ℕ) → GainsPart (upto err faults written) text → IsUntouched (onward err faults written) → GainsPart err text
+  part-then : (text : List ℕ) → GainsPart (upto err faults written) text → IsUntouched (afterwards err faults written) → GainsPart err text
   part-then text first second = λ tells. subst (λ (w : List ℕ). AppendsPart err.written w text) (sym (second.written tells)) (first tells)
 
-  line-then : (line : List ℕ) → IsUntouched (upto err faults written) → GainsLine (onward err faults written) line → GainsLine err line
+  line-then : (line : List ℕ) → IsUntouched (upto err faults written) → GainsLine (afterwards err faults written) line → GainsLine err line
   line-then line first second =
       elim second [
         | inl whole ↦ inl (whole.0 ∙ first.faults, λ tells. whole.1 tells ∙ ap (λ (w : List ℕ). w ++ line) (first.written tells))
@@ -51,9 +51,9 @@ SaysAt command shelf out err kept status =
     (pick (status == 1) (IsDone command shelf out err kept Open)
     (pick (status == 3) (ReportsDesignFault command shelf out err)
     (pick (status == 5) (ReportsSolutionFault command shelf out err)
-    (pick (status == 6) (FailsToRead command shelf out × GainsLine err (line_of ReadFailed))
+    (pick (status == 6) (FailsToRead command shelf out × GainsLine err (told_line ReadFailed))
     (pick (status == 7) (FailsToWrite command shelf out err kept)
-    (pick (status == 8) (WantsMemory command shelf out kept × GainsLine err (line_of NoMemory)) ⊥))))))
+    (pick (status == 8) (WantsMemory command shelf out kept × GainsLine err (told_line NoMemory)) ⊥))))))
 
 -- a status, what it says, and how it answers what the files say
 record IsShown (command : Command) (shelf : Reading) (out err : Device) (kept : Option HandedBack) (status : ℕ) : Type 0 where
@@ -100,7 +100,7 @@ module _ (command : Command) (law : IsLawful command) (shelf : Reading) (out err
       (one_answer (command.files shelf) (Err stop) said (faulty.said tells) is) (inl refl)
 
   shown-design : (fault : DesignFaultKind) (token : ℕ) → IsFaulty command shelf out (DesignFault fault token) →
-      GainsLine err (line_of (DesignFault fault token)) → kept ≡ None → IsShown command shelf out err kept 3
+      GainsLine err (told_line (DesignFault fault token)) → kept ≡ None → IsShown command shelf out err kept 3
   shown-design fault token faulty line none = record {
     known = refl;
     says = record { fault = fault; token = token; faulty = faulty; line = line };
@@ -109,7 +109,7 @@ module _ (command : Command) (law : IsLawful command) (shelf : Reading) (out err
   }
 
   shown-solution : (fault : SolutionFaultKind) (token : ℕ) → IsFaulty command shelf out (SolutionFault fault token) →
-      GainsLine err (line_of (SolutionFault fault token)) → kept ≡ None → IsShown command shelf out err kept 5
+      GainsLine err (told_line (SolutionFault fault token)) → kept ≡ None → IsShown command shelf out err kept 5
   shown-solution fault token faulty line none = record {
     known = refl;
     says = record { fault = fault; token = token; faulty = faulty; line = line };
@@ -126,7 +126,7 @@ module _ (command : Command) (law : IsLawful command) (shelf : Reading) (out err
         | inr missing ↦ (let none = missing.1 tells in cc)
       ]
 
-  shown-read : FailsToRead command shelf out → GainsLine err (line_of ReadFailed) → kept ≡ None → IsShown command shelf out err kept 6
+  shown-read : FailsToRead command shelf out → GainsLine err (told_line ReadFailed) → kept ≡ None → IsShown command shelf out err kept 6
   shown-read fails line none = record {
     known = refl;
     says = (fails, line);
@@ -156,7 +156,7 @@ module _ (command : Command) (law : IsLawful command) (shelf : Reading) (out err
   any-answer (Ok done) = λ writes. inr (inr refl)
   any-answer (Err stop) = inr refl
 
-  shown-memory : WantsMemory command shelf out kept → GainsLine err (line_of NoMemory) → IsShown command shelf out err kept 8
+  shown-memory : WantsMemory command shelf out kept → GainsLine err (told_line NoMemory) → IsShown command shelf out err kept 8
   shown-memory wants line = record {
     known = refl;
     says = (wants, line);
@@ -171,40 +171,36 @@ module _ (command : Command) (law : IsLawful command) (shelf : Reading) (out err
 
   -- a fault that was told, or memory wanted for its line
   shown-fault : (stop : Stop) (faults : ℕ) (written : List ℕ) (told : Stop) (status : ℕ) → IsFaulty command shelf out stop →
-      IsSilent (upto err faults written) kept → IsToldOrNot (onward err faults written) stop told → status ≡ status_of told →
-      (GainsLine err (line_of stop) → IsShown command shelf out err kept (status_of stop)) → IsShown command shelf out err kept status
+      IsSilent (upto err faults written) kept → IsToldOrNot (afterwards err faults written) stop told → status ≡ status_of told →
+      (GainsLine err (told_line stop) → IsShown command shelf out err kept (status_of stop)) → IsShown command shelf out err kept status
   shown-fault stop faults written told status faulty silent is_told by shown =
       elim is_told [
-        | inl h ↦ shown-told stop told status h.0 by (shown (line-then err faults written (line_of stop) silent.0 h.1))
+        | inl h ↦ shown-told stop told status h.0 by (shown (line-then err faults written (told_line stop) silent.0 h.1))
         | inr h ↦
             shown-told NoMemory told status h.0 by
-            (shown-memory (inl (faulty.unwritten, silent.1)) (line-then err faults written (line_of NoMemory) silent.0 h.1))
+            (shown-memory (inl (faulty.unwritten, silent.1)) (line-then err faults written (told_line NoMemory) silent.0 h.1))
       ]
+
+  -- of a command that was done err is told nothing
+  done-told : (outcome : Outcome) (faults : ℕ) (written : List ℕ) → IsDone command shelf out (upto err faults written) kept outcome →
+      IsUntouched (afterwards err faults written) → IsDone command shelf out err kept outcome
+  done-told outcome faults written done untouched = record {
+    reads = done.reads;
+    text = done.text;
+    report = done.report;
+    out_gains = done.out_gains;
+    err_gains = gains-then err faults written done.report done.err_gains untouched;
+    says = done.says;
+  }
 
   -- an end, with what was told of it
   shown : (end : Result Outcome Stop) (faults : ℕ) (written : List ℕ) (status : ℕ) →
-      Leaves command shelf out (upto err faults written) kept end → Finishes (onward err faults written) end status →
+      Leaves command shelf out (upto err faults written) kept end → Finishes (afterwards err faults written) end status →
       IsShown command shelf out err kept status
   shown (Ok Whole) faults written status leaves told =
-      subst (IsShown command shelf out err kept) (sym told.0)
-      (shown-whole (record {
-        reads = leaves.reads;
-        text = leaves.text;
-        report = leaves.report;
-        out_gains = leaves.out_gains;
-        err_gains = gains-then err faults written leaves.report leaves.err_gains told.1;
-        says = leaves.says;
-      }))
+      subst (IsShown command shelf out err kept) (sym told.0) (shown-whole (done-told Whole faults written leaves told.1))
   shown (Ok Open) faults written status leaves told =
-      subst (IsShown command shelf out err kept) (sym told.0)
-      (shown-open (record {
-        reads = leaves.reads;
-        text = leaves.text;
-        report = leaves.report;
-        out_gains = leaves.out_gains;
-        err_gains = gains-then err faults written leaves.report leaves.err_gains told.1;
-        says = leaves.says;
-      }))
+      subst (IsShown command shelf out err kept) (sym told.0) (shown-open (done-told Open faults written leaves told.1))
   shown (Err Usage) faults written status leaves told = absurd leaves
   shown (Err (DesignFault fault token)) faults written status leaves told =
       shown-fault (DesignFault fault token) faults written told.0 status leaves.0 leaves.1 told.1 told.2
@@ -214,7 +210,7 @@ module _ (command : Command) (law : IsLawful command) (shelf : Reading) (out err
       (λ line. shown-solution fault token leaves.0 line leaves.1.1)
   shown (Err ReadFailed) faults written status leaves told =
       shown-told ReadFailed told.0 status told.1.0 told.2
-      (shown-read leaves.0 (line-then err faults written (line_of ReadFailed) leaves.1.0 told.1.1) leaves.1.1)
+      (shown-read leaves.0 (line-then err faults written (told_line ReadFailed) leaves.1.0 told.1.1) leaves.1.1)
   shown (Err WriteFailed) faults written status leaves told =
       shown-told WriteFailed told.0 status told.1.0 told.2 (shown-write (fails leaves))
     where
@@ -234,7 +230,7 @@ module _ (command : Command) (law : IsLawful command) (shelf : Reading) (out err
           })
   shown (Err NoMemory) faults written status leaves told =
       shown-told NoMemory told.0 status told.1.0 told.2
-      (shown-memory leaves.0 (line-then err faults written (line_of NoMemory) leaves.1 told.1.1))
+      (shown-memory leaves.0 (line-then err faults written (told_line NoMemory) leaves.1 told.1.1))
 
 -- a status that is shown says what each status says
 by-shown : (order : Order) (shelf : Reading) (out err : Device) (kept : Option HandedBack) (status : ℕ) →
@@ -268,7 +264,7 @@ by-shown order shelf out err kept status is_shown = record {
     closed tells done = law.closes shelf kept done.text done.report done.says tells
 
 -- a run whose words give no order
-by-usage : (shelf : Reading) (out err : Device) (kept : Option HandedBack) → IsUntouched out → GainsLine err (line_of Usage) → kept ≡ None →
+by-usage : (shelf : Reading) (out err : Device) (kept : Option HandedBack) → IsUntouched out → GainsLine err (told_line Usage) → kept ≡ None →
     IsByStatus None shelf out err kept 2
 by-usage shelf out err kept untouched line none = record {
   known = refl;
@@ -287,7 +283,7 @@ by-usage shelf out err kept untouched line none = record {
 }
 
 usage-status : (err : Device) (end : Result Outcome Stop) (status : ℕ) → end ≡ Err Usage → Finishes err end status →
-    (status ≡ 2) × GainsLine err (line_of Usage)
+    (status ≡ 2) × GainsLine err (told_line Usage)
 usage-status err end status is told =
     let by : Finishes err (Err Usage) status = subst (λ (e : Result Outcome Stop). Finishes err e status) is told in
     (by.2 ∙ ap status_of by.1.0, by.1.1)
@@ -296,10 +292,10 @@ usage-status err end status is told =
 pub by-status : (order : Option Order) (shelf : Reading) (out err : Device) (kept : Option HandedBack) (status : ℕ) →
     Ends order shelf out err kept status → IsByStatus order shelf out err kept status
 by-status None shelf out err kept status ends =
-    let usage = usage-status (onward err ends.faults ends.written) ends.end status ends.leaves.0 ends.finishes in
+    let usage = usage-status (afterwards err ends.faults ends.written) ends.end status ends.leaves.0 ends.finishes in
     let silent = ends.leaves.2 in
     subst (IsByStatus None shelf out err kept) (sym usage.0)
-    (by-usage shelf out err kept ends.leaves.1 (line-then err ends.faults ends.written (line_of Usage) silent.0 usage.1) silent.1)
+    (by-usage shelf out err kept ends.leaves.1 (line-then err ends.faults ends.written (told_line Usage) silent.0 usage.1) silent.1)
 by-status (Some order) shelf out err kept status ends =
     by-shown order shelf out err kept status
     (shown (command_of order) (lawful order) shelf out err kept ends.end ends.faults ends.written status ends.leaves ends.finishes)
@@ -307,12 +303,12 @@ by-status (Some order) shelf out err kept status ends =
 -- a run whose order left what it says, and whose end was told
 pub ends-with : (order : Option Order) (shelf : Reading) (out err : Device) (faults : ℕ) (written : List ℕ) (kept given : Option HandedBack)
     (end : Result Outcome Stop) (status told : ℕ) → kept ≡ given → status ≡ told →
-    LeavesFor order shelf out (upto err faults written) given end → Finishes (onward err faults written) end told →
+    LeavesFor order shelf out (upto err faults written) given end → Finishes (afterwards err faults written) end told →
     Ends order shelf out err kept status
 ends-with order shelf out err faults written kept given end status told same is leaves finishes = record {
   end = end;
   faults = faults;
   written = written;
   leaves = subst (λ (k : Option HandedBack). LeavesFor order shelf out (upto err faults written) k end) (sym same) leaves;
-  finishes = subst (Finishes (onward err faults written) end) (sym is) finishes;
+  finishes = subst (Finishes (afterwards err faults written) end) (sym is) finishes;
 }

@@ -25,8 +25,8 @@ upto device faults written = record {
   written_after = written;
 }
 
-abbrev pub onward : Device → ℕ → List ℕ → Device
-onward device faults written = record {
+abbrev pub afterwards : Device → ℕ → List ℕ → Device
+afterwards device faults written = record {
   tells = device.tells;
   faults = faults;
   faults_after = device.faults_after;
@@ -42,4 +42,4 @@ pub record Ends (order : Option Order) (shelf : Reading) (out err : Device) (kep
   pub faults : ℕ
   pub written : List ℕ
   pub leaves : LeavesFor order shelf out (upto err faults written) kept end
-  pub finishes : Finishes (onward err faults written) end status
+  pub finishes : Finishes (afterwards err faults written) end status

@@ -10,13 +10,13 @@ use Rattle.router_top.specs.declared.stop.Stop.{Stop}
 use Rattle.router_top.specs.declared.stop.Stop.TheVariants.{ReadFailed, NoMemory}
 
 -- a text that was opened: its bytes are those that are held, or a read failed, or the name is missing
-abbrev pub Reaches : Reading → (held : Option (List ℕ)) → (left : List ℕ) → Result (Unit {0}) Stop → Type 0
-Reaches shelf held left (Ok done) =
+abbrev pub IsReached : Reading → (held : Option (List ℕ)) → (left : List ℕ) → Result (Unit {0}) Stop → Type 0
+IsReached shelf held left (Ok done) =
     (shelf.faults_after ≡ shelf.faults) × (shelf.misses_after ≡ shelf.misses) × (IsTrue shelf.tells → held ≡ Some left)
-Reaches shelf held left (Err ReadFailed) =
+IsReached shelf held left (Err ReadFailed) =
     Rose shelf.faults shelf.faults_after ⊎ (Rose shelf.misses shelf.misses_after × (IsTrue shelf.tells → held ≡ None))
-Reaches shelf held left (Err NoMemory) = Unit {0}
-Reaches shelf held left (Err stop) = ⊥
+IsReached shelf held left (Err NoMemory) = Unit {0}
+IsReached shelf held left (Err stop) = ⊥
 
 -- the answer stands for a fault of a text, which its bytes say
 pub record TellsFault {V F : Type 0} (shelf : Reading) (said : Option (Result V (F × ℕ)))

@@ -19,9 +19,9 @@ pub record AreInRange (options : Options) : Type 0 where
   pub via_cost : options.via_cost ≤ 1000
 
 -- and so are those of an order
-abbrev pub IsInRange : Given → Type 0
-IsInRange (Given.Route design options) = AreInRange options
-IsInRange (Given.Evaluate design solution via_cost) = via_cost ≤ 1000
+abbrev pub AsksInRange : Given → Type 0
+AsksInRange (Given.Route design options) = AreInRange options
+AsksInRange (Given.Evaluate design solution via_cost) = via_cost ≤ 1000
 
 -- the commands
 abbrev pub command_of : Order → Command

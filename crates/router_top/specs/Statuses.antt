@@ -8,7 +8,7 @@ use Rattle.solution_text.specs.declared.fault.SolutionFault.{SolutionFault as So
 use Rattle.router_top.specs.Commands.{HandedBack, Command}
 use Rattle.router_top.specs.Leaving.{IsDone, IsFaulty, FailsToRead, FailsToWrite, WantsMemory}
 use Rattle.router_top.specs.Orders.{command_of}
-use Rattle.router_top.specs.Stops.{status_of, line_of}
+use Rattle.router_top.specs.Stops.{status_of, told_line}
 use Rattle.router_top.specs.Words.{Order}
 use Rattle.router_top.specs.declared.stop.Stop.{Stop}
 use Rattle.router_top.specs.declared.stop.Outcome.TheVariants.{Whole, Open}
@@ -23,13 +23,13 @@ pub record ReportsDesignFault (command : Command) (shelf : Reading) (out err : D
   pub fault : DesignFaultKind
   pub token : ℕ
   pub faulty : IsFaulty command shelf out (DesignFault fault token)
-  pub line : GainsLine err (line_of (DesignFault fault token))
+  pub line : GainsLine err (told_line (DesignFault fault token))
 
 pub record ReportsSolutionFault (command : Command) (shelf : Reading) (out err : Device) : Type 0 where
   pub fault : SolutionFaultKind
   pub token : ℕ
   pub faulty : IsFaulty command shelf out (SolutionFault fault token)
-  pub line : GainsLine err (line_of (SolutionFault fault token))
+  pub line : GainsLine err (told_line (SolutionFault fault token))
 
 -- a write that may fail failed: one to out, or, where the command writes a report, one to err
 abbrev pub SomeWriteFails : Command → (out err : Device) → Type 0
@@ -53,7 +53,7 @@ pub record IsByStatus (order : Option Order) (shelf : Reading) (out err : Device
   pub known : IsTrue (is_status status)
   -- the words give no order
   pub usage : (status ≡ 2) ↔ (order ≡ None)
-  pub usage_line : status ≡ 2 → IsUntouched out × GainsLine err (line_of Usage)
+  pub usage_line : status ≡ 2 → IsUntouched out × GainsLine err (told_line Usage)
   -- the command was done, and no net that was judged is open
   pub whole : status ≡ 0 → OfCommand order (λ command. IsDone command shelf out err kept Whole)
   -- it was done, and some routed net isn't joined
@@ -64,12 +64,12 @@ pub record IsByStatus (order : Option Order) (shelf : Reading) (out err : Device
   pub solution_fault : status ≡ 5 → OfCommand order (λ command. ReportsSolutionFault command shelf out err)
   -- a read failed, or a name of the order is missing
   pub read_failed : status ≡ 6 →
-      OfCommand order (λ command. FailsToRead command shelf out × GainsLine err (line_of ReadFailed))
+      OfCommand order (λ command. FailsToRead command shelf out × GainsLine err (told_line ReadFailed))
   -- a write failed
   pub write_failed : status ≡ 7 → OfCommand order (λ command. FailsToWrite command shelf out err kept)
   -- memory was wanting
   pub no_memory : status ≡ 8 →
-      OfCommand order (λ command. WantsMemory command shelf out kept × GainsLine err (line_of NoMemory))
+      OfCommand order (λ command. WantsMemory command shelf out kept × GainsLine err (told_line NoMemory))
   -- no book is handed back where no route was made
   pub unkept : (status ≡ 0 → ⊥) → (status ≡ 7 → ⊥) → (status ≡ 8 → ⊥) → kept ≡ None
   -- over devices that don't fail, held files are answered by what they say, if memory serves

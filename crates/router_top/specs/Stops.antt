@@ -29,25 +29,25 @@ fault_line text fault token =
     codes "groute: " ++ text ++ codes " fault " ++ decimal fault ++ codes " at token " ++ decimal token ++ codes "\n"
 
 -- what is told of it on err
-abbrev pub line_of : Stop → List ℕ
-line_of Usage = codes "groute: usage\n"
-line_of (DesignFault fault token) = fault_line (codes "design") (design_number fault) token
-line_of (SolutionFault fault token) = fault_line (codes "solution") (solution_number fault) token
-line_of ReadFailed = codes "groute: a read failed\n"
-line_of WriteFailed = []
-line_of NoMemory = codes "groute: out of memory\n"
+abbrev pub told_line : Stop → List ℕ
+told_line Usage = codes "groute: usage\n"
+told_line (DesignFault fault token) = fault_line (codes "design") (design_number fault) token
+told_line (SolutionFault fault token) = fault_line (codes "solution") (solution_number fault) token
+told_line ReadFailed = codes "groute: a read failed\n"
+told_line WriteFailed = []
+told_line NoMemory = codes "groute: out of memory\n"
 
 -- err is told why a command stopped, or, where memory is wanting for the line, that
 abbrev pub IsToldOrNot : Device → Stop → Stop → Type 0
 IsToldOrNot err stop told =
-    ((told ≡ stop) × GainsLine err (line_of stop)) ⊎ ((told ≡ NoMemory) × GainsLine err (line_of NoMemory))
+    ((told ≡ stop) × GainsLine err (told_line stop)) ⊎ ((told ≡ NoMemory) × GainsLine err (told_line NoMemory))
 
 -- err is told why a command stopped; a write that failed isn't told
 abbrev pub IsTold : Device → Stop → Stop → Type 0
 IsTold err WriteFailed told = (told ≡ WriteFailed) × IsUntouched err
 IsTold err (DesignFault fault token) told = IsToldOrNot err (DesignFault fault token) told
 IsTold err (SolutionFault fault token) told = IsToldOrNot err (SolutionFault fault token) told
-IsTold err stop told = (told ≡ stop) × GainsLine err (line_of stop)
+IsTold err stop told = (told ≡ stop) × GainsLine err (told_line stop)
 
 -- the status of a command, whose stop is told on err
 abbrev pub Finishes : (err : Device) → Result Outcome Stop → ℕ → Type 0

@@ -5,7 +5,7 @@ ghost use Rattle.gr_io.specs.declared.shelf.Slot.{Slot};
 ghost use Rattle.gr_io.specs.declared.shelf.Slot.TheVariants.{Design as DesignSlot, Solution as SolutionSlot};
 ghost use Rattle.route_reader.specs.Solutions.{IsOf};
 ghost use Rattle.gr_io.specs.Devices.{reading_of};
-ghost use Rattle.router_top.specs.Opening.{Reaches, Opens, IsCovered};
+ghost use Rattle.router_top.specs.Opening.{IsReached, Opens, IsCovered};
 ghost use Rattle.router_top.specs.Said.{design_said, solution_said};
 ghost use Rattle.router_top.specs.declared.stop.Stop.TheVariants.{DesignFault, SolutionFault};
 
@@ -61,7 +61,7 @@ pub(crate) fn open_solution<S: Shelf>(
 
 /// Opens the text that is held under a name.
 fn reach<S: Shelf>(alloc: Global, shelf: &mut S, slot: Slot, name: &str) -> Result<(), Stop>
-    ensures reaches { Reaches (reading_of S.tells S.held S.faults S.misses shelf.old shelf.new)
+    ensures reaches { IsReached (reading_of S.tells S.held S.faults S.misses shelf.old shelf.new)
         (S.held shelf.old slot name.now) (S.left shelf.new slot) result }
     ensures reached { OnOk result (IsTrue (S.reached shelf.new slot)) }
     ensures held { (other : Slot) → (bytes : List ℕ) → S.held shelf.new other bytes ≡ S.held shelf.old other bytes }

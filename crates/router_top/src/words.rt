@@ -4,7 +4,7 @@ ghost use Rattle.std.specs.Option.{option_map};
 ghost use Rattle.router_top.specs.Words.{is_option, number_in as number_in_word, order_of};
 ghost use Rattle.router_top.specs.Words.{plain_options as plain_options_of};
 ghost use Rattle.gr_base.specs.Limits.{most_rounds};
-ghost use Rattle.router_top.specs.Orders.{named, IsInRange};
+ghost use Rattle.router_top.specs.Orders.{named, AsksInRange};
 
 use cost_rules::Formula;
 use gr_base::MOST_ROUNDS;
@@ -44,7 +44,7 @@ pub(crate) enum Order<'w> {
 /// `evaluate` and two names, where neither word begins with `-`.
 pub(crate) fn read_order(words: &[String]) -> Option<Order<'_>>
     ensures order { option_map named result ≡ order_of (map string_bytes words.now) }
-    ensures range { IfSome result IsInRange }
+    ensures range { IfSome result AsksInRange }
 {
     let [command, first, second] = words else {
         return None;
