@@ -29,9 +29,10 @@ fn a_wire_climbs_to_a_cheaper_layer(rt: HostRuntime) -> Result<(), Fail> {
     Ok(())
 }
 
-/// A star of three edges; the layers are those that a search through all assignments gave.
+/// A star of three edges, with uneven costs and with an edge that is dear on layer 0: the layers
+/// are those that a search through all assignments gave.
 #[test]
-fn the_first_least_assignment_of_a_star(rt: HostRuntime) -> Result<(), Fail> {
+fn the_first_least_assignments_of_a_star(rt: HostRuntime) -> Result<(), Fail> {
     let alloc = rt.alloc();
     let shape = Shape::new(3, 2, 3).ok_or("a grid")?;
     let floor = Shape::new(3, 2, 1).ok_or("a floor")?;
@@ -39,41 +40,28 @@ fn the_first_least_assignment_of_a_star(rt: HostRuntime) -> Result<(), Fail> {
     flat.attach(&[0, 1])?;
     flat.attach(&[2, 1])?;
     flat.attach(&[4, 1])?;
-    let costs = Priced {
+    let uneven = Priced {
         shape,
         factor: 3,
         low: 99,
         high: 99,
         cost: 1,
     };
-    let layers = assign(alloc, &costs, shape, &flat, &[12, 2])?;
+    let layers = assign(alloc, &uneven, shape, &flat, &[12, 2])?;
     assert_eq!(rt;
         [layers.layer(1), layers.layer(2), layers.layer(3)],
         [2, 1, 1]
     );
     let tree = raise(alloc, shape, &flat, &layers, &[12, 2])?;
     assert_eq!(rt; tree.len(), 6);
-    Ok(())
-}
-
-/// The same star with an edge that is dear on layer 0.
-#[test]
-fn equal_assignments_go_by_their_first_layers(rt: HostRuntime) -> Result<(), Fail> {
-    let alloc = rt.alloc();
-    let shape = Shape::new(3, 2, 3).ok_or("a grid")?;
-    let floor = Shape::new(3, 2, 1).ok_or("a floor")?;
-    let mut flat = RouteTree::start(alloc, floor, 1)?;
-    flat.attach(&[0, 1])?;
-    flat.attach(&[2, 1])?;
-    flat.attach(&[4, 1])?;
-    let costs = Priced {
+    let dear = Priced {
         shape,
         factor: 0,
         low: 0,
         high: 1,
         cost: 9,
     };
-    let layers = assign(alloc, &costs, shape, &flat, &[0, 2])?;
+    let layers = assign(alloc, &dear, shape, &flat, &[0, 2])?;
     assert_eq!(rt;
         [layers.layer(1), layers.layer(2), layers.layer(3)],
         [1, 0, 0]

@@ -16,10 +16,6 @@ by_more a b rest more = grind (arith, nat_tests)
 pub by_same : (a b : ℕ) (rest : Bool) → a ≡ b → by_number a b rest ≡ rest
 by_same a b rest same = grind (arith, nat_tests)
 
--- comparison by three numbers
-abbrev by_three : ℕ → ℕ → ℕ → ℕ → ℕ → ℕ → Bool
-by_three a b c x y z = by_number a x (by_number b y (nat_lt c z))
-
 -- the first number comes first, or the second
 abbrev Leans : Bool → ℕ → ℕ → Type 0
 Leans true a b = a < b

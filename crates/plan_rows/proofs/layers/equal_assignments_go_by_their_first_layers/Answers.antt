@@ -1,5 +1,0 @@
-use Rattle.layer_assign.proofs.FlatLemmas.{open_layers}
-use Rattle.plan_rows.proofs.layers.equal_assignments_go_by_their_first_layers.Goals as goal
-
-pub assign-requires-clause-layers : goal.assign-requires-clause-layers
-assign-requires-clause-layers g c = open_layers c.in_ok-shape.shape c.attach-3.new.self c.in_ok-attach-3.ensures.tree
