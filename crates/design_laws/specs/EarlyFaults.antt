@@ -1,3 +1,4 @@
+-- When the first fault of a design text is decided.
 use Rattle.std.specs.Prelude.{◌≡◌, ℕ, ◌≤◌, List, length, take, Ok, Err}
 use Rattle.gr_base.specs.Designs.{DesignView}
 use Rattle.gr_text.specs.Tokens.{tokens}

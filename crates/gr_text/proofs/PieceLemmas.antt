@@ -1,3 +1,4 @@
+-- A piece of a text, with its bytes taken and ahead.
 use Rattle.gr_text.proofs.TakeLemmas.{part-more}
 use Rattle.std.proofs.Common.{◌≡◌, ℕ, ◌+◌, ◌-◌, ◌<◌, ◌≤◌, List, [], ◌∷◌, ◌++◌, length, take, drop, slice_range, refl, sym, ap, subst, ◌∙◌, arith}
 use Rattle.std.proofs.Math.Seq.{take-add}

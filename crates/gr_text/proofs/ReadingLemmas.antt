@@ -1,3 +1,4 @@
+-- What a step from one token to the next gives a reader.
 use Rattle.std.proofs.Common.{◌≡◌, ℕ, ◌+◌, Bool, true, false, List, [], ◌∷◌, Option, Some, None, Result, Ok, Err, if◌then◌else◌, refl, sym, ap, subst, ◌∙◌, arith}
 use Rattle.gr_text.specs.declared.source.Ends.{Ends}
 use Rattle.gr_text.specs.Tokens.{Place, Ending, AtEnd, PastLimit}

@@ -1,3 +1,4 @@
+-- The numbers that decimal digits write.
 use Rattle.std.specs.Prelude.{ℕ, ◌+◌, ◌-◌, ◌*◌, ◌^◌, min, Bool, ◌&&◌, ◌==◌, nat_lt, nat_le, int_le, ℤ, pos, negsuc, neg_ℤ, List, [], ◌∷◌, length, Option, Some, None, option_map, option_and_then, fold, if◌then◌else◌}
 use Rattle.std.specs.List.{list_all}
 

@@ -1,3 +1,4 @@
+-- A reader's result beside what the grammar says.
 use Rattle.std.specs.Prelude.{◌≡◌, ℕ, ◌≤◌, Result, Ok, Err}
 use Rattle.gr_io.specs.Counts.{Rose}
 use Rattle.gr_text.specs.declared.source.ReadError.{ReadError}

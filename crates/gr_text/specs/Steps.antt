@@ -1,3 +1,4 @@
+-- What the steps of reading tokens do.
 use Rattle.std.specs.Prelude.{◌≡◌, ℕ, ◌+◌, ◌<◌, ◌≤◌, Bool, true, false, List, [], ◌∷◌, ◌++◌, length, Option, Some, None, Result, Ok, Err}
 use Rattle.gr_io.specs.Counts.{Rose}
 use Rattle.gr_text.specs.declared.tokens.Token.{Token}

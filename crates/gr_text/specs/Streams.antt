@@ -1,3 +1,4 @@
+-- The tokens of a slot's text, read piece by piece.
 use Rattle.std.specs.Prelude.{◌≡◌, ℕ, ◌-◌, ◌+◌, ◌^◌, ◌<◌, ◌≤◌, ◌⊎◌, true, not, Bool, nat_lt, List, [], ◌++◌, length, take, drop}
 use Rattle.std.specs.List.{list_all, position_or_len}
 use Rattle.gr_io.specs.declared.shelf.Slot.{Slot}

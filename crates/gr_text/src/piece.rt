@@ -1,5 +1,6 @@
 ghost use Rattle.std.specs.Prelude.{◌≡◌, ℕ, ◌+◌, ◌<◌, ◌≤◌, ◌↔◌, List, [], ◌++◌, take, drop, length, slice_range, IsTrue, IfOk, OnOk, OnErr};
 ghost use Rattle.gr_io.specs.Counts.{Rose};
+ghost use Rattle.gr_io.specs.Shelves.{KeepsShelf};
 ghost use Rattle.gr_io.specs.declared.shelf.Slot.{Slot};
 
 use gr_io::{Failed, Shelf, Slot};
@@ -85,9 +86,7 @@ impl Piece {
         ensures failed { OnErr result ((S.faults shelf.old ≤ S.faults shelf.new) × Rose (S.faults shelf.old) (S.faults shelf.new)) }
         ensures unread { OnErr result (self.new.ahead ≡ []) }
         ensures quiet { OnOk result (S.faults shelf.new ≡ S.faults shelf.old) }
-        ensures misses { S.misses shelf.new ≡ S.misses shelf.old }
-        ensures reached { (other : Slot) → IsTrue (S.reached shelf.old other) → IsTrue (S.reached shelf.new other) }
-        ensures held { (other : Slot) → (name : List ℕ) → S.held shelf.new other name ≡ S.held shelf.old other name }
+        ensures shelf { KeepsShelf S.misses S.reached S.held shelf.old shelf.new }
     {
         let count = shelf.read(slot, &mut self.bytes)?;
         self.at = 0;

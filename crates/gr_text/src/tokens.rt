@@ -1,6 +1,7 @@
 ghost use Rattle.std.specs.Prelude.{◌≡◌, ℕ, ◌+◌, ◌-◌, ◌^◌, ◌<◌, ◌≤◌, ◌↔◌, false, true, not, List, [], ◌++◌, take, drop, length, nat_lt, IsTrue, IfOk, IfSome, OnOk, OnErr, is_err, Ok};
 ghost use Rattle.std.specs.List.{position_or_len};
 ghost use Rattle.gr_io.specs.Counts.{Rose};
+ghost use Rattle.gr_io.specs.Shelves.{KeepsShelf};
 ghost use Rattle.gr_io.specs.declared.shelf.Slot.{Slot};
 ghost use Rattle.gr_base.specs.Names.{is_token};
 ghost use Rattle.gr_text.specs.Tokens.{is_blank};
@@ -164,9 +165,7 @@ impl Tokens {
         ensures slot { self.new.slot ≡ self.old.slot }
         ensures left { IsTrue S.tells → LeavesRest result self.new.pending (S.left shelf.old self.old.slot) (S.left shelf.new self.old.slot) }
         ensures faults { Counted result (S.faults shelf.old) (S.faults shelf.new) }
-        ensures misses { S.misses shelf.new ≡ S.misses shelf.old }
-        ensures reached { (other : Slot) → IsTrue (S.reached shelf.old other) → IsTrue (S.reached shelf.new other) }
-        ensures held { (other : Slot) → (name : List ℕ) → S.held shelf.new other name ≡ S.held shelf.old other name }
+        ensures shelf { KeepsShelf S.misses S.reached S.held shelf.old shelf.new }
     {
         if !self.piece.ahead().is_empty() {
             return Err(TokenError::TooLong {
@@ -192,9 +191,7 @@ impl Tokens {
         ensures slot { self.new.slot ≡ self.old.slot }
         ensures skipped { IsTrue S.tells → SkipsTo result self.old.room (self.old.pending ++ S.left shelf.old self.old.slot) self.new.room (self.new.pending ++ S.left shelf.new self.old.slot) }
         ensures faults { Counted result (S.faults shelf.old) (S.faults shelf.new) }
-        ensures misses { S.misses shelf.new ≡ S.misses shelf.old }
-        ensures reached { (other : Slot) → IsTrue (S.reached shelf.old other) → IsTrue (S.reached shelf.new other) }
-        ensures held { (other : Slot) → (name : List ℕ) → S.held shelf.new other name ≡ S.held shelf.old other name }
+        ensures shelf { KeepsShelf S.misses S.reached S.held shelf.old shelf.new }
     {
         self.forget();
         'blanks: while !self.skip_blanks() {
@@ -215,9 +212,7 @@ impl Tokens {
         ensures slot { self.new.slot ≡ self.old.slot }
         ensures token { IsTrue S.tells → TakesToken self.old.room self.old.number (self.old.pending ++ S.left shelf.old self.old.slot) result self.new (S.left shelf.new self.old.slot) }
         ensures faults { Counted result (S.faults shelf.old) (S.faults shelf.new) }
-        ensures misses { S.misses shelf.new ≡ S.misses shelf.old }
-        ensures reached { (other : Slot) → IsTrue (S.reached shelf.old other) → IsTrue (S.reached shelf.new other) }
-        ensures held { (other : Slot) → (name : List ℕ) → S.held shelf.new other name ≡ S.held shelf.old other name }
+        ensures shelf { KeepsShelf S.misses S.reached S.held shelf.old shelf.new }
         ensures word { OnOk result (IsTrue (is_token self.new.word)) }
     {
         'parts: while !self.take_part()? {
@@ -246,9 +241,7 @@ impl Tokens {
         ensures little { IsTrue S.tells → result ≡ Ok true → ReadsLittleAhead (self.old.pending ++ S.left shelf.old self.old.slot) self.new.word (S.left shelf.new self.old.slot) }
         ensures slot { self.new.slot ≡ self.old.slot }
         ensures faults { Counted result (S.faults shelf.old) (S.faults shelf.new) }
-        ensures misses { S.misses shelf.new ≡ S.misses shelf.old }
-        ensures reached { (other : Slot) → IsTrue (S.reached shelf.old other) → IsTrue (S.reached shelf.new other) }
-        ensures held { (other : Slot) → (name : List ℕ) → S.held shelf.new other name ≡ S.held shelf.old other name }
+        ensures shelf { KeepsShelf S.misses S.reached S.held shelf.old shelf.new }
         ensures word { IfOk result (λ more. IsTrue more → IsTrue (is_token self.new.word)) }
         ensures ended { result ≡ Ok false → IsTrue S.tells → S.left shelf.new self.old.slot ≡ [] }
     {
@@ -291,9 +284,7 @@ impl Tokens {
         ensures broken { self.new.broken ≡ is_err result }
         ensures slot { self.new.slot ≡ self.old.slot }
         ensures faults { Counted result (S.faults shelf.old) (S.faults shelf.new) }
-        ensures misses { S.misses shelf.new ≡ S.misses shelf.old }
-        ensures reached { (other : Slot) → IsTrue (S.reached shelf.old other) → IsTrue (S.reached shelf.new other) }
-        ensures held { (other : Slot) → (name : List ℕ) → S.held shelf.new other name ≡ S.held shelf.old other name }
+        ensures shelf { KeepsShelf S.misses S.reached S.held shelf.old shelf.new }
         ensures word { IfOk result (λ more. IsTrue more → IsTrue (is_token self.new.word)) }
         ensures ended { result ≡ Ok false → IsTrue S.tells → S.left shelf.new self.old.slot ≡ [] }
     {
@@ -314,9 +305,7 @@ impl Tokens {
         ensures broken { self.new.broken ≡ is_err result }
         ensures slot { self.new.slot ≡ self.old.slot }
         ensures faults { Counted result (S.faults shelf.old) (S.faults shelf.new) }
-        ensures misses { S.misses shelf.new ≡ S.misses shelf.old }
-        ensures reached { (other : Slot) → IsTrue (S.reached shelf.old other) → IsTrue (S.reached shelf.new other) }
-        ensures held { (other : Slot) → (name : List ℕ) → S.held shelf.new other name ≡ S.held shelf.old other name }
+        ensures shelf { KeepsShelf S.misses S.reached S.held shelf.old shelf.new }
     {
         let found = self.advance(shelf)?;
         if !found {

@@ -1,3 +1,4 @@
+-- How a solution stores its runs.
 use Rattle.std.specs.Prelude.{ℕ, ◌-◌, ◌≤◌, List, All, length, map, take, drop}
 use Rattle.solution_text.specs.declared.run.Run.{Run}
 use Rattle.route_reader.specs.Solutions.{SolutionView, IsSolution}

@@ -1,3 +1,4 @@
+-- The centre of a cell lies in the cell's tile, and its numbers are small.
 use Rattle.std.specs.Prelude.{nat_abs, ◌≤ℤ◌, ◌-ℤ◌}
 use Rattle.std.proofs.Common.{◌≡◌, ℕ, ◌+◌, ◌-◌, ◌*◌, ◌/◌, ◌^◌, ◌<◌, ◌≤◌, Bool, true, ◌&&◌, nat_lt, nat_le, min, ℤ, pos, negsuc, Some, Ok, refl, ap, ◌∙◌, arith}
 use Rattle.std.specs.Option.{option_and_then}

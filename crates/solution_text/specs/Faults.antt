@@ -1,3 +1,4 @@
+-- The numbers of a solution's faults.
 use Rattle.std.specs.Prelude.{ℕ}
 use Rattle.solution_text.specs.declared.fault.SolutionFault.{SolutionFault}
 use Rattle.solution_text.specs.declared.fault.SolutionFault.TheVariants.{Ended, Form, Number, UnknownId, Name, RepeatedNet, Outside, Slanted, TooLong}
