@@ -15,17 +15,17 @@ use Rattle.ispd_reader.specs.declared.fault.DesignFault.TheVariants.{Number, Pin
 abbrev pub most_coordinate : ℕ
 most_coordinate = 2 ^ 44
 
--- a coordinate on the chip along one axis, as its tile
-unfoldable pub pin_tile : ℤ → ℕ → ℕ → Reader DesignFault ℕ
-pin_tile lower size tiles = do
-  at ← number ends Number (neg_ℤ (pos most_coordinate)) (pos most_coordinate)
-  given (tile_of lower size tiles at) PinOutside
+-- a coordinate of a pin
+unfoldable pub coordinate : Reader DesignFault ℤ
+coordinate = number ends Number (neg_ℤ (pos most_coordinate)) (pos most_coordinate)
 
 -- a pin, as the number of its cell
 unfoldable pub pin : Frame → Reader DesignFault ℕ
 pin frame = do
-  column ← pin_tile frame.lower_x frame.tile_width frame.shape.columns
-  row ← pin_tile frame.lower_y frame.tile_height frame.shape.rows
+  x ← coordinate
+  column ← given (tile_of frame.lower_x frame.tile_width frame.shape.columns x) PinOutside
+  y ← coordinate
+  row ← given (tile_of frame.lower_y frame.tile_height frame.shape.rows y) PinOutside
   layer ← layer_in frame.shape PinLayer
   pure (number_of frame.shape (record { x = column; y = row; layer = layer }))
 
