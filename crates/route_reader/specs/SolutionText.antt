@@ -24,7 +24,8 @@ is_between (Named name) = false
 is_between (First net) = false
 is_between (Within net) = false
 
--- behind the last token: a text may end between two records, but not within one; a text past its limit is too long wherever it stands
+-- behind the last token: a text may end between two records, but not within one; a text past its limit is too long
+-- wherever it stands
 abbrev pub end_of : Progress → (number : ℕ) → Ending → Said Progress
 end_of s number AtEnd = if is_between s.mode then Ok s else Err (Ended, number + 1)
 end_of s number PastLimit = Err (TooLong, number + 1)
@@ -32,7 +33,8 @@ end_of s number PastLimit = Err (TooLong, number + 1)
 -- the tokens, one by one, behind so many others
 abbrev pub records : DesignView → Progress → (number : ℕ) → List (List ℕ) → Ending → Said Progress
 records d s number [] ending = end_of s number ending
-records d s number (token ∷ rest) ending = go_on (step d s token) (number + 1) (λ progress. records d progress (number + 1) rest ending)
+records d s number (token ∷ rest) ending =
+    go_on (step d s token) (number + 1) (λ progress. records d progress (number + 1) rest ending)
 
 -- the runs that were found for a net, in the order of the text
 abbrev pub runs_of_net : List (ℕ × Run) → ℕ → List Run

@@ -15,7 +15,8 @@ use Rattle.route_reader.specs.declared.spot.Spot.{Spot}
 
 -- each number of a point is whole
 abbrev pub are_whole : Written → Bool
-are_whole point = is_some (whole_value point.x.now) && is_some (whole_value point.y.now) && is_some (whole_value point.layer.now)
+are_whole point =
+    is_some (whole_value point.x.now) && is_some (whole_value point.y.now) && is_some (whole_value point.layer.now)
 
 -- a coordinate in range
 abbrev pub coordinate : List ℕ → Option ℤ

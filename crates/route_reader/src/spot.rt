@@ -1,8 +1,7 @@
 //! The numbers of a segment, and the run that they name.
-ghost use Rattle.std.specs.Prelude.{◌≡◌, ◌-◌, ◌<◌, ◌≤◌, ◌≤ℤ◌, nat_lt, is_some, pos, IfOk, IfSome};
+ghost use Rattle.std.specs.Prelude.{◌≡◌, ◌-◌, ◌<◌, ◌≤◌, ◌≤ℤ◌, nat_lt, pos, IfOk, IfSome};
 ghost use Rattle.gr_base.specs.Limits.{most_id};
 ghost use Rattle.gr_base.specs.Grid.{IsInside};
-ghost use Rattle.gr_text.specs.Numbers.{is_digit, all_digits, decimal_value, whole_value};
 ghost use Rattle.solution_text.specs.Grammar.{is_straight, segment};
 ghost use Rattle.route_reader.specs.Segments.{run_of_ends};
 ghost use Rattle.route_reader.specs.Solutions.{IsRun};
@@ -10,7 +9,7 @@ ghost use Rattle.route_reader.specs.Spots.{are_whole, spot_in, place_of, run_of_
 
 use crate::segment::{Ends, Written, ends_of};
 use gr_base::{Cell, Design, Shape};
-use gr_text::whole_of;
+use gr_text::{is_whole, whole_of};
 use solution_text::{Run, SolutionFault};
 
 /// The greatest coordinate of a segment's end.
@@ -25,43 +24,6 @@ pub(crate) struct Spot {
     x: i64,
     y: i64,
     layer: u32,
-}
-
-fn is_digit(byte: u8) -> bool
-    ensures { result ≡ is_digit byte }
-{
-    b'0' <= byte && byte <= b'9'
-}
-
-fn all_digits(bytes: &[u8]) -> bool
-    ensures { result ≡ all_digits bytes.now }
-{
-    bytes.iter().all(|byte| is_digit(*byte))
-}
-
-/// Whether the bytes are decimal digits, at least one.
-#[tactic(auto, unfolding(gr_text::specs::Numbers::decimal_value))]
-fn are_digits(bytes: &[u8]) -> bool
-    ensures { result ≡ is_some (decimal_value bytes.now) }
-{
-    if bytes.is_empty() {
-        return false;
-    }
-    all_digits(bytes)
-}
-
-/// Whether the bytes write a whole number, of any size.
-fn is_whole(bytes: &[u8]) -> bool
-    ensures { result ≡ is_some (whole_value bytes.now) }
-{
-    let Some((first, rest)) = bytes.split_first() else {
-        return false;
-    };
-    if *first == b'-' {
-        are_digits(rest)
-    } else {
-        are_digits(bytes)
-    }
 }
 
 fn are_whole(point: Written<'_>) -> bool
