@@ -8,8 +8,6 @@ mod reader;
 mod reading;
 mod scan;
 mod source;
-#[cfg(test)]
-mod tests;
 mod text;
 mod tokens;
 

@@ -1,14 +1,38 @@
-ghost use Rattle.std.specs.Prelude.{IsTrue, IfOk};
-ghost use Rattle.gr_io.specs.Texts.{is_reached};
+//! Texts that are written: worked routes, numbers, and verdicts.
+ghost use Rattle.text_rows.specs.Rows.{WritesLongRoute, WritesNoEdge, WritesOneVia, CoversLongRoute};
 
-use crate::{report, unjoined};
+use crate::reached::{design, reached};
 use gr_base::Cells;
-use gr_io::{MemoryShelf, Shelf, Slot};
-use ispd_reader::read_design;
+use gr_io::Slot;
+use gr_text::Text;
+use report_text::{report, unjoined};
 use route_evaluator::{Verdict, evaluate};
 use route_reader::read_solution;
 use std::alloc::Global;
 use std::test::Fail;
+
+/// Does nothing. Its clauses are worked examples, shown by computing the definitions.
+fn worked_rows()
+    ensures long_route { WritesLongRoute }
+    ensures no_edge { WritesNoEdge }
+    ensures one_via { WritesOneVia }
+    ensures covers { CoversLongRoute }
+{}
+
+#[test]
+fn the_definitions_give_the_worked_rows(_rt: HostRuntime) {
+    worked_rows();
+}
+
+#[test]
+fn a_text_is_put_together(rt: HostRuntime) -> Result<(), Fail> {
+    let mut text = Text::new(rt.alloc());
+    text.put(b"wirelength ")?;
+    text.put_number(-12)?;
+    text.put_number(0)?;
+    assert_eq!(rt; text.bytes(), b"wirelength -120".as_slice());
+    Ok(())
+}
 
 /// Three by two tiles on two layers, and a net between two corners.
 const CORNERS: &str = "grid 3 2 2\nvertical capacity 0 4\nhorizontal capacity 4 0\n\
@@ -26,20 +50,10 @@ const CROWD: &str = "grid 2 1 1\nvertical capacity 0\nhorizontal capacity 2\n\
 
 const CROWDED: &str = "a 0\n(5,5,1)-(15,5,1)\n!\nb 1\n(5,5,1)-(15,5,1)\n!\n";
 
-/// A shelf on which this text was reached.
-fn reached(alloc: Global, slot: Slot, text: &str) -> Result<MemoryShelf, Fail>
-    ensures { IfOk result (λ shelf. IsTrue (is_reached shelf slot)) }
-{
-    let mut shelf = MemoryShelf::new(alloc, Vec::new(alloc));
-    shelf.hold(alloc, "text", text.as_bytes())?;
-    shelf.reach(alloc, slot, "text")?;
-    Ok(shelf)
-}
-
 /// What is told of a solution.
-fn told(alloc: Global, design: &str, solution: &str) -> Result<Vec<u8>, Fail> {
-    let design = read_design(alloc, &mut reached(alloc, Slot::Design, design)?)?;
-    let mut shelf = reached(alloc, Slot::Solution, solution)?;
+fn told(alloc: Global, text: &str, solution: &str) -> Result<Vec<u8>, Fail> {
+    let design = design(alloc, text)?;
+    let mut shelf = reached(alloc, Slot::Solution, solution.as_bytes(), 1_000, 0)?;
     let solution = read_solution(alloc, &mut shelf, &design)?;
     let verdict = evaluate(alloc, &design, &solution, 1)?;
     let mut text = Vec::from_slice(alloc, report(alloc, &verdict)?.bytes())?;

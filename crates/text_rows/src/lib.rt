@@ -1,0 +1,13 @@
+//! What is read of texts and what is written, shown on examples, as tests alone.
+#![tactic(auto)]
+
+#[cfg(test)]
+mod designs;
+#[cfg(test)]
+mod reached;
+#[cfg(test)]
+mod solutions;
+#[cfg(test)]
+mod texts;
+#[cfg(test)]
+mod tokens;
