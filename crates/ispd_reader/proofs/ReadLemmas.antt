@@ -2,13 +2,14 @@
 use Rattle.std.proofs.Common.{◌≡◌, ℕ, List, [], false, Result, Ok, Err, IsErr, IsErrAnd, sym, ap, subst, ◌∙◌}
 use Rattle.gr_io.specs.declared.shelf.Slot.{Slot}
 use Rattle.gr_io.specs.declared.shelf.Slot.TheVariants.{Design}
+use Rattle.gr_base.specs.Limits.{most_bytes}
 use Rattle.gr_base.specs.Designs.{DesignView}
 use Rattle.gr_text.specs.declared.source.ReadError.{ReadError}
 use Rattle.gr_text.specs.declared.source.ReadError.TheVariants.{Fault, Failed, NoMemory}
 use Rattle.gr_text.specs.Tokens.{Place}
 use Rattle.gr_text.specs.Streams.{Stream, new_stream, place_at}
 use Rattle.gr_text.specs.Reads.{OfPlace, Says}
-use Rattle.ispd_reader.specs.DesignText.{design, design_of, most_bytes, value_of}
+use Rattle.ispd_reader.specs.DesignText.{design, design_of, value_of}
 use Rattle.ispd_reader.specs.declared.fault.DesignFault.{DesignFault}
 
 says-ok : (stream : Stream) (left : Slot → List ℕ) (d : DesignView) (place : Place) → stream ≡ new_stream Design most_bytes →

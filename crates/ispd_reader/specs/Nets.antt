@@ -1,6 +1,6 @@
 -- The nets of a design text and their pins.
 use Rattle.std.specs.Prelude.{ℕ, ◌+◌, ◌-◌, ◌*◌, ◌^◌, ◌&&◌, nat_lt, nat_le, ℤ, pos, neg_ℤ, List, [], is_none, codes}
-use Rattle.gr_base.specs.Limits.{most_pins, most_id, most_width, most_nets}
+use Rattle.gr_base.specs.Limits.{most_pins, most_id, most_width, most_nets, most_coordinate}
 use Rattle.gr_base.specs.Grid.{number_of}
 use Rattle.gr_base.specs.Designs.{net_from, pins_of, tile_of}
 use Rattle.gr_base.specs.declared.frame.Frame.{Frame}
@@ -10,10 +10,6 @@ use Rattle.ispd_reader.specs.Faults.{ends}
 use Rattle.ispd_reader.specs.Steps.{natural, words, layer_in}
 use Rattle.ispd_reader.specs.declared.fault.DesignFault.{DesignFault}
 use Rattle.ispd_reader.specs.declared.fault.DesignFault.TheVariants.{Number, Pins, PinOutside, PinLayer, RepeatedId}
-
--- the greatest coordinate of a pin
-abbrev pub most_coordinate : ℕ
-most_coordinate = 2 ^ 44
 
 -- a coordinate of a pin
 unfoldable pub coordinate : Reader DesignFault ℤ

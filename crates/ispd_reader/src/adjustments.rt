@@ -8,15 +8,9 @@ ghost use Rattle.gr_base.specs.Designs.{IsAdjustment};
 ghost use Rattle.ispd_reader.specs.Adjustments.{tile, place, wire_between, adjustment, end, adjustment_count, counted_adjustments, adjustments};
 
 use crate::fault::DesignFault;
-use crate::steps::{ENDS, MOST_ID, given, layer_in, natural};
-use gr_base::{Adjustment, Design, Edge, Shape, Way};
+use crate::steps::{ENDS, given, layer_in, natural};
+use gr_base::{Adjustment, Design, Edge, MOST_ADJUSTMENTS, MOST_CAPACITY, MOST_ID, Shape, Way};
 use gr_text::{ReadError, TokenSource, check, next_token_or_end, whole_of};
-
-/// The most adjustments of a design.
-const MOST_ADJUSTMENTS: i64 = 16_777_216;
-
-/// The greatest capacity of an edge, in units of width.
-const MOST_CAPACITY: u32 = 1_000_000;
 
 /// Takes a column or a row, of so many.
 #[tactic(auto, unfolding(crate::specs::Adjustments::tile))]
@@ -88,7 +82,7 @@ fn adjustment_count<S: TokenSource>(source: &S) -> Result<u32, ReadError<DesignF
 {
     let count = given(
         source,
-        whole_of(source.word(), 0, MOST_ADJUSTMENTS),
+        whole_of(source.word(), 0, i64::from(MOST_ADJUSTMENTS)),
         DesignFault::Number,
     )?;
     Ok(count as u32)

@@ -8,26 +8,10 @@ ghost use Rattle.ispd_reader.specs.Header.{shape_of, grid, by_layer, stack_of, I
 
 use crate::fault::DesignFault;
 use crate::steps::{ENDS, given, natural, words};
-use gr_base::{Frame, Layer, Shape};
+use gr_base::{
+    Frame, Layer, MOST_CAPACITY, MOST_CELLS, MOST_LAYERS, MOST_LOWER, MOST_TILE, MOST_WIDTH, Shape,
+};
 use gr_text::{ReadError, TokenSource, check, number, word};
-
-/// The most columns, rows and cells of a grid.
-const MOST_CELLS: u32 = 8_388_608;
-
-/// The most layers of a grid.
-const MOST_LAYERS: u32 = 16;
-
-/// The greatest capacity of a layer, in units of width.
-const MOST_CAPACITY: u32 = 1_000_000;
-
-/// The greatest width or spacing.
-const MOST_WIDTH: u32 = 1_000;
-
-/// The greatest width or height of a tile.
-const MOST_TILE: u32 = 1_000_000;
-
-/// The greatest coordinate of the lower left corner.
-const MOST_LOWER: i64 = 1 << 40;
 
 /// What stands for a layer that the grid hasn't.
 const NO_LAYER: Layer = Layer {

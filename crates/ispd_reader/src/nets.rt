@@ -10,22 +10,12 @@ ghost use Rattle.ispd_reader.specs.Faults.{ends};
 ghost use Rattle.ispd_reader.specs.Nets.{coordinate, pin, net_id, pin_count, net, net_count, nets};
 
 use crate::fault::DesignFault;
-use crate::steps::{ENDS, MOST_ID, given, layer_in, natural, words};
-use gr_base::{Cells, Design, Name, Net};
+use crate::steps::{ENDS, given, layer_in, natural, words};
+use gr_base::{
+    Cells, Design, MOST_COORDINATE, MOST_ID, MOST_NETS, MOST_PINS, MOST_WIDTH, Name, Net,
+};
 use gr_text::{ReadError, TokenSource, check, next_token, number};
 use std::alloc::Global;
-
-/// The most nets of a design.
-const MOST_NETS: u32 = 4_194_304;
-
-/// The most pins of all nets together.
-const MOST_PINS: u32 = 16_777_216;
-
-/// The greatest width of a net, in units of width.
-const MOST_WIDTH: u32 = 1_000;
-
-/// The greatest coordinate of a pin.
-const MOST_COORDINATE: i64 = 1 << 44;
 
 /// Takes a coordinate of a pin.
 #[tactic(auto, unfolding(crate::specs::Nets::coordinate))]

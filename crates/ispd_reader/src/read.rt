@@ -9,13 +9,10 @@ use crate::adjustments::adjustments;
 use crate::fault::{DesignError, DesignFault};
 use crate::header::frame;
 use crate::nets::nets;
-use gr_base::Design;
+use gr_base::{Design, MOST_BYTES};
 use gr_io::{Shelf, Slot};
 use gr_text::{ReadError, TokenReader, TokenSource, Tokens};
 use std::alloc::Global;
-
-/// The most bytes of a text that are read.
-const MOST_BYTES: u64 = 2_147_483_648;
 
 /// Reads a whole design text.
 #[tactic(auto, unfolding(crate::specs::DesignText::design))]

@@ -5,16 +5,13 @@ ghost use Rattle.gr_text.specs.Reading.{given};
 ghost use Rattle.ispd_reader.specs.Steps.{natural, words, layer_in};
 
 use crate::fault::DesignFault;
-use gr_base::Shape;
+use gr_base::{MOST_ID, Shape};
 use gr_text::{Ends, ReadError, TokenSource, check, number, word};
 
 pub(crate) const ENDS: Ends<DesignFault> = Ends {
     ended: DesignFault::Ended,
     too_long: DesignFault::TooLong,
 };
-
-/// The greatest number that is read of an id, of a layer and of a column or row.
-pub(crate) const MOST_ID: u32 = 2_147_483_647;
 
 /// The value that the token in hand gives, or else this fault of that token.
 pub(crate) fn given<S: TokenSource, T>(

@@ -6,6 +6,7 @@ use Rattle.std.proofs.lemmas.Option.{slice_get-get_or, slice_get_past}
 use Rattle.std.proofs.lemmas.List.FromFn.{get_or-map-range_with_len, length-map-range_with_len}
 use Rattle.gr_base.specs.declared.grid.Edge.{Edge}
 use Rattle.gr_base.specs.declared.grid.Shape.{Shape}
+use Rattle.gr_base.specs.Limits.{most_bytes}
 use Rattle.gr_base.specs.Designs.{DesignView}
 use Rattle.gr_text.specs.declared.source.ReadError.{ReadError}
 use Rattle.gr_text.specs.Reads.{Says}
@@ -19,7 +20,7 @@ use Rattle.route_reader.proofs.PushLemmas.{found-other}
 use Rattle.route_reader.proofs.StepLemmas.{net_of-within}
 use Rattle.route_reader.specs.Gathered.{net_in}
 use Rattle.route_reader.specs.Solutions.{SolutionView, runs_at, edges_by}
-use Rattle.route_reader.specs.SolutionText.{Said, is_between, go_on, records, runs_of_net, solution_in, solution_from, solution_of, most_bytes}
+use Rattle.route_reader.specs.SolutionText.{Said, is_between, go_on, records, runs_of_net, solution_in, solution_from, solution_of}
 
 -- ---- what was found for a net
 

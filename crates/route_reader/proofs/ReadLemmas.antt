@@ -2,13 +2,14 @@
 use Rattle.std.proofs.Common.{◌≡◌, ℕ, List, Result, subst}
 use Rattle.gr_io.specs.declared.shelf.Slot.{Slot}
 use Rattle.gr_io.specs.declared.shelf.Slot.TheVariants as slot
+use Rattle.gr_base.specs.Limits.{most_bytes}
 use Rattle.gr_base.specs.Designs.{DesignView}
 use Rattle.gr_text.specs.declared.source.ReadError.{ReadError}
 use Rattle.gr_text.specs.Streams.{Stream, new_stream, place_at}
 use Rattle.solution_text.specs.declared.fault.SolutionFault.{SolutionFault}
 use Rattle.solution_text.specs.Grammar.{start}
 use Rattle.route_reader.specs.Solutions.{SolutionView}
-use Rattle.route_reader.specs.SolutionText.{Said, most_bytes, solution_at, solution_of}
+use Rattle.route_reader.specs.SolutionText.{Said, solution_at, solution_of}
 use Rattle.gr_text.specs.Reads.{Says}
 
 module _ (d : DesignView) (stream : Stream) (left : Slot → List ℕ) (is : stream ≡ new_stream slot.Solution most_bytes) where

@@ -1,6 +1,7 @@
 -- What the bytes of a text say for a design: a solution, or the first fault and the number of its token.
 use Rattle.std.specs.Prelude.{ℕ, ◌+◌, ◌==◌, Bool, true, false, List, [], ◌∷◌, length, map, Result, Ok, Err, if◌then◌else◌}
 use Rattle.std.specs.List.{filter, range_with_len}
+use Rattle.gr_base.specs.Limits.{most_bytes}
 use Rattle.gr_base.specs.Designs.{DesignView}
 use Rattle.gr_text.specs.Tokens.{Ending, AtEnd, PastLimit, Place, place_in}
 use Rattle.solution_text.specs.declared.run.Run.{Run}
@@ -51,10 +52,6 @@ solution_from d (Err fault) = Err fault
 -- what the tokens from a place on say
 abbrev pub solution_at : DesignView → Progress → Place → Said SolutionView
 solution_at d s place = solution_from d (records d s place.number place.rest place.ending)
-
--- the most bytes of a text that are read
-abbrev pub most_bytes : ℕ
-most_bytes = 2147483648
 
 -- what the bytes of a text say
 unfoldable pub solution_of : DesignView → List ℕ → Said SolutionView

@@ -9,13 +9,10 @@ ghost use Rattle.route_reader.specs.Gathered.{Fits, Flags, Gathers, Steps, net_i
 
 use crate::solution::Stretch;
 use crate::spot::segment;
-use gr_base::Design;
+use gr_base::{Design, MOST_ID};
 use gr_text::whole_of;
 use solution_text::{Run, SolutionFault};
 use std::alloc::{AllocError, Global};
-
-/// The greatest id of a net, and the greatest number behind an id.
-const MOST_ID: i64 = 2_147_483_647;
 
 /// Where the text stands in a record.
 #[derive(Clone, Copy)]
@@ -88,7 +85,7 @@ fn net_of(design: &Design, met: &[bool], name: &[u8], id: &[u8]) -> Result<u32, 
         result ≡ net_of design.now nets name.now id.now }
     ensures within { IfOk result (λ net. net < length design.now.nets) }
 {
-    let Some(id) = whole_of(id, 0, MOST_ID) else {
+    let Some(id) = whole_of(id, 0, i64::from(MOST_ID)) else {
         return Err(SolutionFault::Number);
     };
     let Some(net) = net_with_id(design, id as u32) else {
@@ -114,7 +111,7 @@ fn is_end(token: &[u8]) -> bool
 fn is_number(token: &[u8]) -> bool
     ensures { result ≡ is_number token.now }
 {
-    whole_of(token, 0, MOST_ID).is_some()
+    whole_of(token, 0, i64::from(MOST_ID)).is_some()
 }
 
 impl Gathering {

@@ -13,14 +13,11 @@ ghost use Rattle.route_reader.specs.Gathered.{Fits, Gathers, Takes, rest_says};
 
 use crate::gathering::{Gathering, Position, Refusal};
 use crate::solution::Solution;
-use gr_base::Design;
+use gr_base::{Design, MOST_BYTES};
 use gr_io::{Shelf, Slot};
 use gr_text::{Ends, ReadError, TokenReader, TokenSource, Tokens, next_token_or_end};
 use solution_text::SolutionFault;
 use std::alloc::Global;
-
-/// The most bytes of a text that are read.
-const MOST_BYTES: u64 = 2_147_483_648;
 
 /// Why no solution was read.
 pub type SolutionError = ReadError<SolutionFault>;

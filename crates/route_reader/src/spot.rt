@@ -8,15 +8,9 @@ ghost use Rattle.route_reader.specs.Solutions.{IsRun};
 ghost use Rattle.route_reader.specs.Spots.{are_whole, spot_in, place_of, run_of_spots, run_of_places};
 
 use crate::segment::{Ends, Written, ends_of};
-use gr_base::{Cell, Design, Shape};
+use gr_base::{Cell, Design, MOST_COORDINATE, MOST_ID, Shape};
 use gr_text::{is_whole, whole_of};
 use solution_text::{Run, SolutionFault};
-
-/// The greatest coordinate of a segment's end.
-const MOST_COORDINATE: i64 = 1 << 44;
-
-/// The greatest number that is read of a layer.
-const MOST_LAYER: i64 = 2_147_483_647;
 
 /// The end of a segment, in the units of the design. Layers count from 1.
 #[derive(Clone, Copy)]
@@ -38,7 +32,7 @@ fn spot_in(point: Written<'_>) -> Option<Spot>
 {
     let x = whole_of(point.x, -MOST_COORDINATE, MOST_COORDINATE)?;
     let y = whole_of(point.y, -MOST_COORDINATE, MOST_COORDINATE)?;
-    let layer = whole_of(point.layer, 0, MOST_LAYER)?;
+    let layer = whole_of(point.layer, 0, i64::from(MOST_ID))?;
     Some(Spot {
         x,
         y,

@@ -43,7 +43,12 @@ fn put_token(told: &mut Text, tokens: &Tokens) -> Result<(), Fail> {
 fn tokens_are_given_up_to_the_limit(rt: HostRuntime) -> Result<(), Fail> {
     for (text, piece, limit, tokens) in [
         ("\r\ngrid\t3", 2, 100, "1:grid 2:3 "),
-        ("grid 3 2 2", 3, 8, "1:grid 2:3 the text is too long, at token 3"),
+        (
+            "grid 3 2 2",
+            3,
+            8,
+            "1:grid 2:3 the text is too long, at token 3",
+        ),
         ("grid 3 2 2", 3, 10, "1:grid 2:3 3:2 4:2 "),
         (" \t", 1, 2, ""),
     ] {
