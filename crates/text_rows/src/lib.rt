@@ -4,7 +4,7 @@
 #[cfg(test)]
 mod designs;
 #[cfg(test)]
-mod reached;
+mod given;
 #[cfg(test)]
 mod solutions;
 #[cfg(test)]

@@ -1,13 +1,11 @@
 //! Solutions' texts: the runs that they say, and their first faults.
-ghost use Rattle.std.specs.Prelude.{IfOk};
-ghost use Rattle.route_reader.specs.Solutions.{IsOf};
+ghost use Rattle.std.specs.Prelude.{◌≡◌, length};
 
-use crate::reached::{design, reached};
-use gr_base::Design;
+use crate::given::{design, put_fault, reached};
 use gr_io::Slot;
+use gr_text::Text;
 use route_reader::{Solution, SolutionError, read_solution};
-use solution_text::Run;
-use std::alloc::Global;
+use std::alloc::{AllocError, Global};
 use std::test::Fail;
 
 /// Three by two tiles on two layers, and a net between two corners.
@@ -25,150 +23,126 @@ const TWO_NETS: &str = "grid 3 2 2\nvertical capacity 0 4\nhorizontal capacity 4
 const ROUTE: &str = "a 0 4\n(5,5,1)-(25,5,1)\n(15,5,1)-(25,5,1)\n(1,1,1)-(9,9,1)\n\
     (25,5,1)-(25,5,2)\n(25,5,2)-(25,15,2)\n(25,15,2)-(25,15,1)\n!\n";
 
-/// What is read of a text that comes byte by byte, from a shelf at which the call of
-/// this number fails.
-fn read(
-    alloc: Global,
-    design: &Design,
-    text: &str,
-    failing: u64,
-) -> Result<Result<Solution, SolutionError>, Fail>
-    ensures { IfOk result (λ read. IfOk read (IsOf design.now)) }
+/// Puts the runs of each net at the end of the text.
+fn put_runs(told: &mut Text, solution: &Solution, nets: u32) -> Result<(), AllocError>
+    requires { nets ≡ length solution.now.runs }
 {
+    for net in 0..nets {
+        for run in solution.runs(net) {
+            told.put_number(run.from)?;
+            told.put(b"-")?;
+            told.put_number(run.to)?;
+            told.put(b" ")?;
+        }
+        told.put(b"!")?;
+    }
+    Ok(())
+}
+
+/// What is read of a text that comes byte by byte, from a shelf at which the call of this number
+/// fails: the runs of each net, or the number of the fault and its token.
+fn told(alloc: Global, design_text: &str, text: &str, failing: u64) -> Result<Text, Fail> {
+    let design = design(alloc, design_text)?;
     let mut shelf = reached(alloc, Slot::Solution, text.as_bytes(), 1, failing)?;
-    Ok(read_solution(alloc, &mut shelf, design))
+    let mut told = Text::new(alloc);
+    match read_solution(alloc, &mut shelf, &design) {
+        Ok(solution) => put_runs(&mut told, &solution, design.nets()),
+        Err(SolutionError::Fault { fault, token }) => put_fault(&mut told, fault.number(), token),
+        Err(SolutionError::Failed) => told.put(b"failed"),
+        Err(SolutionError::NoMemory) => told.put(b"no memory"),
+    }?;
+    Ok(told)
 }
 
-/// The number of the fault that is told of a text, and its token.
-fn fault(alloc: Global, design: &Design, text: &str) -> Result<(u8, u64), Fail> {
-    match read(alloc, design, text, 0)? {
-        Err(SolutionError::Fault { fault, token }) => Ok((fault.number(), token)),
-        _ => Err("a fault is due".into()),
-    }
-}
-
-/// The runs between these pairs of cells.
-fn runs(alloc: Global, ends: &[(u32, u32)]) -> Result<Vec<Run>, Fail> {
-    let mut runs = Vec::new(alloc);
-    for (from, to) in ends {
-        runs.push(Run {
-            from: *from,
-            to: *to,
-        })?;
-    }
-    Ok(runs)
-}
-
-#[test]
-fn the_runs_of_a_route_are_read_in_order(rt: HostRuntime) -> Result<(), Fail> {
-    let alloc = rt.alloc();
-    let design = design(alloc, ONE_NET)?;
-    assert!(rt; design.nets() == 1);
-    let solution = read(alloc, &design, ROUTE, 0)??;
-    let whole = runs(alloc, &[(0, 2), (1, 2), (0, 0), (2, 8), (8, 11), (11, 5)])?;
-    assert_eq!(rt; solution.runs(0), whole.as_slice());
+/// Designs, texts, and the runs of each net.
+const READ: [(&str, &str, &str); 6] = [
+    (ONE_NET, ROUTE, "0-2 1-2 0-0 2-8 8-11 11-5 !"),
     // Without its sixth segment the second pin isn't joined, which is no fault of the text.
-    let text = ROUTE.replace(alloc, "(25,15,2)-(25,15,1)\n", "")?;
-    let solution = read(alloc, &design, &text, 0)??;
-    let part = runs(alloc, &[(0, 2), (1, 2), (0, 0), (2, 8), (8, 11)])?;
-    assert_eq!(rt; solution.runs(0), part.as_slice());
-    Ok(())
-}
+    (
+        ONE_NET,
+        "a 0 4 (5,5,1)-(25,5,1) (25,5,1)-(25,5,2) (25,5,2)-(25,15,2) !",
+        "0-2 2-8 8-11 !",
+    ),
+    (TWO_NETS, "", "!!"),
+    (TWO_NETS, " \r\n\t", "!!"),
+    (TWO_NETS, "b 7 -0 (5,5,1)-(5,15,1) !\ta 0 !", "!0-3 !"),
+    (TWO_NETS, "b 7 ! a 00 000 (05,-0,0001)-(0,20,1) !", "0-3 !!"),
+];
 
 #[test]
-fn nets_come_in_any_order_or_not_at_all(rt: HostRuntime) -> Result<(), Fail> {
-    let alloc = rt.alloc();
-    let design = design(alloc, TWO_NETS)?;
-    assert!(rt; design.nets() == 2);
-    let one = runs(alloc, &[(0, 3)])?;
-    // A text, and whether it has a run of the first net and of the second.
-    for (text, first, second) in [
-        ("", false, false),
-        (" \r\n\t", false, false),
-        ("b 7 -0 (5,5,1)-(5,15,1) !\ta 0 !", false, true),
-        ("b 7 ! a 00 000 (05,-0,0001)-(0,20,1) !", true, false),
-    ] {
-        let solution = read(alloc, &design, text, 0)??;
-        assert_eq!(rt; solution.runs(0) == one.as_slice(), first, "{text}");
-        assert_eq!(rt; solution.runs(0).is_empty(), !first, "{text}");
-        assert_eq!(rt; solution.runs(1) == one.as_slice(), second, "{text}");
-        assert_eq!(rt; solution.runs(1).is_empty(), !second, "{text}");
+fn runs_are_read_in_order(rt: HostRuntime) -> Result<(), Fail> {
+    for (design, text, runs) in READ {
+        let told = told(rt.alloc(), design, text, 0)?;
+        assert_eq!(rt; told.bytes(), runs.as_bytes(), "{text}");
     }
     Ok(())
 }
+
+/// Texts, the numbers of their faults, and the tokens at fault.
+const FAULTS: [(&str, &str); 19] = [
+    ("a", "1 at 2"),
+    ("a 0", "1 at 3"),
+    ("a 0 4", "1 at 4"),
+    ("a 0 (5,5,1)-(25,5,1)", "1 at 4"),
+    ("a 0 ! a", "1 at 5"),
+    ("a x !", "3 at 2"),
+    ("a -1 !", "3 at 2"),
+    ("a 2147483648 !", "3 at 2"),
+    ("a 7 a 0 4", "4 at 2"),
+    ("b 0 !", "5 at 2"),
+    ("ab 0 !", "5 at 2"),
+    ("a 0 ! a 0 !", "6 at 5"),
+    ("a 0 ! a 7 !", "4 at 5"),
+    ("a 0 x !", "2 at 3"),
+    ("a 0 -1 !", "2 at 3"),
+    ("a 0 2147483648 !", "2 at 3"),
+    ("a 0 4 4 !", "2 at 4"),
+    ("a 0 (5,5,1)-(25,5,1) 4 !", "2 at 4"),
+    ("a 0 4 !!", "2 at 4"),
+];
+
+/// Segments at fault, which are checked in the order of the numbers.
+const SEGMENTS: [(&str, &str); 22] = [
+    ("a 0 4 (5,5,1)(25,5,1) x", "2 at 4"),
+    ("a 0 4 (5,5,1)--(25,5,1) x", "2 at 4"),
+    ("a 0 4 (5,5,1)-(25,5,1)x x", "2 at 4"),
+    ("a 0 4 x(5,5,1)-(25,5,1) x", "2 at 4"),
+    ("a 0 4 (5,5)-(25,5) x", "2 at 4"),
+    ("a 0 4 (5,5,1)-(25,5,1 x", "2 at 4"),
+    ("a 0 4 (5,5,1),(25,5,1) x", "2 at 4"),
+    ("a 0 4 (5,,1)-(25,5,1) x", "2 at 4"),
+    ("a 0 4 (99999999999999999999,5,1)-(31,5,+1) x", "2 at 4"),
+    ("a 0 4 (31,5,1)-(5,5,99999999999999999999) x", "3 at 4"),
+    ("a 0 4 (17592186044417,5,1)-(5,5,1) x", "3 at 4"),
+    ("a 0 4 (5,5,1)-(5,-17592186044417,1) x", "3 at 4"),
+    ("a 0 4 (5,5,-1)-(5,5,1) x", "3 at 4"),
+    ("a 0 4 (5,5,1)-(5,5,2147483648) x", "3 at 4"),
+    ("a 0 4 (31,5,1)-(5,15,1) x", "7 at 4"),
+    ("a 0 4 (5,5,1)-(5,21,1) x", "7 at 4"),
+    ("a 0 4 (17592186044416,5,1)-(5,5,1) x", "7 at 4"),
+    ("a 0 4 (5,5,0)-(5,5,1) x", "7 at 4"),
+    ("a 0 4 (5,5,1)-(5,5,3) x", "7 at 4"),
+    ("a 0 4 (5,5,1)-(25,15,1) x", "8 at 4"),
+    ("a 0 4 (5,5,1)-(25,5,2) x", "8 at 4"),
+    ("a 0 4 (5,5,1)-(5,15,2) x", "8 at 4"),
+];
 
 #[test]
 fn the_first_fault_is_told(rt: HostRuntime) -> Result<(), Fail> {
-    let alloc = rt.alloc();
-    let design = design(alloc, ONE_NET)?;
-    // A text, the number of its fault, and its token.
-    for (text, number, token) in [
-        ("a", 1, 2),
-        ("a 0", 1, 3),
-        ("a 0 4", 1, 4),
-        ("a 0 (5,5,1)-(25,5,1)", 1, 4),
-        ("a 0 ! a", 1, 5),
-        ("a x !", 3, 2),
-        ("a -1 !", 3, 2),
-        ("a 2147483648 !", 3, 2),
-        ("a 7 a 0 4", 4, 2),
-        ("b 0 !", 5, 2),
-        ("ab 0 !", 5, 2),
-        ("a 0 ! a 0 !", 6, 5),
-        ("a 0 ! a 7 !", 4, 5),
-        ("a 0 x !", 2, 3),
-        ("a 0 -1 !", 2, 3),
-        ("a 0 2147483648 !", 2, 3),
-        ("a 0 4 4 !", 2, 4),
-        ("a 0 (5,5,1)-(25,5,1) 4 !", 2, 4),
-        ("a 0 4 !!", 2, 4),
-    ] {
-        assert_eq!(rt; fault(alloc, &design, text)?, (number, token), "{text}");
-    }
-    Ok(())
-}
-
-#[test]
-fn a_segment_is_checked_in_order(rt: HostRuntime) -> Result<(), Fail> {
-    let alloc = rt.alloc();
-    let design = design(alloc, ONE_NET)?;
-    for (segment, number) in [
-        ("(5,5,1)(25,5,1)", 2),
-        ("(5,5,1)--(25,5,1)", 2),
-        ("(5,5,1)-(25,5,1)x", 2),
-        ("x(5,5,1)-(25,5,1)", 2),
-        ("(5,5)-(25,5)", 2),
-        ("(5,5,1)-(25,5,1", 2),
-        ("(5,5,1),(25,5,1)", 2),
-        ("(5,,1)-(25,5,1)", 2),
-        ("(99999999999999999999,5,1)-(31,5,+1)", 2),
-        ("(31,5,1)-(5,5,99999999999999999999)", 3),
-        ("(17592186044417,5,1)-(5,5,1)", 3),
-        ("(5,5,1)-(5,-17592186044417,1)", 3),
-        ("(5,5,-1)-(5,5,1)", 3),
-        ("(5,5,1)-(5,5,2147483648)", 3),
-        ("(31,5,1)-(5,15,1)", 7),
-        ("(5,5,1)-(5,21,1)", 7),
-        ("(17592186044416,5,1)-(5,5,1)", 7),
-        ("(5,5,0)-(5,5,1)", 7),
-        ("(5,5,1)-(5,5,3)", 7),
-        ("(5,5,1)-(25,15,1)", 8),
-        ("(5,5,1)-(25,5,2)", 8),
-        ("(5,5,1)-(5,15,2)", 8),
-    ] {
-        let text = format!(in alloc; "a 0 4 {segment} x")?;
-        assert_eq!(rt; fault(alloc, &design, &text)?, (number, 4), "{segment}");
+    for table in [FAULTS.as_slice(), SEGMENTS.as_slice()] {
+        for (text, fault) in table {
+            let told = told(rt.alloc(), ONE_NET, text, 0)?;
+            assert_eq!(rt; told.bytes(), fault.as_bytes(), "{text}");
+        }
     }
     Ok(())
 }
 
 #[test]
 fn a_failed_read_is_told(rt: HostRuntime) -> Result<(), Fail> {
-    let alloc = rt.alloc();
-    let design = design(alloc, ONE_NET)?;
     for call in [2, 3, 20] {
-        let answer = read(alloc, &design, ROUTE, call)?;
-        assert_eq!(rt; answer.err(), Some(SolutionError::Failed), "call {call}");
+        let told = told(rt.alloc(), ONE_NET, ROUTE, call)?;
+        assert_eq!(rt; told.bytes(), b"failed".as_slice(), "call {call}");
     }
     Ok(())
 }

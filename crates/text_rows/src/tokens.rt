@@ -1,7 +1,7 @@
 //! Tokens, the words and numbers that are read of them, and how far a text is read ahead.
 ghost use Rattle.std.specs.Prelude.{◌<◌, IsTrue};
 
-use crate::reached::reached;
+use crate::given::reached;
 use gr_io::{Shelf, Slot};
 use gr_text::{
     Ends, ReadError, Text, TokenReader, Tokens, natural_of, next_token_or_end, number, whole_of,
@@ -39,19 +39,23 @@ fn put_token(told: &mut Text, tokens: &Tokens) -> Result<(), Fail> {
     Ok(())
 }
 
+/// Texts, how many bytes come at once, the most bytes that are read, and the tokens.
+const TOKENS: [(&str, u32, u64, &str); 4] = [
+    ("\r\ngrid\t3", 2, 100, "1:grid 2:3 "),
+    (
+        "grid 3 2 2",
+        3,
+        8,
+        "1:grid 2:3 the text is too long, at token 3",
+    ),
+    ("grid 3 2 2", 3, 10, "1:grid 2:3 3:2 4:2 "),
+    (" \t", 1, 2, ""),
+];
+
 #[test]
 fn tokens_are_given_up_to_the_limit(rt: HostRuntime) -> Result<(), Fail> {
-    for (text, piece, limit, tokens) in [
-        ("\r\ngrid\t3", 2, 100, "1:grid 2:3 "),
-        (
-            "grid 3 2 2",
-            3,
-            8,
-            "1:grid 2:3 the text is too long, at token 3",
-        ),
-        ("grid 3 2 2", 3, 10, "1:grid 2:3 3:2 4:2 "),
-        (" \t", 1, 2, ""),
-    ] {
+    for (text, piece, limit, tokens) in TOKENS {
+        assert!(rt; piece > 0);
         let told = told(rt.alloc(), text.as_bytes(), piece, limit)?;
         assert_eq!(rt; told.bytes(), tokens.as_bytes());
     }
@@ -97,33 +101,39 @@ fn little_is_read_ahead(rt: HostRuntime) -> Result<(), Fail> {
     Ok(())
 }
 
+/// Texts, ranges, and the numbers that the texts write.
+const WHOLE: [(&str, i64, i64, Option<i64>); 9] = [
+    ("12", 0, 12, Some(12)),
+    ("12", 0, 11, None),
+    ("-007", -7, 0, Some(-7)),
+    ("-0", 0, 0, Some(0)),
+    ("+1", 0, 9, None),
+    ("-", -9, 9, None),
+    ("", -9, 9, None),
+    ("99999999999999999999", 0, i64::MAX, None),
+    ("-9223372036854775808", i64::MIN, 0, Some(i64::MIN)),
+];
+
 #[test]
 fn whole_numbers_in_a_range(rt: HostRuntime) {
-    for (text, low, high, value) in [
-        ("12", 0, 12, Some(12)),
-        ("12", 0, 11, None),
-        ("-007", -7, 0, Some(-7)),
-        ("-0", 0, 0, Some(0)),
-        ("+1", 0, 9, None),
-        ("-", -9, 9, None),
-        ("", -9, 9, None),
-        ("99999999999999999999", 0, i64::MAX, None),
-        ("-9223372036854775808", i64::MIN, 0, Some(i64::MIN)),
-    ] {
+    for (text, low, high, value) in WHOLE {
         assert_eq!(rt; whole_of(text.as_bytes(), low, high), value, "{text}");
     }
 }
 
+/// Texts, and the numbers up to 64 that they write in at most 20 digits.
+const NATURALS: [(&str, Option<u32>); 6] = [
+    ("64", Some(64)),
+    ("65", None),
+    ("00000000000000000064", Some(64)),
+    ("000000000000000000064", None),
+    ("", None),
+    ("-1", None),
+];
+
 #[test]
 fn naturals_of_few_digits(rt: HostRuntime) {
-    for (text, value) in [
-        ("64", Some(64)),
-        ("65", None),
-        ("00000000000000000064", Some(64)),
-        ("000000000000000000064", None),
-        ("", None),
-        ("-1", None),
-    ] {
+    for (text, value) in NATURALS {
         assert_eq!(rt; natural_of(text.as_bytes(), 20, 64), value, "{text}");
     }
 }
