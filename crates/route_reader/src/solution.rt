@@ -22,15 +22,18 @@ pub struct Solution {
 }
 
 impl Model for Solution {
+    ghost use Rattle.std.specs.Prelude.{map};
     ghost use Rattle.route_reader.specs.Solutions.{SolutionView};
+    ghost use Rattle.route_reader.specs.SolutionStore.{runs_between, Keeps};
 
     ghost Value = { SolutionView };
 
-    ghost use Rattle.route_reader.specs.SolutionStore.{seen, Keeps};
+    ghost view = { λ s. record {
+      shape = s.shape;
+      runs = map (runs_between s.runs.items) s.stretches.items;
+    } };
 
-    ghost view = { seen };
-
-    ghost invariant = { Keeps };
+    ghost invariant = { λ s. Keeps s.shape s.runs.items s.stretches.items };
 }
 
 impl Solution {

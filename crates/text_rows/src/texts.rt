@@ -57,7 +57,7 @@ fn the_greatest_numbers_are_told(rt: HostRuntime) -> Result<(), Fail> {
 }
 
 #[test]
-fn apart_are_told(rt: HostRuntime) -> Result<(), Fail> {
+fn nets_apart_are_told(rt: HostRuntime) -> Result<(), Fail> {
     let alloc = rt.alloc();
     let design = design(alloc, TWO_NETS)?;
     assert!(rt; design.nets() == 2);

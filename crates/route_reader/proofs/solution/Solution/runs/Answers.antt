@@ -14,5 +14,5 @@ returns-clause-each c =
     (subst (λ (s : SolutionView). c.args.net < length s.runs) (sym c.self.view_is) c.requires) in
     let runs : All (IsRun c.self.inside.shape) (runs_between c.deref.result.now c.index-stretch.result.now) =
     subst (λ (runs : List Run). All (IsRun c.self.inside.shape) (runs_between runs c.index-stretch.result.now)) (sym c.deref.ensures.value)
-    (runs-of-net c.self.inside.shape c.self.inside.runs.items stretches c.args.net c.index-stretch.result.now c.self.invariant.runs inside c.index-stretch.ensures) in
+    (runs-of-net c.self.inside.shape c.self.inside.runs.items stretches c.args.net c.index-stretch.result.now c.self.invariant.each inside c.index-stretch.ensures) in
     subst (λ (s : SolutionView). All (IsRun s.shape) (runs_between c.deref.result.now c.index-stretch.result.now)) c.self.view_is runs
