@@ -1,4 +1,4 @@
-use Rattle.std.proofs.Common.{◌≡◌, ℕ, ◌+◌, ◌-◌, List, [], ◌++◌, length, IsTrue}
+use Rattle.std.proofs.Common.{◌≡◌, ◌+◌, ◌-◌, [], ◌++◌, length, IsTrue}
 use Rattle.gr_io.specs.Shelves.{KeepsShelf}
 use Rattle.gr_text.specs.Steps.{Skips}
 use Rattle.gr_text.proofs.tokens.Tokens.seek.Given as goal

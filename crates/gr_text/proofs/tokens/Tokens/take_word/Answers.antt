@@ -1,4 +1,4 @@
-use Rattle.std.proofs.Common.{◌≡◌, ap, ◌∙◌, refl, sym, true, false, Ok, Err}
+use Rattle.std.proofs.Common.{◌≡◌, ap, ◌∙◌, true, false, Ok}
 use Rattle.std.proofs.lemmas.Result.{err_from_is_err_and}
 use Rattle.gr_io.proofs.ShelfLemmas.{keeps-then}
 use Rattle.gr_text.specs.Streams.{Stream}

@@ -1,4 +1,4 @@
-use Rattle.std.proofs.Common.{◌≡◌, ℕ, ◌+◌, ◌-◌, ◌<◌, true, List, [], ◌++◌, length, IsTrue}
+use Rattle.std.proofs.Common.{◌≡◌, ◌+◌, ◌-◌, ◌<◌, ◌++◌, length, IsTrue}
 use Rattle.std.specs.List.{position_or_len}
 use Rattle.gr_io.specs.Shelves.{KeepsShelf}
 use Rattle.gr_text.specs.Tokens.{is_blank}
