@@ -4,6 +4,8 @@
 #[cfg(test)]
 mod designs;
 #[cfg(test)]
+mod devices;
+#[cfg(test)]
 mod given;
 #[cfg(test)]
 mod solutions;
