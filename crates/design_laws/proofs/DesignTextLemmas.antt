@@ -1,9 +1,11 @@
+-- A whole design text and its tokens.
 use Rattle.std.proofs.Common.{◌≡◌, ℕ, ◌-◌, ◌≤◌, nat_le, true, List, length, Ok, Err, refl, sym, ap, ◌∙◌, arith}
 use Rattle.std.proofs.lemmas.Bool.Decides.{nat_tests}
+use Rattle.gr_base.specs.Limits.{most_bytes}
 use Rattle.gr_base.specs.Designs.{DesignView}
 use Rattle.gr_text.specs.Tokens.{tokens, Place, AtEnd, place_in}
 use Rattle.gr_text.specs.Reading.{Read}
-use Rattle.ispd_reader.specs.DesignText.{design, design_of, most_bytes, value_of}
+use Rattle.ispd_reader.specs.DesignText.{design, design_of, value_of}
 use Rattle.design_laws.specs.EarlyFaults.{FaultsAreDecidedEarly, DesignOrFault}
 use Rattle.ispd_reader.specs.declared.fault.DesignFault.{DesignFault}
 use Rattle.design_laws.proofs.EarlyLemmas.{Agree}

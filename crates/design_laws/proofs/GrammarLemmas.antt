@@ -1,5 +1,5 @@
 -- Each part of the design's grammar depends on the tokens that are read for it.
-use Rattle.std.proofs.Common.{ℕ, ℤ, List, [], Some, is_none}
+use Rattle.std.proofs.Common.{ℕ, List, [], Some, is_none}
 use Rattle.gr_base.specs.declared.frame.Frame.{Frame}
 use Rattle.gr_base.specs.declared.frame.Net.{Net}
 use Rattle.gr_base.specs.declared.grid.Shape.{Shape}
@@ -7,7 +7,7 @@ use Rattle.gr_text.specs.Reading.{check}
 use Rattle.ispd_reader.specs.Faults.{ends}
 use Rattle.ispd_reader.specs.Steps.{natural, words, layer_in}
 use Rattle.ispd_reader.specs.Header.{grid, by_layer, capacities, measures, layers, corner, tile_size, frame}
-use Rattle.ispd_reader.specs.Nets.{pin_tile, pin, net_id, pin_count, net, net_count, nets}
+use Rattle.ispd_reader.specs.Nets.{coordinate, pin, net_id, pin_count, net, net_count, nets}
 use Rattle.ispd_reader.specs.Adjustments.{tile, place, adjustment, end, adjustment_count, counted_adjustments, adjustments, adjustments_from}
 use Rattle.ispd_reader.specs.DesignText.{design}
 use Rattle.ispd_reader.specs.declared.fault.DesignFault.{DesignFault}
@@ -65,14 +65,16 @@ IsCausal-frame =
     IsCausal-bind _ _ IsCausal-grid (λ shape. IsCausal-bind _ _ (IsCausal-layers _) (λ layers. IsCausal-bind _ _ IsCausal-corner (λ lower_x. IsCausal-bind _ _ IsCausal-corner
     (λ lower_y. IsCausal-bind _ _ IsCausal-tile_size (λ tile_width. IsCausal-bind _ _ IsCausal-tile_size (λ tile_height. IsCausal-pure _))))))
 
-IsCausal-pin_tile : (lower : ℤ) (size tiles : ℕ) → IsCausal (pin_tile lower size tiles)
-unfolding pin_tile
-IsCausal-pin_tile lower size tiles = IsCausal-bind _ _ (IsCausal-number _ _ _ _) (λ at. IsCausal-given _ _)
+IsCausal-coordinate : IsCausal coordinate
+unfolding coordinate
+IsCausal-coordinate = IsCausal-number _ _ _ _
 
 IsCausal-pin : (f : Frame) → IsCausal (pin f)
 unfolding pin
 IsCausal-pin f =
-    IsCausal-bind _ _ (IsCausal-pin_tile _ _ _) (λ column. IsCausal-bind _ _ (IsCausal-pin_tile _ _ _) (λ row. IsCausal-bind _ _ (IsCausal-layer_in _ _) (λ layer. IsCausal-pure _)))
+    IsCausal-bind _ _ IsCausal-coordinate (λ x. IsCausal-bind _ _ (IsCausal-given _ _) (λ column.
+    IsCausal-bind _ _ IsCausal-coordinate (λ y. IsCausal-bind _ _ (IsCausal-given _ _) (λ row.
+    IsCausal-bind _ _ (IsCausal-layer_in _ _) (λ layer. IsCausal-pure _)))))
 
 IsCausal-net_id : (found : List Net) → IsCausal (net_id found)
 unfolding net_id

@@ -1,3 +1,4 @@
+-- The bytes that a shelf over memory holds under a name.
 use Rattle.std.proofs.Common.{◌≡◌, ℕ, ◌<◌, ◌≤◌, Bool, List, [], Option, Some, None, ⊎_elim, ap, arith, bytes_eq, cond, get_or, is_some, length, nat_lt, option_map, refl, sym, subst, ◌∙◌}
 use Rattle.std.specs.List.{find, position, position_or_len, slice_get}
 use Rattle.std.proofs.lemmas.Bool.{cases_lt, lt-ltb, le-ltb}

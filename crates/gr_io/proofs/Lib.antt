@@ -4,3 +4,4 @@ pub mod ReadLemmas
 pub mod SlotLemmas
 pub mod SureLemmas
 pub mod Standing
+pub mod ShelfLemmas

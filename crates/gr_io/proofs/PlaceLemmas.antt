@@ -1,3 +1,4 @@
+-- A shelf over memory, seen through its texts and places.
 use Rattle.std.proofs.Common.{◌≡◌, ℕ, ◌+◌, ◌<◌, ◌≤◌, List, [], ◌∷◌, ◌++◌, Option, Some, None, Ok, Err, false, min, arith, ap, sym, drop, length, refl, subst, unwrap_or, ◌∙◌}
 use Rattle.std.proofs.lemmas.List.{drop-drop, get_or_append_left, length_push}
 use Rattle.gr_io.specs.Places.{left_of, IsPlace, ArePlaces}

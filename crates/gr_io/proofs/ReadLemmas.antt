@@ -1,3 +1,4 @@
+-- How far a read goes in a text.
 use Rattle.std.proofs.Common.{◌≡◌, ℕ, ◌+◌, ◌<◌, ◌≤◌, ◌↔◌, List, [], ◌++◌, ap, arith, drop, length, length-drop, min, sym, take, ◌∙◌}
 use Rattle.std.proofs.lemmas.List.{drop-drop, nil_from_length, take-append-drop}
 

@@ -1,3 +1,4 @@
+-- What stands at a slot after a change of one.
 use Rattle.std.proofs.Common.{◌≡◌, refl}
 use Rattle.gr_io.specs.Slots.{at_slot, set_slot, map_slots, zip_slots}
 use Rattle.gr_io.specs.declared.shelf.Slot.{Slot}

@@ -1,3 +1,4 @@
+-- How far the bytes of a text are written.
 use Rattle.std.proofs.Common.{◌≡◌, ◌+◌, ◌<◌, Bool, ℕ, List, [], ◌++◌, ◌-◌, length, take, drop, IsTrue, refl, sym, ap, ◌∙◌, append_assoc, arith, length-append}
 use Rattle.std.proofs.lemmas.List.{append-nil, take-append-drop, take_rest}
 use Rattle.gr_io.specs.Parts.{AppendsPart}

@@ -1,3 +1,4 @@
+-- A shelf that never fails, seen through its places.
 use Rattle.std.proofs.Common.{◌≡◌, ℕ, List, [], Option, Some, ap, drop, subst, sym, unwrap_or, ◌∙◌}
 use Rattle.gr_io.specs.Slots.{at_slot, set_slot, zip_slots}
 use Rattle.gr_io.specs.Sure.{SureTexts, AreWithin, IsWithin, rest_from, rest_of}

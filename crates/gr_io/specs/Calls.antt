@@ -1,3 +1,4 @@
+-- The calls of a device over memory: how many there were, which are to fail, and how many failed.
 use Rattle.std.specs.Prelude.{ℕ, Bool, List, ◌==◌, if◌then◌else◌}
 use Rattle.std.specs.List.{list_any}
 use Rattle.gr_io.specs.Counts.{one_more}

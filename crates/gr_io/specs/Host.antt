@@ -1,3 +1,4 @@
+-- What is seen of a shelf of files.
 use Rattle.std.specs.Prelude.{ℕ, Bool, true, false}
 use Rattle.gr_io.specs.Slots.{set_slot}
 use Rattle.gr_io.specs.declared.shelf.Slot.{Slot}

@@ -5,6 +5,7 @@ pub mod Host
 pub mod Memory
 pub mod Parts
 pub mod Places
+pub mod Shelves
 pub mod Slots
 pub mod Sure
 pub mod Texts

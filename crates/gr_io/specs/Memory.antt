@@ -1,3 +1,4 @@
+-- What is seen of a sink over memory, and what a write does to it.
 use Rattle.std.specs.Prelude.{ℕ, Bool, List, [], ◌-◌, ◌++◌, if◌then◌else◌, length, min, nat_eq, take}
 use Rattle.gr_io.specs.Calls.{CallLog, no_calls, next_fails, after_call, with_fault}
 

@@ -1,3 +1,4 @@
+-- A first part of a text behind other bytes.
 use Rattle.std.specs.Prelude.{◌≡◌, ℕ, List, ◌++◌}
 
 -- to the old bytes came a first part of a text, and no more

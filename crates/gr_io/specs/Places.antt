@@ -1,3 +1,4 @@
+-- The places in the texts of a shelf over memory.
 use Rattle.std.specs.Prelude.{ℕ, ◌<◌, ◌≤◌, ⊤, List, Option, Some, None, drop, length}
 use Rattle.gr_io.specs.Slots.{at_slot}
 use Rattle.gr_io.specs.Texts.{HeldText, bytes_at}

@@ -1,3 +1,4 @@
+-- Values by slot.
 use Rattle.gr_io.specs.declared.shelf.Slot.{Slot}
 use Rattle.gr_io.specs.declared.shelf.Slot.TheVariants.{Design, Library, Solution}
 use Rattle.gr_io.specs.declared.slots.Slots.{Slots}

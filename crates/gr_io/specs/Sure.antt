@@ -1,3 +1,4 @@
+-- What is seen of a shelf that never fails, and what its calls do to it.
 use Rattle.std.specs.Prelude.{ℕ, ◌≤◌, Bool, ⊤, List, [], Option, Some, None, drop, is_some, length, min, unwrap_or}
 use Rattle.gr_io.specs.Slots.{at_slot, set_slot}
 use Rattle.gr_io.specs.declared.shelf.Slot.{Slot}
@@ -14,6 +15,10 @@ whole_texts design library solution = record {
   texts = record { design = design; library = library; solution = solution };
   left = record { design = None; library = None; solution = None };
 }
+
+-- a slot's text is held under every name
+abbrev pub text_at : SureTexts → Slot → List ℕ → Option (List ℕ)
+text_at shelf slot name = Some (at_slot shelf.texts slot)
 
 -- whether the slot is open
 abbrev pub is_opened : SureTexts → Slot → Bool

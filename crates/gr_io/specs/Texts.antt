@@ -1,3 +1,4 @@
+-- What is seen of a shelf over memory, and what its calls do to it.
 use Rattle.std.specs.Prelude.{ℕ, ◌-◌, ◌^◌, Bool, List, [], Option, Some, None, Result, Ok, Err, if◌then◌else◌, bytes_eq, drop, find, is_some, length, min, option_map, slice_index_or, unwrap_or}
 use Rattle.gr_io.specs.Calls.{CallLog, no_calls, next_fails, after_call}
 use Rattle.gr_io.specs.Counts.{one_more}
@@ -38,6 +39,10 @@ bytes_at texts number = (slice_index_or texts number (record { name = []; bytes 
 -- the bytes under a name
 abbrev pub held_in : List HeldText → List ℕ → Option (List ℕ)
 held_in texts name = option_map (λ t. t.bytes) (find (λ t. bytes_eq t.name name) texts)
+
+-- each slot finds the same bytes under a name
+abbrev pub held_at : MemoryTexts → Slot → List ℕ → Option (List ℕ)
+held_at shelf slot name = held_in shelf.texts name
 
 -- whether a text is open in the slot
 abbrev pub is_reached : MemoryTexts → Slot → Bool

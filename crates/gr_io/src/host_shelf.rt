@@ -1,6 +1,7 @@
 ghost use Rattle.std.specs.Prelude.{◌≡◌, ℕ, ◌<◌, ◌≤◌, Bool, false, List, [], None, length, IsTrue, OnOk, OnErr, IfOk};
 ghost use Rattle.gr_io.specs.Counts.{Rose, one_more};
 ghost use Rattle.gr_io.specs.Host.{no_files, with_file};
+ghost use Rattle.gr_io.specs.Shelves.{StaysOpen};
 ghost use Rattle.gr_io.specs.Slots.{at_slot};
 ghost use Rattle.gr_io.specs.declared.shelf.Slot.{Slot};
 
@@ -106,7 +107,7 @@ impl<R: Files> Shelf for HostShelf<R> {
         ensures quiet { OnOk result (self.new.faults ≡ self.old.faults) }
         ensures faults_kept { self.old.faults ≤ self.new.faults }
         ensures misses { self.new.misses ≡ self.old.misses }
-        ensures reached { (other : Slot) → IsTrue (at_slot self.old.opened other) → IsTrue (at_slot self.new.opened other) }
+        ensures reached { StaysOpen (at_slot self.old.opened) (at_slot self.new.opened) }
 
         // A fault counts once, and the open files stay.
         ensures counted { OnErr result (self.new.faults ≡ one_more self.old.faults) }

@@ -1,7 +1,8 @@
 ghost use Rattle.std.specs.Prelude.{◌≡◌, ℕ, ◌<◌, ◌≤◌, ◌↔◌, ◌++◌, ◌∷◌, [], true, List, Some, None, Ok, Err, take, length, is_some, IsTrue, IsErr, OnOk, OnErr, IfOk};
 ghost use Rattle.gr_io.specs.Calls.{next_fails};
 ghost use Rattle.gr_io.specs.Counts.{Rose};
-ghost use Rattle.gr_io.specs.Texts.{empty_shelf, held_in, is_reached, left_at, reach_answer, after_reach, read_count, after_read};
+ghost use Rattle.gr_io.specs.Shelves.{StaysOpen, SameTexts};
+ghost use Rattle.gr_io.specs.Texts.{empty_shelf, held_in, held_at, is_reached, left_at, reach_answer, after_reach, read_count, after_read};
 ghost use Rattle.gr_io.specs.declared.shelf.Slot.{Slot};
 
 use crate::calls::Calls;
@@ -107,7 +108,7 @@ impl Shelf for MemoryShelf {
 
     ghost left = { left_at };
 
-    ghost held = { λ s _ name. held_in s.texts name };
+    ghost held = { held_at };
 
     fn reach(&mut self, _alloc: Global, slot: Slot, name: &str) -> Result<(), ReachError>
         ensures reached { OnOk result (IsTrue (is_reached self.new slot)) }
@@ -119,7 +120,7 @@ impl Shelf for MemoryShelf {
         ensures misses { (result ≡ Err ReachError.Missing → ⊥) → self.new.misses ≡ self.old.misses }
         ensures faults_kept { self.old.log.faults ≤ self.new.log.faults }
         ensures misses_kept { self.old.misses ≤ self.new.misses }
-        ensures held { (other : Slot) → (bytes : List ℕ) → held_in self.new.texts bytes ≡ held_in self.old.texts bytes }
+        ensures held { SameTexts (held_at self.old) (held_at self.new) }
 
         // It takes no memory, fails exactly at a listed call, and misses exactly the names not held.
         ensures answer { result ≡ reach_answer self.old name.now }
@@ -146,8 +147,8 @@ impl Shelf for MemoryShelf {
         ensures quiet { OnOk result (self.new.log.faults ≡ self.old.log.faults) }
         ensures faults_kept { self.old.log.faults ≤ self.new.log.faults }
         ensures misses { self.new.misses ≡ self.old.misses }
-        ensures reached { (other : Slot) → IsTrue (is_reached self.old other) → IsTrue (is_reached self.new other) }
-        ensures held { (other : Slot) → (bytes : List ℕ) → held_in self.new.texts bytes ≡ held_in self.old.texts bytes }
+        ensures reached { StaysOpen (is_reached self.old) (is_reached self.new) }
+        ensures held { SameTexts (held_at self.old) (held_at self.new) }
 
         // It fails exactly at a listed call, and gives as many bytes as it can.
         ensures fails { IsErr result ↔ IsTrue (next_fails self.old.log) }

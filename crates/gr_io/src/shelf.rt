@@ -1,5 +1,6 @@
 ghost use Rattle.std.specs.Prelude.{◌≡◌, ℕ, ◌+◌, ◌<◌, ◌≤◌, ◌↔◌, Bool, true, List, [], ◌++◌, Option, Some, None, take, length, IsTrue, OnOk, OnErr, IfOk};
 ghost use Rattle.gr_io.specs.Counts.{Rose};
+ghost use Rattle.gr_io.specs.Shelves.{StaysOpen, SameTexts};
 ghost use Rattle.gr_io.specs.declared.shelf.Slot.{Slot};
 
 use std::alloc::Global;
@@ -62,7 +63,7 @@ pub trait Shelf {
         ensures misses { (result ≡ Err ReachError.Missing → ⊥) → misses self.new ≡ misses self.old }
         ensures faults_kept { faults self.old ≤ faults self.new }
         ensures misses_kept { misses self.old ≤ misses self.new }
-        ensures held { (other : Slot) → (bytes : List ℕ) → held self.new other bytes ≡ held self.old other bytes };
+        ensures held { SameTexts (held self.old) (held self.new) };
 
     /// Reads the next bytes of the slot's text, at most as many as the buffer takes, and says how
     /// many: 0 exactly at the end of the text.
@@ -70,12 +71,13 @@ pub trait Shelf {
         requires reached { IsTrue (reached self.old slot) }
         requires room { 0 < length buf.old }
         ensures within { IfOk result (λ count. count ≤ length buf.old) }
-        ensures bytes { IfOk result (λ count. IsTrue tells → take count buf.new ++ left self.new slot ≡ left self.old slot) }
+        ensures bytes { IfOk result (λ count. IsTrue tells →
+            take count buf.new ++ left self.new slot ≡ left self.old slot) }
         ensures end { IfOk result (λ count. IsTrue tells → (count ≡ 0) ↔ (left self.old slot ≡ [])) }
         ensures failed { OnErr result (Rose (faults self.old) (faults self.new)) }
         ensures quiet { OnOk result (faults self.new ≡ faults self.old) }
         ensures faults_kept { faults self.old ≤ faults self.new }
         ensures misses { misses self.new ≡ misses self.old }
-        ensures reached { (other : Slot) → IsTrue (reached self.old other) → IsTrue (reached self.new other) }
-        ensures held { (other : Slot) → (bytes : List ℕ) → held self.new other bytes ≡ held self.old other bytes };
+        ensures reached { StaysOpen (reached self.old) (reached self.new) }
+        ensures held { SameTexts (held self.old) (held self.new) };
 }

@@ -19,7 +19,8 @@ pub trait Sink {
         requires { 0 < length bytes.now }
         ensures some { IfOk result (λ count. 1 ≤ count) }
         ensures within { IfOk result (λ count. count ≤ length bytes.now) }
-        ensures appended { IfOk result (λ count. IsTrue tells → written self.new ≡ written self.old ++ take count bytes.now) }
+        ensures appended { IfOk result (λ count. IsTrue tells →
+            written self.new ≡ written self.old ++ take count bytes.now) }
         ensures unchanged { OnErr result (IsTrue tells → written self.new ≡ written self.old) }
         ensures failed { OnErr result (Rose (faults self.old) (faults self.new)) }
         ensures quiet { OnOk result (faults self.new ≡ faults self.old) }

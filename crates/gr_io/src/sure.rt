@@ -1,6 +1,7 @@
 ghost use Rattle.std.specs.Prelude.{◌≡◌, ℕ, ◌<◌, ◌≤◌, ◌↔◌, ◌++◌, true, false, List, [], Some, None, take, length, min, IsTrue, IsOk, OnOk, IfOk};
+ghost use Rattle.gr_io.specs.Shelves.{StaysOpen, SameTexts};
 ghost use Rattle.gr_io.specs.Slots.{at_slot};
-ghost use Rattle.gr_io.specs.Sure.{whole_texts, rest_of, is_opened, after_open, after_take};
+ghost use Rattle.gr_io.specs.Sure.{whole_texts, text_at, rest_of, is_opened, after_open, after_take};
 ghost use Rattle.gr_io.specs.declared.shelf.Slot.{Slot};
 
 use crate::copy::copy_start;
@@ -61,12 +62,12 @@ impl Shelf for SureShelf {
 
     ghost left = { rest_of };
 
-    ghost held = { λ s slot _. Some (at_slot s.texts slot) };
+    ghost held = { text_at };
 
     fn reach(&mut self, _alloc: Global, slot: Slot, _name: &str) -> Result<(), ReachError>
         ensures reached { OnOk result (IsTrue (is_opened self.new slot)) }
         ensures opened { OnOk result (Some (at_slot self.old.texts slot) ≡ Some (rest_of self.new slot)) }
-        ensures held { (other : Slot) → (bytes : List ℕ) → Some (at_slot self.new.texts other) ≡ Some (at_slot self.old.texts other) }
+        ensures held { SameTexts (text_at self.old) (text_at self.new) }
 
         // It never fails, and takes no memory.
         ensures sure { IsOk result }
@@ -82,8 +83,8 @@ impl Shelf for SureShelf {
         ensures within { IfOk result (λ count. count ≤ length buf.old) }
         ensures bytes { IfOk result (λ count. take count buf.new ++ rest_of self.new slot ≡ rest_of self.old slot) }
         ensures end { IfOk result (λ count. (count ≡ 0) ↔ (rest_of self.old slot ≡ [])) }
-        ensures reached { (other : Slot) → IsTrue (is_opened self.old other) → IsTrue (is_opened self.new other) }
-        ensures held { (other : Slot) → (bytes : List ℕ) → Some (at_slot self.new.texts other) ≡ Some (at_slot self.old.texts other) }
+        ensures reached { StaysOpen (is_opened self.old) (is_opened self.new) }
+        ensures held { SameTexts (text_at self.old) (text_at self.new) }
 
         // It never fails, and gives as many bytes as it can.
         ensures sure { IsOk result }

@@ -1,4 +1,5 @@
-use Rattle.std.proofs.Common.{◌≡◌, ℕ, ◌+◌, ◌-◌, ◌<◌, ◌≤◌, ◌^◌, min, ◌⊎◌, inl, inr, Bool, true, false, ◌&&◌, ℤ, pos, negsuc, ◌≤ℤ◌, int_le, List, Option, Some, None, option_map, option_and_then, refl, sym, ap, subst, ◌∙◌, arith}
+-- The value of a number, and the nearest that a u64 or its negative can hold.
+use Rattle.std.proofs.Common.{◌≡◌, ℕ, ◌-◌, ◌^◌, min, ◌⊎◌, inl, inr, ℤ, pos, negsuc, ◌≤ℤ◌, List, Option, Some, None, option_map, option_and_then, refl, sym, ap, ◌∙◌, arith}
 use Rattle.std.proofs.lemmas.Bool.{cases_lt}
 use Rattle.std.proofs.lemmas.Bool.Decides.{nat_tests}
 use Rattle.std.proofs.lemmas.Int.{ints}
@@ -10,13 +11,16 @@ none_within low high z out = elim out [
   | inr below ↦ grind (arith, ints, nat_tests)
 ]
 
+both_without : (low high y z : ℤ) → (y ≤ℤ high → ⊥) ⊎ (low ≤ℤ y → ⊥) → (z ≤ℤ high → ⊥) ⊎ (low ≤ℤ z → ⊥) →
+    within low high y ≡ within low high z
+both_without low high y z one two = none_within low high y one ∙ sym (none_within low high z two)
+
 -- a range of i64 doesn't tell a number from the nearest that a u64 or its negative can hold
 pub within-clamped : (low high z : ℤ) → negsuc (2 ^ 63 - 1) ≤ℤ low → high ≤ℤ pos (2 ^ 63 - 1) → within low high (clamped z) ≡ within low high z
 within-clamped low high (pos n) least most =
     elim (cases_lt (2 ^ 64 - 1) n) [
       | inl above ↦
-          none_within low high (pos (min n (2 ^ 64 - 1))) (inl (λ h. absurd (omega (arith, ints)))) ∙
-          sym (none_within low high (pos n) (inl (λ h. absurd (omega (arith, ints)))))
+          both_without low high _ _ (inl (λ h. absurd (omega (arith, ints)))) (inl (λ h. absurd (omega (arith, ints))))
       | inr small ↦
           let same : min n (2 ^ 64 - 1) ≡ n = omega arith in
           ap (λ m. within low high (pos m)) same
@@ -24,8 +28,7 @@ within-clamped low high (pos n) least most =
 within-clamped low high (negsuc n) least most =
     elim (cases_lt (2 ^ 64 - 2) n) [
       | inl above ↦
-          none_within low high (negsuc (min n (2 ^ 64 - 2))) (inr (λ h. absurd (omega (arith, ints)))) ∙
-          sym (none_within low high (negsuc n) (inr (λ h. absurd (omega (arith, ints)))))
+          both_without low high _ _ (inr (λ h. absurd (omega (arith, ints)))) (inr (λ h. absurd (omega (arith, ints))))
       | inr small ↦
           let same : min n (2 ^ 64 - 2) ≡ n = omega arith in
           ap (λ m. within low high (negsuc m)) same

@@ -1,10 +1,11 @@
-use Rattle.std.proofs.Common.{◌≡◌, ℕ, ◌+◌, Bool, true, false, List, [], ◌∷◌, Option, Some, None, Result, Ok, Err, if◌then◌else◌, refl, sym, ap, subst, ◌∙◌, arith}
+-- What a step from one token to the next gives a reader.
+use Rattle.std.proofs.Common.{◌≡◌, ℕ, ◌+◌, Bool, true, false, List, Some, None, Result, Ok, Err, if◌then◌else◌, refl, subst}
 use Rattle.gr_text.specs.declared.source.Ends.{Ends}
-use Rattle.gr_text.specs.Tokens.{Place, Ending, AtEnd, PastLimit}
+use Rattle.gr_text.specs.Tokens.{Place, AtEnd, PastLimit}
 use Rattle.gr_text.specs.declared.tokens.TokenError.{TokenError}
 use Rattle.gr_text.specs.declared.tokens.TokenError.TheVariants.{TooLong}
 use Rattle.gr_text.specs.Steps.{IsNext, IsLast, Advances}
-use Rattle.gr_text.specs.Reading.{Read, token, token_or_end, next_of, next_or_end}
+use Rattle.gr_text.specs.Reading.{token, token_or_end}
 
 -- a token that is the next is what the grammar's next token is
 pub token-next : {F : Type 0} (ends : Ends F) (before : Place) (word : List ℕ) (after : Place) → IsNext before word after →

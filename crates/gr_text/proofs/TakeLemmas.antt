@@ -1,8 +1,9 @@
-use Rattle.std.proofs.Common.{◌≡◌, ℕ, zero, suc, ◌+◌, ◌-◌, ◌<◌, ◌≤◌, ◌⊎◌, inl, inr, Bool, true, false, cond, not, ◌&&◌, nat_lt, List, [], ◌∷◌, ◌++◌, length, take, drop, Result, Ok, Err, refl, sym, ap, subst, ◌∙◌, arith, length-append, length-drop, append_assoc, append-nil}
-use Rattle.std.specs.List.{list_all, position_or_len}
-use Rattle.std.proofs.lemmas.Bool.{cases_lt, cases_Bool}
+-- A token, taken into the hand piece by piece.
+use Rattle.std.proofs.Common.{◌≡◌, ℕ, zero, suc, ◌+◌, ◌-◌, ◌<◌, ◌≤◌, inl, inr, Bool, true, false, not, nat_lt, List, [], ◌∷◌, ◌++◌, length, take, drop, Ok, Err, refl, sym, ap, subst, ◌∙◌, arith, length-append, length-drop, append_assoc, append-nil}
+use Rattle.std.specs.List.{position_or_len}
+use Rattle.std.proofs.lemmas.Bool.{cases_Bool}
 use Rattle.std.proofs.lemmas.Bool.Decides.{nat_tests}
-use Rattle.std.proofs.lemmas.List.{take-append-drop, length-take, drop-take, drop_all}
+use Rattle.std.proofs.lemmas.List.{take-append-drop, length-take}
 use Rattle.std.proofs.lemmas.List.Folds.{list_all-append}
 use Rattle.std.proofs.lemmas.Grind.{common_steps}
 use Rattle.std.proofs.Math.Numerals.{one-add}
@@ -10,7 +11,7 @@ use Rattle.gr_text.specs.declared.tokens.TokenError.{TokenError}
 use Rattle.gr_text.specs.declared.tokens.TokenError.TheVariants.{Failed, TooLong, NoMemory}
 use Rattle.gr_base.specs.Names.{is_token}
 use Rattle.gr_text.specs.Tokens.{is_blank, Place, place_in, PastLimit}
-use Rattle.gr_text.specs.Streams.{Stream, Countable, passed, grown, usable, place_of, GrowsAhead, ReadsLittleAhead}
+use Rattle.gr_text.specs.Streams.{Stream, passed, grown, usable, place_of, GrowsAhead}
 use Rattle.gr_text.specs.Steps.{IsNext, IsLast, Refills, LeavesRest, TakesToken}
 use Rattle.gr_text.proofs.ScanLemmas.{position_or_len-le}
 use Rattle.gr_text.proofs.SeekLemmas.{all-before, usable-moved}

@@ -1,4 +1,4 @@
-pub mod Devices
+pub mod Origins
 pub mod Tokens
 pub mod Streams
 pub mod Steps

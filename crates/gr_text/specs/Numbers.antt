@@ -1,3 +1,4 @@
+-- The numbers that decimal digits write.
 use Rattle.std.specs.Prelude.{ℕ, ◌+◌, ◌-◌, ◌*◌, ◌^◌, min, Bool, ◌&&◌, ◌==◌, nat_lt, nat_le, int_le, ℤ, pos, negsuc, neg_ℤ, List, [], ◌∷◌, length, Option, Some, None, option_map, option_and_then, fold, if◌then◌else◌}
 use Rattle.std.specs.List.{list_all}
 
@@ -16,10 +17,22 @@ digits_value = fold (λ value digit. value * 10 + (digit - 48)) 0
 unfoldable pub decimal_value : List ℕ → Option ℕ
 decimal_value bytes = if nat_lt 0 (length bytes) && all_digits bytes then Some (digits_value bytes) else None
 
+-- the number, if it is at most this great
+abbrev pub up_to : ℕ → ℕ → Option ℕ
+up_to most n = if nat_le n most then Some n else None
+
+-- the value of one or more decimal digits, if these are at most so many, and it is at most this great
+unfoldable pub natural_in : (digits most : ℕ) → List ℕ → Option ℕ
+natural_in digits most bytes =
+    if nat_le (length bytes) digits then option_and_then (up_to most) (decimal_value bytes) else None
+
 -- the value of a whole number: decimal digits, with or without a '-' in front
 abbrev pub whole_value : List ℕ → Option ℤ
 whole_value [] = None
-whole_value (byte ∷ rest) = if byte == 45 then option_map (λ n. neg_ℤ (pos n)) (decimal_value rest) else option_map pos (decimal_value (byte ∷ rest))
+whole_value (byte ∷ rest) =
+    if byte == 45
+    then option_map (λ n. neg_ℤ (pos n)) (decimal_value rest)
+    else option_map pos (decimal_value (byte ∷ rest))
 
 -- the value, if it lies in the range
 abbrev pub within : ℤ → ℤ → ℤ → Option ℤ

@@ -1,5 +1,5 @@
--- The steps that every grammar of tokens is made of. A grammar is a reader: from a place among the tokens it gives a value
--- and the place behind it, or the fault of the first token that is wrong, with that token's number.
+-- The steps that every grammar of tokens is made of. A grammar is a reader: from a place among the tokens it gives a
+-- value and the place behind it, or the fault of the first token that is wrong, with that token's number.
 use Rattle.std.specs.Prelude.{ℕ, zero, suc, ◌+◌, Bool, List, [], ◌∷◌, ◌++◌, ℤ, Option, Some, None, Result, Ok, Err, if◌then◌else◌}
 use Rattle.std.specs.Str.{bytes_eq}
 use Rattle.gr_text.specs.declared.source.Ends.{Ends}
@@ -53,7 +53,8 @@ token ends place = next_of ends place.number place.rest place.ending
 abbrev pub next_or_end : {F : Type 0} → Ends F → Place → List (List ℕ) → Ending → Read F (Option (List ℕ))
 next_or_end ends place [] AtEnd = Ok (None, place)
 next_or_end ends place [] PastLimit = Err (ends.too_long, place.number + 1)
-next_or_end ends place (token ∷ rest) ending = Ok (Some token, record { number = place.number + 1; rest = rest; ending = ending })
+next_or_end ends place (token ∷ rest) ending =
+    Ok (Some token, record { number = place.number + 1; rest = rest; ending = ending })
 
 -- the next token, or None where the text ends
 unfoldable pub token_or_end : {F : Type 0} → Ends F → Reader F (Option (List ℕ))

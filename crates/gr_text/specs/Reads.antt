@@ -1,9 +1,10 @@
-use Rattle.std.specs.Prelude.{◌≡◌, ℕ, ◌≤◌, Result, Ok, Err}
+-- A reader's result beside what the grammar says.
+use Rattle.std.specs.Prelude.{◌≡◌, ℕ, ◌≤◌, Bool, List, Option, Some, None, Result, Ok, Err, if◌then◌else◌, IsTrue}
 use Rattle.gr_io.specs.Counts.{Rose}
 use Rattle.gr_text.specs.declared.source.ReadError.{ReadError}
 use Rattle.gr_text.specs.declared.source.ReadError.TheVariants.{Fault, Failed, NoMemory}
 use Rattle.gr_text.specs.Tokens.{Place}
-use Rattle.gr_text.specs.Reading.{Read}
+use Rattle.gr_text.specs.Reading.{Read, Reader}
 
 -- the result is what the grammar says, seen as the grammar's values, and the place is the one behind it;
 -- a failed read and want of memory say nothing of the text
@@ -13,12 +14,29 @@ Reads read view (Err (Fault fault token)) place = read ≡ Err (fault, token)
 Reads read view (Err Failed) place = Unit {0}
 Reads read view (Err NoMemory) place = Unit {0}
 
+-- where the source tells its tokens, the result is what the grammar says at its place before
+abbrev pub ReadsBy : {S F A V : Type 0} → (tells : Bool) → (S → Place) → Reader F A → (V → A) → Result V (ReadError F) →
+    (before after : S) → Type 0
+ReadsBy tells place reader view result before after =
+    IsTrue tells → Reads (reader (place before)) view result (place after)
+
+-- the word in hand, where there is one more
+abbrev pub word_if : List ℕ → Bool → Option (List ℕ)
+word_if word more = if more then Some word else None
+
 -- the shelf's count of faults rose where a read failed, and is as before where not
 abbrev pub Counts : {F V : Type 0} → Result V (ReadError F) → ℕ → ℕ → Type 0
 Counts (Ok value) before after = after ≡ before
 Counts (Err (Fault fault token)) before after = after ≡ before
 Counts (Err Failed) before after = (before ≤ after) × Rose before after
 Counts (Err NoMemory) before after = after ≡ before
+
+-- the answer is what a text says, or its first fault; a failed read and want of memory say nothing of the text
+abbrev pub Says : {F A : Type 0} → Result A (F × ℕ) → Result A (ReadError F) → Type 0
+Says said (Ok value) = said ≡ Ok value
+Says said (Err (Fault fault token)) = said ≡ Err (fault, token)
+Says said (Err Failed) = Unit {0}
+Says said (Err NoMemory) = Unit {0}
 
 -- the result is what the grammar says of a whole text
 abbrev pub OfPlace : {F A V : Type 0} → Read F A → (V → A) → Result V (ReadError F) → Type 0

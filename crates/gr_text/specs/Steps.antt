@@ -1,11 +1,13 @@
+-- What the steps of reading tokens do.
 use Rattle.std.specs.Prelude.{◌≡◌, ℕ, ◌+◌, ◌<◌, ◌≤◌, Bool, true, false, List, [], ◌∷◌, ◌++◌, length, Option, Some, None, Result, Ok, Err}
 use Rattle.gr_io.specs.Counts.{Rose}
+use Rattle.gr_io.specs.declared.shelf.Slot.{Slot}
 use Rattle.gr_text.specs.declared.tokens.Token.{Token}
 use Rattle.gr_text.specs.declared.tokens.TokenError.{TokenError}
 use Rattle.gr_text.specs.declared.tokens.TokenError.TheVariants.{Failed, TooLong, NoMemory}
 use Rattle.std.specs.List.{list_all, position_or_len}
 use Rattle.gr_text.specs.Tokens.{Place, Ending, AtEnd, PastLimit, is_blank, place_in}
-use Rattle.gr_text.specs.Streams.{Stream, Countable, usable, place_of, ReadsLittleAhead}
+use Rattle.gr_text.specs.Streams.{Stream, Countable, usable, place_of, place_at, ReadsLittleAhead}
 
 -- the token was the next, and is behind the place now
 pub record IsNext (before : Place) (word : List ℕ) (after : Place) : Type 0 where
@@ -35,6 +37,20 @@ GivesToken before (Err (TooLong token)) after = IsLast before PastLimit × (toke
 GivesToken before (Err Failed) after = Unit {0}
 GivesToken before (Err NoMemory) after = Unit {0}
 
+-- the same of a stream over the unread bytes of each slot
+abbrev pub GoesOn : Stream → (Slot → List ℕ) → Result Bool TokenError → Stream → (Slot → List ℕ) → Type 0
+GoesOn before left result after left_after =
+    Advances (place_at before left) result after.word (place_of after (left_after before.slot))
+
+abbrev pub GivesNext : Stream → (Slot → List ℕ) → Result (Option Token) TokenError → Stream → (Slot → List ℕ) → Type 0
+GivesNext before left result after left_after =
+    GivesToken (place_at before left) result (place_of after (left_after before.slot))
+
+-- the word was read, and at most one piece behind it
+abbrev pub ReadsLittle : Stream → (Slot → List ℕ) → List ℕ → (Slot → List ℕ) → Type 0
+ReadsLittle before left word left_after =
+    ReadsLittleAhead (before.pending ++ left before.slot) word (left_after before.slot)
+
 -- the count of faults rose where a read failed, and is as before where not
 abbrev pub Counted : {V : Type 0} → Result V TokenError → ℕ → ℕ → Type 0
 Counted (Ok value) before after = after ≡ before
@@ -42,11 +58,14 @@ Counted (Err (TooLong token)) before after = after ≡ before
 Counted (Err Failed) before after = (before ≤ after) × Rose before after
 Counted (Err NoMemory) before after = after ≡ before
 
--- where no usable byte is ahead: more bytes were read; or the text has ended, and no more is used; or it goes on past its limit
+-- where no usable byte is ahead: more bytes were read; or the text has ended, and no more is used; or it goes on past its
+-- limit
 abbrev pub Refills : Stream → Result Bool TokenError → Stream → Type 0
-Refills before (Ok true) after = (before.pending ≡ []) × (0 < length after.pending) × (after ≡ record before { pending = after.pending })
+Refills before (Ok true) after =
+    (before.pending ≡ []) × (0 < length after.pending) × (after ≡ record before { pending = after.pending })
 Refills before (Ok false) after = (before.pending ≡ []) × (after ≡ record before { room = 0 })
-Refills before (Err (TooLong token)) after = (0 < length before.pending) × (after ≡ before) × (token ≡ before.number + 1)
+Refills before (Err (TooLong token)) after =
+    (0 < length before.pending) × (after ≡ before) × (token ≡ before.number + 1)
 Refills before (Err Failed) after = Unit {0}
 Refills before (Err NoMemory) after = Unit {0}
 
@@ -95,12 +114,18 @@ SkipsTo (Err NoMemory) room bytes new_room new_bytes = Unit {0}
 
 -- one more token is given
 abbrev pub TakesOne : Stream → Result (Unit {0}) TokenError → Stream → Type 0
-TakesOne before (Ok done) after = after ≡ record before { number = before.number + 1; word = after.word; pending = after.pending; room = after.room }
+TakesOne before (Ok done) after = after ≡ record before {
+  number = before.number + 1;
+  word = after.word;
+  pending = after.pending;
+  room = after.room;
+}
 TakesOne before (Err (TooLong token)) after = token ≡ before.number + 1
 TakesOne before (Err Failed) after = Unit {0}
 TakesOne before (Err NoMemory) after = Unit {0}
 
--- the token that a text begins with, of which so many bytes may be used, is in hand; or no blank follows it within the limit
+-- the token that a text begins with, of which so many bytes may be used, is in hand; or no blank follows it within the
+-- limit
 abbrev pub TakesToken : (room number : ℕ) → List ℕ → Result (Unit {0}) TokenError → Stream → List ℕ → Type 0
 TakesToken room number bytes (Ok done) after left =
     IsNext (place_in room number bytes) after.word (place_of after left) × ReadsLittleAhead bytes after.word left

@@ -1,4 +1,5 @@
-use Rattle.std.specs.Prelude.{◌≡◌, ℕ, ◌-◌, ◌+◌, ◌^◌, ◌<◌, ◌≤◌, ◌⊎◌, true, not, Bool, nat_lt, List, [], ◌++◌, length, take, drop}
+-- The tokens of a slot's text, read piece by piece.
+use Rattle.std.specs.Prelude.{◌≡◌, ℕ, ◌-◌, ◌+◌, ◌^◌, ◌<◌, ◌≤◌, ◌⊎◌, true, false, not, Bool, nat_lt, List, [], ◌++◌, length, take, drop}
 use Rattle.std.specs.List.{list_all, position_or_len}
 use Rattle.gr_io.specs.declared.shelf.Slot.{Slot}
 use Rattle.gr_text.specs.Tokens.{Place, place_in, is_blank}
@@ -30,9 +31,17 @@ pub record Holds (carried taken : List ℕ) (from to number room : ℕ) : Type 0
   pub one_part : (carried ≡ []) ⊎ (from ≡ to)
   pub countable : Countable number room
 
+-- no token is given yet, and so many bytes may be used
+abbrev pub new_stream : Slot → ℕ → Stream
+new_stream slot limit = record { slot = slot; number = 0; word = []; pending = []; room = limit; broken = false }
+
 -- where the stream stands among the tokens, given the bytes that are still unread
 abbrev pub place_of : Stream → List ℕ → Place
 place_of stream left = place_in stream.room stream.number (stream.pending ++ left)
+
+-- the same, given the unread bytes of each slot
+abbrev pub place_at : Stream → (Slot → List ℕ) → Place
+place_at stream left = place_of stream (left stream.slot)
 
 -- the stream past its next bytes
 abbrev pub passed : ℕ → Stream → Stream

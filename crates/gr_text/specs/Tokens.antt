@@ -1,4 +1,5 @@
-use Rattle.std.specs.Prelude.{ℕ, Bool, ◌||◌, ◌==◌, nat_lt, nat_le, List, [], ◌∷◌, length, take, filter, if◌then◌else◌}
+-- The tokens of a text, and a place among them.
+use Rattle.std.specs.Prelude.{ℕ, nat_lt, nat_le, List, [], ◌∷◌, length, take, filter, if◌then◌else◌}
 use Rattle.std.specs.List.{slice_split}
 pub use Rattle.gr_base.specs.Names.{is_blank}
 

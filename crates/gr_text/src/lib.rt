@@ -8,14 +8,12 @@ mod reader;
 mod reading;
 mod scan;
 mod source;
-#[cfg(test)]
-mod tests;
 mod text;
 mod tokens;
 
-pub use numbers::{whole, whole_of};
+pub use numbers::{is_whole, natural_of, whole, whole_of};
 pub use reader::TokenReader;
 pub use reading::{check, next_token, next_token_or_end, number, word};
 pub use source::{Ends, ReadError, TokenSource};
-pub use text::Text;
+pub use text::{Text, put_number};
 pub use tokens::{Token, TokenError, Tokens};

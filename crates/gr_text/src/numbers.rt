@@ -1,5 +1,5 @@
-ghost use Rattle.std.specs.Prelude.{◌≡◌, ◌-◌, ◌^◌, min, IsTrue, option_map, pos, neg_ℤ, IfSome, ◌≤ℤ◌};
-ghost use Rattle.gr_text.specs.Numbers.{is_digit, all_digits, digits_value, decimal_value, whole_value, clamped, within, number_in};
+ghost use Rattle.std.specs.Prelude.{◌≡◌, ◌-◌, ◌^◌, min, is_some, IsTrue, option_map, pos, neg_ℤ, IfSome, ◌≤ℤ◌};
+ghost use Rattle.gr_text.specs.Numbers.{is_digit, all_digits, digits_value, decimal_value, up_to, natural_in, whole_value, clamped, within, number_in};
 
 use crate::tokens::Token;
 
@@ -42,6 +42,29 @@ fn decimal(bytes: &[u8]) -> Option<u64>
     Some(value_of(bytes))
 }
 
+fn up_to(n: u64, most: u32) -> Option<u32>
+    ensures { result ≡ up_to most n }
+{
+    if n <= u64::from(most) {
+        Some(n as u32)
+    } else {
+        None
+    }
+}
+
+/// The number that the bytes write in decimal digits, at least one and at most `most_digits`, if it
+/// is at most `most`.
+#[tactic(auto, unfolding(crate::specs::Numbers::natural_in))]
+pub fn natural_of(bytes: &[u8], most_digits: usize, most: u32) -> Option<u32>
+    ensures { result ≡ natural_in most_digits most bytes.now }
+{
+    if bytes.len() > most_digits {
+        return None;
+    }
+    let n = decimal(bytes)?;
+    up_to(n, most)
+}
+
 fn positive(digits: &[u8]) -> Option<i128>
     ensures { result ≡ option_map (λ n. pos (min n (2 ^ 64 - 1))) (decimal_value digits.now) }
 {
@@ -67,6 +90,13 @@ fn signed(bytes: &[u8]) -> Option<i128>
         return negative(rest);
     }
     positive(bytes)
+}
+
+/// Whether the bytes write a whole number, of any size.
+pub fn is_whole(bytes: &[u8]) -> bool
+    ensures { result ≡ is_some (whole_value bytes.now) }
+{
+    signed(bytes).is_some()
 }
 
 fn within(n: i128, low: i64, high: i64) -> Option<i64>

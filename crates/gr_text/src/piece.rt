@@ -1,5 +1,6 @@
 ghost use Rattle.std.specs.Prelude.{◌≡◌, ℕ, ◌+◌, ◌<◌, ◌≤◌, ◌↔◌, List, [], ◌++◌, take, drop, length, slice_range, IsTrue, IfOk, OnOk, OnErr};
 ghost use Rattle.gr_io.specs.Counts.{Rose};
+ghost use Rattle.gr_io.specs.Shelves.{KeepsShelf};
 ghost use Rattle.gr_io.specs.declared.shelf.Slot.{Slot};
 
 use gr_io::{Failed, Shelf, Slot};
@@ -23,7 +24,10 @@ impl Model for Piece {
 
     ghost Value = { Cursor };
 
-    ghost view = { λ p. record { taken = take p.at p.bytes.items; ahead = slice_range p.bytes.items p.at p.filled } };
+    ghost view = { λ p. record {
+      taken = take p.at p.bytes.items;
+      ahead = slice_range p.bytes.items p.at p.filled;
+    } };
 
     ghost invariant = { λ p. (p.at ≤ p.filled) × (p.filled ≤ vec_len p.bytes) × (vec_len p.bytes ≡ 65536) };
 }
@@ -79,15 +83,15 @@ impl Piece {
         requires reached { IsTrue (S.reached shelf.old slot) }
         requires spent { self.old.ahead ≡ [] }
         ensures taken { OnOk result (self.new.taken ≡ []) }
-        ensures bytes { OnOk result (IsTrue S.tells → self.new.ahead ++ S.left shelf.new slot ≡ S.left shelf.old slot) }
+        ensures bytes { OnOk result (IsTrue S.tells →
+            self.new.ahead ++ S.left shelf.new slot ≡ S.left shelf.old slot) }
         ensures some { IfOk result (λ more. IsTrue more ↔ (0 < length self.new.ahead)) }
         ensures end { IfOk result (λ more. IsTrue S.tells → IsTrue more ↔ (0 < length (S.left shelf.old slot))) }
-        ensures failed { OnErr result ((S.faults shelf.old ≤ S.faults shelf.new) × Rose (S.faults shelf.old) (S.faults shelf.new)) }
+        ensures failed { OnErr result
+            ((S.faults shelf.old ≤ S.faults shelf.new) × Rose (S.faults shelf.old) (S.faults shelf.new)) }
         ensures unread { OnErr result (self.new.ahead ≡ []) }
         ensures quiet { OnOk result (S.faults shelf.new ≡ S.faults shelf.old) }
-        ensures misses { S.misses shelf.new ≡ S.misses shelf.old }
-        ensures reached { (other : Slot) → IsTrue (S.reached shelf.old other) → IsTrue (S.reached shelf.new other) }
-        ensures held { (other : Slot) → (name : List ℕ) → S.held shelf.new other name ≡ S.held shelf.old other name }
+        ensures shelf { KeepsShelf S.misses S.reached S.held shelf.old shelf.new }
     {
         let count = shelf.read(slot, &mut self.bytes)?;
         self.at = 0;

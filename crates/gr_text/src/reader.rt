@@ -24,7 +24,12 @@ impl<'t, 's, S: Shelf> TokenSource for TokenReader<'t, 's, S> {
 
     ghost word = { λ r. r.tokens.now.word };
 
-    ghost device = { λ r. record { reference = r.shelf.ghost_name; slot = r.tokens.now.slot; misses = S.misses r.shelf.now; held = S.held r.shelf.now } };
+    ghost origin = { λ r. record {
+      reference = r.shelf.ghost_name;
+      slot = r.tokens.now.slot;
+      misses = S.misses r.shelf.now;
+      held = S.held r.shelf.now;
+    } };
 
     ghost ended = { λ r. S.left r.shelf.now r.tokens.now.slot ≡ [] };
 

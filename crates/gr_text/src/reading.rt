@@ -1,7 +1,7 @@
 ghost use Rattle.std.specs.Prelude.{◌≡◌, ℕ, Some, None, false, Ok, IsTrue, IfOk, OnOk, ◌≤ℤ◌, if◌then◌else◌};
 ghost use Rattle.gr_base.specs.Names.{is_token};
 ghost use Rattle.gr_text.specs.Reading.{token, token_or_end, word, number, check};
-ghost use Rattle.gr_text.specs.Reads.{Reads, Counts};
+ghost use Rattle.gr_text.specs.Reads.{ReadsBy, Counts, word_if};
 
 use crate::numbers::whole_of;
 use crate::source::{Ends, ReadError, TokenSource};
@@ -12,9 +12,9 @@ pub fn next_token<S: TokenSource, F: Copy>(
     source: &mut S,
     ends: Ends<F>,
 ) -> Result<(), ReadError<F>>
-    ensures reads { IsTrue S.tells → Reads (token ends (S.place source.old)) (λ _. S.word source.new) result (S.place source.new) }
+    ensures reads { ReadsBy S.tells S.place (token ends) (λ _. S.word source.new) result source.old source.new }
     ensures faults { Counts result (S.faults source.old) (S.faults source.new) }
-    ensures device { S.device source.new ≡ S.device source.old }
+    ensures origin { S.origin source.new ≡ S.origin source.old }
     ensures word { OnOk result (IsTrue (is_token (S.word source.new))) }
 {
     match source.advance() {
@@ -37,9 +37,10 @@ pub fn next_token_or_end<S: TokenSource, F: Copy>(
     source: &mut S,
     ends: Ends<F>,
 ) -> Result<bool, ReadError<F>>
-    ensures reads { IsTrue S.tells → Reads (token_or_end ends (S.place source.old)) (λ more. if more then Some (S.word source.new) else None) result (S.place source.new) }
+    ensures reads { ReadsBy S.tells S.place (token_or_end ends) (word_if (S.word source.new)) result
+        source.old source.new }
     ensures faults { Counts result (S.faults source.old) (S.faults source.new) }
-    ensures device { S.device source.new ≡ S.device source.old }
+    ensures origin { S.origin source.new ≡ S.origin source.old }
     ensures word { IfOk result (λ more. IsTrue more → IsTrue (is_token (S.word source.new))) }
     ensures ended { result ≡ Ok false → IsTrue S.tells → S.ended source.new }
 {
@@ -57,7 +58,7 @@ pub fn next_token_or_end<S: TokenSource, F: Copy>(
 /// Refuses the token in hand, with this fault, where the check doesn't hold.
 #[tactic(auto, unfolding(crate::specs::Reading::check))]
 pub fn check<S: TokenSource, F: Copy>(source: &S, holds: bool, fault: F) -> Result<(), ReadError<F>>
-    ensures reads { IsTrue S.tells → Reads (check holds fault (S.place source.now)) (λ _. tt) result (S.place source.now) }
+    ensures reads { ReadsBy S.tells S.place (check holds fault) (λ _. tt) result source.now source.now }
     ensures faults { (count : ℕ) → Counts result count count }
     ensures holds { OnOk result (IsTrue holds) }
 {
@@ -79,9 +80,9 @@ pub fn word<S: TokenSource, F: Copy>(
     fault: F,
     text: &[u8],
 ) -> Result<(), ReadError<F>>
-    ensures reads { IsTrue S.tells → Reads (word ends fault text.now (S.place source.old)) (λ _. tt) result (S.place source.new) }
+    ensures reads { ReadsBy S.tells S.place (word ends fault text.now) (λ _. tt) result source.old source.new }
     ensures faults { Counts result (S.faults source.old) (S.faults source.new) }
-    ensures device { S.device source.new ≡ S.device source.old }
+    ensures origin { S.origin source.new ≡ S.origin source.old }
 {
     next_token(source, ends)?;
     check(source, source.word() == text, fault)
@@ -96,9 +97,9 @@ pub fn number<S: TokenSource, F: Copy>(
     low: i64,
     high: i64,
 ) -> Result<i64, ReadError<F>>
-    ensures reads { IsTrue S.tells → Reads (number ends fault low high (S.place source.old)) (λ n. n) result (S.place source.new) }
+    ensures reads { ReadsBy S.tells S.place (number ends fault low high) (λ n. n) result source.old source.new }
     ensures faults { Counts result (S.faults source.old) (S.faults source.new) }
-    ensures device { S.device source.new ≡ S.device source.old }
+    ensures origin { S.origin source.new ≡ S.origin source.old }
     ensures low { IfOk result (λ value. low ≤ℤ value) }
     ensures high { IfOk result (λ value. value ≤ℤ high) }
 {

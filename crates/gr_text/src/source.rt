@@ -1,10 +1,13 @@
 ghost use Rattle.std.specs.Prelude.{◌≡◌, ℕ, ◌-◌, ◌^◌, ◌<◌, Bool, false, List, IsTrue, IfOk, Ok};
 ghost use Rattle.gr_base.specs.Names.{is_token};
-ghost use Rattle.gr_text.specs.Devices.{Device};
+ghost use Rattle.gr_text.specs.Origins.{Origin};
 ghost use Rattle.gr_text.specs.Tokens.{Place};
 ghost use Rattle.gr_text.specs.Steps.{Advances, Counted};
 
 use crate::tokens::TokenError;
+use std::alloc::AllocError;
+use std::fmt::Display;
+use thiserror::Error;
 
 /// The faults of a text that ends where a token is due, and of one that goes on past its limit.
 #[derive(Clone, Copy, Debug, PartialEq, Eq)]
@@ -14,12 +17,27 @@ pub struct Ends<F> {
 }
 
 /// Why a reader gave no value.
-#[derive(Clone, Copy, Debug, PartialEq, Eq)]
+#[derive(Clone, Copy, Debug, PartialEq, Eq, Error)]
+#[error_bound(F: Display)]
 pub enum ReadError<F> {
     /// The text is at fault, at this token. Tokens count from 1.
+    #[error("{fault}, at token {token}")]
     Fault { fault: F, token: u64 },
+    #[error("a read failed")]
     Failed,
+    #[error("out of memory")]
     NoMemory,
+}
+
+impl<F> From<AllocError> for ReadError<F> {
+    ghost use Rattle.std.specs.Prelude.{◌≡◌};
+    ghost use Rattle.gr_text.specs.declared.source.ReadError.TheVariants.{NoMemory};
+
+    ghost from_gives = { λ _ e. e ≡ NoMemory };
+
+    fn from(_error: AllocError) -> Self {
+        ReadError::NoMemory
+    }
 }
 
 /// A text's tokens, one after another.
@@ -36,8 +54,8 @@ pub trait TokenSource {
     /// The token in hand.
     ghost word: { Self → List ℕ };
 
-    /// The device that is read, which no call changes.
-    ghost device: { Self → Device };
+    /// Where the tokens come from, which no call changes.
+    ghost origin: { Self → Origin };
 
     /// The text was read to its end.
     ghost ended: { Self → Type 0 };
@@ -46,7 +64,7 @@ pub trait TokenSource {
     fn advance(&mut self) -> Result<bool, TokenError>
         ensures token { IsTrue tells → Advances (place self.old) result (word self.new) (place self.new) }
         ensures faults { Counted result (faults self.old) (faults self.new) }
-        ensures device { device self.new ≡ device self.old }
+        ensures origin { origin self.new ≡ origin self.old }
         ensures word { IfOk result (λ more. IsTrue more → IsTrue (is_token (word self.new))) }
         ensures ended { result ≡ Ok false → IsTrue tells → ended self.new };
 

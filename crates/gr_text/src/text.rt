@@ -1,7 +1,6 @@
 ghost use Rattle.std.specs.Prelude.{◌≡◌, List, [], ◌++◌, OnOk, OnErr};
-ghost use Rattle.std.specs.Fmt.{signed_decimal};
 
-use itoa::Buffer;
+use itoa::{Buffer, Integer};
 use std::alloc::{AllocError, Global};
 use std::marker::Model;
 
@@ -17,6 +16,16 @@ impl Model for Text {
     ghost Value = { List ℕ };
 
     ghost view = { λ t. t.written.items };
+}
+
+/// Puts the number's decimal digits behind the bytes, behind a `-` if it is negative. An error
+/// leaves the bytes as they were.
+pub fn put_number<I: Integer>(bytes: &mut Vec<u8>, n: I) -> Result<(), AllocError>
+    ensures put { OnOk result (bytes.new.items ≡ bytes.old.items ++ I.text n) }
+    ensures unchanged { OnErr result (bytes.new.items ≡ bytes.old.items) }
+{
+    let mut buffer = Buffer::new();
+    bytes.extend_from_slice(buffer.format(n).as_bytes())
 }
 
 impl Text {
@@ -39,13 +48,11 @@ impl Text {
 
     /// Puts the number's decimal digits at the end, behind a `-` if it is negative. An error leaves
     /// the text as it was.
-    pub fn put_number(&mut self, n: i128) -> Result<(), AllocError>
-        ensures put { OnOk result (self.new ≡ self.old ++ signed_decimal n) }
+    pub fn put_number<I: Integer>(&mut self, n: I) -> Result<(), AllocError>
+        ensures put { OnOk result (self.new ≡ self.old ++ I.text n) }
         ensures unchanged { OnErr result (self.new ≡ self.old) }
     {
-        let mut buffer = Buffer::new();
-        let digits = buffer.format(n);
-        self.put(digits.as_bytes())
+        put_number(&mut self.written, n)
     }
 
     pub fn bytes(&self) -> &[u8]

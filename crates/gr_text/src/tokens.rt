@@ -1,11 +1,12 @@
 ghost use Rattle.std.specs.Prelude.{◌≡◌, ℕ, ◌+◌, ◌-◌, ◌^◌, ◌<◌, ◌≤◌, ◌↔◌, false, true, not, List, [], ◌++◌, take, drop, length, nat_lt, IsTrue, IfOk, IfSome, OnOk, OnErr, is_err, Ok};
 ghost use Rattle.std.specs.List.{position_or_len};
 ghost use Rattle.gr_io.specs.Counts.{Rose};
+ghost use Rattle.gr_io.specs.Shelves.{KeepsShelf};
 ghost use Rattle.gr_io.specs.declared.shelf.Slot.{Slot};
 ghost use Rattle.gr_base.specs.Names.{is_token};
 ghost use Rattle.gr_text.specs.Tokens.{is_blank};
-ghost use Rattle.gr_text.specs.Steps.{Advances, GivesToken, Counted, Refills, LeavesRest, Seeks, SkipsTo, TakesOne, TakesToken};
-ghost use Rattle.gr_text.specs.Streams.{Stream, Countable, passed, grown, place_of, usable, SkipsAhead, GrowsAhead, ReadsLittleAhead};
+ghost use Rattle.gr_text.specs.Steps.{GoesOn, GivesNext, ReadsLittle, Counted, Refills, LeavesRest, Seeks, SkipsTo, TakesOne, TakesToken};
+ghost use Rattle.gr_text.specs.Streams.{Stream, Countable, new_stream, passed, grown, usable, SkipsAhead, GrowsAhead};
 
 use crate::piece::{PIECE_BYTES, Piece};
 use crate::scan::{word_end, word_start};
@@ -57,7 +58,14 @@ impl Model for Tokens {
 
     ghost Value = { Stream };
 
-    ghost view = { λ t. record { slot = t.slot; number = t.number; word = t.carried.items ++ slice_range t.piece.taken t.from t.to; pending = t.piece.ahead; room = t.room; broken = t.broken } };
+    ghost view = { λ t. record {
+      slot = t.slot;
+      number = t.number;
+      word = t.carried.items ++ slice_range t.piece.taken t.from t.to;
+      pending = t.piece.ahead;
+      room = t.room;
+      broken = t.broken;
+    } };
 
     ghost invariant = { λ t. Holds t.carried.items t.piece.taken t.from t.to t.number t.room };
 }
@@ -162,11 +170,10 @@ impl Tokens {
         requires spent { 0 < length self.old.pending → self.old.room ≡ 0 }
         ensures refilled { Refills self.old result self.new }
         ensures slot { self.new.slot ≡ self.old.slot }
-        ensures left { IsTrue S.tells → LeavesRest result self.new.pending (S.left shelf.old self.old.slot) (S.left shelf.new self.old.slot) }
+        ensures left { IsTrue S.tells →
+            LeavesRest result self.new.pending (S.left shelf.old self.old.slot) (S.left shelf.new self.old.slot) }
         ensures faults { Counted result (S.faults shelf.old) (S.faults shelf.new) }
-        ensures misses { S.misses shelf.new ≡ S.misses shelf.old }
-        ensures reached { (other : Slot) → IsTrue (S.reached shelf.old other) → IsTrue (S.reached shelf.new other) }
-        ensures held { (other : Slot) → (name : List ℕ) → S.held shelf.new other name ≡ S.held shelf.old other name }
+        ensures shelf { KeepsShelf S.misses S.reached S.held shelf.old shelf.new }
     {
         if !self.piece.ahead().is_empty() {
             return Err(TokenError::TooLong {
@@ -190,11 +197,11 @@ impl Tokens {
         requires reached { IsTrue (S.reached shelf.old self.old.slot) }
         ensures sought { Seeks self.old result self.new }
         ensures slot { self.new.slot ≡ self.old.slot }
-        ensures skipped { IsTrue S.tells → SkipsTo result self.old.room (self.old.pending ++ S.left shelf.old self.old.slot) self.new.room (self.new.pending ++ S.left shelf.new self.old.slot) }
+        ensures skipped { IsTrue S.tells → SkipsTo result
+            self.old.room (self.old.pending ++ S.left shelf.old self.old.slot)
+            self.new.room (self.new.pending ++ S.left shelf.new self.old.slot) }
         ensures faults { Counted result (S.faults shelf.old) (S.faults shelf.new) }
-        ensures misses { S.misses shelf.new ≡ S.misses shelf.old }
-        ensures reached { (other : Slot) → IsTrue (S.reached shelf.old other) → IsTrue (S.reached shelf.new other) }
-        ensures held { (other : Slot) → (name : List ℕ) → S.held shelf.new other name ≡ S.held shelf.old other name }
+        ensures shelf { KeepsShelf S.misses S.reached S.held shelf.old shelf.new }
     {
         self.forget();
         'blanks: while !self.skip_blanks() {
@@ -213,11 +220,10 @@ impl Tokens {
         requires countable { Countable self.old.number self.old.room }
         ensures counted { TakesOne self.old result self.new }
         ensures slot { self.new.slot ≡ self.old.slot }
-        ensures token { IsTrue S.tells → TakesToken self.old.room self.old.number (self.old.pending ++ S.left shelf.old self.old.slot) result self.new (S.left shelf.new self.old.slot) }
+        ensures token { IsTrue S.tells → TakesToken self.old.room self.old.number
+            (self.old.pending ++ S.left shelf.old self.old.slot) result self.new (S.left shelf.new self.old.slot) }
         ensures faults { Counted result (S.faults shelf.old) (S.faults shelf.new) }
-        ensures misses { S.misses shelf.new ≡ S.misses shelf.old }
-        ensures reached { (other : Slot) → IsTrue (S.reached shelf.old other) → IsTrue (S.reached shelf.new other) }
-        ensures held { (other : Slot) → (name : List ℕ) → S.held shelf.new other name ≡ S.held shelf.old other name }
+        ensures shelf { KeepsShelf S.misses S.reached S.held shelf.old shelf.new }
         ensures word { OnOk result (IsTrue (is_token self.new.word)) }
     {
         'parts: while !self.take_part()? {
@@ -242,13 +248,12 @@ impl Tokens {
     /// Takes the next token into the hand.
     fn find<S: Shelf>(&mut self, shelf: &mut S) -> Result<bool, TokenError>
         requires reached { IsTrue (S.reached shelf.old self.old.slot) }
-        ensures token { IsTrue S.tells → Advances (place_of self.old (S.left shelf.old self.old.slot)) result self.new.word (place_of self.new (S.left shelf.new self.old.slot)) }
-        ensures little { IsTrue S.tells → result ≡ Ok true → ReadsLittleAhead (self.old.pending ++ S.left shelf.old self.old.slot) self.new.word (S.left shelf.new self.old.slot) }
+        ensures token { IsTrue S.tells → GoesOn self.old (S.left shelf.old) result self.new (S.left shelf.new) }
+        ensures little { IsTrue S.tells → result ≡ Ok true →
+            ReadsLittle self.old (S.left shelf.old) self.new.word (S.left shelf.new) }
         ensures slot { self.new.slot ≡ self.old.slot }
         ensures faults { Counted result (S.faults shelf.old) (S.faults shelf.new) }
-        ensures misses { S.misses shelf.new ≡ S.misses shelf.old }
-        ensures reached { (other : Slot) → IsTrue (S.reached shelf.old other) → IsTrue (S.reached shelf.new other) }
-        ensures held { (other : Slot) → (name : List ℕ) → S.held shelf.new other name ≡ S.held shelf.old other name }
+        ensures shelf { KeepsShelf S.misses S.reached S.held shelf.old shelf.new }
         ensures word { IfOk result (λ more. IsTrue more → IsTrue (is_token self.new.word)) }
         ensures ended { result ≡ Ok false → IsTrue S.tells → S.left shelf.new self.old.slot ≡ [] }
     {
@@ -263,7 +268,7 @@ impl Tokens {
     /// The tokens of the text in a slot, of which at most `limit` bytes are read as tokens. The
     /// only error is want of memory.
     pub fn new(alloc: Global, slot: Slot, limit: u64) -> Result<Self, AllocError>
-        ensures { IfOk result (λ tokens. tokens ≡ record { slot = slot; number = 0; word = []; pending = []; room = limit; broken = false }) }
+        ensures { IfOk result (λ tokens. tokens ≡ new_stream slot limit) }
     {
         Ok(Tokens {
             piece: Piece::new(alloc, PIECE_BYTES)?,
@@ -286,14 +291,13 @@ impl Tokens {
     /// no further token is followed by a blank within it; `NoMemory`.
     pub fn advance<S: Shelf>(&mut self, shelf: &mut S) -> Result<bool, TokenError>
         requires reached { IsTrue (S.reached shelf.old self.old.slot) }
-        ensures token { IsTrue S.tells → Advances (place_of self.old (S.left shelf.old self.old.slot)) result self.new.word (place_of self.new (S.left shelf.new self.old.slot)) }
-        ensures little { IsTrue S.tells → result ≡ Ok true → ReadsLittleAhead (self.old.pending ++ S.left shelf.old self.old.slot) self.new.word (S.left shelf.new self.old.slot) }
+        ensures token { IsTrue S.tells → GoesOn self.old (S.left shelf.old) result self.new (S.left shelf.new) }
+        ensures little { IsTrue S.tells → result ≡ Ok true →
+            ReadsLittle self.old (S.left shelf.old) self.new.word (S.left shelf.new) }
         ensures broken { self.new.broken ≡ is_err result }
         ensures slot { self.new.slot ≡ self.old.slot }
         ensures faults { Counted result (S.faults shelf.old) (S.faults shelf.new) }
-        ensures misses { S.misses shelf.new ≡ S.misses shelf.old }
-        ensures reached { (other : Slot) → IsTrue (S.reached shelf.old other) → IsTrue (S.reached shelf.new other) }
-        ensures held { (other : Slot) → (name : List ℕ) → S.held shelf.new other name ≡ S.held shelf.old other name }
+        ensures shelf { KeepsShelf S.misses S.reached S.held shelf.old shelf.new }
         ensures word { IfOk result (λ more. IsTrue more → IsTrue (is_token self.new.word)) }
         ensures ended { result ≡ Ok false → IsTrue S.tells → S.left shelf.new self.old.slot ≡ [] }
     {
@@ -309,14 +313,13 @@ impl Tokens {
     /// As `advance`.
     pub fn next<S: Shelf>(&mut self, shelf: &mut S) -> Result<Option<Token>, TokenError>
         requires reached { IsTrue (S.reached shelf.old self.old.slot) }
-        ensures token { IsTrue S.tells → GivesToken (place_of self.old (S.left shelf.old self.old.slot)) result (place_of self.new (S.left shelf.new self.old.slot)) }
-        ensures little { IsTrue S.tells → IfOk result (λ given. IfSome given (λ token. ReadsLittleAhead (self.old.pending ++ S.left shelf.old self.old.slot) token.text (S.left shelf.new self.old.slot))) }
+        ensures token { IsTrue S.tells → GivesNext self.old (S.left shelf.old) result self.new (S.left shelf.new) }
+        ensures little { IsTrue S.tells → IfOk result (λ given. IfSome given (λ token.
+            ReadsLittle self.old (S.left shelf.old) token.text (S.left shelf.new))) }
         ensures broken { self.new.broken ≡ is_err result }
         ensures slot { self.new.slot ≡ self.old.slot }
         ensures faults { Counted result (S.faults shelf.old) (S.faults shelf.new) }
-        ensures misses { S.misses shelf.new ≡ S.misses shelf.old }
-        ensures reached { (other : Slot) → IsTrue (S.reached shelf.old other) → IsTrue (S.reached shelf.new other) }
-        ensures held { (other : Slot) → (name : List ℕ) → S.held shelf.new other name ≡ S.held shelf.old other name }
+        ensures shelf { KeepsShelf S.misses S.reached S.held shelf.old shelf.new }
     {
         let found = self.advance(shelf)?;
         if !found {

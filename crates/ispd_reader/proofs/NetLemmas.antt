@@ -1,3 +1,4 @@
+-- The number of all pins, with one net more.
 use Rattle.std.proofs.Common.{◌≡◌, ◌+◌, List, [], ◌∷◌, ◌++◌, length, arith}
 use Rattle.std.proofs.lemmas.List.Sums.{sum_by-append}
 use Rattle.gr_base.specs.declared.frame.Net.{Net}

@@ -1,5 +1,6 @@
 -- What a design text says. The grammar is a table: one line for each check, in the order of the text.
 use Rattle.std.specs.Prelude.{ℕ, ◌*◌, List, Result, Ok, Err}
+use Rattle.gr_base.specs.Limits.{most_bytes}
 use Rattle.gr_base.specs.Designs.{DesignView}
 use Rattle.gr_text.specs.Tokens.{place_in}
 use Rattle.gr_text.specs.Reading.{Read, Reader, ◌>>=◌, ◌>>◌, pure}
@@ -15,10 +16,6 @@ design = do
   nets ← nets frame
   adjustments ← adjustments frame.shape
   pure (record { frame = frame; nets = nets; adjustments = adjustments })
-
--- the most bytes of a text that are read
-abbrev pub most_bytes : ℕ
-most_bytes = 2147483648
 
 abbrev pub value_of : Read DesignFault DesignView → Result DesignView (DesignFault × ℕ)
 value_of (Ok read) = Ok read.0

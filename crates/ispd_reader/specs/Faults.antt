@@ -1,3 +1,4 @@
+-- The faults of a design text and their numbers.
 use Rattle.std.specs.Prelude.{ℕ}
 use Rattle.gr_text.specs.declared.source.Ends.{Ends}
 use Rattle.ispd_reader.specs.declared.fault.DesignFault.{DesignFault}

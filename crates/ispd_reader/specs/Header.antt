@@ -13,7 +13,8 @@ use Rattle.ispd_reader.specs.declared.fault.DesignFault.{DesignFault}
 use Rattle.ispd_reader.specs.declared.fault.DesignFault.TheVariants.{Word, Number, Grid, Tile, NoLayer}
 
 abbrev pub shape_where : (columns rows layers : ℕ) → (valid : Bool) → is_grid columns rows layers ≡ valid → Option Shape
-shape_where columns rows layers true valid = Some (record { columns = columns; rows = rows; layers = layers; valid = valid })
+shape_where columns rows layers true valid =
+    Some (record { columns = columns; rows = rows; layers = layers; valid = valid })
 shape_where columns rows layers false valid = None
 
 -- the grid of so many columns, rows and layers, if there is one
@@ -65,7 +66,8 @@ layer_at vertical horizontal width spacing via at = record {
 
 -- the numbers of each layer that a grid may have
 unfoldable pub stack_of : (vertical horizontal width spacing via : List ℕ) → List Layer
-stack_of vertical horizontal width spacing via = map (layer_at vertical horizontal width spacing via) (range_with_len 0 most_layers)
+stack_of vertical horizontal width spacing via =
+    map (layer_at vertical horizontal width spacing via) (range_with_len 0 most_layers)
 
 -- the capacities, widths and spacings of the grid's layers
 unfoldable pub layers : Shape → Reader DesignFault (List Layer)

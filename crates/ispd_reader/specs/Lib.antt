@@ -4,4 +4,3 @@ pub mod Header
 pub mod Nets
 pub mod Adjustments
 pub mod DesignText
-pub mod Answers

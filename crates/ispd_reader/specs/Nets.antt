@@ -1,6 +1,6 @@
 -- The nets of a design text and their pins.
 use Rattle.std.specs.Prelude.{ℕ, ◌+◌, ◌-◌, ◌*◌, ◌^◌, ◌&&◌, nat_lt, nat_le, ℤ, pos, neg_ℤ, List, [], is_none, codes}
-use Rattle.gr_base.specs.Limits.{most_pins, most_id, most_width, most_nets}
+use Rattle.gr_base.specs.Limits.{most_pins, most_id, most_width, most_nets, most_coordinate}
 use Rattle.gr_base.specs.Grid.{number_of}
 use Rattle.gr_base.specs.Designs.{net_from, pins_of, tile_of}
 use Rattle.gr_base.specs.declared.frame.Frame.{Frame}
@@ -11,21 +11,17 @@ use Rattle.ispd_reader.specs.Steps.{natural, words, layer_in}
 use Rattle.ispd_reader.specs.declared.fault.DesignFault.{DesignFault}
 use Rattle.ispd_reader.specs.declared.fault.DesignFault.TheVariants.{Number, Pins, PinOutside, PinLayer, RepeatedId}
 
--- the greatest coordinate of a pin
-abbrev pub most_coordinate : ℕ
-most_coordinate = 2 ^ 44
-
--- a coordinate on the chip along one axis, as its tile
-unfoldable pub pin_tile : ℤ → ℕ → ℕ → Reader DesignFault ℕ
-pin_tile lower size tiles = do
-  at ← number ends Number (neg_ℤ (pos most_coordinate)) (pos most_coordinate)
-  given (tile_of lower size tiles at) PinOutside
+-- a coordinate of a pin
+unfoldable pub coordinate : Reader DesignFault ℤ
+coordinate = number ends Number (neg_ℤ (pos most_coordinate)) (pos most_coordinate)
 
 -- a pin, as the number of its cell
 unfoldable pub pin : Frame → Reader DesignFault ℕ
 pin frame = do
-  column ← pin_tile frame.lower_x frame.tile_width frame.shape.columns
-  row ← pin_tile frame.lower_y frame.tile_height frame.shape.rows
+  x ← coordinate
+  column ← given (tile_of frame.lower_x frame.tile_width frame.shape.columns x) PinOutside
+  y ← coordinate
+  row ← given (tile_of frame.lower_y frame.tile_height frame.shape.rows y) PinOutside
   layer ← layer_in frame.shape PinLayer
   pure (number_of frame.shape (record { x = column; y = row; layer = layer }))
 

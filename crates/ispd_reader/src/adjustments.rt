@@ -1,6 +1,6 @@
 //! The adjustments and the end of the text.
 ghost use Rattle.std.specs.Prelude.{◌≡◌, ℕ, ◌<◌, ◌≤◌, [], IsTrue, IfOk, IfSome, OnOk};
-ghost use Rattle.gr_text.specs.Reads.{Reads, Counts};
+ghost use Rattle.gr_text.specs.Reads.{ReadsBy, Counts};
 ghost use Rattle.gr_text.specs.Reading.{several};
 ghost use Rattle.gr_base.specs.Limits.{most_adjustments};
 ghost use Rattle.gr_base.specs.Grid.{cells_of, has_edge, is_wire};
@@ -8,22 +8,16 @@ ghost use Rattle.gr_base.specs.Designs.{IsAdjustment};
 ghost use Rattle.ispd_reader.specs.Adjustments.{tile, place, wire_between, adjustment, end, adjustment_count, counted_adjustments, adjustments};
 
 use crate::fault::DesignFault;
-use crate::steps::{ENDS, MOST_ID, given, layer_in, natural};
-use gr_base::{Adjustment, Design, Edge, Shape, Way};
+use crate::steps::{ENDS, given, layer_in, natural};
+use gr_base::{Adjustment, Design, Edge, MOST_ADJUSTMENTS, MOST_CAPACITY, MOST_ID, Shape, Way};
 use gr_text::{ReadError, TokenSource, check, next_token_or_end, whole_of};
-
-/// The most adjustments of a design.
-const MOST_ADJUSTMENTS: i64 = 16_777_216;
-
-/// The greatest capacity of an edge, in units of width.
-const MOST_CAPACITY: u32 = 1_000_000;
 
 /// Takes a column or a row, of so many.
 #[tactic(auto, unfolding(crate::specs::Adjustments::tile))]
 fn tile<S: TokenSource>(source: &mut S, tiles: u32) -> Result<u32, ReadError<DesignFault>>
-    ensures reads { IsTrue S.tells → Reads (tile tiles (S.place source.old)) (λ at. at) result (S.place source.new) }
+    ensures reads { ReadsBy S.tells S.place (tile tiles) (λ at. at) result source.old source.new }
     ensures faults { Counts result (S.faults source.old) (S.faults source.new) }
-    ensures device { S.device source.new ≡ S.device source.old }
+    ensures origin { S.origin source.new ≡ S.origin source.old }
     ensures below { IfOk result (λ at. at < tiles) }
 {
     let at = natural(source, 0, MOST_ID)?;
@@ -34,9 +28,9 @@ fn tile<S: TokenSource>(source: &mut S, tiles: u32) -> Result<u32, ReadError<Des
 /// Takes a place of the grid, and gives its cell.
 #[tactic(auto, unfolding(crate::specs::Adjustments::place))]
 fn place<S: TokenSource>(source: &mut S, shape: Shape) -> Result<u32, ReadError<DesignFault>>
-    ensures reads { IsTrue S.tells → Reads (place shape (S.place source.old)) (λ cell. cell) result (S.place source.new) }
+    ensures reads { ReadsBy S.tells S.place (place shape) (λ cell. cell) result source.old source.new }
     ensures faults { Counts result (S.faults source.old) (S.faults source.new) }
-    ensures device { S.device source.new ≡ S.device source.old }
+    ensures origin { S.origin source.new ≡ S.origin source.old }
     ensures cell { IfOk result (λ cell. cell < cells_of shape) }
 {
     let column = tile(source, shape.columns())?;
@@ -66,9 +60,9 @@ fn adjustment<S: TokenSource>(
     source: &mut S,
     shape: Shape,
 ) -> Result<Adjustment, ReadError<DesignFault>>
-    ensures reads { IsTrue S.tells → Reads (adjustment shape (S.place source.old)) (λ adjustment. adjustment) result (S.place source.new) }
+    ensures reads { ReadsBy S.tells S.place (adjustment shape) (λ adjustment. adjustment) result source.old source.new }
     ensures faults { Counts result (S.faults source.old) (S.faults source.new) }
-    ensures device { S.device source.new ≡ S.device source.old }
+    ensures origin { S.origin source.new ≡ S.origin source.old }
     ensures adjustment { IfOk result (IsAdjustment shape) }
 {
     let from = place(source, shape)?;
@@ -81,13 +75,14 @@ fn adjustment<S: TokenSource>(
 /// The number of adjustments, which is the token in hand.
 #[tactic(auto, unfolding(crate::specs::Adjustments::adjustment_count))]
 fn adjustment_count<S: TokenSource>(source: &S) -> Result<u32, ReadError<DesignFault>>
-    ensures reads { IsTrue S.tells → Reads (adjustment_count (S.word source.now) (S.place source.now)) (λ count. count) result (S.place source.now) }
+    ensures reads { ReadsBy S.tells S.place (adjustment_count (S.word source.now))
+        (λ count. count) result source.now source.now }
     ensures faults { (count : ℕ) → Counts result count count }
     ensures most { IfOk result (λ count. count ≤ most_adjustments) }
 {
     let count = given(
         source,
-        whole_of(source.word(), 0, MOST_ADJUSTMENTS),
+        whole_of(source.word(), 0, i64::from(MOST_ADJUSTMENTS)),
         DesignFault::Number,
     )?;
     Ok(count as u32)
@@ -101,9 +96,10 @@ fn several_adjustments<S: TokenSource>(
 ) -> Result<(), ReadError<DesignFault>>
     requires none { design.old.adjustments ≡ [] }
     requires most { count ≤ most_adjustments }
-    ensures reads { IsTrue S.tells → Reads (several (λ _. adjustment design.old.frame.shape) count [] (S.place source.old)) (λ _. design.new.adjustments) result (S.place source.new) }
+    ensures reads { ReadsBy S.tells S.place (several (λ _. adjustment design.old.frame.shape) count [])
+        (λ _. design.new.adjustments) result source.old source.new }
     ensures faults { Counts result (S.faults source.old) (S.faults source.new) }
-    ensures device { S.device source.new ≡ S.device source.old }
+    ensures origin { S.origin source.new ≡ S.origin source.old }
     ensures frame { design.new.frame ≡ design.old.frame }
     ensures nets { design.new.nets ≡ design.old.nets }
 {
@@ -120,9 +116,9 @@ fn several_adjustments<S: TokenSource>(
 /// Sees that no further token is there.
 #[tactic(auto, unfolding(crate::specs::Adjustments::end))]
 fn end<S: TokenSource>(source: &mut S) -> Result<(), ReadError<DesignFault>>
-    ensures reads { IsTrue S.tells → Reads (end (S.place source.old)) (λ _. tt) result (S.place source.new) }
+    ensures reads { ReadsBy S.tells S.place end (λ _. tt) result source.old source.new }
     ensures faults { Counts result (S.faults source.old) (S.faults source.new) }
-    ensures device { S.device source.new ≡ S.device source.old }
+    ensures origin { S.origin source.new ≡ S.origin source.old }
     ensures ended { OnOk result (IsTrue S.tells → S.ended source.new) }
 {
     let more = next_token_or_end(source, ENDS)?;
@@ -136,9 +132,10 @@ fn counted_adjustments<S: TokenSource>(
     design: &mut Design,
 ) -> Result<(), ReadError<DesignFault>>
     requires { design.old.adjustments ≡ [] }
-    ensures reads { IsTrue S.tells → Reads (counted_adjustments design.old.frame.shape (S.word source.old) (S.place source.old)) (λ _. design.new.adjustments) result (S.place source.new) }
+    ensures reads { ReadsBy S.tells S.place (counted_adjustments design.old.frame.shape (S.word source.old))
+        (λ _. design.new.adjustments) result source.old source.new }
     ensures faults { Counts result (S.faults source.old) (S.faults source.new) }
-    ensures device { S.device source.new ≡ S.device source.old }
+    ensures origin { S.origin source.new ≡ S.origin source.old }
     ensures frame { design.new.frame ≡ design.old.frame }
     ensures nets { design.new.nets ≡ design.old.nets }
     ensures ended { OnOk result (IsTrue S.tells → S.ended source.new) }
@@ -155,9 +152,10 @@ pub(crate) fn adjustments<S: TokenSource>(
     design: &mut Design,
 ) -> Result<(), ReadError<DesignFault>>
     requires { design.old.adjustments ≡ [] }
-    ensures reads { IsTrue S.tells → Reads (adjustments design.old.frame.shape (S.place source.old)) (λ _. design.new.adjustments) result (S.place source.new) }
+    ensures reads { ReadsBy S.tells S.place (adjustments design.old.frame.shape)
+        (λ _. design.new.adjustments) result source.old source.new }
     ensures faults { Counts result (S.faults source.old) (S.faults source.new) }
-    ensures device { S.device source.new ≡ S.device source.old }
+    ensures origin { S.origin source.new ≡ S.origin source.old }
     ensures frame { design.new.frame ≡ design.old.frame }
     ensures nets { design.new.nets ≡ design.old.nets }
     ensures ended { OnOk result (IsTrue S.tells → S.ended source.new) }

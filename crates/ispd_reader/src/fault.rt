@@ -1,7 +1,6 @@
 ghost use Rattle.std.specs.Prelude.{◌≡◌};
 
 use gr_text::ReadError;
-use std::alloc::AllocError;
 use thiserror::Error;
 
 /// What is wrong with a design text at the first token for which a check fails.
@@ -47,39 +46,4 @@ impl DesignFault {
 }
 
 /// Why no design was read.
-#[derive(Clone, Copy, Debug, PartialEq, Eq, Error)]
-pub enum DesignError {
-    /// The text is at fault, at this token. Tokens count from 1.
-    #[error("{fault}, at token {token}")]
-    Fault { fault: DesignFault, token: u64 },
-    #[error("a read failed")]
-    Failed,
-    #[error("out of memory")]
-    NoMemory,
-}
-
-impl From<AllocError> for DesignError {
-    ghost use Rattle.std.specs.Prelude.{◌≡◌};
-    ghost use Rattle.ispd_reader.specs.declared.fault.DesignError.TheVariants.{NoMemory};
-
-    ghost from_gives = { λ _ e. e ≡ NoMemory };
-
-    fn from(_error: AllocError) -> Self {
-        DesignError::NoMemory
-    }
-}
-
-impl From<ReadError<DesignFault>> for DesignError {
-    ghost use Rattle.std.specs.Prelude.{◌≡◌};
-    ghost use Rattle.ispd_reader.specs.Answers.{error_of};
-
-    ghost from_gives = { λ error e. e ≡ error_of error };
-
-    fn from(error: ReadError<DesignFault>) -> Self {
-        match error {
-            ReadError::Fault { fault, token } => DesignError::Fault { fault, token },
-            ReadError::Failed => DesignError::Failed,
-            ReadError::NoMemory => DesignError::NoMemory,
-        }
-    }
-}
+pub type DesignError = ReadError<DesignFault>;

@@ -1,33 +1,17 @@
 //! What stands before the nets: the grid, the capacities, the widths and spacings, and the tiles.
 ghost use Rattle.std.specs.Prelude.{◌≡◌, ◌-◌, ◌*◌, ◌<◌, ◌≤◌, ℤ, All, Any, length, replicate, take, drop, nat_lt, negsuc, pos, ◌≤ℤ◌, IsTrue, IfOk};
 ghost use Rattle.std.specs.List.{list_any};
-ghost use Rattle.gr_text.specs.Reads.{Reads, Counts};
+ghost use Rattle.gr_text.specs.Reads.{ReadsBy, Counts};
 ghost use Rattle.gr_base.specs.Limits.{most_lower, most_tile, most_width, most_capacity};
 ghost use Rattle.gr_base.specs.Designs.{IsFrame};
 ghost use Rattle.ispd_reader.specs.Header.{shape_of, grid, by_layer, stack_of, IsStack, capacities, measures, layers, corner, tile_size, frame};
 
 use crate::fault::DesignFault;
 use crate::steps::{ENDS, given, natural, words};
-use gr_base::{Frame, Layer, Shape};
+use gr_base::{
+    Frame, Layer, MOST_CAPACITY, MOST_CELLS, MOST_LAYERS, MOST_LOWER, MOST_TILE, MOST_WIDTH, Shape,
+};
 use gr_text::{ReadError, TokenSource, check, number, word};
-
-/// The most columns, rows and cells of a grid.
-const MOST_CELLS: u32 = 8_388_608;
-
-/// The most layers of a grid.
-const MOST_LAYERS: u32 = 16;
-
-/// The greatest capacity of a layer, in units of width.
-const MOST_CAPACITY: u32 = 1_000_000;
-
-/// The greatest width or spacing.
-const MOST_WIDTH: u32 = 1_000;
-
-/// The greatest width or height of a tile.
-const MOST_TILE: u32 = 1_000_000;
-
-/// The greatest coordinate of the lower left corner.
-const MOST_LOWER: i64 = 1 << 40;
 
 /// What stands for a layer that the grid hasn't.
 const NO_LAYER: Layer = Layer {
@@ -46,9 +30,9 @@ fn shape_of(columns: u32, rows: u32, layers: u32) -> Option<Shape>
 
 #[tactic(auto, unfolding(crate::specs::Header::grid))]
 fn grid<S: TokenSource>(source: &mut S) -> Result<Shape, ReadError<DesignFault>>
-    ensures reads { IsTrue S.tells → Reads (grid (S.place source.old)) (λ shape. shape) result (S.place source.new) }
+    ensures reads { ReadsBy S.tells S.place grid (λ shape. shape) result source.old source.new }
     ensures faults { Counts result (S.faults source.old) (S.faults source.new) }
-    ensures device { S.device source.new ≡ S.device source.old }
+    ensures origin { S.origin source.new ≡ S.origin source.old }
 {
     word(source, ENDS, DesignFault::Word, b"grid")?;
     let columns = natural(source, 1, MOST_CELLS)?;
@@ -64,9 +48,9 @@ fn by_layer<S: TokenSource>(
     most: u32,
 ) -> Result<[u32; 16], ReadError<DesignFault>>
     requires { layers ≤ 16 }
-    ensures reads { IsTrue S.tells → Reads (by_layer layers most (S.place source.old)) (λ numbers. numbers) result (S.place source.new) }
+    ensures reads { ReadsBy S.tells S.place (by_layer layers most) (λ numbers. numbers) result source.old source.new }
     ensures faults { Counts result (S.faults source.old) (S.faults source.new) }
-    ensures device { S.device source.new ≡ S.device source.old }
+    ensures origin { S.origin source.new ≡ S.origin source.old }
     ensures count { IfOk result (λ numbers. length numbers ≡ 16) }
     ensures most { IfOk result (All (λ n. n ≤ most)) }
     ensures others { IfOk result (λ numbers. drop layers numbers ≡ replicate (16 - layers) 0) }
@@ -93,9 +77,10 @@ fn capacities<S: TokenSource>(
     layers: u32,
 ) -> Result<[u32; 16], ReadError<DesignFault>>
     requires { layers ≤ 16 }
-    ensures reads { IsTrue S.tells → Reads (capacities way.now tiles layers (S.place source.old)) (λ numbers. numbers) result (S.place source.new) }
+    ensures reads { ReadsBy S.tells S.place (capacities way.now tiles layers)
+        (λ numbers. numbers) result source.old source.new }
     ensures faults { Counts result (S.faults source.old) (S.faults source.new) }
-    ensures device { S.device source.new ≡ S.device source.old }
+    ensures origin { S.origin source.new ≡ S.origin source.old }
     ensures count { IfOk result (λ numbers. length numbers ≡ 16) }
     ensures most { IfOk result (All (λ n. n ≤ most_capacity)) }
     ensures some { IfOk result (λ numbers. 1 < tiles → Any (λ n. 0 < n) (take layers numbers)) }
@@ -119,9 +104,10 @@ fn measures<S: TokenSource>(
     layers: u32,
 ) -> Result<[u32; 16], ReadError<DesignFault>>
     requires { layers ≤ 16 }
-    ensures reads { IsTrue S.tells → Reads (measures first.now second.now layers (S.place source.old)) (λ numbers. numbers) result (S.place source.new) }
+    ensures reads { ReadsBy S.tells S.place (measures first.now second.now layers)
+        (λ numbers. numbers) result source.old source.new }
     ensures faults { Counts result (S.faults source.old) (S.faults source.new) }
-    ensures device { S.device source.new ≡ S.device source.old }
+    ensures origin { S.origin source.new ≡ S.origin source.old }
     ensures count { IfOk result (λ numbers. length numbers ≡ 16) }
     ensures most { IfOk result (All (λ n. n ≤ most_width)) }
 {
@@ -132,9 +118,9 @@ fn measures<S: TokenSource>(
 /// A coordinate of the lower left corner.
 #[tactic(auto, unfolding(crate::specs::Header::corner))]
 fn corner<S: TokenSource>(source: &mut S) -> Result<i64, ReadError<DesignFault>>
-    ensures reads { IsTrue S.tells → Reads (corner (S.place source.old)) (λ n. n) result (S.place source.new) }
+    ensures reads { ReadsBy S.tells S.place corner (λ n. n) result source.old source.new }
     ensures faults { Counts result (S.faults source.old) (S.faults source.new) }
-    ensures device { S.device source.new ≡ S.device source.old }
+    ensures origin { S.origin source.new ≡ S.origin source.old }
     ensures low { IfOk result (λ n. negsuc (most_lower - 1) ≤ℤ n) }
     ensures high { IfOk result (λ n. n ≤ℤ pos most_lower) }
 {
@@ -144,9 +130,9 @@ fn corner<S: TokenSource>(source: &mut S) -> Result<i64, ReadError<DesignFault>>
 /// The width or the height of a tile.
 #[tactic(auto, unfolding(crate::specs::Header::tile_size))]
 fn tile_size<S: TokenSource>(source: &mut S) -> Result<u32, ReadError<DesignFault>>
-    ensures reads { IsTrue S.tells → Reads (tile_size (S.place source.old)) (λ n. n) result (S.place source.new) }
+    ensures reads { ReadsBy S.tells S.place tile_size (λ n. n) result source.old source.new }
     ensures faults { Counts result (S.faults source.old) (S.faults source.new) }
-    ensures device { S.device source.new ≡ S.device source.old }
+    ensures origin { S.origin source.new ≡ S.origin source.old }
     ensures some { IfOk result (λ n. 0 < n) }
     ensures most { IfOk result (λ n. n ≤ most_tile) }
 {
@@ -184,9 +170,9 @@ fn layers<S: TokenSource>(
     source: &mut S,
     shape: Shape,
 ) -> Result<[Layer; 16], ReadError<DesignFault>>
-    ensures reads { IsTrue S.tells → Reads (layers shape (S.place source.old)) (λ layers. layers) result (S.place source.new) }
+    ensures reads { ReadsBy S.tells S.place (layers shape) (λ layers. layers) result source.old source.new }
     ensures faults { Counts result (S.faults source.old) (S.faults source.new) }
-    ensures device { S.device source.new ≡ S.device source.old }
+    ensures origin { S.origin source.new ≡ S.origin source.old }
     ensures stack { IfOk result (IsStack shape) }
 {
     let vertical = capacities(source, b"vertical", shape.rows(), shape.layers())?;
@@ -200,9 +186,9 @@ fn layers<S: TokenSource>(
 /// Reads all that stands before the nets.
 #[tactic(auto, unfolding(crate::specs::Header::frame))]
 pub(crate) fn frame<S: TokenSource>(source: &mut S) -> Result<Frame, ReadError<DesignFault>>
-    ensures reads { IsTrue S.tells → Reads (frame (S.place source.old)) (λ frame. frame) result (S.place source.new) }
+    ensures reads { ReadsBy S.tells S.place frame (λ frame. frame) result source.old source.new }
     ensures faults { Counts result (S.faults source.old) (S.faults source.new) }
-    ensures device { S.device source.new ≡ S.device source.old }
+    ensures origin { S.origin source.new ≡ S.origin source.old }
     ensures frame { IfOk result IsFrame }
 {
     let shape = grid(source)?;

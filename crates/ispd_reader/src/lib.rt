@@ -7,8 +7,6 @@ mod header;
 mod nets;
 mod read;
 mod steps;
-#[cfg(test)]
-mod tests;
 
 pub use fault::{DesignError, DesignFault};
 pub use read::read_design;

@@ -1,81 +1,50 @@
 //! The nets and their pins.
 ghost use Rattle.std.specs.Prelude.{◌≡◌, ℕ, ◌+◌, ◌*◌, ◌<◌, ◌≤◌, List, [], All, Some, None, length, IsTrue, IfOk};
-ghost use Rattle.gr_text.specs.Reads.{Reads, Counts};
+ghost use Rattle.gr_text.specs.Reads.{ReadsBy, Counts};
 ghost use Rattle.gr_text.specs.Reading.{token, several};
 ghost use Rattle.gr_base.specs.Limits.{most_nets, most_pins, most_id, most_width};
 ghost use Rattle.gr_base.specs.Names.{is_token};
 ghost use Rattle.gr_base.specs.Grid.{cells_of};
 ghost use Rattle.gr_base.specs.Designs.{IsNet, net_with_id, pins_of};
 ghost use Rattle.ispd_reader.specs.Faults.{ends};
-ghost use Rattle.ispd_reader.specs.Nets.{pin_tile, pin, net_id, pin_count, net, net_count, nets};
+ghost use Rattle.ispd_reader.specs.Nets.{coordinate, pin, net_id, pin_count, net, net_count, nets};
 
 use crate::fault::DesignFault;
-use crate::steps::{ENDS, MOST_ID, given, layer_in, natural, words};
-use gr_base::{Cells, Design, Name, Net};
+use crate::steps::{ENDS, given, layer_in, natural, words};
+use gr_base::{
+    Cells, Design, MOST_COORDINATE, MOST_ID, MOST_NETS, MOST_PINS, MOST_WIDTH, Name, Net,
+};
 use gr_text::{ReadError, TokenSource, check, next_token, number};
 use std::alloc::Global;
 
-/// The most nets of a design.
-const MOST_NETS: u32 = 4_194_304;
-
-/// The most pins of all nets together.
-const MOST_PINS: u32 = 16_777_216;
-
-/// The greatest width of a net, in units of width.
-const MOST_WIDTH: u32 = 1_000;
-
-/// The greatest coordinate of a pin.
-const MOST_COORDINATE: i64 = 1 << 44;
-
-/// Takes a pin's x, and gives its column.
-#[tactic(auto, unfolding(crate::specs::Nets::pin_tile))]
-fn pin_column<S: TokenSource>(
-    source: &mut S,
-    design: &Design,
-) -> Result<u32, ReadError<DesignFault>>
-    ensures reads { IsTrue S.tells → Reads (pin_tile design.now.frame.lower_x design.now.frame.tile_width design.now.frame.shape.columns (S.place source.old)) (λ column. column) result (S.place source.new) }
+/// Takes a coordinate of a pin.
+#[tactic(auto, unfolding(crate::specs::Nets::coordinate))]
+fn coordinate<S: TokenSource>(source: &mut S) -> Result<i64, ReadError<DesignFault>>
+    ensures reads { ReadsBy S.tells S.place coordinate (λ at. at) result source.old source.new }
     ensures faults { Counts result (S.faults source.old) (S.faults source.new) }
-    ensures device { S.device source.new ≡ S.device source.old }
-    ensures column { IfOk result (λ column. column < design.now.frame.shape.columns) }
+    ensures origin { S.origin source.new ≡ S.origin source.old }
 {
-    let x = number(
+    number(
         source,
         ENDS,
         DesignFault::Number,
         -MOST_COORDINATE,
         MOST_COORDINATE,
-    )?;
-    given(source, design.tile_x(x), DesignFault::PinOutside)
-}
-
-/// Takes a pin's y, and gives its row.
-#[tactic(auto, unfolding(crate::specs::Nets::pin_tile))]
-fn pin_row<S: TokenSource>(source: &mut S, design: &Design) -> Result<u32, ReadError<DesignFault>>
-    ensures reads { IsTrue S.tells → Reads (pin_tile design.now.frame.lower_y design.now.frame.tile_height design.now.frame.shape.rows (S.place source.old)) (λ row. row) result (S.place source.new) }
-    ensures faults { Counts result (S.faults source.old) (S.faults source.new) }
-    ensures device { S.device source.new ≡ S.device source.old }
-    ensures row { IfOk result (λ row. row < design.now.frame.shape.rows) }
-{
-    let y = number(
-        source,
-        ENDS,
-        DesignFault::Number,
-        -MOST_COORDINATE,
-        MOST_COORDINATE,
-    )?;
-    given(source, design.tile_y(y), DesignFault::PinOutside)
+    )
 }
 
 /// Takes a pin, and gives its cell.
 #[tactic(auto, unfolding(crate::specs::Nets::pin))]
 fn pin<S: TokenSource>(source: &mut S, design: &Design) -> Result<u32, ReadError<DesignFault>>
-    ensures reads { IsTrue S.tells → Reads (pin design.now.frame (S.place source.old)) (λ pin. pin) result (S.place source.new) }
+    ensures reads { ReadsBy S.tells S.place (pin design.now.frame) (λ pin. pin) result source.old source.new }
     ensures faults { Counts result (S.faults source.old) (S.faults source.new) }
-    ensures device { S.device source.new ≡ S.device source.old }
+    ensures origin { S.origin source.new ≡ S.origin source.old }
     ensures cell { IfOk result (λ pin. pin < cells_of design.now.frame.shape) }
 {
-    let column = pin_column(source, design)?;
-    let row = pin_row(source, design)?;
+    let x = coordinate(source)?;
+    let column = given(source, design.tile_x(x), DesignFault::PinOutside)?;
+    let y = coordinate(source)?;
+    let row = given(source, design.tile_y(y), DesignFault::PinOutside)?;
     let shape = design.frame().shape;
     let layer = layer_in(source, shape, DesignFault::PinLayer)?;
     Ok(shape.cell_of(column, row, layer))
@@ -88,9 +57,10 @@ fn pins<S: TokenSource>(
     design: &Design,
     count: u32,
 ) -> Result<Cells, ReadError<DesignFault>>
-    ensures reads { IsTrue S.tells → Reads (several (λ _. pin design.now.frame) count [] (S.place source.old)) (λ pins. pins) result (S.place source.new) }
+    ensures reads { ReadsBy S.tells S.place (several (λ _. pin design.now.frame) count [])
+        (λ pins. pins) result source.old source.new }
     ensures faults { Counts result (S.faults source.old) (S.faults source.new) }
-    ensures device { S.device source.new ≡ S.device source.old }
+    ensures origin { S.origin source.new ≡ S.origin source.old }
     ensures count { IfOk result (λ pins. length pins ≡ count) }
     ensures cells { IfOk result (All (λ pin. pin < cells_of design.now.frame.shape)) }
 {
@@ -106,9 +76,9 @@ fn pins<S: TokenSource>(
 
 /// Takes a net's name.
 fn name<S: TokenSource>(alloc: Global, source: &mut S) -> Result<Name, ReadError<DesignFault>>
-    ensures reads { IsTrue S.tells → Reads (token ends (S.place source.old)) (λ name. name) result (S.place source.new) }
+    ensures reads { ReadsBy S.tells S.place (token ends) (λ name. name) result source.old source.new }
     ensures faults { Counts result (S.faults source.old) (S.faults source.new) }
-    ensures device { S.device source.new ≡ S.device source.old }
+    ensures origin { S.origin source.new ≡ S.origin source.old }
     ensures token { IfOk result (λ name. IsTrue (is_token name)) }
 {
     next_token(source, ENDS)?;
@@ -121,9 +91,9 @@ fn name<S: TokenSource>(alloc: Global, source: &mut S) -> Result<Name, ReadError
 /// Takes a net's id, which no net of the design has.
 #[tactic(auto, unfolding(crate::specs::Nets::net_id))]
 fn net_id<S: TokenSource>(source: &mut S, design: &Design) -> Result<u32, ReadError<DesignFault>>
-    ensures reads { IsTrue S.tells → Reads (net_id design.now.nets (S.place source.old)) (λ id. id) result (S.place source.new) }
+    ensures reads { ReadsBy S.tells S.place (net_id design.now.nets) (λ id. id) result source.old source.new }
     ensures faults { Counts result (S.faults source.old) (S.faults source.new) }
-    ensures device { S.device source.new ≡ S.device source.old }
+    ensures origin { S.origin source.new ≡ S.origin source.old }
     ensures most { IfOk result (λ id. id ≤ most_id) }
     ensures fresh { IfOk result (λ id. net_with_id design.now id ≡ None) }
 {
@@ -140,9 +110,9 @@ fn net_id<S: TokenSource>(source: &mut S, design: &Design) -> Result<u32, ReadEr
 #[tactic(auto, unfolding(crate::specs::Nets::pin_count))]
 fn pin_count<S: TokenSource>(source: &mut S, before: u32) -> Result<u32, ReadError<DesignFault>>
     requires { before ≤ most_pins }
-    ensures reads { IsTrue S.tells → Reads (pin_count before (S.place source.old)) (λ count. count) result (S.place source.new) }
+    ensures reads { ReadsBy S.tells S.place (pin_count before) (λ count. count) result source.old source.new }
     ensures faults { Counts result (S.faults source.old) (S.faults source.new) }
-    ensures device { S.device source.new ≡ S.device source.old }
+    ensures origin { S.origin source.new ≡ S.origin source.old }
     ensures some { IfOk result (λ count. 0 < count) }
     ensures most { IfOk result (λ count. before + count ≤ most_pins) }
 {
@@ -165,9 +135,10 @@ fn net<S: TokenSource>(
 ) -> Result<Net, ReadError<DesignFault>>
     requires pins { before ≡ pins_of design.now.nets }
     requires most { before ≤ most_pins }
-    ensures reads { IsTrue S.tells → Reads (net design.now.frame design.now.nets (S.place source.old)) (λ net. net) result (S.place source.new) }
+    ensures reads { ReadsBy S.tells S.place (net design.now.frame design.now.nets)
+        (λ net. net) result source.old source.new }
     ensures faults { Counts result (S.faults source.old) (S.faults source.new) }
-    ensures device { S.device source.new ≡ S.device source.old }
+    ensures origin { S.origin source.new ≡ S.origin source.old }
     ensures net { IfOk result (IsNet design.now.frame.shape) }
     ensures fresh { IfOk result (λ net. net_with_id design.now net.id ≡ None) }
     ensures pins { IfOk result (λ net. before + length net.pins ≤ most_pins) }
@@ -188,9 +159,9 @@ fn net<S: TokenSource>(
 /// Takes the words before the nets and how many nets there are.
 #[tactic(auto, unfolding(crate::specs::Nets::net_count))]
 fn net_count<S: TokenSource>(source: &mut S) -> Result<u32, ReadError<DesignFault>>
-    ensures reads { IsTrue S.tells → Reads (net_count (S.place source.old)) (λ count. count) result (S.place source.new) }
+    ensures reads { ReadsBy S.tells S.place net_count (λ count. count) result source.old source.new }
     ensures faults { Counts result (S.faults source.old) (S.faults source.new) }
-    ensures device { S.device source.new ≡ S.device source.old }
+    ensures origin { S.origin source.new ≡ S.origin source.old }
     ensures most { IfOk result (λ count. count ≤ most_nets) }
 {
     words(source, b"num", b"net")?;
@@ -206,9 +177,10 @@ fn counted_nets<S: TokenSource>(
 ) -> Result<(), ReadError<DesignFault>>
     requires none { design.old.nets ≡ [] }
     requires most { count ≤ most_nets }
-    ensures reads { IsTrue S.tells → Reads (several (net design.old.frame) count [] (S.place source.old)) (λ _. design.new.nets) result (S.place source.new) }
+    ensures reads { ReadsBy S.tells S.place (several (net design.old.frame) count [])
+        (λ _. design.new.nets) result source.old source.new }
     ensures faults { Counts result (S.faults source.old) (S.faults source.new) }
-    ensures device { S.device source.new ≡ S.device source.old }
+    ensures origin { S.origin source.new ≡ S.origin source.old }
     ensures frame { design.new.frame ≡ design.old.frame }
     ensures adjustments { design.new.adjustments ≡ design.old.adjustments }
 {
@@ -231,9 +203,10 @@ pub(crate) fn nets<S: TokenSource>(
     design: &mut Design,
 ) -> Result<(), ReadError<DesignFault>>
     requires { design.old.nets ≡ [] }
-    ensures reads { IsTrue S.tells → Reads (nets design.old.frame (S.place source.old)) (λ _. design.new.nets) result (S.place source.new) }
+    ensures reads { ReadsBy S.tells S.place (nets design.old.frame)
+        (λ _. design.new.nets) result source.old source.new }
     ensures faults { Counts result (S.faults source.old) (S.faults source.new) }
-    ensures device { S.device source.new ≡ S.device source.old }
+    ensures origin { S.origin source.new ≡ S.origin source.old }
     ensures frame { design.new.frame ≡ design.old.frame }
     ensures adjustments { design.new.adjustments ≡ design.old.adjustments }
 {

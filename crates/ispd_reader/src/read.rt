@@ -1,29 +1,25 @@
 ghost use Rattle.std.specs.Prelude.{◌≡◌, ℕ, ◌≤◌, List, [], IsTrue, OnOk};
 ghost use Rattle.gr_io.specs.Counts.{Rose};
 ghost use Rattle.gr_io.specs.declared.shelf.Slot.{Slot};
-ghost use Rattle.gr_text.specs.Reads.{Reads, Counts, OfPlace};
-ghost use Rattle.gr_text.specs.Streams.{place_of};
+ghost use Rattle.gr_text.specs.Reads.{ReadsBy, Counts, OfPlace, Says};
+ghost use Rattle.gr_text.specs.Streams.{place_at};
 ghost use Rattle.ispd_reader.specs.DesignText.{design, design_of};
-ghost use Rattle.ispd_reader.specs.Answers.{Says};
 
 use crate::adjustments::adjustments;
 use crate::fault::{DesignError, DesignFault};
 use crate::header::frame;
 use crate::nets::nets;
-use gr_base::Design;
+use gr_base::{Design, MOST_BYTES};
 use gr_io::{Shelf, Slot};
 use gr_text::{ReadError, TokenReader, TokenSource, Tokens};
 use std::alloc::Global;
 
-/// The most bytes of a text that are read.
-const MOST_BYTES: u64 = 2_147_483_648;
-
 /// Reads a whole design text.
 #[tactic(auto, unfolding(crate::specs::DesignText::design))]
 fn design<S: TokenSource>(alloc: Global, source: &mut S) -> Result<Design, ReadError<DesignFault>>
-    ensures reads { IsTrue S.tells → Reads (design (S.place source.old)) (λ design. design) result (S.place source.new) }
+    ensures reads { ReadsBy S.tells S.place design (λ design. design) result source.old source.new }
     ensures faults { Counts result (S.faults source.old) (S.faults source.new) }
-    ensures device { S.device source.new ≡ S.device source.old }
+    ensures origin { S.origin source.new ≡ S.origin source.old }
     ensures ended { OnOk result (IsTrue S.tells → S.ended source.new) }
 {
     let frame = frame(source)?;
@@ -40,7 +36,8 @@ fn read<S: Shelf>(
     alloc: Global,
     reader: &mut TokenReader<'_, '_, S>,
 ) -> Result<Design, ReadError<DesignFault>>
-    ensures reads { IsTrue S.tells → OfPlace (design (place_of reader.old.tokens.now (S.left reader.old.shelf.now reader.old.tokens.now.slot))) (λ design. design) result }
+    ensures reads { IsTrue S.tells →
+        OfPlace (design (place_at reader.old.tokens.now (S.left reader.old.shelf.now))) (λ design. design) result }
     ensures ended { OnOk result (IsTrue S.tells → S.left reader.new.shelf.now reader.new.tokens.now.slot ≡ []) }
     ensures faults { Counts result (S.faults reader.old.shelf.now) (S.faults reader.new.shelf.now) }
     ensures same_reference { reader.new.shelf.ghost_name ≡ reader.old.shelf.ghost_name }
@@ -63,8 +60,8 @@ pub fn read_design<S: Shelf>(alloc: Global, shelf: &mut S) -> Result<Design, Des
     ensures says { IsTrue S.tells → Says (design_of (S.left shelf.old Slot.Design)) result }
     ensures whole_text { OnOk result (IsTrue S.tells → S.left shelf.new Slot.Design ≡ []) }
 
-    ensures failed { result ≡ Err DesignError.Failed → Rose (S.faults shelf.old) (S.faults shelf.new) }
-    ensures quiet { (result ≡ Err DesignError.Failed → ⊥) → S.faults shelf.new ≡ S.faults shelf.old }
+    ensures failed { result ≡ Err ReadError.Failed → Rose (S.faults shelf.old) (S.faults shelf.new) }
+    ensures quiet { (result ≡ Err ReadError.Failed → ⊥) → S.faults shelf.new ≡ S.faults shelf.old }
     ensures faults_kept { S.faults shelf.old ≤ S.faults shelf.new }
     ensures misses { S.misses shelf.new ≡ S.misses shelf.old }
     ensures held { (slot : Slot) → (name : List ℕ) → S.held shelf.new slot name ≡ S.held shelf.old slot name }
@@ -74,6 +71,5 @@ pub fn read_design<S: Shelf>(alloc: Global, shelf: &mut S) -> Result<Design, Des
         tokens: &mut tokens,
         shelf,
     };
-    let design = read(alloc, &mut reader)?;
-    Ok(design)
+    read(alloc, &mut reader)
 }

@@ -1,11 +1,11 @@
 //! Steps that several parts of the text are read by.
 ghost use Rattle.std.specs.Prelude.{◌≡◌, ℕ, ◌-◌, ◌<◌, ◌≤◌, IsTrue, IfOk, Some};
-ghost use Rattle.gr_text.specs.Reads.{Reads, Counts};
+ghost use Rattle.gr_text.specs.Reads.{ReadsBy, Counts};
 ghost use Rattle.gr_text.specs.Reading.{given};
 ghost use Rattle.ispd_reader.specs.Steps.{natural, words, layer_in};
 
 use crate::fault::DesignFault;
-use gr_base::Shape;
+use gr_base::{MOST_ID, Shape};
 use gr_text::{Ends, ReadError, TokenSource, check, number, word};
 
 pub(crate) const ENDS: Ends<DesignFault> = Ends {
@@ -13,16 +13,13 @@ pub(crate) const ENDS: Ends<DesignFault> = Ends {
     too_long: DesignFault::TooLong,
 };
 
-/// The greatest number that is read of an id, of a layer and of a column or row.
-pub(crate) const MOST_ID: u32 = 2_147_483_647;
-
 /// The value that the token in hand gives, or else this fault of that token.
 pub(crate) fn given<S: TokenSource, T>(
     source: &S,
     value: Option<T>,
     fault: DesignFault,
 ) -> Result<T, ReadError<DesignFault>>
-    ensures reads { IsTrue S.tells → Reads (given value fault (S.place source.now)) (λ v. v) result (S.place source.now) }
+    ensures reads { ReadsBy S.tells S.place (given value fault) (λ v. v) result source.now source.now }
     ensures faults { (count : ℕ) → Counts result count count }
     ensures value { IfOk result (λ v. value ≡ Some v) }
 {
@@ -42,9 +39,9 @@ pub(crate) fn natural<S: TokenSource>(
     low: u32,
     high: u32,
 ) -> Result<u32, ReadError<DesignFault>>
-    ensures reads { IsTrue S.tells → Reads (natural low high (S.place source.old)) (λ n. n) result (S.place source.new) }
+    ensures reads { ReadsBy S.tells S.place (natural low high) (λ n. n) result source.old source.new }
     ensures faults { Counts result (S.faults source.old) (S.faults source.new) }
-    ensures device { S.device source.new ≡ S.device source.old }
+    ensures origin { S.origin source.new ≡ S.origin source.old }
     ensures low { IfOk result (λ n. low ≤ n) }
     ensures high { IfOk result (λ n. n ≤ high) }
 {
@@ -65,9 +62,9 @@ pub(crate) fn words<S: TokenSource>(
     first: &[u8],
     second: &[u8],
 ) -> Result<(), ReadError<DesignFault>>
-    ensures reads { IsTrue S.tells → Reads (words first.now second.now (S.place source.old)) (λ _. tt) result (S.place source.new) }
+    ensures reads { ReadsBy S.tells S.place (words first.now second.now) (λ _. tt) result source.old source.new }
     ensures faults { Counts result (S.faults source.old) (S.faults source.new) }
-    ensures device { S.device source.new ≡ S.device source.old }
+    ensures origin { S.origin source.new ≡ S.origin source.old }
 {
     word(source, ENDS, DesignFault::Word, first)?;
     word(source, ENDS, DesignFault::Word, second)
@@ -81,9 +78,9 @@ pub(crate) fn layer_in<S: TokenSource>(
     shape: Shape,
     fault: DesignFault,
 ) -> Result<u32, ReadError<DesignFault>>
-    ensures reads { IsTrue S.tells → Reads (layer_in shape fault (S.place source.old)) (λ n. n) result (S.place source.new) }
+    ensures reads { ReadsBy S.tells S.place (layer_in shape fault) (λ n. n) result source.old source.new }
     ensures faults { Counts result (S.faults source.old) (S.faults source.new) }
-    ensures device { S.device source.new ≡ S.device source.old }
+    ensures origin { S.origin source.new ≡ S.origin source.old }
     ensures layer { IfOk result (λ layer. layer < shape.layers) }
 {
     let layer = natural(source, 0, MOST_ID)?;

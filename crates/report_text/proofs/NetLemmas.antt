@@ -1,3 +1,4 @@
+-- The nets that a verdict names.
 use Rattle.std.proofs.Common.{ℕ, ◌<◌, length, All, get_or, inl, inr, sym, ap, ◌∙◌}
 use Rattle.std.proofs.lemmas.Bool.{false≢true}
 use Rattle.std.proofs.lemmas.List.Elements.{Contains-get_or}

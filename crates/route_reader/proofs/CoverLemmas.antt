@@ -1,13 +1,17 @@
 -- The edges of the solution that was read are those that the text covers.
-use Rattle.std.proofs.Common.{◌≡◌, ℕ, ◌+◌, ◌<◌, ◌≤◌, inl, inr, ◌||◌, ◌==◌, nat_le, List, [], ◌∷◌, ◌++◌, length, map, take, unwrap_or, Option, IfSome, Result, Ok, Err, refl, sym, subst, ap, ◌∙◌, arith}
+use Rattle.std.proofs.Common.{◌≡◌, ℕ, ◌+◌, ◌<◌, ◌≤◌, inl, inr, ◌||◌, ◌==◌, nat_le, List, [], ◌∷◌, ◌++◌, length, map, take, unwrap_or, Option, IfSome, IfOk, IsTrue, Bool, Result, Ok, Err, refl, sym, subst, ap, ◌∙◌, arith}
 use Rattle.std.specs.List.{list_any, range_with_len}
 use Rattle.std.proofs.lemmas.Bool.{cases_Bool, cases_lt}
 use Rattle.std.proofs.lemmas.Option.{slice_get-get_or, slice_get_past}
 use Rattle.std.proofs.lemmas.List.FromFn.{get_or-map-range_with_len, length-map-range_with_len}
 use Rattle.gr_base.specs.declared.grid.Edge.{Edge}
 use Rattle.gr_base.specs.declared.grid.Shape.{Shape}
+use Rattle.gr_base.specs.Limits.{most_bytes}
 use Rattle.gr_base.specs.Designs.{DesignView}
+use Rattle.gr_text.specs.declared.source.ReadError.{ReadError}
+use Rattle.gr_text.specs.Reads.{Says}
 use Rattle.gr_text.specs.Tokens.{Ending, AtEnd, PastLimit, tokens, closed_tokens, place_in}
+use Rattle.solution_text.specs.declared.fault.SolutionFault.{SolutionFault}
 use Rattle.solution_text.specs.declared.run.Run.{Run}
 use Rattle.solution_text.specs.Covers.{covers}
 use Rattle.solution_text.specs.Grammar.{Checked, ◌>>=◌, Mode, Between, Named, First, Within, Progress, start, net_of, segment, is_end, is_number, with_run, step_in, step}
@@ -16,7 +20,7 @@ use Rattle.route_reader.proofs.PushLemmas.{found-other}
 use Rattle.route_reader.proofs.StepLemmas.{net_of-within}
 use Rattle.route_reader.specs.Gathered.{net_in}
 use Rattle.route_reader.specs.Solutions.{SolutionView, runs_at, edges_by}
-use Rattle.route_reader.specs.SolutionText.{Said, is_between, go_on, records, runs_of_net, solution_in, solution_from, solution_of, most_bytes}
+use Rattle.route_reader.specs.SolutionText.{Said, is_between, go_on, records, runs_of_net, solution_in, solution_from, solution_of}
 
 -- ---- what was found for a net
 
@@ -154,3 +158,10 @@ module _ (d : DesignView) (view : SolutionView) (net : ℕ) (e : Edge) where
         | inl short ↦ (from-records (tokens bytes) AtEnd (rw short at is)).0
         | inr long ↦ let no = (from-records (closed_tokens (take most_bytes bytes)) PastLimit (rw long at is)).1 in absurd cc
       ]
+
+-- a solution that a text says gives each net the edges that the text covers
+pub read-covers : (d : DesignView) (tells : Bool) (bytes : List ℕ) (result : Result SolutionView (ReadError SolutionFault)) →
+    (IsTrue tells → Says (solution_of d bytes) result) →
+    IfOk result (λ solution. IsTrue tells → (net : ℕ) → (e : Edge) → edges_by solution net e ≡ cover d bytes net e)
+read-covers d tells bytes (Ok view) says = λ told net e. solution-covers d view net e bytes (says told)
+read-covers d tells bytes (Err e) says = tt

@@ -6,14 +6,14 @@ use Rattle.std.proofs.lemmas.Int.{ints}
 use Rattle.gr_base.specs.declared.frame.Frame.{Frame}
 use Rattle.gr_base.specs.declared.grid.Cell.{Cell}
 use Rattle.gr_base.specs.declared.grid.Shape.{Shape}
-use Rattle.gr_base.specs.Limits.{most_id}
+use Rattle.gr_base.specs.Limits.{most_id, most_coordinate}
 use Rattle.gr_base.specs.Grid.{number_of, place_at, IsInside}
 use Rattle.gr_base.specs.Designs.{above, tile_within, tile_of}
 use Rattle.gr_base.proofs.GridLemmas.{some_columns, some_rows, place-number}
 use Rattle.gr_text.specs.Numbers.{whole_value, number_in}
 use Rattle.solution_text.specs.declared.run.Run.{Run}
 use Rattle.solution_text.specs.declared.fault.SolutionFault.TheVariants.{Form, Number, Outside, Slanted}
-use Rattle.solution_text.specs.Grammar.{Checked, ◌>>=◌, ◌>>◌, check, given, most_coordinate, is_in_range, spot_of, layer_of, cell_of, is_straight, run_between}
+use Rattle.solution_text.specs.Grammar.{Checked, ◌>>=◌, ◌>>◌, check, given, is_in_range, spot_of, layer_of, cell_of, is_straight, run_between}
 use Rattle.solution_text.specs.Grammar as grammar
 use Rattle.route_reader.specs.declared.segment.Written.{Written}
 use Rattle.route_reader.specs.declared.segment.Ends.{Ends}

@@ -101,10 +101,10 @@ pub gathers-within : (d : DesignView) (s : Progress) (g : Gathering) (net : ℕ)
 gathers-within d s g net gathers position =
     let mode : s.mode ≡ First net = gathers.mode ∙ ap (mode_of g.name.items) position in
     record {
-      fits = record { met = gathers.fits.met; spans = gathers.fits.spans; inside = gathers.fits.inside; runs = gathers.fits.runs; net = rw position at gathers.fits.net };
+      fits = record { met = gathers.fits.met; stretches = gathers.fits.stretches; inside = gathers.fits.inside; runs = gathers.fits.runs; net = rw position at gathers.fits.net };
       mode = refl;
       met = gathers.met;
-      spans = gathers.spans;
+      stretches = gathers.stretches;
       fresh = gathers.fresh;
       current = rw mode at gathers.current;
       open_end = rw mode at gathers.open_end;
@@ -115,10 +115,10 @@ pub gathers-end : (d : DesignView) (s : Progress) (g : Gathering) → Gathers d 
     Gathers d (record { mode = Between; met = s.met; found = s.found }) (record g { position = at.Between })
 gathers-end d s g gathers =
     record {
-      fits = record { met = gathers.fits.met; spans = gathers.fits.spans; inside = gathers.fits.inside; runs = gathers.fits.runs; net = tt };
+      fits = record { met = gathers.fits.met; stretches = gathers.fits.stretches; inside = gathers.fits.inside; runs = gathers.fits.runs; net = tt };
       mode = refl;
       met = gathers.met;
-      spans = gathers.spans;
+      stretches = gathers.stretches;
       fresh = gathers.fresh;
       current = tt;
       open_end = tt;

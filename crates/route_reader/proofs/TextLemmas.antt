@@ -9,7 +9,7 @@ use Rattle.gr_text.specs.Reading.{Read, next_or_end, token_or_end}
 use Rattle.solution_text.specs.declared.fault.SolutionFault.{SolutionFault}
 use Rattle.solution_text.specs.Grammar.{Progress, step}
 use Rattle.route_reader.specs.SolutionText.{go_on, records, solution_from, solution_at}
-use Rattle.route_reader.specs.Answers.{ends}
+use Rattle.solution_text.specs.Faults.{ends}
 use Rattle.route_reader.specs.Gathered.{rest_says, Takes}
 use Rattle.route_reader.specs.declared.gathering.Gathering.{Gathering}
 

@@ -8,14 +8,14 @@ use Rattle.gr_text.specs.Tokens.{Place, AtEnd}
 use Rattle.solution_text.specs.declared.fault.SolutionFault.{SolutionFault}
 use Rattle.solution_text.specs.declared.run.Run.{Run}
 use Rattle.solution_text.specs.Grammar.{Checked, Mode, Between, Named, First, Within, Progress}
-use Rattle.route_reader.specs.declared.solution.Span.{Span}
+use Rattle.route_reader.specs.declared.solution.Stretch.{Stretch}
 use Rattle.route_reader.specs.declared.gathering.Position.{Position}
 use Rattle.route_reader.specs.declared.gathering.Position.TheVariants as at
 use Rattle.route_reader.specs.declared.gathering.Gathering.{Gathering}
 use Rattle.route_reader.specs.declared.gathering.Refusal.{Refusal}
 use Rattle.route_reader.specs.declared.gathering.Refusal.TheVariants.{Fault, NoMemory}
 use Rattle.route_reader.specs.Solutions.{SolutionView, IsRun}
-use Rattle.route_reader.specs.SolutionStore.{runs_between, IsSpan}
+use Rattle.route_reader.specs.SolutionStore.{runs_between, IsStretch}
 use Rattle.route_reader.specs.SolutionText.{Said, runs_of_net, end_of, solution_at, solution_from}
 
 -- the place in a record, as the grammar has it
@@ -32,35 +32,38 @@ net_in (Named name) = None
 net_in (First net) = Some net
 net_in (Within net) = Some net
 
--- there is a flag and a span for each net, the spans lie within the runs, and the runs are the grid's
+-- there is a flag and a stretch for each net, the stretches lie within the runs, and the runs are the grid's
 pub record Fits (d : DesignView) (g : Gathering) : Type 0 where
   pub met : length g.met.items ≡ length d.nets
-  pub spans : length g.spans.items ≡ length d.nets
-  pub inside : All (IsSpan (length g.runs.items)) g.spans.items
+  pub stretches : length g.stretches.items ≡ length d.nets
+  pub inside : All (IsStretch (length g.runs.items)) g.stretches.items
   pub runs : All (IsRun d.frame.shape) g.runs.items
   pub net : IfSome (net_in (mode_of g.name.items g.position)) (λ net. net < length d.nets)
 
 -- the flags name the nets that have a record
 abbrev pub Flags : (nets : ℕ) → List ℕ → List Bool → Type 0
-Flags nets met flags = (net : ℕ) → (b : Bool) → net < nets → list_any (λ other. other == net) met ≡ slice_index_or flags net b
+Flags nets met flags =
+    (net : ℕ) → (b : Bool) → net < nets → list_any (λ other. other == net) met ≡ slice_index_or flags net b
 
--- the runs of each net stand between the ends of its span
-abbrev pub Spans : (nets : ℕ) → List (ℕ × Run) → List Run → List Span → Type 0
-Spans nets found runs spans = (net : ℕ) → (s : Span) → net < nets → runs_between runs (slice_index_or spans net s) ≡ runs_of_net found net
+-- the runs of each net stand between the ends of its stretch
+abbrev pub Stretches : (nets : ℕ) → List (ℕ × Run) → List Run → List Stretch → Type 0
+Stretches nets found runs stretches =
+    (net : ℕ) → (s : Stretch) → net < nets → runs_between runs (slice_index_or stretches net s) ≡ runs_of_net found net
 
--- the last run stands at the end of the span of the net whose record is in hand
-abbrev pub Open : Mode → List Run → List Span → Type 0
-Open mode runs spans = IfSome (net_in mode) (λ net. (s : Span) → (slice_index_or spans net s).end ≡ length runs)
+-- the last run stands at the end of the stretch of the net whose record is in hand
+abbrev pub Open : Mode → List Run → List Stretch → Type 0
+Open mode runs stretches =
+    IfSome (net_in mode) (λ net. (s : Stretch) → (slice_index_or stretches net s).end ≡ length runs)
 
 -- what was gathered is what the grammar has read
 pub record Gathers (d : DesignView) (s : Progress) (g : Gathering) : Type 0 where
   pub fits : Fits d g
   pub mode : s.mode ≡ mode_of g.name.items g.position
   pub met : Flags (length d.nets) s.met g.met.items
-  pub spans : Spans (length d.nets) s.found g.runs.items g.spans.items
+  pub stretches : Stretches (length d.nets) s.found g.runs.items g.stretches.items
   pub fresh : (net : ℕ) → list_any (λ other. other == net) s.met ≡ false → runs_of_net s.found net ≡ []
   pub current : IfSome (net_in s.mode) (λ net. list_any (λ other. other == net) s.met ≡ true)
-  pub open_end : Open s.mode g.runs.items g.spans.items
+  pub open_end : Open s.mode g.runs.items g.stretches.items
 
 -- a token passes its checks, and what holds then; or its first check that fails has this fault
 abbrev pub Steps : Checked Progress → (Progress → Type 0) → Result (Unit {0}) Refusal → Type 0
@@ -74,9 +77,11 @@ rest_says d s true place = solution_at d s place
 rest_says d s false place = solution_from d (end_of s place.number AtEnd)
 
 -- the next token was gathered, if there was one, and the text says what its rest says then; or it is at fault here
-abbrev pub Takes : DesignView → Progress → (tells : Bool) → (before after : Place) → Gathering → Result Bool (ReadError SolutionFault) → Type 0
+abbrev pub Takes : DesignView → Progress → (tells : Bool) → (before after : Place) → Gathering →
+    Result Bool (ReadError SolutionFault) → Type 0
 Takes d s tells before after g (Ok more) =
     (t : Progress) × Gathers d t g × (IsTrue tells → solution_at d s before ≡ rest_says d t more after)
-Takes d s tells before after g (Err (reading.Fault fault token)) = IsTrue tells → solution_at d s before ≡ Err (fault, token)
+Takes d s tells before after g (Err (reading.Fault fault token)) =
+    IsTrue tells → solution_at d s before ≡ Err (fault, token)
 Takes d s tells before after g (Err reading.Failed) = Unit {0}
 Takes d s tells before after g (Err reading.NoMemory) = Unit {0}

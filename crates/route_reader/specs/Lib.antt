@@ -1,7 +1,6 @@
 pub mod Solutions
 pub mod SolutionStore
 pub mod SolutionText
-pub mod Answers
 pub mod Segments
 pub mod Spots
 pub mod Gathered

@@ -23,7 +23,8 @@ after_cut marks (Some cut) = option_map (λ parts. cut.before.now ∷ parts) (pa
 abbrev pub after_point : (marks : List ℕ) → Option Written → Option (List (List ℕ))
 after_point marks None = None
 after_point marks (Some point) =
-    option_map (λ parts. point.lead.now ∷ point.x.now ∷ point.y.now ∷ point.layer.now ∷ parts) (parted marks point.rest.now)
+    option_map (λ parts. point.lead.now ∷ point.x.now ∷ point.y.now ∷ point.layer.now ∷ parts)
+    (parted marks point.rest.now)
 
 -- the run between two ends that were taken apart
 abbrev pub run_of_ends : Frame → Option Ends → Checked Run

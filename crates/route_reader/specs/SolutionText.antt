@@ -1,6 +1,7 @@
 -- What the bytes of a text say for a design: a solution, or the first fault and the number of its token.
 use Rattle.std.specs.Prelude.{ℕ, ◌+◌, ◌==◌, Bool, true, false, List, [], ◌∷◌, length, map, Result, Ok, Err, if◌then◌else◌}
 use Rattle.std.specs.List.{filter, range_with_len}
+use Rattle.gr_base.specs.Limits.{most_bytes}
 use Rattle.gr_base.specs.Designs.{DesignView}
 use Rattle.gr_text.specs.Tokens.{Ending, AtEnd, PastLimit, Place, place_in}
 use Rattle.solution_text.specs.declared.run.Run.{Run}
@@ -24,7 +25,8 @@ is_between (Named name) = false
 is_between (First net) = false
 is_between (Within net) = false
 
--- behind the last token: a text may end between two records, but not within one; a text past its limit is too long wherever it stands
+-- behind the last token: a text may end between two records, but not within one; a text past its limit is too long
+-- wherever it stands
 abbrev pub end_of : Progress → (number : ℕ) → Ending → Said Progress
 end_of s number AtEnd = if is_between s.mode then Ok s else Err (Ended, number + 1)
 end_of s number PastLimit = Err (TooLong, number + 1)
@@ -32,7 +34,8 @@ end_of s number PastLimit = Err (TooLong, number + 1)
 -- the tokens, one by one, behind so many others
 abbrev pub records : DesignView → Progress → (number : ℕ) → List (List ℕ) → Ending → Said Progress
 records d s number [] ending = end_of s number ending
-records d s number (token ∷ rest) ending = go_on (step d s token) (number + 1) (λ progress. records d progress (number + 1) rest ending)
+records d s number (token ∷ rest) ending =
+    go_on (step d s token) (number + 1) (λ progress. records d progress (number + 1) rest ending)
 
 -- the runs that were found for a net, in the order of the text
 abbrev pub runs_of_net : List (ℕ × Run) → ℕ → List Run
@@ -49,10 +52,6 @@ solution_from d (Err fault) = Err fault
 -- what the tokens from a place on say
 abbrev pub solution_at : DesignView → Progress → Place → Said SolutionView
 solution_at d s place = solution_from d (records d s place.number place.rest place.ending)
-
--- the most bytes of a text that are read
-abbrev pub most_bytes : ℕ
-most_bytes = 2147483648
 
 -- what the bytes of a text say
 unfoldable pub solution_of : DesignView → List ℕ → Said SolutionView

@@ -1,3 +1,4 @@
+-- What a solution is seen as.
 use Rattle.std.specs.Prelude.{◌≡◌, ℕ, ◌<◌, List, [], length, All, slice_get, unwrap_or, IsTrue}
 use Rattle.std.specs.List.{list_any}
 use Rattle.gr_base.specs.declared.grid.Shape.{Shape}

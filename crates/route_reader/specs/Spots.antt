@@ -3,19 +3,20 @@ use Rattle.std.specs.Prelude.{ℕ, ◌-◌, Bool, List, ◌&&◌, nat_lt, nat_le
 use Rattle.gr_base.specs.declared.frame.Frame.{Frame}
 use Rattle.gr_base.specs.declared.grid.Cell.{Cell}
 use Rattle.gr_base.specs.declared.grid.Shape.{Shape}
-use Rattle.gr_base.specs.Limits.{most_id}
+use Rattle.gr_base.specs.Limits.{most_id, most_coordinate}
 use Rattle.gr_base.specs.Grid.{number_of}
 use Rattle.gr_base.specs.Designs.{tile_of}
 use Rattle.gr_text.specs.Numbers.{whole_value, number_in}
 use Rattle.solution_text.specs.declared.run.Run.{Run}
 use Rattle.solution_text.specs.declared.fault.SolutionFault.TheVariants.{Outside, Slanted}
-use Rattle.solution_text.specs.Grammar.{Checked, ◌>>=◌, given, most_coordinate, is_straight}
+use Rattle.solution_text.specs.Grammar.{Checked, ◌>>=◌, given, is_straight}
 use Rattle.route_reader.specs.declared.segment.Written.{Written}
 use Rattle.route_reader.specs.declared.spot.Spot.{Spot}
 
 -- each number of a point is whole
 abbrev pub are_whole : Written → Bool
-are_whole point = is_some (whole_value point.x.now) && is_some (whole_value point.y.now) && is_some (whole_value point.layer.now)
+are_whole point =
+    is_some (whole_value point.x.now) && is_some (whole_value point.y.now) && is_some (whole_value point.layer.now)
 
 -- a coordinate in range
 abbrev pub coordinate : List ℕ → Option ℤ

@@ -7,15 +7,12 @@ ghost use Rattle.solution_text.specs.Grammar as grammar;
 ghost use Rattle.route_reader.specs.Solutions.{IsRun};
 ghost use Rattle.route_reader.specs.Gathered.{Fits, Flags, Gathers, Steps, net_in};
 
-use crate::solution::Span;
+use crate::solution::Stretch;
 use crate::spot::segment;
-use gr_base::Design;
+use gr_base::{Design, MOST_ID};
 use gr_text::whole_of;
 use solution_text::{Run, SolutionFault};
 use std::alloc::{AllocError, Global};
-
-/// The greatest id of a net, and the greatest number behind an id.
-const MOST_ID: i64 = 2_147_483_647;
 
 /// Where the text stands in a record.
 #[derive(Clone, Copy)]
@@ -68,7 +65,7 @@ pub(crate) struct Gathering {
     /// Whether a net has a record.
     pub(crate) met: Vec<bool>,
     /// Where each net's runs stand.
-    pub(crate) spans: Vec<Span>,
+    pub(crate) stretches: Vec<Stretch>,
     /// The runs of all records, in the order of the text.
     pub(crate) runs: Vec<Run>,
 }
@@ -84,10 +81,11 @@ fn net_with_id(design: &Design, id: u32) -> Option<u32>
 /// The net whose record begins with this name and this id.
 fn net_of(design: &Design, met: &[bool], name: &[u8], id: &[u8]) -> Result<u32, SolutionFault>
     requires met { length met.now ≡ length design.now.nets }
-    ensures net { (nets : List ℕ) → Flags (length design.now.nets) nets met.now → result ≡ net_of design.now nets name.now id.now }
+    ensures net { (nets : List ℕ) → Flags (length design.now.nets) nets met.now →
+        result ≡ net_of design.now nets name.now id.now }
     ensures within { IfOk result (λ net. net < length design.now.nets) }
 {
-    let Some(id) = whole_of(id, 0, MOST_ID) else {
+    let Some(id) = whole_of(id, 0, i64::from(MOST_ID)) else {
         return Err(SolutionFault::Number);
     };
     let Some(net) = net_with_id(design, id as u32) else {
@@ -113,7 +111,7 @@ fn is_end(token: &[u8]) -> bool
 fn is_number(token: &[u8]) -> bool
     ensures { result ≡ is_number token.now }
 {
-    whole_of(token, 0, MOST_ID).is_some()
+    whole_of(token, 0, i64::from(MOST_ID)).is_some()
 }
 
 impl Gathering {
@@ -121,19 +119,20 @@ impl Gathering {
     pub(crate) fn new(alloc: Global, nets: u32) -> Result<Self, AllocError>
         ensures { (d : DesignView) → nets ≡ length d.nets → IfOk result (Gathers d start) }
     {
-        let nowhere = Span { start: 0, end: 0 };
+        let nowhere = Stretch { start: 0, end: 0 };
         Ok(Gathering {
             position: Position::Between,
             name: Vec::new(alloc),
             met: vec![in alloc; false; nets as usize]?,
-            spans: vec![in alloc; nowhere; nets as usize]?,
+            stretches: vec![in alloc; nowhere; nets as usize]?,
             runs: Vec::new(alloc),
         })
     }
 
     /// Begins a record by its name.
     fn begin_record(&mut self, name: &[u8]) -> Result<(), AllocError>
-        ensures { (d : DesignView) → (s : Progress) → Gathers d s self.old → OnOk result (Gathers d (record s { mode = grammar.Named name.now }) self.new) }
+        ensures { (d : DesignView) → (s : Progress) → Gathers d s self.old →
+            OnOk result (Gathers d (record s { mode = grammar.Named name.now }) self.new) }
     {
         self.name.clear();
         self.name.extend_from_slice(name)?;
@@ -144,22 +143,27 @@ impl Gathering {
     /// Begins the runs of a net, which has no record so far.
     fn begin_net(&mut self, net: u32)
         requires met { net < length self.old.met.items }
-        requires spans { net < length self.old.spans.items }
-        ensures { (d : DesignView) → (s : Progress) → Gathers d s self.old → list_any (λ other. other == net) s.met ≡ false → Gathers d (record { mode = grammar.First net; met = net ∷ s.met; found = s.found }) self.new }
+        requires stretches { net < length self.old.stretches.items }
+        ensures { (d : DesignView) → (s : Progress) → Gathers d s self.old →
+            list_any (λ other. other == net) s.met ≡ false →
+            Gathers d (record { mode = grammar.First net; met = net ∷ s.met; found = s.found }) self.new }
     {
         let at = self.runs.len();
         self.met[net as usize] = true;
-        self.spans[net as usize] = Span { start: at, end: at };
+        self.stretches[net as usize] = Stretch { start: at, end: at };
         self.position = Position::First(net);
     }
 
     /// Adds a run to the net whose record is in hand.
     fn push(&mut self, net: u32, run: Run) -> Result<(), AllocError>
-        requires spans { net < length self.old.spans.items }
-        ensures { (d : DesignView) → (s : Progress) → Gathers d s self.old → net_in s.mode ≡ Some net → IsRun d.frame.shape run → OnOk result (Gathers d (record { mode = grammar.Within net; met = s.met; found = s.found ++ (net, run) ∷ [] }) self.new) }
+        requires stretches { net < length self.old.stretches.items }
+        ensures { (d : DesignView) → (s : Progress) → Gathers d s self.old → net_in s.mode ≡ Some net →
+            IsRun d.frame.shape run →
+            let next : Progress = record { mode = grammar.Within net; met = s.met; found = s.found ++ (net, run) ∷ [] } in
+            OnOk result (Gathers d next self.new) }
     {
         self.runs.push(run)?;
-        self.spans[net as usize].end = self.runs.len();
+        self.stretches[net as usize].end = self.runs.len();
         self.position = Position::Within(net);
         Ok(())
     }
@@ -167,7 +171,8 @@ impl Gathering {
     /// Takes the id of a record.
     fn take_id(&mut self, design: &Design, id: &[u8]) -> Result<(), Refusal>
         requires fits { Fits design.now self.old }
-        ensures { (s : Progress) → Gathers design.now s self.old → s.mode ≡ grammar.Named self.old.name.items → Steps (step design.now s id.now) (λ t. Gathers design.now t self.new) result }
+        ensures { (s : Progress) → Gathers design.now s self.old → s.mode ≡ grammar.Named self.old.name.items →
+            Steps (step design.now s id.now) (λ t. Gathers design.now t self.new) result }
     {
         let net = net_of(design, &self.met, &self.name, id)?;
         self.begin_net(net);
@@ -176,8 +181,9 @@ impl Gathering {
 
     /// Takes a segment of the net whose record is in hand.
     fn take_segment(&mut self, design: &Design, net: u32, token: &[u8]) -> Result<(), Refusal>
-        requires spans { net < length self.old.spans.items }
-        ensures { (s : Progress) → Gathers design.now s self.old → net_in s.mode ≡ Some net → Steps (with_run design.now s net token.now) (λ t. Gathers design.now t self.new) result }
+        requires stretches { net < length self.old.stretches.items }
+        ensures { (s : Progress) → Gathers design.now s self.old → net_in s.mode ≡ Some net →
+            Steps (with_run design.now s net token.now) (λ t. Gathers design.now t self.new) result }
     {
         let run = segment(design, token)?;
         self.push(net, run)?;
@@ -186,8 +192,9 @@ impl Gathering {
 
     /// Takes a token that isn't the number behind an id.
     fn take_item(&mut self, design: &Design, net: u32, token: &[u8]) -> Result<(), Refusal>
-        requires spans { net < length self.old.spans.items }
-        ensures { (s : Progress) → Gathers design.now s self.old → net_in s.mode ≡ Some net → Steps (step_in design.now s token.now (grammar.Within net)) (λ t. Gathers design.now t self.new) result }
+        requires stretches { net < length self.old.stretches.items }
+        ensures { (s : Progress) → Gathers design.now s self.old → net_in s.mode ≡ Some net →
+            Steps (step_in design.now s token.now (grammar.Within net)) (λ t. Gathers design.now t self.new) result }
     {
         if is_end(token) {
             self.position = Position::Between;
@@ -199,7 +206,8 @@ impl Gathering {
     /// Takes the next token, by the rule for its place in a record.
     pub(crate) fn take(&mut self, design: &Design, token: &[u8]) -> Result<(), Refusal>
         requires fits { Fits design.now self.old }
-        ensures { (s : Progress) → Gathers design.now s self.old → Steps (step design.now s token.now) (λ t. Gathers design.now t self.new) result }
+        ensures { (s : Progress) → Gathers design.now s self.old →
+            Steps (step design.now s token.now) (λ t. Gathers design.now t self.new) result }
     {
         match self.position {
             Position::Between => Ok(self.begin_record(token)?),

@@ -3,26 +3,24 @@ ghost use Rattle.std.specs.Prelude.{◌≡◌, ℕ, ◌≤◌, true, false, List
 ghost use Rattle.gr_base.specs.declared.grid.Edge.{Edge};
 ghost use Rattle.gr_io.specs.Counts.{Rose};
 ghost use Rattle.gr_io.specs.declared.shelf.Slot.{Slot};
-ghost use Rattle.gr_text.specs.Reads.{Counts};
-ghost use Rattle.gr_text.specs.Streams.{place_of};
+ghost use Rattle.gr_text.specs.Reads.{Counts, Says};
+ghost use Rattle.gr_text.specs.Streams.{place_at};
 ghost use Rattle.solution_text.specs.Cover.{cover};
 ghost use Rattle.solution_text.specs.Grammar.{Progress, start};
 ghost use Rattle.route_reader.specs.Solutions.{IsOf, edges_by};
 ghost use Rattle.route_reader.specs.SolutionText.{solution_of, solution_at};
-ghost use Rattle.route_reader.specs.Answers.{Says, SaysSo};
 ghost use Rattle.route_reader.specs.Gathered.{Fits, Gathers, Takes, rest_says};
 
-use crate::error::SolutionError;
 use crate::gathering::{Gathering, Position, Refusal};
 use crate::solution::Solution;
-use gr_base::Design;
+use gr_base::{Design, MOST_BYTES};
 use gr_io::{Shelf, Slot};
 use gr_text::{Ends, ReadError, TokenReader, TokenSource, Tokens, next_token_or_end};
 use solution_text::SolutionFault;
 use std::alloc::Global;
 
-/// The most bytes of a text that are read.
-const MOST_BYTES: u64 = 2_147_483_648;
+/// Why no solution was read.
+pub type SolutionError = ReadError<SolutionFault>;
 
 const ENDS: Ends<SolutionFault> = Ends {
     ended: SolutionFault::Ended,
@@ -36,9 +34,10 @@ fn take_token<S: TokenSource>(
     gathering: &mut Gathering,
 ) -> Result<bool, ReadError<SolutionFault>>
     requires fits { Fits design.now gathering.old }
-    ensures takes { (s : Progress) → Gathers design.now s gathering.old → Takes design.now s S.tells (S.place source.old) (S.place source.new) gathering.new result }
+    ensures takes { (s : Progress) → Gathers design.now s gathering.old →
+        Takes design.now s S.tells (S.place source.old) (S.place source.new) gathering.new result }
     ensures faults { Counts result (S.faults source.old) (S.faults source.new) }
-    ensures device { S.device source.new ≡ S.device source.old }
+    ensures origin { S.origin source.new ≡ S.origin source.old }
     ensures ended { result ≡ Ok false → IsTrue S.tells → S.ended source.new }
 {
     if !next_token_or_end(source, ENDS)? {
@@ -61,7 +60,8 @@ fn finish<S: TokenSource>(
     gathering: Gathering,
 ) -> Result<Solution, ReadError<SolutionFault>>
     requires fits { Fits design.now gathering }
-    ensures says { (s : Progress) → Gathers design.now s gathering → IsTrue S.tells → SaysSo (rest_says design.now s false (S.place source.now)) result }
+    ensures says { (s : Progress) → Gathers design.now s gathering → IsTrue S.tells →
+        Says (rest_says design.now s false (S.place source.now)) result }
     ensures of { IfOk result (IsOf design.now) }
     ensures faults { (count : ℕ) → Counts result count count }
 {
@@ -72,7 +72,7 @@ fn finish<S: TokenSource>(
         });
     };
     let shape = design.frame().shape;
-    Ok(Solution::new(shape, gathering.runs, gathering.spans))
+    Ok(Solution::new(shape, gathering.runs, gathering.stretches))
 }
 
 /// Reads a whole solution.
@@ -81,10 +81,10 @@ fn solution<S: TokenSource>(
     source: &mut S,
     design: &Design,
 ) -> Result<Solution, ReadError<SolutionFault>>
-    ensures says { IsTrue S.tells → SaysSo (solution_at design.now start (S.place source.old)) result }
+    ensures says { IsTrue S.tells → Says (solution_at design.now start (S.place source.old)) result }
     ensures of { IfOk result (IsOf design.now) }
     ensures faults { Counts result (S.faults source.old) (S.faults source.new) }
-    ensures device { S.device source.new ≡ S.device source.old }
+    ensures origin { S.origin source.new ≡ S.origin source.old }
     ensures ended { OnOk result (IsTrue S.tells → S.ended source.new) }
 {
     let Ok(mut gathering) = Gathering::new(alloc, design.nets()) else {
@@ -105,7 +105,8 @@ fn read<S: Shelf>(
     reader: &mut TokenReader<'_, '_, S>,
     design: &Design,
 ) -> Result<Solution, ReadError<SolutionFault>>
-    ensures says { IsTrue S.tells → SaysSo (solution_at design.now start (place_of reader.old.tokens.now (S.left reader.old.shelf.now reader.old.tokens.now.slot))) result }
+    ensures says { IsTrue S.tells →
+        Says (solution_at design.now start (place_at reader.old.tokens.now (S.left reader.old.shelf.now))) result }
     ensures of { IfOk result (IsOf design.now) }
     ensures ended { OnOk result (IsTrue S.tells → S.left reader.new.shelf.now reader.new.tokens.now.slot ≡ []) }
     ensures faults { Counts result (S.faults reader.old.shelf.now) (S.faults reader.new.shelf.now) }
@@ -133,14 +134,15 @@ pub fn read_solution<S: Shelf>(
 
     // Where the shelf tells the bytes, the answer is the solution that they say, or their first fault.
     ensures says { IsTrue S.tells → Says (solution_of design.now (S.left shelf.old Slot.Solution)) result }
-    ensures covers { IfOk result (λ solution. IsTrue S.tells → (net : ℕ) → (e : Edge) → edges_by solution net e ≡ cover design.now (S.left shelf.old Slot.Solution) net e) }
+    ensures covers { IfOk result (λ solution. IsTrue S.tells → (net : ℕ) → (e : Edge) →
+        edges_by solution net e ≡ cover design.now (S.left shelf.old Slot.Solution) net e) }
     ensures whole_text { OnOk result (IsTrue S.tells → S.left shelf.new Slot.Solution ≡ []) }
 
     // Whatever the shelf tells, a solution is one for the design.
     ensures of { IfOk result (IsOf design.now) }
 
-    ensures failed { result ≡ Err SolutionError.Failed → Rose (S.faults shelf.old) (S.faults shelf.new) }
-    ensures quiet { (result ≡ Err SolutionError.Failed → ⊥) → S.faults shelf.new ≡ S.faults shelf.old }
+    ensures failed { result ≡ Err ReadError.Failed → Rose (S.faults shelf.old) (S.faults shelf.new) }
+    ensures quiet { (result ≡ Err ReadError.Failed → ⊥) → S.faults shelf.new ≡ S.faults shelf.old }
     ensures faults_kept { S.faults shelf.old ≤ S.faults shelf.new }
     ensures misses { S.misses shelf.new ≡ S.misses shelf.old }
     ensures held { (slot : Slot) → (name : List ℕ) → S.held shelf.new slot name ≡ S.held shelf.old slot name }
@@ -150,6 +152,5 @@ pub fn read_solution<S: Shelf>(
         tokens: &mut tokens,
         shelf,
     };
-    let solution = read(alloc, &mut reader, design)?;
-    Ok(solution)
+    read(alloc, &mut reader, design)
 }

@@ -1,6 +1,6 @@
 ghost use Rattle.std.specs.Prelude.{◌≡◌, ◌<◌, length, map, All};
 ghost use Rattle.route_reader.specs.Solutions.{runs_at, IsRun, IsSolution};
-ghost use Rattle.route_reader.specs.SolutionStore.{runs_between, IsSpan};
+ghost use Rattle.route_reader.specs.SolutionStore.{runs_between, IsStretch};
 
 use gr_base::Shape;
 use solution_text::Run;
@@ -8,7 +8,7 @@ use std::marker::Model;
 
 /// From where to where a net's runs stand in the list of all runs.
 #[derive(Clone, Copy, Debug, PartialEq, Eq)]
-pub(crate) struct Span {
+pub(crate) struct Stretch {
     pub(crate) start: usize,
     pub(crate) end: usize,
 }
@@ -18,29 +18,36 @@ pub(crate) struct Span {
 pub struct Solution {
     shape: Shape,
     runs: Vec<Run>,
-    spans: Vec<Span>,
+    stretches: Vec<Stretch>,
 }
 
 impl Model for Solution {
+    ghost use Rattle.std.specs.Prelude.{map};
     ghost use Rattle.route_reader.specs.Solutions.{SolutionView};
+    ghost use Rattle.route_reader.specs.SolutionStore.{runs_between, Keeps};
 
     ghost Value = { SolutionView };
 
-    ghost use Rattle.route_reader.specs.SolutionStore.{seen, Keeps};
+    ghost view = { λ s. record {
+      shape = s.shape;
+      runs = map (runs_between s.runs.items) s.stretches.items;
+    } };
 
-    ghost view = { seen };
-
-    ghost invariant = { Keeps };
+    ghost invariant = { λ s. Keeps s.shape s.runs.items s.stretches.items };
 }
 
 impl Solution {
-    /// The solution whose runs these are, those of each net between the ends of its span.
-    pub(crate) fn new(shape: Shape, runs: Vec<Run>, spans: Vec<Span>) -> Self
-        requires spans { All (IsSpan (length runs.items)) spans.items }
+    /// The solution whose runs these are, those of each net between the ends of its stretch.
+    pub(crate) fn new(shape: Shape, runs: Vec<Run>, stretches: Vec<Stretch>) -> Self
+        requires stretches { All (IsStretch (length runs.items)) stretches.items }
         requires runs { All (IsRun shape) runs.items }
-        ensures { result ≡ record { shape = shape; runs = map (runs_between runs.items) spans.items } }
+        ensures { result ≡ record { shape = shape; runs = map (runs_between runs.items) stretches.items } }
     {
-        Solution { shape, runs, spans }
+        Solution {
+            shape,
+            runs,
+            stretches,
+        }
     }
 
     /// The runs of a net's segments, in the order of the text. There are none for a net without a
@@ -51,7 +58,7 @@ impl Solution {
         ensures each { All (IsRun self.now.shape) result.now }
         ensures all { IsSolution self.now }
     {
-        let span = self.spans[net as usize];
-        &self.runs[span.start..span.end]
+        let stretch = self.stretches[net as usize];
+        &self.runs[stretch.start..stretch.end]
     }
 }

@@ -1,23 +1,16 @@
 //! The numbers of a segment, and the run that they name.
-ghost use Rattle.std.specs.Prelude.{◌≡◌, ◌-◌, ◌<◌, ◌≤◌, ◌≤ℤ◌, nat_lt, is_some, pos, IfOk, IfSome};
+ghost use Rattle.std.specs.Prelude.{◌≡◌, ◌-◌, ◌<◌, ◌≤◌, ◌≤ℤ◌, nat_lt, pos, IfOk, IfSome};
 ghost use Rattle.gr_base.specs.Limits.{most_id};
 ghost use Rattle.gr_base.specs.Grid.{IsInside};
-ghost use Rattle.gr_text.specs.Numbers.{is_digit, all_digits, decimal_value, whole_value};
 ghost use Rattle.solution_text.specs.Grammar.{is_straight, segment};
 ghost use Rattle.route_reader.specs.Segments.{run_of_ends};
 ghost use Rattle.route_reader.specs.Solutions.{IsRun};
 ghost use Rattle.route_reader.specs.Spots.{are_whole, spot_in, place_of, run_of_spots, run_of_places};
 
 use crate::segment::{Ends, Written, ends_of};
-use gr_base::{Cell, Design, Shape};
-use gr_text::whole_of;
+use gr_base::{Cell, Design, MOST_COORDINATE, MOST_ID, Shape};
+use gr_text::{is_whole, whole_of};
 use solution_text::{Run, SolutionFault};
-
-/// The greatest coordinate of a segment's end.
-const MOST_COORDINATE: i64 = 1 << 44;
-
-/// The greatest number that is read of a layer.
-const MOST_LAYER: i64 = 2_147_483_647;
 
 /// The end of a segment, in the units of the design. Layers count from 1.
 #[derive(Clone, Copy)]
@@ -25,43 +18,6 @@ pub(crate) struct Spot {
     x: i64,
     y: i64,
     layer: u32,
-}
-
-fn is_digit(byte: u8) -> bool
-    ensures { result ≡ is_digit byte }
-{
-    b'0' <= byte && byte <= b'9'
-}
-
-fn all_digits(bytes: &[u8]) -> bool
-    ensures { result ≡ all_digits bytes.now }
-{
-    bytes.iter().all(|byte| is_digit(*byte))
-}
-
-/// Whether the bytes are decimal digits, at least one.
-#[tactic(auto, unfolding(gr_text::specs::Numbers::decimal_value))]
-fn are_digits(bytes: &[u8]) -> bool
-    ensures { result ≡ is_some (decimal_value bytes.now) }
-{
-    if bytes.is_empty() {
-        return false;
-    }
-    all_digits(bytes)
-}
-
-/// Whether the bytes write a whole number, of any size.
-fn is_whole(bytes: &[u8]) -> bool
-    ensures { result ≡ is_some (whole_value bytes.now) }
-{
-    let Some((first, rest)) = bytes.split_first() else {
-        return false;
-    };
-    if *first == b'-' {
-        are_digits(rest)
-    } else {
-        are_digits(bytes)
-    }
 }
 
 fn are_whole(point: Written<'_>) -> bool
@@ -76,7 +32,7 @@ fn spot_in(point: Written<'_>) -> Option<Spot>
 {
     let x = whole_of(point.x, -MOST_COORDINATE, MOST_COORDINATE)?;
     let y = whole_of(point.y, -MOST_COORDINATE, MOST_COORDINATE)?;
-    let layer = whole_of(point.layer, 0, MOST_LAYER)?;
+    let layer = whole_of(point.layer, 0, i64::from(MOST_ID))?;
     Some(Spot {
         x,
         y,

@@ -2,7 +2,7 @@
 use crate::bench::Left;
 use book_state::{BookState, Call, Reply};
 use gr_text::Text;
-use router_top::HandLog;
+use round_core::HandLog;
 use std::alloc::{AllocError, Global};
 
 /// The most bytes of a text that is printed whole.

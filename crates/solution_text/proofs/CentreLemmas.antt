@@ -1,3 +1,4 @@
+-- The centre of a cell lies in the cell's tile, and its numbers are small.
 use Rattle.std.specs.Prelude.{nat_abs, ◌≤ℤ◌, ◌-ℤ◌}
 use Rattle.std.proofs.Common.{◌≡◌, ℕ, ◌+◌, ◌-◌, ◌*◌, ◌/◌, ◌^◌, ◌<◌, ◌≤◌, Bool, true, ◌&&◌, nat_lt, nat_le, min, ℤ, pos, negsuc, Some, Ok, refl, ap, ◌∙◌, arith}
 use Rattle.std.specs.Option.{option_and_then}
@@ -7,11 +8,11 @@ use Rattle.std.proofs.lemmas.Bool.Decides.{nat_tests}
 use Rattle.std.proofs.lemmas.Int.{ints}
 use Rattle.std.proofs.lemmas.Nat.{div-mul-add}
 use Rattle.gr_base.specs.declared.frame.Frame.{Frame}
-use Rattle.gr_base.specs.Limits.{most_id, most_lower, most_tile}
+use Rattle.gr_base.specs.Limits.{most_coordinate, most_id, most_lower, most_tile}
 use Rattle.gr_base.specs.Grid.{cells_of, number_of, place_at}
 use Rattle.gr_base.specs.Designs.{IsFrame, above, tile_within, tile_of, middle, centre_of}
 use Rattle.gr_base.proofs.GridLemmas.{number-place, place-inside, few_cells, some_columns}
-use Rattle.solution_text.specs.Grammar.{most_coordinate, Spot, Checked, is_in_range, layer_of, cell_of}
+use Rattle.solution_text.specs.Grammar.{Spot, Checked, is_in_range, layer_of, cell_of}
 
 above-middle : (lower : ℤ) (size tile : ℕ) → above (middle lower size tile -ℤ lower) ≡ Some (tile * size + size / 2)
 above-middle lower size tile =

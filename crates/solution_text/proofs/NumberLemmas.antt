@@ -1,3 +1,4 @@
+-- A written number is read back, and has neither blanks nor marks.
 use Rattle.std.specs.Prelude.{nat_abs}
 use Rattle.std.proofs.Common.{◌≡◌, ℕ, suc, ◌+◌, ◌-◌, ◌*◌, ◌^◌, ◌<◌, ◌≤◌, Bool, true, false, ◌==◌, nat_lt, nat_le, ℤ, pos, negsuc, neg_ℤ, List, [], ◌∷◌, length, Some, option_map, refl, ap, arith, rules}
 use Rattle.std.specs.List.{fold}

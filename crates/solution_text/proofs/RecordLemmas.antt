@@ -1,3 +1,4 @@
+-- The record of a net: its tokens, and what is read of them.
 use Rattle.std.specs.Prelude.{codes}
 use Rattle.std.proofs.Common.{◌≡◌, ℕ, ◌^◌, ◌<◌, true, false, ◌&&◌, ◌==◌, nat_lt, nat_eq, List, [], ◌∷◌, ◌++◌, map, length, Some, Ok, slice_get, refl, sym, ap, ◌∙◌, append_assoc, append-nil, arith}
 use Rattle.std.specs.List.{AllByRecursion, list_any, flat_map}
@@ -103,38 +104,40 @@ abbrev pub progress : Mode → List ℕ → List (ℕ × Run) → Progress
 progress mode met found = record { mode = mode; met = met; found = found }
 
 module _ (d : DesignView) (ok : IsFrame d.frame) where
-  segment-step : (net : ℕ) (met : List ℕ) (found : List (ℕ × Run)) (run : Run) → IsGridRun d.frame run →
-      step d (progress (Within net) met found) (segment_text d.frame run) ≡ Ok (progress (Within net) met (found ++ (net, run) ∷ []))
-  segment-step net met found run good = rw (segment-back d.frame ok run good.first good.last good.straight) refl
+  -- in this mode of a net's record, "!" ends it, and a segment is one more run of the net
+  record GoesOn (net : ℕ) (mode : Mode) : Type 0 where
+    ends : (met : List ℕ) (found : List (ℕ × Run)) →
+        step d (progress mode met found) (codes "!") ≡ Ok (progress Between met found)
+    adds : (met : List ℕ) (found : List (ℕ × Run)) (run : Run) → IsGridRun d.frame run →
+        step d (progress mode met found) (segment_text d.frame run)
+        ≡ Ok (progress (Within net) met (found ++ (net, run) ∷ []))
 
-  first-step : (net : ℕ) (met : List ℕ) (found : List (ℕ × Run)) (run : Run) → IsGridRun d.frame run →
-      step d (progress (First net) met found) (segment_text d.frame run) ≡ Ok (progress (Within net) met (found ++ (net, run) ∷ []))
-  first-step net met found run good =
-      rw (bracket-number _, segment-back d.frame ok run good.first good.last good.straight) refl
+  on-within : (net : ℕ) → GoesOn net (Within net)
+  on-within net = record {
+    ends = λ met found. refl;
+    adds = λ met found run good. rw (segment-back d.frame ok run good.first good.last good.straight) refl;
+  }
 
-  within-read : (net : ℕ) (met : List ℕ) (found : List (ℕ × Run)) (runs : List Run) (rest : List (List ℕ)) → AllByRecursion (IsGridRun d.frame) runs →
-      read d (progress (Within net) met found) (map (segment_text d.frame) runs ++ codes "!" ∷ rest)
+  on-first : (net : ℕ) → GoesOn net (First net)
+  on-first net = record {
+    ends = λ met found. refl;
+    adds = λ met found run good.
+        rw (bracket-number _, segment-back d.frame ok run good.first good.last good.straight) refl;
+  }
+
+  runs-read : (net : ℕ) (mode : Mode) (met : List ℕ) (found : List (ℕ × Run)) (runs : List Run) (rest : List (List ℕ)) →
+      GoesOn net mode → AllByRecursion (IsGridRun d.frame) runs →
+      read d (progress mode met found) (map (segment_text d.frame) runs ++ codes "!" ∷ rest)
       ≡ read d (progress Between met (found ++ map (with_net net) runs)) rest
-  within-read net met found [] rest good =
-      read-step d (progress (Within net) met found) (progress Between met found) (codes "!") rest refl
+  runs-read net mode met found [] rest on good =
+      read-step d (progress mode met found) (progress Between met found) (codes "!") rest (on.ends met found)
       ∙ ap (λ (f : List (ℕ × Run)). read d (progress Between met f) rest) (sym (append-nil found))
-  within-read net met found (run ∷ runs) rest good =
-      read-step d (progress (Within net) met found) (progress (Within net) met (found ++ (net, run) ∷ [])) (segment_text d.frame run)
-      (map (segment_text d.frame) runs ++ codes "!" ∷ rest) (segment-step net met found run good.0)
-      ∙ within-read net met (found ++ (net, run) ∷ []) runs rest good.1
-      ∙ ap (λ (f : List (ℕ × Run)). read d (progress Between met f) rest) (append_assoc found ((net, run) ∷ []) (map (with_net net) runs))
-
-  first-read : (net : ℕ) (met : List ℕ) (found : List (ℕ × Run)) (runs : List Run) (rest : List (List ℕ)) → AllByRecursion (IsGridRun d.frame) runs →
-      read d (progress (First net) met found) (map (segment_text d.frame) runs ++ codes "!" ∷ rest)
-      ≡ read d (progress Between met (found ++ map (with_net net) runs)) rest
-  first-read net met found [] rest good =
-      read-step d (progress (First net) met found) (progress Between met found) (codes "!") rest refl
-      ∙ ap (λ (f : List (ℕ × Run)). read d (progress Between met f) rest) (sym (append-nil found))
-  first-read net met found (run ∷ runs) rest good =
-      read-step d (progress (First net) met found) (progress (Within net) met (found ++ (net, run) ∷ [])) (segment_text d.frame run)
-      (map (segment_text d.frame) runs ++ codes "!" ∷ rest) (first-step net met found run good.0)
-      ∙ within-read net met (found ++ (net, run) ∷ []) runs rest good.1
-      ∙ ap (λ (f : List (ℕ × Run)). read d (progress Between met f) rest) (append_assoc found ((net, run) ∷ []) (map (with_net net) runs))
+  runs-read net mode met found (run ∷ runs) rest on good =
+      read-step d (progress mode met found) (progress (Within net) met (found ++ (net, run) ∷ []))
+      (segment_text d.frame run) (map (segment_text d.frame) runs ++ codes "!" ∷ rest) (on.adds met found run good.0)
+      ∙ runs-read net (Within net) met (found ++ (net, run) ∷ []) runs rest (on-within net) good.1
+      ∙ ap (λ (f : List (ℕ × Run)). read d (progress Between met f) rest)
+      (append_assoc found ((net, run) ∷ []) (map (with_net net) runs))
 
   net-back : (number : ℕ) (net : Net) (met : List ℕ) → IsNet d.frame.shape net → slice_get d.nets number ≡ Some net →
       net_with_id d net.id ≡ Some number → list_any (λ other. other == number) met ≡ false → net_of d met net.name (decimal net.id) ≡ Ok number
@@ -153,4 +156,4 @@ module _ (d : DesignView) (ok : IsFrame d.frame) where
       rw (net-back number net met good at id fresh) refl in
       read-step d (progress Between met found) (progress (Named net.name) met found) net.name (decimal net.id ∷ after) refl
       ∙ read-step d (progress (Named net.name) met found) (progress (First number) (number ∷ met) found) (decimal net.id) after named
-      ∙ first-read number (number ∷ met) found runs rest straight
+      ∙ runs-read number (First number) (number ∷ met) found runs rest (on-first number) straight

@@ -1,3 +1,4 @@
+-- The run that begins at a cell goes as far as its edges do.
 use Rattle.std.proofs.Common.{◌≡◌, ℕ, zero, suc, ◌+◌, ◌-◌, ◌*◌, ◌<◌, ◌≤◌, inl, inr, true, false, not, nat_le, IsTrue, refl, sym, ap, subst, ◌∙◌, arith}
 use Rattle.std.proofs.lemmas.Bool.{cases_lt, cases_Bool, and_parts, and_from, not_from_false}
 use Rattle.std.proofs.lemmas.Nat.{mul-lt}

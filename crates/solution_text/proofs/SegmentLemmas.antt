@@ -1,3 +1,4 @@
+-- A written segment is read back.
 use Rattle.std.specs.Prelude.{codes}
 use Rattle.std.proofs.Common.{◌≡◌, ℕ, ◌<◌, Bool, true, ◌&&◌, List, [], ◌∷◌, ◌++◌, Ok, refl, ap, ◌∙◌, append_assoc, arith}
 use Rattle.std.specs.List.{filter, slice_split, onto_first}

@@ -1,3 +1,4 @@
+-- The edges that a solution's text gives to a net.
 use Rattle.std.specs.Prelude.{ℕ, ◌&&◌, ◌==◌, List, [], ◌∷◌, Ok, Err}
 use Rattle.std.specs.List.{list_any}
 use Rattle.gr_base.specs.declared.grid.Shape.{Shape}

@@ -6,7 +6,7 @@ use Rattle.std.specs.Str.{bytes_eq}
 use Rattle.gr_base.specs.declared.frame.Frame.{Frame}
 use Rattle.gr_base.specs.declared.frame.Net.{Net}
 use Rattle.gr_base.specs.declared.grid.Cell.{Cell}
-use Rattle.gr_base.specs.Limits.{most_id}
+use Rattle.gr_base.specs.Limits.{most_id, most_coordinate}
 use Rattle.gr_base.specs.Grid.{number_of, place_at}
 use Rattle.gr_base.specs.Designs.{DesignView, net_with_id, tile_of}
 use Rattle.gr_text.specs.Numbers.{whole_value, number_in}
@@ -33,10 +33,6 @@ check holds fault = if holds then Ok tt else Err fault
 abbrev pub given : {A : Type 0} → Option A → SolutionFault → Checked A
 given (Some a) fault = Ok a
 given None fault = Err fault
-
--- the greatest coordinate that a segment may write
-abbrev pub most_coordinate : ℕ
-most_coordinate = 2 ^ 44
 
 -- one end of a segment, as it is written
 pub record Spot : Type 0 where

@@ -1,3 +1,4 @@
+-- What the written text says when it is read back.
 use Rattle.std.specs.Prelude.{◌≡◌, ℕ, ◌&&◌}
 use Rattle.gr_base.specs.declared.grid.Edge.{Edge}
 use Rattle.gr_base.specs.Designs.{DesignView, IsDesign, is_routed}

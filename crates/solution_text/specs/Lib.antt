@@ -5,4 +5,3 @@ pub mod Grammar
 pub mod Cover
 pub mod WrittenText
 pub mod Laws
-pub mod Rows

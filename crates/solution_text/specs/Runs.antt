@@ -1,3 +1,4 @@
+-- The maximal straight runs of a set of edges.
 use Rattle.std.specs.Prelude.{ℕ, zero, suc, ◌+◌, ◌-◌, Bool, ◌&&◌, not, nat_le, List, ◌++◌, map, if◌then◌else◌, IsTrue}
 use Rattle.std.specs.List.{filter, range_with_len}
 use Rattle.gr_base.specs.declared.grid.Edge.{Edge}

@@ -4,8 +4,6 @@
 mod fault;
 mod law;
 mod run;
-#[cfg(test)]
-mod tests;
 
 pub use fault::SolutionFault;
 pub use law::written_text_is_covered;

@@ -1,4 +1,4 @@
-use Rattle.std.proofs.Common.{◌≡◌, ◌∙◌, sym, arith, rules, w64, SFits}
+use Rattle.std.proofs.Common.{◌∙◌, sym, arith, rules, w64, SFits}
 use Rattle.std.specs.Int.{w128}
 use Rattle.std.proofs.lemmas.Int.{ints, to_z-of_z}
 use Rattle.gr_text.proofs.NumberLemmas.{number-none, number-some}

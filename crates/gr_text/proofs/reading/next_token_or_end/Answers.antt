@@ -1,4 +1,4 @@
-use Rattle.std.proofs.Common.{ap, ◌∙◌, Ok, Err, refl, true, false}
+use Rattle.std.proofs.Common.{ap, ◌∙◌, Err}
 use Rattle.gr_text.proofs.ReadingLemmas.{token_or_end-step, token_or_end-too_long, advanced-too_long}
 use Rattle.gr_text.proofs.reading.next_token_or_end.Goals as goal
 

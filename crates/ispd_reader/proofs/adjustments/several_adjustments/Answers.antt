@@ -38,7 +38,7 @@ loop-preserved g c =
           (subst (λ (s : Shape). adjustment s place ≡ Ok (c.in_ok-adjustment.adjustment, after)) shape (c.in_ok-adjustment.ensures.reads tells)))
           ∙ c.loop.invariant.reads tells;
       faults = c.in_ok-adjustment.ensures.faults ∙ c.loop.invariant.faults;
-      device = c.adjustment.ensures.device ∙ c.loop.invariant.device;
+      origin = c.adjustment.ensures.origin ∙ c.loop.invariant.origin;
       frame = ap (λ (d : DesignView). d.frame) pushed ∙ c.loop.invariant.frame;
       nets = ap (λ (d : DesignView). d.nets) pushed ∙ c.loop.invariant.nets;
       count = ap length adjustments ∙ length_push c.loop.design.adjustments c.in_ok-adjustment.adjustment ∙ ap (λ (n : ℕ). n + 1) c.loop.invariant.count;

@@ -9,7 +9,7 @@ invariant-loop g l = record {
       several (λ _. adjustment l.fn.design.frame.shape) (l.count - l.counter) l.design.adjustments (g.S.TokenSource.place l.source)
       ≡ several (λ _. adjustment l.fn.design.frame.shape) l.count [] (g.S.TokenSource.place l.fn.source);
   faults : g.S.TokenSource.faults l.source ≡ g.S.TokenSource.faults l.fn.source;
-  device : g.S.TokenSource.device l.source ≡ g.S.TokenSource.device l.fn.source;
+  origin : g.S.TokenSource.origin l.source ≡ g.S.TokenSource.origin l.fn.source;
   frame : l.design.frame ≡ l.fn.design.frame;
   nets : l.design.nets ≡ l.fn.design.nets;
   count : length l.design.adjustments ≡ l.counter;

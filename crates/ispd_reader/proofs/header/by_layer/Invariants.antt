@@ -10,7 +10,7 @@ invariant-loop-layer g l = record {
       several (λ _. natural 0 l.most) (l.layers - l.layer) (take l.layer l.numbers) (g.S.TokenSource.place l.source)
       ≡ several (λ _. natural 0 l.most) l.layers [] (g.S.TokenSource.place l.fn.source);
   faults : g.S.TokenSource.faults l.source ≡ g.S.TokenSource.faults l.fn.source;
-  device : g.S.TokenSource.device l.source ≡ g.S.TokenSource.device l.fn.source;
+  origin : g.S.TokenSource.origin l.source ≡ g.S.TokenSource.origin l.fn.source;
   most : All (λ n. n ≤ l.most) l.numbers;
   others : drop l.layer l.numbers ≡ replicate (16 - l.layer) 0;
 }

@@ -11,7 +11,7 @@ invariant-loop g l = record {
       several (net l.fn.design.frame) (l.count - l.counter) l.design.nets (g.S.TokenSource.place l.source)
       ≡ several (net l.fn.design.frame) l.count [] (g.S.TokenSource.place l.fn.source);
   faults : g.S.TokenSource.faults l.source ≡ g.S.TokenSource.faults l.fn.source;
-  device : g.S.TokenSource.device l.source ≡ g.S.TokenSource.device l.fn.source;
+  origin : g.S.TokenSource.origin l.source ≡ g.S.TokenSource.origin l.fn.source;
   frame : l.design.frame ≡ l.fn.design.frame;
   adjustments : l.design.adjustments ≡ l.fn.design.adjustments;
   count : length l.design.nets ≡ l.counter;

@@ -27,7 +27,7 @@ loop-preserved g c =
           ap (λ (pins : List ℕ). several item (c.args.count - (c.loop.counter + 1)) pins (g.S.TokenSource.place c.pin.new.source)) pushed
           ∙ sym (several-next item _ _ c.loop.pins _ _ c.in_ok-pin.pin more (c.in_ok-pin.ensures.reads tells)) ∙ c.loop.invariant.reads tells;
       faults = c.in_ok-pin.ensures.faults ∙ c.loop.invariant.faults;
-      device = c.pin.ensures.device ∙ c.loop.invariant.device;
+      origin = c.pin.ensures.origin ∙ c.loop.invariant.origin;
       count = ap length pushed ∙ (length_push c.loop.pins c.in_ok-pin.pin ∙ ap (λ (n : ℕ). n + 1) c.loop.invariant.count);
       cells = subst (All (λ (n : ℕ). n < cells_of c.args.design.now.frame.shape)) (sym pushed)
           (All-push (λ (n : ℕ). n < cells_of c.args.design.now.frame.shape) c.loop.pins c.in_ok-pin.pin c.loop.invariant.cells c.in_ok-pin.ensures.cell);

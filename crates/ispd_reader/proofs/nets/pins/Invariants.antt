@@ -10,7 +10,7 @@ invariant-loop g l = record {
       several (λ _. pin l.design.frame) (l.count - l.counter) l.pins (g.S.TokenSource.place l.source)
       ≡ several (λ _. pin l.design.frame) l.count [] (g.S.TokenSource.place l.fn.source);
   faults : g.S.TokenSource.faults l.source ≡ g.S.TokenSource.faults l.fn.source;
-  device : g.S.TokenSource.device l.source ≡ g.S.TokenSource.device l.fn.source;
+  origin : g.S.TokenSource.origin l.source ≡ g.S.TokenSource.origin l.fn.source;
   count : length l.pins ≡ l.counter;
   cells : All (λ pin. pin < cells_of l.design.frame.shape) l.pins;
 }

@@ -10,5 +10,5 @@ invariant-loop g l = record {
   gathers : Gathers l.design so_far l.gathering;
   says : IsTrue g.S.TokenSource.tells → solution_at l.design so_far (g.S.TokenSource.place l.source) ≡ solution_at l.design start (g.S.TokenSource.place l.fn.source);
   faults : g.S.TokenSource.faults l.source ≡ g.S.TokenSource.faults l.fn.source;
-  device : g.S.TokenSource.device l.source ≡ g.S.TokenSource.device l.fn.source;
+  origin : g.S.TokenSource.origin l.source ≡ g.S.TokenSource.origin l.fn.source;
 }

@@ -1,10 +1,11 @@
-use Rattle.std.proofs.Common.{Some, None, if◌then◌else◌, Err, sym, ap, ◌∙◌}
+use Rattle.std.proofs.Common.{Err, sym, ap, ◌∙◌}
+use Rattle.gr_text.specs.Reads.{word_if}
 use Rattle.route_reader.proofs.TextLemmas.{takes-fails, says-end, says-next, says-fault}
 use Rattle.route_reader.proofs.read.take_token.Goals as goal
 
 pub returns-in_err-next_token_or_end-clause-takes : goal.returns-in_err-next_token_or_end-clause-takes
 returns-in_err-next_token_or_end-clause-takes g c s gathers =
-    takes-fails c.args.design.now s g.S.TokenSource.tells (g.S.TokenSource.place c.args.source.now) _ _ _ (λ more. if more then Some (g.S.TokenSource.word c.next_token_or_end.new.source) else None) c.from_residual.result
+    takes-fails c.args.design.now s g.S.TokenSource.tells (g.S.TokenSource.place c.args.source.now) _ _ _ (word_if (g.S.TokenSource.word c.next_token_or_end.new.source)) c.from_residual.result
     c.in_err-next_token_or_end.field-0.0 c.from_residual.ensures c.in_err-next_token_or_end.ensures.reads
 
 pub returns-then-not-branch-clause-takes : goal.returns-then-not-branch-clause-takes

@@ -1,5 +1,3 @@
-use Rattle.std.proofs.Common.{◌≡◌, ◌+◌, ◌≤◌, ◌++◌, take, drop, ap, ◌∙◌, length, arith}
-use Rattle.gr_text.specs.Streams.{Cursor}
 use Rattle.gr_text.proofs.PieceLemmas.{taken-more, ahead-more}
 use Rattle.gr_text.proofs.piece.Piece.take.Goals as goal
 

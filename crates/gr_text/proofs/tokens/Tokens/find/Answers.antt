@@ -1,4 +1,4 @@
-use Rattle.std.proofs.Common.{◌≡◌, ◌++◌, subst, ap, ◌∙◌, refl, sym, true, false, Ok, Err}
+use Rattle.std.proofs.Common.{◌≡◌, ◌++◌, subst, ap, ◌∙◌, true, false, Ok, Err}
 use Rattle.std.proofs.lemmas.Result.{err_from_is_err_and}
 use Rattle.gr_io.specs.declared.shelf.Slot.{Slot}
 use Rattle.gr_text.specs.Streams.{Stream}

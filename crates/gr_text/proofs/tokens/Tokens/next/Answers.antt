@@ -1,4 +1,4 @@
-use Rattle.std.proofs.Common.{◌≡◌, ◌∙◌, ap, subst, sym, Ok, ℕ, List, ◌++◌}
+use Rattle.std.proofs.Common.{◌∙◌, ap, subst, sym, Ok, ℕ, List, ◌++◌}
 use Rattle.gr_text.specs.Streams.{Stream, place_of}
 use Rattle.gr_text.specs.Steps.{IsNext}
 use Rattle.gr_text.proofs.ReadingLemmas.{advanced-next}

@@ -1,5 +1,6 @@
-use Rattle.std.proofs.Common.{◌≡◌, ap, ◌∙◌, refl, sym, true, false, Ok, Err}
+use Rattle.std.proofs.Common.{◌≡◌, ap, ◌∙◌, true, false, Ok}
 use Rattle.std.proofs.lemmas.Result.{err_from_is_err_and}
+use Rattle.gr_io.proofs.ShelfLemmas.{keeps-then}
 use Rattle.gr_text.specs.Streams.{Stream}
 use Rattle.gr_text.proofs.SeekLemmas.{skipped-here, spent-ahead, turn-goes, turn-ends, turn-fails, turn-keeps, at-word}
 use Rattle.gr_text.proofs.tokens.Tokens.seek.Goals as goal
@@ -39,9 +40,7 @@ blanks-preserved g c =
           (rw gives at c.more.ensures.refilled)
           (rw (gives, slot) at (c.more.ensures.left told));
       faults = (rw gives at c.more.ensures.faults) ∙ c.blanks.invariant.faults;
-      misses = c.more.ensures.misses ∙ c.blanks.invariant.misses;
-      reached = λ other was. c.more.ensures.reached other (c.blanks.invariant.reached other was);
-      held = λ other name. c.more.ensures.held other name ∙ c.blanks.invariant.held other name;
+      shelf = keeps-then c.blanks.invariant.shelf c.more.ensures.shelf;
     }
 
 pub returns-clause-sought : goal.returns-clause-sought

@@ -1,5 +1,5 @@
-use Rattle.std.proofs.Common.{◌≡◌, ℕ, ◌+◌, ◌-◌, List, [], ◌++◌, length, IsTrue}
-use Rattle.gr_io.specs.declared.shelf.Slot.{Slot}
+use Rattle.std.proofs.Common.{◌≡◌, ◌+◌, ◌-◌, [], ◌++◌, length, IsTrue}
+use Rattle.gr_io.specs.Shelves.{KeepsShelf}
 use Rattle.gr_text.specs.Steps.{Skips}
 use Rattle.gr_text.proofs.tokens.Tokens.seek.Given as goal
 
@@ -10,9 +10,7 @@ invariant-blanks g l =
       skipped : IsTrue g.S.Shelf.tells → Skips l.fn.self.room (l.fn.self.pending ++ g.S.Shelf.left l.fn.shelf l.fn.self.slot)
           l.self.room (l.self.pending ++ g.S.Shelf.left l.shelf l.fn.self.slot);
       faults : g.S.Shelf.faults l.shelf ≡ g.S.Shelf.faults l.fn.shelf;
-      misses : g.S.Shelf.misses l.shelf ≡ g.S.Shelf.misses l.fn.shelf;
-      reached : (other : Slot) → IsTrue (g.S.Shelf.reached l.fn.shelf other) → IsTrue (g.S.Shelf.reached l.shelf other);
-      held : (other : Slot) (name : List ℕ) → g.S.Shelf.held l.shelf other name ≡ g.S.Shelf.held l.fn.shelf other name;
+      shelf : KeepsShelf g.S.Shelf.misses g.S.Shelf.reached g.S.Shelf.held l.fn.shelf l.shelf;
     }
 
 abbrev pub decreases-blanks : goal.decreases-blanks

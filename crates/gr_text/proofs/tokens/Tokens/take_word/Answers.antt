@@ -1,5 +1,6 @@
-use Rattle.std.proofs.Common.{◌≡◌, ap, ◌∙◌, refl, sym, true, false, Ok, Err}
+use Rattle.std.proofs.Common.{◌≡◌, ap, ◌∙◌, true, false, Ok}
 use Rattle.std.proofs.lemmas.Result.{err_from_is_err_and}
+use Rattle.gr_io.proofs.ShelfLemmas.{keeps-then}
 use Rattle.gr_text.specs.Streams.{Stream}
 use Rattle.gr_text.proofs.TakeLemmas.{token-word, part-more, some-more, bytes-more, grown-spent, closed-ahead, token-closed, token-ended, token-fails, part-refilled, some-refilled, bytes-refilled, part-keeps, counted-end, counted-closed}
 use Rattle.gr_text.proofs.tokens.Tokens.take_word.Goals as goal
@@ -47,9 +48,7 @@ parts-preserved g c =
           c.parts.invariant.bytes told ∙ bytes-more c.parts.self c.take_part.new.self _ _ grew ∙
           bytes-refilled c.take_part.new.self c.more.new.self _ _ refilled (rw (gives, slot) at (c.more.ensures.left told));
       faults = (rw gives at c.more.ensures.faults) ∙ c.parts.invariant.faults;
-      misses = c.more.ensures.misses ∙ c.parts.invariant.misses;
-      reached = λ other was. c.more.ensures.reached other (c.parts.invariant.reached other was);
-      held = λ other name. c.more.ensures.held other name ∙ c.parts.invariant.held other name;
+      shelf = keeps-then c.parts.invariant.shelf c.more.ensures.shelf;
     }
 
 pub returns-clause-token : goal.returns-clause-token

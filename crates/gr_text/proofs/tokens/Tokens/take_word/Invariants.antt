@@ -1,6 +1,6 @@
-use Rattle.std.proofs.Common.{◌≡◌, ℕ, ◌+◌, ◌-◌, ◌<◌, true, List, [], ◌++◌, length, IsTrue}
+use Rattle.std.proofs.Common.{◌≡◌, ◌+◌, ◌-◌, ◌<◌, ◌++◌, length, IsTrue}
 use Rattle.std.specs.List.{position_or_len}
-use Rattle.gr_io.specs.declared.shelf.Slot.{Slot}
+use Rattle.gr_io.specs.Shelves.{KeepsShelf}
 use Rattle.gr_text.specs.Tokens.{is_blank}
 use Rattle.gr_text.specs.Streams.{usable}
 use Rattle.gr_text.proofs.TakeLemmas.{IsPart}
@@ -15,9 +15,7 @@ invariant-parts g l =
       bytes : IsTrue g.S.Shelf.tells → l.fn.self.pending ++ g.S.Shelf.left l.fn.shelf l.fn.self.slot ≡
           l.self.word ++ (l.self.pending ++ g.S.Shelf.left l.shelf l.fn.self.slot);
       faults : g.S.Shelf.faults l.shelf ≡ g.S.Shelf.faults l.fn.shelf;
-      misses : g.S.Shelf.misses l.shelf ≡ g.S.Shelf.misses l.fn.shelf;
-      reached : (other : Slot) → IsTrue (g.S.Shelf.reached l.fn.shelf other) → IsTrue (g.S.Shelf.reached l.shelf other);
-      held : (other : Slot) (name : List ℕ) → g.S.Shelf.held l.shelf other name ≡ g.S.Shelf.held l.fn.shelf other name;
+      shelf : KeepsShelf g.S.Shelf.misses g.S.Shelf.reached g.S.Shelf.held l.fn.shelf l.shelf;
     }
 
 abbrev pub decreases-parts : goal.decreases-parts

@@ -8,11 +8,11 @@ use Rattle.route_reader.proofs.solution.Solution.runs.Goals as goal
 
 pub returns-clause-each : goal.returns-clause-each
 returns-clause-each c =
-    let spans = c.self.inside.spans.items in
-    let inside : c.args.net < length spans =
-    subst (λ n. c.args.net < n) (length-map spans (runs_between c.self.inside.runs.items))
+    let stretches = c.self.inside.stretches.items in
+    let inside : c.args.net < length stretches =
+    subst (λ n. c.args.net < n) (length-map stretches (runs_between c.self.inside.runs.items))
     (subst (λ (s : SolutionView). c.args.net < length s.runs) (sym c.self.view_is) c.requires) in
-    let runs : All (IsRun c.self.inside.shape) (runs_between c.deref.result.now c.index-span.result.now) =
-    subst (λ (runs : List Run). All (IsRun c.self.inside.shape) (runs_between runs c.index-span.result.now)) (sym c.deref.ensures.value)
-    (runs-of-net c.self.inside.shape c.self.inside.runs.items spans c.args.net c.index-span.result.now c.self.invariant.runs inside c.index-span.ensures) in
-    subst (λ (s : SolutionView). All (IsRun s.shape) (runs_between c.deref.result.now c.index-span.result.now)) c.self.view_is runs
+    let runs : All (IsRun c.self.inside.shape) (runs_between c.deref.result.now c.index-stretch.result.now) =
+    subst (λ (runs : List Run). All (IsRun c.self.inside.shape) (runs_between runs c.index-stretch.result.now)) (sym c.deref.ensures.value)
+    (runs-of-net c.self.inside.shape c.self.inside.runs.items stretches c.args.net c.index-stretch.result.now c.self.invariant.each inside c.index-stretch.ensures) in
+    subst (λ (s : SolutionView). All (IsRun s.shape) (runs_between c.deref.result.now c.index-stretch.result.now)) c.self.view_is runs
