@@ -4,10 +4,10 @@ use Rattle.std.specs.Arc.{arc_value}
 use Rattle.std.specs.List.{flat_map, AllZip, AppendsClones}
 use Rattle.std.proofs.lemmas.Grind.{flat_map-append}
 use Rattle.std.proofs.lemmas.List.{take-append-drop, take_rest, take-take, take_at, drop-map, map-append}
-use Rattle.std.proofs.lemmas.List.Elements.{All-head, All-tail, All-cons, All-append, All-drop, All-take}
+use Rattle.std.proofs.lemmas.List.Elements.{All-head, All-tail, All-cons, All-append, All-drop, All-take, length_all_zip}
 use Rattle.std.proofs.Math.Seq.{drop-append-add}
 use Rattle.book_state.proofs.HistoryLists.{length-entries}
-use Rattle.book_state.specs.HistoryStore.{block_size, Held, Block, entries_of, items_of, entries_in, AreFull, seen}
+use Rattle.book_state.specs.HistoryStore.{block_size, Held, Block, entries_of, items_of, entries_in, AreFull, seen, Keeps}
 use Rattle.book_state.specs.declared.entry.Entry.{Entry}
 use Rattle.book_state.specs.declared.history.History.TheInside.{Inside}
 
@@ -151,3 +151,56 @@ grown-twice a b c first second =
 
 pub grown-once : (a b : List Entry) (e : Entry) → b ≡ a ++ e ∷ [] → take (length a) b ≡ a
 grown-once a b e is = ap (λ (es : List Entry). take (length a) es) is ∙ take_at a (e ∷ []) (length a) refl
+
+-- a history that grew to the entries of another
+pub record HasGrown (w : Inside) (blocks : List Block) (last : List Held) : Type 0 where
+  pub same : entries_in blocks last ≡ seen w
+  pub full : AreFull blocks
+  pub short : length last ≤ block_size
+  pub few : length (entries_in blocks last) < 2 ^ 62
+
+-- by the blocks that it lacked, and a new last block
+pub grows-by_blocks : (s w : Inside) (self whole : List Entry) (k : ℕ) (raw new : List Block) (held last : List Held) → Keeps s → Keeps w →
+    seen s ≡ self → seen w ≡ whole → take (length self) whole ≡ self → k ≡ length s.blocks.items → k ≤ length w.blocks.items → raw ≡ w.blocks.items →
+    AppendsClones SameBlock s.blocks.items new (take (length raw - k) (drop k raw)) → held ≡ w.last.items → AllZip SameHeld held last → HasGrown w new last
+grows-by_blocks s w self whole k raw new held last keeps keeps_w is_self is_whole part known fewer raw_is cloned held_is zipped =
+    let blocks = subst (λ (xs : List Block). AppendsClones SameBlock s.blocks.items new xs) (slice-rest w.blocks.items raw k raw_is) cloned in
+    let zip = subst (λ (xs : List Held). AllZip SameHeld xs last) held_is zipped in
+    let same = gained-blocks s.blocks.items w.blocks.items new s.last.items w.last.items last k keeps.full keeps_w.full known fewer
+    (begins s w self whole is_self is_whole part) blocks zip in
+    let long = length_all_zip SameHeld w.last.items last zip in
+    let most = keeps_w.last in
+    record {
+      same = same;
+      full = gained-full s.blocks.items w.blocks.items new k keeps.full keeps_w.full blocks;
+      short = omega (arith, long, most);
+      few = few-same (entries_in new last) (seen w) same keeps_w.few;
+    }
+
+-- how many entries of the other's last block it doesn't lack
+pub lacks-few : (s w : Inside) (self whole : List Entry) (count count_self count_last : ℕ) → Keeps s → Keeps w →
+    seen s ≡ self → seen w ≡ whole → take (length self) whole ≡ self → length w.blocks.items ≤ length s.blocks.items →
+    count ≡ length whole → count_self ≡ length self → count_last ≡ length w.last.items →
+    (count - count_self ≤ count_last) × ((count_last - (count - count_self)) + length (seen w) ≡ length w.last.items + length (seen s))
+lacks-few s w self whole count count_self count_last keeps keeps_w is_self is_whole part fewer counts counts_self counts_last =
+    let few = missing-few s.blocks.items w.blocks.items s.last.items w.last.items keeps.full keeps_w.full fewer (begins s w self whole is_self is_whole part) in
+    let long_self = ap (λ (es : List Entry). length es) is_self in
+    let long_whole = ap (λ (es : List Entry). length es) is_whole in
+    (omega (arith, few.0, few.1, long_self, long_whole), omega (arith, few.0, few.1, long_self, long_whole))
+
+-- by the entries that its last block lacked
+pub grows-by_entries : (s w : Inside) (self whole : List Entry) (count count_self count_last from : ℕ) (raw new : List Held) → Keeps s → Keeps w →
+    seen s ≡ self → seen w ≡ whole → take (length self) whole ≡ self → length w.blocks.items ≤ length s.blocks.items →
+    count ≡ length whole → count_self ≡ length self → count_last ≡ length w.last.items → from ≡ count_last - (count - count_self) →
+    raw ≡ w.last.items → AppendsClones SameHeld s.last.items new (take (length raw - from) (drop from raw)) → HasGrown w s.blocks.items new
+grows-by_entries s w self whole count count_self count_last from raw new keeps keeps_w is_self is_whole part fewer counts counts_self counts_last from_is raw_is cloned =
+    let lacks = lacks-few s w self whole count count_self count_last keeps keeps_w is_self is_whole part fewer counts counts_self counts_last in
+    let last = subst (λ (xs : List Held). AppendsClones SameHeld s.last.items new xs) (slice-rest w.last.items raw from raw_is) cloned in
+    let same = gained-entries s.blocks.items w.blocks.items s.last.items w.last.items new from keeps.full keeps_w.full fewer
+    (begins s w self whole is_self is_whole part) (omega (arith, lacks.1, from_is)) last in
+    record {
+      same = same;
+      full = keeps.full;
+      short = gained-short s.blocks.items w.blocks.items s.last.items w.last.items new from keeps.full keeps_w.full fewer same keeps_w.last;
+      few = few-same (entries_in s.blocks.items new) (seen w) same keeps_w.few;
+    }
