@@ -142,7 +142,6 @@ fn read_some<F: Read>(file: &mut F, buf: &mut [u8]) -> io::Result<usize>
 #[cfg(test)]
 mod tests {
     use super::*;
-    use std::process;
     use std::test::Fail;
 
     /// A reader whose first call is interrupted, and that then gives one byte.
@@ -166,22 +165,6 @@ mod tests {
         let mut reader = Interrupted { calls: 0 };
         assert_eq!(rt; read_some(&mut reader, &mut [0; 4])?, 1);
         assert_eq!(rt; reader.calls, 2);
-        Ok(())
-    }
-
-    #[test]
-    fn a_file_is_read_to_its_end(rt: HostRuntime) -> Result<(), Fail> {
-        let path = format!(in rt.alloc(); "/tmp/gr_io_shelf_{}", process::id(rt.process()))?;
-        fs::write(&rt, path.as_str(), "text")?;
-        let mut shelf = HostShelf::new(&rt);
-        let missing = shelf.reach(rt.alloc(), Slot::Design, "/tmp/no such folder/file");
-        assert_eq!(rt; missing, Err(ReachError::Missing));
-        shelf.reach(rt.alloc(), Slot::Design, path.as_str())?;
-        let mut buf = [0; 8];
-        assert_eq!(rt; shelf.read(Slot::Design, &mut buf)?, 4);
-        assert_eq!(rt; &buf[..4], b"text".as_slice());
-        assert_eq!(rt; shelf.read(Slot::Design, &mut buf)?, 0);
-        fs::remove_file(&rt, path.as_str())?;
         Ok(())
     }
 }

@@ -22,6 +22,3 @@ pub use shelf::{Failed, ReachError, Shelf, Slot};
 pub use sink::Sink;
 pub use sure::{SureShelf, SureSink};
 pub use whole::write_whole;
-
-#[cfg(test)]
-mod tests;

@@ -1,5 +1,5 @@
 -- The shape of the grid, and the numbers of its layers.
-use Rattle.std.proofs.Common.{◌≡◌, ℕ, ◌+◌, ◌-◌, ◌<◌, ◌≤◌, ◌↔◌, Bool, true, false, Option, Some, None, IsSome, IfSome, IsTrue, List, [], ◌∷◌, ◌++◌, length, take, drop, set, replicate, All, Any, ◌||◌, nat_lt, get_or, map, Ok, Err, suc, refl, sym, ap, ◌∙◌, subst, arith}
+use Rattle.std.proofs.Common.{◌≡◌, ℕ, ◌+◌, ◌-◌, ◌<◌, ◌≤◌, ◌↔◌, Bool, true, false, Option, Some, None, IsSome, IfSome, IsTrue, List, [], ◌++◌, length, take, drop, set, replicate, All, Any, ◌||◌, nat_lt, get_or, map, Ok, Err, refl, sym, ap, ◌∙◌, subst, arith}
 use Rattle.std.proofs.Math.Bool.{Bool-set}
 use Rattle.std.proofs.lemmas.List.{take_more_set, drop-set-lt, drop-drop, drop-replicate, get_or-take, get_or_default, length-take-le, take-append-drop}
 use Rattle.gr_text.specs.Tokens.{Place}

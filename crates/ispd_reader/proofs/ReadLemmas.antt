@@ -1,5 +1,5 @@
 -- What a whole design text says, read from its first token.
-use Rattle.std.proofs.Common.{◌≡◌, ℕ, List, [], false, Result, Ok, Err, IsErr, IsErrAnd, sym, ap, subst, ◌∙◌}
+use Rattle.std.proofs.Common.{◌≡◌, ℕ, List, Result, Ok, Err, ap, subst}
 use Rattle.gr_io.specs.declared.shelf.Slot.{Slot}
 use Rattle.gr_io.specs.declared.shelf.Slot.TheVariants.{Design}
 use Rattle.gr_base.specs.Limits.{most_bytes}

@@ -1,5 +1,5 @@
 -- The adjustments of a design text, and its end.
-use Rattle.std.specs.Prelude.{ℕ, ◌-◌, nat_lt, pos, nat_abs, List, [], Option, Some, None, option_and_then, is_none, if◌then◌else◌}
+use Rattle.std.specs.Prelude.{ℕ, nat_lt, pos, nat_abs, List, [], Option, Some, None, option_and_then, is_none, if◌then◌else◌}
 use Rattle.gr_base.specs.Limits.{most_id, most_capacity, most_adjustments}
 use Rattle.gr_base.specs.Grid.{number_of, edge_of, is_wire}
 use Rattle.gr_base.specs.declared.frame.Adjustment.{Adjustment}

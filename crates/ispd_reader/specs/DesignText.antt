@@ -1,9 +1,9 @@
 -- What a design text says. The grammar is a table: one line for each check, in the order of the text.
-use Rattle.std.specs.Prelude.{ℕ, ◌*◌, List, Result, Ok, Err}
+use Rattle.std.specs.Prelude.{ℕ, List, Result, Ok, Err}
 use Rattle.gr_base.specs.Limits.{most_bytes}
 use Rattle.gr_base.specs.Designs.{DesignView}
 use Rattle.gr_text.specs.Tokens.{place_in}
-use Rattle.gr_text.specs.Reading.{Read, Reader, ◌>>=◌, ◌>>◌, pure}
+use Rattle.gr_text.specs.Reading.{Read, Reader, ◌>>=◌, pure}
 use Rattle.ispd_reader.specs.Header.{frame}
 use Rattle.ispd_reader.specs.Nets.{nets}
 use Rattle.ispd_reader.specs.Adjustments.{adjustments}

@@ -1,5 +1,5 @@
 -- The nets of a design text and their pins.
-use Rattle.std.specs.Prelude.{ℕ, ◌+◌, ◌-◌, ◌*◌, ◌^◌, ◌&&◌, nat_lt, nat_le, ℤ, pos, neg_ℤ, List, [], is_none, codes}
+use Rattle.std.specs.Prelude.{ℕ, ◌+◌, ◌&&◌, nat_lt, nat_le, ℤ, pos, neg_ℤ, List, [], is_none, codes}
 use Rattle.gr_base.specs.Limits.{most_pins, most_id, most_width, most_nets, most_coordinate}
 use Rattle.gr_base.specs.Grid.{number_of}
 use Rattle.gr_base.specs.Designs.{net_from, pins_of, tile_of}

@@ -27,4 +27,5 @@ line_of (Some net) = net_line net
 
 -- how many nets aren't joined, and which of the nets these are
 abbrev pub unjoined_text : List Net → List ℕ → List ℕ
-unjoined_text nets unjoined = number_line (codes "unjoined") (length unjoined) ++ flat_map (λ net. line_of (slice_get nets net)) unjoined
+unjoined_text nets unjoined =
+    number_line (codes "unjoined") (length unjoined) ++ flat_map (λ net. line_of (slice_get nets net)) unjoined

@@ -10,7 +10,8 @@ use std::alloc::{AllocError, Global};
 /// The measures of routes, a line each: `routed`, `overflow`, `maximum`, `wirelength` and `vias`,
 /// each with its number. The only error is want of memory.
 pub fn report(alloc: Global, verdict: &Verdict) -> Result<Text, AllocError>
-    ensures { IfOk result (λ text. text ≡ report_text verdict.now.routed verdict.now.total verdict.now.max verdict.now.wirelength verdict.now.vias) }
+    ensures { let v = verdict.now in
+        IfOk result (λ text. text ≡ report_text v.routed v.total v.max v.wirelength v.vias) }
 {
     let mut text = Text::new(alloc);
     put_number_line(&mut text, b"routed", u128::from(verdict.routed))?;

@@ -1,6 +1,6 @@
 -- The grammar of a solution: net records, each a name, an id, perhaps a number, segments and the token "!". It is read token
 -- by token; for each place in a record stands one rule, which makes its checks in order and gives the fault of the first that fails.
-use Rattle.std.specs.Prelude.{ℕ, ◌-◌, ◌^◌, Bool, false, ◌&&◌, ◌||◌, ◌==◌, not, nat_lt, nat_le, int_le, ℤ, pos, negsuc, nat_abs, List, [], ◌∷◌, ◌++◌, Option, Some, None, is_some, slice_get, Result, Ok, Err, if◌then◌else◌, codes}
+use Rattle.std.specs.Prelude.{ℕ, ◌-◌, Bool, false, ◌&&◌, ◌||◌, ◌==◌, not, nat_lt, nat_le, int_le, ℤ, pos, negsuc, nat_abs, List, [], ◌∷◌, ◌++◌, Option, Some, None, is_some, slice_get, Result, Ok, Err, if◌then◌else◌, codes}
 use Rattle.std.specs.List.{list_any, filter, slice_split}
 use Rattle.std.specs.Str.{bytes_eq}
 use Rattle.gr_base.specs.declared.frame.Frame.{Frame}

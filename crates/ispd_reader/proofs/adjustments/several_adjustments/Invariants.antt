@@ -1,4 +1,4 @@
-use Rattle.std.proofs.Common.{◌≡◌, ℕ, ◌-◌, length, [], IsTrue}
+use Rattle.std.proofs.Common.{◌≡◌, ◌-◌, length, [], IsTrue}
 use Rattle.gr_text.specs.Reading.{several}
 use Rattle.ispd_reader.specs.Adjustments.{adjustment}
 use Rattle.ispd_reader.proofs.adjustments.several_adjustments.Given as goal

@@ -1,4 +1,4 @@
-use Rattle.std.proofs.Common.{ℕ, length, drop, replicate, take, set, arith, All, length-set, ◌<◌, ◌≤◌, ◌∙◌}
+use Rattle.std.proofs.Common.{ℕ, length, arith, length-set, ◌<◌, ◌≤◌, ◌∙◌}
 use Rattle.std.proofs.lemmas.List.Elements.{All-set}
 use Rattle.gr_text.proofs.SeveralLemmas.{Reads-fails}
 use Rattle.ispd_reader.proofs.HeaderLemmas.{by_layer-fails, by_layer-next, by_layer-done, others-next}

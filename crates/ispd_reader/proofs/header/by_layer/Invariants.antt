@@ -1,4 +1,4 @@
-use Rattle.std.proofs.Common.{◌≡◌, ℕ, ◌-◌, ◌≤◌, All, replicate, length, take, drop, List, [], IsTrue}
+use Rattle.std.proofs.Common.{◌≡◌, ◌-◌, ◌≤◌, All, replicate, length, take, drop, [], IsTrue}
 use Rattle.gr_text.specs.Reading.{several}
 use Rattle.ispd_reader.specs.Steps.{natural}
 use Rattle.ispd_reader.proofs.header.by_layer.Given as goal

@@ -1,5 +1,4 @@
-use Rattle.std.proofs.Common.{◌-◌, ◌<◌, true, ◌||◌, nat_lt, sym, ◌∙◌, arith}
-use Rattle.std.specs.List.{list_any}
+use Rattle.std.proofs.Common.{◌-◌, sym, ◌∙◌, arith}
 use Rattle.ispd_reader.proofs.HeaderLemmas.{Any-some}
 use Rattle.ispd_reader.proofs.header.capacities.Goals.{then-tiles-le1, else-tiles-le1}
 use Rattle.ispd_reader.proofs.header.capacities.Goals as goal

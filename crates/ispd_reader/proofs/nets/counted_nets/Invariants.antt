@@ -1,4 +1,4 @@
-use Rattle.std.proofs.Common.{◌≡◌, ℕ, ◌-◌, ◌≤◌, length, [], IsTrue}
+use Rattle.std.proofs.Common.{◌≡◌, ◌-◌, ◌≤◌, length, [], IsTrue}
 use Rattle.gr_base.specs.Limits.{most_pins}
 use Rattle.gr_base.specs.Designs.{pins_of}
 use Rattle.gr_text.specs.Reading.{several}

@@ -2,7 +2,6 @@ use Rattle.std.proofs.Common.{◌≡◌, ℕ, ◌+◌, ◌-◌, ◌<◌, suc, Al
 use Rattle.std.proofs.lemmas.List.{length_push}
 use Rattle.std.proofs.lemmas.List.Elements.{All-push}
 use Rattle.gr_base.specs.Grid.{cells_of}
-use Rattle.gr_text.specs.Tokens.{Place}
 use Rattle.gr_text.specs.Reading.{Reader, several}
 use Rattle.ispd_reader.specs.Nets.{pin}
 use Rattle.ispd_reader.specs.declared.fault.DesignFault.{DesignFault}

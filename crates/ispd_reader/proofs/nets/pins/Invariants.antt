@@ -1,4 +1,4 @@
-use Rattle.std.proofs.Common.{◌≡◌, ℕ, ◌-◌, ◌<◌, All, length, [], IsTrue}
+use Rattle.std.proofs.Common.{◌≡◌, ◌-◌, ◌<◌, All, length, [], IsTrue}
 use Rattle.gr_base.specs.Grid.{cells_of}
 use Rattle.gr_text.specs.Reading.{several}
 use Rattle.ispd_reader.specs.Nets.{pin}

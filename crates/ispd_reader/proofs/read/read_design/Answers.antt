@@ -1,6 +1,3 @@
-use Rattle.std.proofs.Common.{◌≡◌, [], ap, ◌∙◌, sym, rules}
-use Rattle.gr_io.specs.declared.shelf.Slot.TheVariants.{Design}
-use Rattle.gr_text.specs.Streams.{Stream}
 use Rattle.ispd_reader.proofs.ReadLemmas.{says-read}
 use Rattle.ispd_reader.proofs.read.read_design.Goals as goal
 
