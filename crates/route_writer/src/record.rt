@@ -8,8 +8,8 @@ ghost use Rattle.route_writer.specs.RouteTexts.{heading_text};
 
 use crate::edges::gather_edges;
 use crate::runs::put_runs;
-use crate::text::put_natural;
 use gr_base::{Design, Edge, Net, RouteTree};
+use gr_text::put_number;
 use solution_text::Run;
 use std::alloc::{AllocError, Global};
 use straight_runs::gather_runs;
@@ -77,7 +77,7 @@ fn put_heading(text: &mut Vec<u8>, net: &Net) -> Result<(), AllocError>
 {
     text.extend_from_slice(net.name.bytes())?;
     text.extend_from_slice(b" ")?;
-    put_natural(text, net.id)?;
+    put_number(text, net.id)?;
     text.extend_from_slice(b"\n")?;
     Ok(())
 }

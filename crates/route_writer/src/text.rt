@@ -1,30 +1,12 @@
+//! The parts of a written text.
 ghost use Rattle.std.specs.Prelude.{◌≡◌, ◌<◌, ◌++◌, ◌∷◌, [], OnOk};
-ghost use Rattle.std.specs.Fmt.{decimal, signed_decimal};
 ghost use Rattle.gr_base.specs.Grid.{cells_of};
 ghost use Rattle.solution_text.specs.WrittenText.{point_text, segment_line};
 
 use gr_base::{Design, Point};
-use itoa::Buffer;
+use gr_text::put_number;
 use solution_text::Run;
 use std::alloc::AllocError;
-
-/// Puts the decimal digits of a number behind the text.
-pub fn put_number(text: &mut Vec<u8>, number: i64) -> Result<(), AllocError>
-    ensures { OnOk result (text.new.items ≡ text.old.items ++ signed_decimal number) }
-{
-    let mut buffer = Buffer::new();
-    text.extend_from_slice(buffer.format(number).as_bytes())?;
-    Ok(())
-}
-
-/// Puts a number that isn't negative behind the text.
-pub fn put_natural(text: &mut Vec<u8>, number: u32) -> Result<(), AllocError>
-    ensures { OnOk result (text.new.items ≡ text.old.items ++ decimal number) }
-{
-    let mut buffer = Buffer::new();
-    text.extend_from_slice(buffer.format(number).as_bytes())?;
-    Ok(())
-}
 
 /// Puts a point behind the text, as `(x,y,layer)`.
 pub fn put_point(text: &mut Vec<u8>, point: Point) -> Result<(), AllocError>
@@ -35,7 +17,7 @@ pub fn put_point(text: &mut Vec<u8>, point: Point) -> Result<(), AllocError>
     text.extend_from_slice(b",")?;
     put_number(text, point.y)?;
     text.extend_from_slice(b",")?;
-    put_natural(text, point.layer)?;
+    put_number(text, point.layer)?;
     text.extend_from_slice(b")")?;
     Ok(())
 }

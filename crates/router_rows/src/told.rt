@@ -12,7 +12,7 @@ const MOST_PRINTED: usize = 2_000;
 pub(crate) fn whole(alloc: Global, left: &Left) -> Result<Text, AllocError> {
     let mut told = Text::new(alloc);
     told.put(b"status ")?;
-    told.put_number(i128::from(left.ended.status))?;
+    told.put_number(left.ended.status)?;
     told.put(b"\n")?;
     put_text(&mut told, b"out", left.out.bytes())?;
     put_text(&mut told, b"err", left.err.bytes())?;
@@ -33,9 +33,9 @@ pub(crate) fn line(
     done: &Left,
 ) -> Result<Text, AllocError> {
     let mut told = Text::new(alloc);
-    told.put_number(number as i128)?;
+    told.put_number(number)?;
     told.put(b": status ")?;
-    told.put_number(i128::from(left.ended.status))?;
+    told.put_number(left.ended.status)?;
     put_share(&mut told, b", out", left.out.bytes(), done.out.bytes())?;
     put_share(&mut told, b", err", left.err.bytes(), done.err.bytes())?;
     told.put(b"\n")?;
@@ -51,7 +51,7 @@ fn put_share(told: &mut Text, name: &[u8], gained: &[u8], text: &[u8]) -> Result
         told.put(b" whole")
     } else if text.starts_with(gained) {
         told.put(b" the first ")?;
-        told.put_number(gained.len() as i128)
+        told.put_number(gained.len())
     } else {
         for part in gained.split(|&byte| byte == b'\n') {
             told.put(b" ")?;
@@ -65,7 +65,7 @@ fn put_share(told: &mut Text, name: &[u8], gained: &[u8], text: &[u8]) -> Result
 fn put_text(told: &mut Text, name: &[u8], text: &[u8]) -> Result<(), AllocError> {
     told.put(name)?;
     told.put(b" ")?;
-    told.put_number(text.len() as i128)?;
+    told.put_number(text.len())?;
     told.put(b"\n")?;
     if text.is_empty() || text.len() > MOST_PRINTED {
         return Ok(());
@@ -88,13 +88,13 @@ fn put_book(told: &mut Text, book: &BookState) -> Result<(), AllocError> {
     for place in 0..history.len() {
         let entry = history.entry(place);
         told.put(b"entry ")?;
-        told.put_number(i128::from(entry.number))?;
+        told.put_number(entry.number)?;
         put_call(told, &entry.call)?;
         put_reply(told, entry.reply)?;
     }
     if let Some(chosen) = book.least_mark() {
         told.put(b"chosen ")?;
-        told.put_number(i128::from(chosen))?;
+        told.put_number(chosen)?;
         told.put(b"\n")?;
     }
     Ok(())
@@ -104,13 +104,13 @@ fn put_call(told: &mut Text, call: &Call) -> Result<(), AllocError> {
     match call {
         Call::Claim(claim) => {
             told.put(b" claims ")?;
-            told.put_number(i128::from(claim.net))?;
+            told.put_number(claim.net)?;
             told.put(b" from ")?;
-            told.put_number(i128::from(claim.front))
+            told.put_number(claim.front)
         }
         Call::Release { net } => {
             told.put(b" releases ")?;
-            told.put_number(i128::from(*net))
+            told.put_number(*net)
         }
         Call::Mark => told.put(b" marks"),
     }
@@ -122,15 +122,15 @@ fn put_reply(told: &mut Text, reply: Reply) -> Result<(), AllocError> {
         Reply::Taken => told.put(b": taken")?,
         Reply::Full { edge, demand } => {
             told.put(b": full at ")?;
-            told.put_number(i128::from(edge.low))?;
+            told.put_number(edge.low)?;
             told.put(b" with ")?;
-            told.put_number(i128::from(demand))?;
+            told.put_number(demand)?;
         }
         Reply::Released => told.put(b": released")?,
         Reply::NotBooked => told.put(b": not booked")?,
         Reply::Marked { overflow } => {
             told.put(b": overflow ")?;
-            told.put_number(i128::try_from(overflow).unwrap_or(i128::MAX))?;
+            told.put_number(overflow)?;
         }
     }
     told.put(b"\n")
@@ -138,11 +138,11 @@ fn put_reply(told: &mut Text, reply: Reply) -> Result<(), AllocError> {
 
 fn put_hand(told: &mut Text, log: &HandLog) -> Result<(), AllocError> {
     told.put(b"hand ")?;
-    told.put_number(i128::from(log.number))?;
+    told.put_number(log.number)?;
     told.put(b":")?;
     for place in log.places.as_slice() {
         told.put(b" ")?;
-        told.put_number(i128::from(*place))?;
+        told.put_number(*place)?;
     }
     told.put(b"\n")
 }

@@ -1,10 +1,10 @@
 -- What the words ask for.
-use Rattle.std.specs.Prelude.{ℕ, ◌+◌, ◌-◌, ◌*◌, Bool, false, ◌&&◌, ◌||◌, ◌==◌, nat_le, List, [], ◌∷◌, length, fold, Option, Some, None, if◌then◌else◌, codes}
-use Rattle.std.specs.List.{list_all}
+use Rattle.std.specs.Prelude.{ℕ, Bool, false, ◌||◌, ◌==◌, List, [], ◌∷◌, Option, Some, None, if◌then◌else◌, codes}
 use Rattle.std.specs.Option.{option_map}
 use Rattle.std.specs.Str.{bytes_eq}
 use Rattle.cost_rules.specs.declared.site.Formula.TheVariants.{First}
 use Rattle.gr_base.specs.Limits.{most_rounds}
+use Rattle.gr_text.specs.Numbers.{natural_in}
 use Rattle.router_top.specs.declared.words.Options.{Options}
 
 -- what the words ask for, with the names of the texts that it needs
@@ -17,21 +17,9 @@ abbrev pub is_option : List ℕ → Bool
 is_option [] = false
 is_option (byte ∷ rest) = byte == 45
 
-abbrev pub is_digit : ℕ → Bool
-is_digit byte = nat_le 48 byte && nat_le byte 57
-
-abbrev pub with_digit : ℕ → ℕ → ℕ
-with_digit value byte = 10 * value + (byte - 48)
-
--- the value of digits
-abbrev pub value_of : List ℕ → ℕ
-value_of digits = fold with_digit 0 digits
-
--- a whole number of one to twenty digits, at most this great
-abbrev pub number_in : ℕ → List ℕ → Option ℕ
-number_in most word =
-    if nat_le 1 (length word) && nat_le (length word) 20 && list_all is_digit word && nat_le (value_of word) most
-    then Some (value_of word) else None
+-- the most digits of a number in words
+abbrev pub most_digits : ℕ
+most_digits = 20
 
 -- as how many wire edges a via edge counts in a report, where the words don't say
 abbrev pub plain_via_cost : ℕ
@@ -49,6 +37,6 @@ route_of design rounds = Route design (plain_options rounds)
 abbrev pub order_of : List (List ℕ) → Option Order
 order_of (command ∷ first ∷ second ∷ []) =
     if is_option first || is_option second then None else
-    (if bytes_eq command (codes "route") then option_map (route_of first) (number_in most_rounds second) else
+    (if bytes_eq command (codes "route") then option_map (route_of first) (natural_in most_digits most_rounds second) else
     (if bytes_eq command (codes "evaluate") then Some (Evaluate first second plain_via_cost) else None))
 order_of words = None

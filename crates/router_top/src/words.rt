@@ -1,13 +1,13 @@
 //! What the words ask for.
-ghost use Rattle.std.specs.Prelude.{◌≡◌, ◌≤◌, IfSome, map, string_bytes};
+ghost use Rattle.std.specs.Prelude.{◌≡◌, IfSome, map, string_bytes};
 ghost use Rattle.std.specs.Option.{option_map};
-ghost use Rattle.router_top.specs.Words.{is_option, number_in as number_in_word, order_of};
+ghost use Rattle.router_top.specs.Words.{is_option, order_of};
 ghost use Rattle.router_top.specs.Words.{plain_options as plain_options_of};
-ghost use Rattle.gr_base.specs.Limits.{most_rounds};
 ghost use Rattle.router_top.specs.Orders.{named, AsksInRange};
 
 use cost_rules::Formula;
 use gr_base::MOST_ROUNDS;
+use gr_text::natural_of;
 
 /// The most digits of a number in words.
 const MOST_DIGITS: usize = 20;
@@ -55,7 +55,7 @@ pub(crate) fn read_order(words: &[String]) -> Option<Order<'_>>
     match command.as_str() {
         "route" => Some(Order::Route {
             design: first,
-            options: plain_options(number_in(MOST_ROUNDS, second)?),
+            options: plain_options(natural_of(second.as_bytes(), MOST_DIGITS, MOST_ROUNDS)?),
         }),
         "evaluate" => Some(Order::Evaluate {
             design: first,
@@ -81,23 +81,4 @@ fn is_option(word: &str) -> bool
     ensures { result ≡ is_option word.now }
 {
     word.starts_with('-')
-}
-
-/// The number that a word of one to twenty digits spells, if it is at most this great.
-fn number_in(most: u32, word: &str) -> Option<u32>
-    requires { most ≤ most_rounds }
-    ensures { result ≡ number_in_word most word.now }
-{
-    let digits = word.as_bytes();
-    if digits.is_empty() || digits.len() > MOST_DIGITS {
-        return None;
-    }
-    let mut value = 0;
-    for &byte in digits {
-        if !byte.is_ascii_digit() || value > most {
-            return None;
-        }
-        value = 10 * value + u32::from(byte - b'0');
-    }
-    if value <= most { Some(value) } else { None }
 }

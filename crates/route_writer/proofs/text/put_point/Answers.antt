@@ -21,7 +21,7 @@ returns c =
     let y : SFits w64 c.args.point.y = search rules in
     seven c.args.text.now.items _ _ _ _ _ _ _ _ c.args.point.x c.args.point.y _ _
     (to_z-of_z w64 c.args.point.x x) (to_z-of_z w64 c.args.point.y y)
-    c.in_ok-extend_from_slice.ensures.items c.in_ok-put_number.ensures
-    c.in_ok-extend_from_slice-2.ensures.items c.in_ok-put_number-2.ensures
-    c.in_ok-extend_from_slice-3.ensures.items c.in_ok-put_natural.ensures
+    c.in_ok-extend_from_slice.ensures.items c.in_ok-put_number.ensures.put
+    c.in_ok-extend_from_slice-2.ensures.items c.in_ok-put_number-2.ensures.put
+    c.in_ok-extend_from_slice-3.ensures.items c.in_ok-put_number-3.ensures.put
     c.in_ok-extend_from_slice-4.ensures.items
