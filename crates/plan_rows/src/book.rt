@@ -5,6 +5,7 @@ ghost use Rattle.grid_demand.specs.Tables.{capacity_of};
 ghost use Rattle.book_state.specs.Books.{nets_of};
 ghost use Rattle.book_state.specs.Replicas.{StandsFor};
 
+use crate::designs::{ALONG_ROWS, framed};
 use book_state::{BookState, Claim, Past, PlanKind, Replica, Reply};
 use gr_base::{Cells, Design, Edge, Frame, Layer, Name, Net, RouteTree, Shape, Way};
 use grid_demand::{Capacity, Loads};
@@ -12,12 +13,9 @@ use std::alloc::{AllocError, Global};
 use std::test::Fail;
 
 /// A layer for wires along rows, with room for one net.
-const LAYER: Layer = Layer {
-    vertical: 0,
+const NARROW: Layer = Layer {
     horizontal: 2,
-    width: 1,
-    spacing: 1,
-    via: 1,
+    ..ALONG_ROWS
 };
 
 /// A row of two tiles on one layer.
@@ -27,18 +25,12 @@ fn frame() -> Frame
     ensures rows { result.shape.rows ≡ 1 }
     ensures layers { result.shape.layers ≡ 1 }
 {
-    Frame {
-        shape: Shape {
-            columns: 2,
-            rows: 1,
-            layers: 1,
-        },
-        layers: [LAYER; 16],
-        lower_x: 0,
-        lower_y: 0,
-        tile_width: 10,
-        tile_height: 10,
-    }
+    let shape = Shape {
+        columns: 2,
+        rows: 1,
+        layers: 1,
+    };
+    framed(shape, [NARROW; 16])
 }
 
 /// A net from the one tile to the other.
@@ -159,8 +151,8 @@ fn three_calls(
 ) -> Result<[Reply; 3], AllocError>
     requires nets { 2 ≤ nets_of book.old.capacity }
     requires shape { tree.now.shape ≡ book.old.capacity.shape }
-    ensures capacity { book.new.capacity ≡ book.old.capacity }
     ensures grows { OnOk result (take (length book.old.history) book.new.history ≡ book.old.history) }
+    ensures capacity { book.new.capacity ≡ book.old.capacity }
 {
     Ok([
         book.release(1, 0)?,

@@ -11,7 +11,7 @@ use grid_demand::{Capacity, Loads};
 use std::alloc::{AllocError, Global};
 
 /// A layer for wires along rows.
-const ALONG_ROWS: Layer = Layer {
+pub(crate) const ALONG_ROWS: Layer = Layer {
     vertical: 0,
     horizontal: 4,
     width: 1,
@@ -20,7 +20,7 @@ const ALONG_ROWS: Layer = Layer {
 };
 
 /// A layer for wires along columns.
-const ALONG_COLUMNS: Layer = Layer {
+pub(crate) const ALONG_COLUMNS: Layer = Layer {
     vertical: 4,
     horizontal: 0,
     width: 1,
@@ -38,10 +38,10 @@ const BOTH_WAYS: Layer = Layer {
 };
 
 /// A frame of this shape with square tiles.
-fn framed(shape: Shape, layers: [Layer; 16]) -> Frame
+pub(crate) fn framed(shape: Shape, layers: [Layer; 16]) -> Frame
     requires layers { All IsLayer layers }
-    requires horizontal { Any (λ (layer : LayerView). 0 < layer.horizontal) (take shape.layers layers) }
-    requires vertical { Any (λ (layer : LayerView). 0 < layer.vertical) (take shape.layers layers) }
+    requires horizontal { 1 < shape.columns → Any (λ (layer : LayerView). 0 < layer.horizontal) (take shape.layers layers) }
+    requires vertical { 1 < shape.rows → Any (λ (layer : LayerView). 0 < layer.vertical) (take shape.layers layers) }
     ensures frame { IsFrame result }
     ensures shape { result.shape ≡ shape }
 {
@@ -62,8 +62,22 @@ pub(crate) fn small_frame() -> Frame
     ensures rows { result.shape.rows ≡ 2 }
     ensures layers { result.shape.layers ≡ 2 }
 {
-    let mut layers = [ALONG_ROWS; 16];
-    layers[1] = ALONG_COLUMNS;
+    small_frame_of(ALONG_ROWS, ALONG_COLUMNS)
+}
+
+/// A grid of 3 by 2 tiles with these two layers.
+pub(crate) fn small_frame_of(low: Layer, high: Layer) -> Frame
+    requires low { IsLayer low }
+    requires high { IsLayer high }
+    requires along_rows { 0 < low.horizontal }
+    requires along_columns { 0 < high.vertical }
+    ensures frame { IsFrame result }
+    ensures columns { result.shape.columns ≡ 3 }
+    ensures rows { result.shape.rows ≡ 2 }
+    ensures layers { result.shape.layers ≡ 2 }
+{
+    let mut layers = [low; 16];
+    layers[1] = high;
     let shape = Shape {
         columns: 3,
         rows: 2,

@@ -1,62 +1,34 @@
 //! Capacity and loads.
 ghost use Rattle.std.specs.Prelude.{◌≡◌, IfSome, IfOk};
-ghost use Rattle.gr_base.specs.Designs.{IsFrame};
 ghost use Rattle.grid_demand.specs.LoadSums.{no_loads, added, marked};
 
-use crate::designs::narrowed;
-use gr_base::{Cells, Design, Edge, Frame, Layer, Name, Net, RouteTree, Shape, Way};
+use crate::designs::{ALONG_COLUMNS, ALONG_ROWS, narrowed, small_frame_of};
+use gr_base::{Cells, Design, Edge, Layer, Name, Net, RouteTree, Shape, Way};
 use grid_demand::{Capacity, Loads, loads_are_sums};
 use std::alloc::{AllocError, Global};
 use std::test::Fail;
 
 /// A layer for wires along rows.
 const LOW: Layer = Layer {
-    vertical: 0,
-    horizontal: 4,
     width: 2,
-    spacing: 1,
-    via: 0,
+    ..ALONG_ROWS
 };
 
 /// A layer for wires along columns, wider and further apart.
 const HIGH: Layer = Layer {
     vertical: 6,
-    horizontal: 0,
     width: 5,
     spacing: 2,
-    via: 0,
+    ..ALONG_COLUMNS
 };
 
-/// A grid of 3 by 2 tiles with a low and a high layer.
-fn frame() -> Frame
-    ensures frame { IsFrame result }
-    ensures columns { result.shape.columns ≡ 3 }
-    ensures rows { result.shape.rows ≡ 2 }
-    ensures layers { result.shape.layers ≡ 2 }
-{
-    let mut layers = [LOW; 16];
-    layers[1] = HIGH;
-    Frame {
-        shape: Shape {
-            columns: 3,
-            rows: 2,
-            layers: 2,
-        },
-        layers,
-        lower_x: 0,
-        lower_y: 0,
-        tile_width: 10,
-        tile_height: 10,
-    }
-}
-
-/// A design on that frame with one net, and two adjustments of the edge of cells 0 and 1.
+/// A design on a grid of 3 by 2 tiles with one net, and two adjustments of the edge of cells 0 and 1.
 fn design(alloc: Global) -> Option<Design>
     ensures columns { IfSome result (λ d. d.frame.shape.columns ≡ 3) }
     ensures rows { IfSome result (λ d. d.frame.shape.rows ≡ 2) }
     ensures layers { IfSome result (λ d. d.frame.shape.layers ≡ 2) }
 {
-    let Ok(mut design) = Design::new(alloc, frame()) else {
+    let Ok(mut design) = Design::new(alloc, small_frame_of(LOW, HIGH)) else {
         return None;
     };
     let Ok(name) = Name::from_bytes(alloc, b"a") else {
