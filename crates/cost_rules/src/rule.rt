@@ -21,7 +21,7 @@ impl CostRule {
     pub fn new(formula: Formula, rule: fn(Site) -> u64) -> CostRule
         requires callable { (site : Site) → IsInRange site → pre rule site }
         requires gives { (site : Site) (cost : ℕ) → IsInRange site → post rule site cost →
-        cost ≡ cost_at formula site }
+            cost ≡ cost_at formula site }
         ensures { result.formula ≡ formula }
     {
         CostRule { formula, rule }
