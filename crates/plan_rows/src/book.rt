@@ -185,19 +185,28 @@ fn are(replies: &[Reply], wanted: &[Reply]) -> bool {
     replies == wanted
 }
 
+/// The replies to the seven calls, and how the book ends.
+type Turns = ([Reply; 4], [Reply; 3], (u64, usize, Option<u64>));
+
+/// What the seven calls are answered.
+fn turns(alloc: Global) -> Result<Turns, AllocError> {
+    let (mut book, tree) = opened(alloc)?;
+    let first = four_calls(alloc, &mut book, &tree)?;
+    let then = three_calls(alloc, &mut book, &tree)?;
+    Ok((first, then, ends(&book)?))
+}
+
 #[test]
 fn two_nets_take_turns_on_one_edge(rt: HostRuntime) -> Result<(), Fail> {
-    let (mut book, tree) = opened(rt.alloc())?;
+    let (first, then, ends) = turns(rt.alloc())?;
     let full = Reply::Full {
         edge: EDGE,
         demand: 2,
     };
     let marked = Reply::Marked { overflow: 0 };
-    let first = four_calls(rt.alloc(), &mut book, &tree)?;
     assert!(rt; are(&first, &[Reply::Claimed, full, Reply::Taken, marked]));
-    let then = three_calls(rt.alloc(), &mut book, &tree)?;
     assert!(rt; are(&then, &[Reply::Released, Reply::NotBooked, Reply::Claimed]));
-    assert_eq!(rt; ends(&book)?, (7, 0, Some(4)));
+    assert_eq!(rt; ends, (7, 0, Some(4)));
     Ok(())
 }
 
@@ -401,14 +410,21 @@ fn read_both(
     ])
 }
 
+/// What is read of a book in which both nets are booked.
+fn crowded_reads(alloc: Global) -> Result<[(u64, u64, u32); 2], AllocError> {
+    let design = design(alloc)?;
+    let capacity = Capacity::of(alloc, &design)?;
+    let mut book = crowded(alloc, &design)?;
+    let mut past = Past::new(alloc);
+    let mut replica = Replica::new(alloc, &design)?;
+    read_both(&mut book, &mut past, &mut replica, &capacity)
+}
+
 #[test]
 fn a_past_of_more_than_a_block_equals_its_history(rt: HostRuntime) -> Result<(), Fail> {
-    let design = design(rt.alloc())?;
-    let capacity = Capacity::of(rt.alloc(), &design)?;
-    let mut book = crowded(rt.alloc(), &design)?;
-    let mut past = Past::new(rt.alloc());
-    let mut replica = Replica::new(rt.alloc(), &design)?;
-    let read = read_both(&mut book, &mut past, &mut replica, &capacity)?;
-    assert_eq!(rt; read, [(500, 4, 498), (1025, 4, 1023)]);
+    assert_eq!(rt;
+        crowded_reads(rt.alloc())?,
+        [(500, 4, 498), (1025, 4, 1023)]
+    );
     Ok(())
 }
