@@ -1,3 +1,0 @@
-pub mod EarlyLemmas
-pub mod GrammarLemmas
-pub mod DesignTextLemmas

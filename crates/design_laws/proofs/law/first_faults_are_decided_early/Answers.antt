@@ -1,5 +1,0 @@
-use Rattle.design_laws.proofs.DesignTextLemmas.{early-faults, design-or-fault}
-use Rattle.design_laws.proofs.law.first_faults_are_decided_early.Goals as goal
-
-pub returns : goal.returns
-returns c = record { decided = early-faults; one = design-or-fault }

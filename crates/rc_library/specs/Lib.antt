@@ -1,0 +1,11 @@
+pub mod Limits
+pub mod Faults
+pub mod LazyTables
+pub mod Libraries
+pub mod PlacesStore
+pub mod LibraryStore
+pub mod Gathered
+pub mod GatheredStore
+pub mod Keywords
+pub mod Items
+pub mod LibraryText

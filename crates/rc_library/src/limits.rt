@@ -1,0 +1,13 @@
+//! The limits of libraries, each said once.
+
+/// The greatest resistance, in ohms.
+pub const MOST_RESISTANCE: u32 = 1_000_000;
+
+/// The greatest capacitance, in femtofarads.
+pub const MOST_CAPACITANCE: u32 = 1_000_000;
+
+/// The greatest time, in femtoseconds. The least is its negative.
+pub const MOST_TIME: i64 = 1 << 50;
+
+/// The most kinds of buffers.
+pub const MOST_KINDS: u32 = 32;

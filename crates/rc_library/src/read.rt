@@ -1,0 +1,70 @@
+//! Reading a library from a shelf.
+ghost use Rattle.std.specs.Prelude.{◌≡◌, ℕ, ◌≤◌, List, [], IsTrue, IfOk, OnOk, Err};
+ghost use Rattle.gr_io.specs.Counts.{Rose};
+ghost use Rattle.gr_io.specs.declared.shelf.Slot.{Slot};
+ghost use Rattle.gr_text.specs.Reads.{Counts, OfPlace, Says};
+ghost use Rattle.gr_text.specs.Streams.{place_at};
+ghost use Rattle.rc_library.specs.Libraries.{IsLibraryOf};
+ghost use Rattle.rc_library.specs.LibraryText.{library, library_of};
+
+use crate::fault::{LibraryError, LibraryFault};
+use crate::library::Library;
+use crate::text::library;
+use gr_base::{Design, MOST_BYTES};
+use gr_io::{Shelf, Slot};
+use gr_text::{ReadError, TokenReader, Tokens};
+use std::alloc::Global;
+
+/// Reads a whole library from a shelf.
+fn read<S: Shelf>(
+    alloc: Global,
+    reader: &mut TokenReader<'_, '_, S>,
+    design: &Design,
+) -> Result<Library, ReadError<LibraryFault>>
+    ensures reads { IsTrue S.tells →
+        OfPlace (library design.now (place_at reader.old.tokens.now (S.left reader.old.shelf.now)))
+        (λ library. library) result }
+    ensures of { IfOk result (IsLibraryOf design.now) }
+    ensures ended { OnOk result (IsTrue S.tells → S.left reader.new.shelf.now reader.new.tokens.now.slot ≡ []) }
+    ensures faults { Counts result (S.faults reader.old.shelf.now) (S.faults reader.new.shelf.now) }
+    ensures same_reference { reader.new.shelf.ghost_name ≡ reader.old.shelf.ghost_name }
+    ensures slot { reader.new.tokens.now.slot ≡ reader.old.tokens.now.slot }
+    ensures misses { S.misses reader.new.shelf.now ≡ S.misses reader.old.shelf.now }
+    ensures held { S.held reader.new.shelf.now ≡ S.held reader.old.shelf.now }
+{
+    library(alloc, reader, design)
+}
+
+/// Reads the library that was reached on the shelf, from its next byte to its end: a text of version
+/// 1 to 3, for the layers, tiles, nets and pins of the design.
+///
+/// # Errors
+/// `Fault` with the first fault of the text, exactly where it has one and no read failed; `Failed`
+/// where a read failed; `NoMemory`.
+pub fn read_library<S: Shelf>(
+    alloc: Global,
+    shelf: &mut S,
+    design: &Design,
+) -> Result<Library, LibraryError>
+    requires reached { IsTrue (S.reached shelf.old Slot.Library) }
+
+    // Where the shelf tells the bytes, the answer is the library that they say, or their first fault.
+    ensures says { IsTrue S.tells → Says (library_of design.now (S.left shelf.old Slot.Library)) result }
+    ensures whole_text { OnOk result (IsTrue S.tells → S.left shelf.new Slot.Library ≡ []) }
+
+    // Whatever the shelf tells, a library is one for the design.
+    ensures of { IfOk result (IsLibraryOf design.now) }
+
+    ensures failed { result ≡ Err ReadError.Failed → Rose (S.faults shelf.old) (S.faults shelf.new) }
+    ensures quiet { (result ≡ Err ReadError.Failed → ⊥) → S.faults shelf.new ≡ S.faults shelf.old }
+    ensures faults_kept { S.faults shelf.old ≤ S.faults shelf.new }
+    ensures misses { S.misses shelf.new ≡ S.misses shelf.old }
+    ensures held { (slot : Slot) → (name : List ℕ) → S.held shelf.new slot name ≡ S.held shelf.old slot name }
+{
+    let mut tokens = Tokens::new(alloc, Slot::Library, MOST_BYTES)?;
+    let mut reader = TokenReader {
+        tokens: &mut tokens,
+        shelf,
+    };
+    read(alloc, &mut reader, design)
+}

@@ -1,0 +1,3 @@
+pub mod EarlyFaults
+pub mod EarlyLibraryFaults
+pub mod LibraryItems
