@@ -1,1 +1,3 @@
 pub mod NetLemmas
+pub mod PlacedLemmas
+pub mod BufferLemmas

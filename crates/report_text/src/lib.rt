@@ -1,7 +1,9 @@
 //! The texts that tell a verdict on routes.
 #![tactic(auto)]
 
+mod buffer_text;
 mod lines;
 mod texts;
 
+pub use buffer_text::buffers;
 pub use texts::{report, unjoined};

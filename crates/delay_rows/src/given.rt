@@ -1,0 +1,80 @@
+//! The texts of a row, and what they say.
+ghost use Rattle.std.specs.Prelude.{◌≡◌, length, IsTrue, IfOk};
+ghost use Rattle.gr_base.specs.Designs.{is_routed};
+ghost use Rattle.gr_io.specs.Texts.{is_reached};
+ghost use Rattle.rc_library.specs.Libraries.{IsLibraryOf};
+ghost use Rattle.route_evaluator.specs.NetTrees.{IsNetRoute};
+
+use anyhow::bail;
+use gr_base::{Design, RouteTree};
+use gr_io::{MemoryShelf, Shelf, Slot};
+use ispd_reader::read_design;
+use rc_library::{Library, read_library};
+use route_evaluator::tree_of;
+use route_reader::read_solution;
+use std::alloc::Global;
+
+/// The texts of a design, of its routes and of a library.
+#[derive(Debug, Drop)]
+pub(crate) struct Given {
+    pub design: String,
+    pub route: String,
+    pub library: String,
+}
+
+impl Given {
+    /// Empty texts.
+    pub(crate) fn none(alloc: Global) -> Given {
+        Given {
+            design: String::new(alloc),
+            route: String::new(alloc),
+            library: String::new(alloc),
+        }
+    }
+
+    /// The design, which has one net, and that routed.
+    pub(crate) fn design(&self, alloc: Global) -> anyhow::Result<Design>
+        ensures one { IfOk result (λ design. length design.nets ≡ 1) }
+        ensures routed { IfOk result (λ design. IsTrue (is_routed design 0)) }
+    {
+        let mut shelf = reached(alloc, Slot::Design, &self.design)?;
+        let design = read_design(alloc, &mut shelf)?;
+        if design.nets() != 1 {
+            bail!("the design has not one net");
+        }
+        if !design.routed(0) {
+            bail!("the net is not routed");
+        }
+        Ok(design)
+    }
+
+    /// The library, read for the design.
+    pub(crate) fn library(&self, alloc: Global, design: &Design) -> anyhow::Result<Library>
+        ensures { IfOk result (IsLibraryOf design.now) }
+    {
+        let mut shelf = reached(alloc, Slot::Library, &self.library)?;
+        let library = read_library(alloc, &mut shelf, design)?;
+        Ok(library)
+    }
+
+    /// The tree of the net's edges.
+    pub(crate) fn tree(&self, alloc: Global, design: &Design) -> anyhow::Result<RouteTree>
+        requires { IsTrue (is_routed design.now 0) }
+        ensures { IfOk result (IsNetRoute design.now 0) }
+    {
+        let mut shelf = reached(alloc, Slot::Solution, &self.route)?;
+        let solution = read_solution(alloc, &mut shelf, design)?;
+        let tree = tree_of(alloc, design, &solution, 0)?;
+        Ok(tree)
+    }
+}
+
+/// A shelf on which this text was reached.
+fn reached(alloc: Global, slot: Slot, text: &str) -> anyhow::Result<MemoryShelf>
+    ensures { IfOk result (λ shelf. IsTrue (is_reached shelf slot)) }
+{
+    let mut shelf = MemoryShelf::new(alloc, Vec::new(alloc));
+    shelf.hold(alloc, "text", text.as_bytes())?;
+    shelf.reach(alloc, slot, "text")?;
+    Ok(shelf)
+}

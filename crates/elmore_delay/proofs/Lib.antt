@@ -1,0 +1,11 @@
+pub mod Ranges
+pub mod Paths
+pub mod Loads
+pub mod RequiredFromLeaves
+pub mod LibraryRanges
+pub mod SinkLemmas
+pub mod LoadingLemmas
+pub mod RcLemmas
+pub mod RangeLemmas
+pub mod DelayLemmas
+pub mod TimeLemmas

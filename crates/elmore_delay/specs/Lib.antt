@@ -1,0 +1,9 @@
+pub mod RcTrees
+pub mod FromLeaves
+pub mod Ranges
+pub mod Wishes
+pub mod Placements
+pub mod PlanLists
+pub mod Loadings
+pub mod NodeLoads
+pub mod LoadingStore

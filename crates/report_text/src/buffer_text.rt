@@ -1,0 +1,199 @@
+//! The text of buffers.
+ghost use Rattle.std.specs.Prelude.{◌≡◌, ◌<◌, ◌++◌, All, length, Some, IfOk, OnOk};
+ghost use Rattle.std.specs.List.{flat_map};
+ghost use Rattle.gr_base.specs.Grid.{cells_of};
+ghost use Rattle.gr_base.specs.Sums.{sum_routed};
+ghost use Rattle.gr_base.specs.Trees.{IsTree};
+ghost use Rattle.elmore_delay.specs.PlanLists.{plan_at};
+ghost use Rattle.solution_text.specs.WrittenText.{point_text};
+ghost use Rattle.report_text.specs.BufferTexts.{kind_line, plan_line, net_buffers, buffers_in, buffers_text, ArePlanned};
+ghost use Rattle.report_text.specs.Placed.{buffered_nodes, rising_buffers};
+
+use crate::lines::put_number_line;
+use elmore_delay::{Placement, Plan, Plans};
+use gr_base::{Design, Net, Point, RouteTree, Routes};
+use gr_text::Text;
+use rc_library::Library;
+use std::alloc::{AllocError, Global};
+
+/// A buffer: the number of its cell, and the number of its kind.
+#[derive(Clone, Copy)]
+pub(crate) struct Buffered {
+    pub cell: u32,
+    pub kind: u32,
+}
+
+/// The buffers of the routed nets: a line `buffers` with the number of all buffers, and for each
+/// routed net, in the design's order, a line with its name, its id, the required time in half
+/// femtoseconds and the number of its buffers, and a line for each of these, rising by cell numbers,
+/// with the centre of the cell and the name of the kind. The only error is want of memory.
+pub fn buffers(
+    alloc: Global,
+    design: &Design,
+    library: &Library,
+    routes: &Routes,
+    plans: &Plans,
+) -> Result<Text, AllocError>
+    requires plans { ArePlanned design.now library.now routes.now plans.now }
+    ensures { IfOk result (λ text. text ≡ buffers_text design.now library.now routes.now plans.now) }
+{
+    let mut text = Text::new(alloc);
+    let mut found = Vec::new(alloc);
+    put_number_line(&mut text, b"buffers", total(design, plans))?;
+    for net in 0..design.nets() {
+        put_net(&mut text, &mut found, design, library, routes, plans, net)?;
+    }
+    Ok(text)
+}
+
+/// How many buffers the routed nets have together.
+fn total(design: &Design, plans: &Plans) -> u128
+    ensures { result ≡ sum_routed design.now (λ net. buffers_in (plan_at plans.now net)) }
+{
+    let mut sum = 0;
+    for net in 0..design.nets() {
+        if !design.routed(net) {
+            continue;
+        }
+        sum += u128::from(count(plans, net));
+    }
+    sum
+}
+
+/// How many buffers the plan of a net has, or 0 where there is none.
+fn count(plans: &Plans, net: u32) -> u64
+    ensures { result ≡ buffers_in (plan_at plans.now net) }
+{
+    match plans.get(net) {
+        None => 0,
+        Some(plan) => plan.placement.buffers(),
+    }
+}
+
+/// Puts the lines of a net at the end of the text, if the net is routed. `found` is room that is used
+/// anew.
+fn put_net(
+    text: &mut Text,
+    found: &mut Vec<Buffered>,
+    design: &Design,
+    library: &Library,
+    routes: &Routes,
+    plans: &Plans,
+    net: u32,
+) -> Result<(), AllocError>
+    requires plans { ArePlanned design.now library.now routes.now plans.now }
+    requires net { net < length design.now.nets }
+    ensures { OnOk result
+        (text.new ≡ text.old ++ net_buffers design.now library.now routes.now plans.now net) }
+{
+    if !design.routed(net) {
+        return Ok(());
+    }
+    let tree = routes.get(net).unwrap();
+    let plan = plans.get(net).unwrap();
+    put_plan_line(text, design.net(net), plan)?;
+    gather(found, tree, &plan.placement)?;
+    put_buffers(text, design, library, found)?;
+    Ok(())
+}
+
+/// Puts the line of a net with its plan at the end of the text.
+fn put_plan_line(text: &mut Text, net: &Net, plan: &Plan) -> Result<(), AllocError>
+    ensures { OnOk result (text.new ≡ text.old ++ plan_line net.now plan.now) }
+{
+    text.put(b"net ")?;
+    text.put(net.name.bytes())?;
+    text.put(b" ")?;
+    text.put_number(net.id)?;
+    text.put(b" required ")?;
+    text.put_number(plan.required)?;
+    text.put(b" buffers ")?;
+    text.put_number(plan.placement.buffers())?;
+    text.put(b"\n")
+}
+
+/// Replaces the list by the buffers of a tree, rising by their cells.
+fn gather(
+    found: &mut Vec<Buffered>,
+    tree: &RouteTree,
+    placement: &Placement,
+) -> Result<(), AllocError>
+    requires { length placement.now ≡ length tree.now.nodes }
+    ensures { OnOk result (found.new.items ≡ rising_buffers tree.now placement.now) }
+{
+    gather_by_nodes(found, tree, placement)?;
+    found.sort_unstable_by_key(|buffer| buffer.cell);
+    Ok(())
+}
+
+/// Replaces the list by the buffers of a tree, in the order of its nodes.
+fn gather_by_nodes(
+    found: &mut Vec<Buffered>,
+    tree: &RouteTree,
+    placement: &Placement,
+) -> Result<(), AllocError>
+    requires { length placement.now ≡ length tree.now.nodes }
+    ensures found { OnOk result (found.new.items ≡ buffered_nodes tree.now placement.now) }
+    ensures tree { IsTree tree.now }
+{
+    found.clear();
+    for node in 0..tree.len() {
+        let Some(kind) = placement.at(node) else {
+            continue;
+        };
+        found.push(Buffered {
+            cell: tree.cell(node),
+            kind,
+        })?;
+    }
+    Ok(())
+}
+
+/// Puts the lines of buffers at the end of the text.
+fn put_buffers(
+    text: &mut Text,
+    design: &Design,
+    library: &Library,
+    buffers: &[Buffered],
+) -> Result<(), AllocError>
+    requires cells { All (λ buffer. buffer.cell < cells_of design.now.frame.shape) buffers.now }
+    requires kinds { All (λ buffer. buffer.kind < length library.now.kinds) buffers.now }
+    ensures { OnOk result (text.new ≡ text.old ++
+        flat_map (λ buffer. kind_line design.now.frame library.now buffer.cell (Some buffer.kind)) buffers.now) }
+{
+    for buffer in buffers {
+        put_buffer(text, design, library, *buffer)?;
+    }
+    Ok(())
+}
+
+/// Puts the line of a buffer at the end of the text.
+fn put_buffer(
+    text: &mut Text,
+    design: &Design,
+    library: &Library,
+    buffer: Buffered,
+) -> Result<(), AllocError>
+    requires cell { buffer.cell < cells_of design.now.frame.shape }
+    requires kind { buffer.kind < length library.now.kinds }
+    ensures { OnOk result
+        (text.new ≡ text.old ++ kind_line design.now.frame library.now buffer.cell (Some buffer.kind)) }
+{
+    put_point(text, design.centre(buffer.cell))?;
+    text.put(b" ")?;
+    text.put(library.name(buffer.kind).bytes())?;
+    text.put(b"\n")
+}
+
+/// Puts a point at the end of the text, as `(x,y,layer)`.
+fn put_point(text: &mut Text, point: Point) -> Result<(), AllocError>
+    ensures { OnOk result (text.new ≡ text.old ++ point_text point) }
+{
+    text.put(b"(")?;
+    text.put_number(point.x)?;
+    text.put(b",")?;
+    text.put_number(point.y)?;
+    text.put(b",")?;
+    text.put_number(point.layer)?;
+    text.put(b")")
+}
