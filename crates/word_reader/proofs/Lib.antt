@@ -1,0 +1,6 @@
+pub mod NumberLemmas
+pub mod FormLemmas
+pub mod SortingLemmas
+pub mod MeaningLemmas
+pub mod RuleLemmas
+pub mod OrderLemmas

@@ -1,0 +1,6 @@
+pub mod Numbers
+pub mod Forms
+pub mod Meanings
+pub mod Sorting
+pub mod Orders
+pub mod Kept

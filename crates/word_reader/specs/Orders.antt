@@ -1,0 +1,95 @@
+-- The order that words give.
+use Rattle.std.specs.Prelude.{◌≡◌, ℕ, ◌≤◌, Bool, ◌&&◌, ◌==◌, nat_le, List, [], ◌∷◌, length, get_or, Option, Some, None, Result, Ok, Err, if◌then◌else◌}
+use Rattle.std.specs.Option.{option_map, option_and_then}
+use Rattle.std.specs.List.{list_all}
+use Rattle.cost_rules.specs.declared.site.Formula.TheVariants.{First}
+use Rattle.gr_base.specs.Limits.{most_rounds}
+use Rattle.gr_text.specs.Numbers.{natural_in}
+use Rattle.word_reader.specs.Forms.{Form, form_of, has, every_option}
+use Rattle.word_reader.specs.Numbers.{number_of, most_digits, most_via_cost, most_workers, via_costs, worker_numbers}
+use Rattle.word_reader.specs.Sorting.{Sorted, sorted}
+use Rattle.word_reader.specs.declared.error.WordError.{WordError}
+use Rattle.word_reader.specs.declared.error.WordError.TheVariants.{Usage}
+use Rattle.word_reader.specs.declared.form.Command.{Command}
+use Rattle.word_reader.specs.declared.form.Command.TheVariants.{Route as Routes, Evaluate as Evaluates}
+use Rattle.word_reader.specs.declared.form.OptionKind.{OptionKind}
+use Rattle.word_reader.specs.declared.form.OptionKind.TheVariants.{Workers, ViaCost}
+use Rattle.word_reader.specs.declared.order.Options.{Options}
+use Rattle.word_reader.specs.declared.order.Order.{Order as Given}
+use Rattle.word_reader.specs.declared.sorted.Next.TheVariants.{Any}
+
+-- what words ask for, with the names of the texts that it needs
+pub data Order : Type 0 where
+  Route : (design library : List ℕ) → Options → Order
+  Evaluate : (design solution : List ℕ) → (via_cost : ℕ) → Order
+
+infixl 10 ◌>>=◌
+abbrev ◌>>=◌ : {A B : Type 0} → Option A → (A → Option B) → Option B
+o >>= f = option_and_then f o
+
+-- a positional, counted from 0
+abbrev pub positional : Sorted → ℕ → List ℕ
+positional sorted number = get_or sorted.positionals number []
+
+-- how often an option may stand
+abbrev pub most_times : Form → OptionKind → ℕ
+most_times form option = if has form option then 1 else 0
+
+abbrev pub suits : Form → Sorted → OptionKind → Bool
+suits form sorted option = nat_le (length (sorted.values option)) (most_times form option)
+
+-- each option that is given is one of the command's, and stands once
+abbrev pub has_all : Form → Sorted → Bool
+has_all form sorted = list_all (suits form sorted) every_option
+
+-- the words are as many positionals as the command has, and options of its own
+abbrev pub fits : Form → Sorted → Bool
+fits form sorted = (length sorted.positionals == form.positionals) && has_all form sorted
+
+-- how a design is routed
+unfoldable pub options_of : Sorted → Option Options
+options_of sorted = do
+  rounds ← natural_in most_digits most_rounds (positional sorted 2)
+  workers ← number_of worker_numbers (sorted.values Workers)
+  via_cost ← number_of via_costs (sorted.values ViaCost)
+  Some (record { rounds = rounds; workers = workers; via_cost = via_cost; formula = First })
+
+-- what each command asks for: `route DESIGN LIBRARY ROUNDS` and `evaluate DESIGN SOLUTION`
+abbrev pub order_as : Command → Sorted → Option Order
+order_as Routes sorted = option_map (Route (positional sorted 0) (positional sorted 1)) (options_of sorted)
+order_as Evaluates sorted =
+    option_map (Evaluate (positional sorted 0) (positional sorted 1)) (number_of via_costs (sorted.values ViaCost))
+
+-- the order of a command by the words behind its own
+abbrev pub order_by : Form → Sorted → Option Order
+order_by form sorted = if fits form sorted then order_as form.command sorted else None
+
+-- the order that words give: the first names a command, and the others are its own
+unfoldable pub order_of : List (List ℕ) → Option Order
+order_of [] = None
+order_of (first ∷ rest) = do
+  form ← form_of first
+  words ← sorted Any rest
+  order_by form words
+
+-- the order that was read
+abbrev pub named : Given → Order
+named (Given.Route design library options) = Route design.now library.now options
+named (Given.Evaluate design solution via_cost) = Evaluate design.now solution.now via_cost
+
+-- the order of the words, or that they give none
+abbrev pub Answers : Option Order → Result Given WordError → Type 0
+Answers order (Ok given) = order ≡ Some (named given)
+Answers order (Err Usage) = order ≡ None
+
+-- the options are in range
+pub record AreInRange (options : Options) : Type 0 where
+  pub rounds : options.rounds ≤ most_rounds
+  pub worker : 1 ≤ options.workers
+  pub workers : options.workers ≤ most_workers
+  pub via_cost : options.via_cost ≤ most_via_cost
+
+-- and so are those of an order
+abbrev pub AsksInRange : Given → Type 0
+AsksInRange (Given.Route design library options) = AreInRange options
+AsksInRange (Given.Evaluate design solution via_cost) = via_cost ≤ most_via_cost

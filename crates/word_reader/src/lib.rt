@@ -1,0 +1,15 @@
+//! What the words of a command line ask for.
+#![tactic(auto)]
+
+mod error;
+mod form;
+mod meaning;
+mod numbers;
+mod order;
+mod reader;
+mod sorted;
+
+pub use error::WordError;
+pub use numbers::{MOST_VIA_COST, MOST_WORKERS};
+pub use order::{Options, Order};
+pub use reader::read_words;
