@@ -9,12 +9,14 @@ use Rattle.router_top.specs.Commands.{HandedBack, Command, checked}
 use Rattle.router_top.specs.Judging.{judging}
 use Rattle.router_top.specs.Orders.{command_of}
 use Rattle.router_top.specs.Routing.{routing}
-use Rattle.router_top.specs.Said.{solution_said}
-use Rattle.router_top.specs.Words.{Order, Route, Evaluate}
+use Rattle.rc_library.specs.Libraries.{LibraryView}
+use Rattle.rc_library.specs.declared.fault.LibraryFault.{LibraryFault as LibraryFaultKind}
+use Rattle.router_top.specs.Said.{library_said, solution_said}
+use Rattle.word_reader.specs.Orders.{Order, Route, Evaluate}
 use Rattle.router_top.specs.declared.stop.Outcome.{Outcome}
 use Rattle.router_top.specs.declared.stop.Outcome.TheVariants.{Whole, Open}
-use Rattle.router_top.specs.declared.stop.Stop.TheVariants.{DesignFault, SolutionFault}
-use Rattle.router_top.specs.declared.words.Options.{Options}
+use Rattle.router_top.specs.declared.stop.Stop.TheVariants.{DesignFault, LibraryFault, SolutionFault}
+use Rattle.word_reader.specs.declared.order.Options.{Options}
 use Rattle.router_top.proofs.JudgingLemmas.{judged-open, judged-whole}
 
 pub record IsLawful (command : Command) : Type 0 where
@@ -33,15 +35,17 @@ pub record IsLawful (command : Command) : Type 0 where
 routes-whole : Open ≡ Whole → ⊥
 routes-whole is = cc
 
-routing-accepts : (name : List ℕ) (options : Options) (shelf : Reading) (kept : Option HandedBack) (outcome : Outcome) (text report : List ℕ) →
-    (routing name options).says shelf kept outcome text report → IsTrue shelf.tells → (routing name options).files shelf ≡ Some (Ok tt)
-routing-accepts name options shelf None outcome text report says tells = absurd says.1
-routing-accepts name options shelf (Some k) outcome text report says tells =
-    ap (λ (o : Option (Result DesignView (DesignFaultKind × ℕ))). checked o DesignFault (λ d. Some (Ok tt))) (says.1.said tells)
+routing-accepts : (design library : List ℕ) (options : Options) (shelf : Reading) (kept : Option HandedBack) (outcome : Outcome) (text report : List ℕ) →
+    (routing design library options).says shelf kept outcome text report → IsTrue shelf.tells →
+    (routing design library options).files shelf ≡ Some (Ok tt)
+routing-accepts design library options shelf None outcome text report says tells = absurd says.1
+routing-accepts design library options shelf (Some k) outcome text report says tells =
+    ap (λ (o : Option (Result DesignView (DesignFaultKind × ℕ))). checked o DesignFault (λ d. checked (library_said shelf.held library d) LibraryFault (λ lib. Some (Ok tt)))) (says.1.said tells)
+    ∙ ap (λ (o : Option (Result LibraryView (LibraryFaultKind × ℕ))). checked o LibraryFault (λ lib. Some (Ok tt))) (says.1.read tells)
 
-routing-lawful : (name : List ℕ) (options : Options) → IsLawful (routing name options)
-routing-lawful name options = record {
-  accepts = routing-accepts name options;
+routing-lawful : (design library : List ℕ) (options : Options) → IsLawful (routing design library options)
+routing-lawful design library options = record {
+  accepts = routing-accepts design library options;
   opens = λ shelf kept text report says tells. absurd (routes-whole says.0);
   closes = λ shelf kept text report says tells left. left;
   unkept = λ shelf kept text report says. absurd (routes-whole says.0);
@@ -58,5 +62,5 @@ judging-lawful design solution via_cost = record {
 }
 
 pub lawful : (order : Order) → IsLawful (command_of order)
-lawful (Route design options) = routing-lawful design options
+lawful (Route design library options) = routing-lawful design library options
 lawful (Evaluate design solution via_cost) = judging-lawful design solution via_cost

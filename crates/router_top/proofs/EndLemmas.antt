@@ -3,19 +3,17 @@ use Rattle.std.proofs.Common.{◌≡◌, ℕ, inl, inr, Bool, true, false, ◌==
 use Rattle.gr_io.specs.Counts.{Rose}
 use Rattle.gr_io.specs.Devices.{Device, Reading, IsUntouched, Gains, GainsPart, GainsLine}
 use Rattle.gr_io.specs.Parts.{AppendsPart}
-use Rattle.ispd_reader.specs.declared.fault.DesignFault.{DesignFault as DesignFaultKind}
-use Rattle.solution_text.specs.declared.fault.SolutionFault.{SolutionFault as SolutionFaultKind}
 use Rattle.router_top.specs.Commands.{HandedBack, Command}
 use Rattle.router_top.specs.Ends.{LeavesFor, upto, afterwards, Ends}
 use Rattle.router_top.specs.Leaving.{IsDone, IsFaulty, FailsToRead, FailsToWrite, WantsMemory, IsSilent, Leaves}
 use Rattle.router_top.specs.Orders.{command_of}
-use Rattle.router_top.specs.Statuses.{is_status, ReportsDesignFault, ReportsSolutionFault, IsAnswer, IsByStatus}
+use Rattle.router_top.specs.Statuses.{is_status, ReportsFault, IsAnswer, IsByStatus}
 use Rattle.router_top.specs.Stops.{status_of, told_line, IsToldOrNot, Finishes}
-use Rattle.router_top.specs.Words.{Order}
+use Rattle.word_reader.specs.Orders.{Order}
 use Rattle.router_top.specs.declared.stop.Outcome.{Outcome}
 use Rattle.router_top.specs.declared.stop.Outcome.TheVariants.{Whole, Open}
 use Rattle.router_top.specs.declared.stop.Stop.{Stop}
-use Rattle.router_top.specs.declared.stop.Stop.TheVariants.{Usage, DesignFault, SolutionFault, ReadFailed, WriteFailed, NoMemory}
+use Rattle.router_top.specs.declared.stop.Stop.TheVariants.{Usage, DesignFault, LibraryFault, SolutionFault, ReadFailed, WriteFailed, NoMemory}
 use Rattle.router_top.proofs.CommandLaws.{IsLawful, lawful}
 
 -- err up to the moment at which it is told, and from there on
@@ -49,11 +47,12 @@ abbrev SaysAt : Command → Reading → (out err : Device) → Option HandedBack
 SaysAt command shelf out err kept status =
     pick (status == 0) (IsDone command shelf out err kept Whole)
     (pick (status == 1) (IsDone command shelf out err kept Open)
-    (pick (status == 3) (ReportsDesignFault command shelf out err)
-    (pick (status == 5) (ReportsSolutionFault command shelf out err)
+    (pick (status == 3) (ReportsFault DesignFault command shelf out err)
+    (pick (status == 4) (ReportsFault LibraryFault command shelf out err)
+    (pick (status == 5) (ReportsFault SolutionFault command shelf out err)
     (pick (status == 6) (FailsToRead command shelf out × GainsLine err (told_line ReadFailed))
     (pick (status == 7) (FailsToWrite command shelf out err kept)
-    (pick (status == 8) (WantsMemory command shelf out kept × GainsLine err (told_line NoMemory)) ⊥))))))
+    (pick (status == 8) (WantsMemory command shelf out kept × GainsLine err (told_line NoMemory)) ⊥)))))))
 
 -- a status, what it says, and how it answers what the files say
 record IsShown (command : Command) (shelf : Reading) (out err : Device) (kept : Option HandedBack) (status : ℕ) : Type 0 where
@@ -99,22 +98,16 @@ module _ (command : Command) (law : IsLawful command) (shelf : Reading) (out err
       subst (λ (r : Result (Unit {0}) Stop). IsAnswer command r out err (status_of stop))
       (one_answer (command.files shelf) (Err stop) said (faulty.said tells) is) (inl refl)
 
-  shown-design : (fault : DesignFaultKind) (token : ℕ) → IsFaulty command shelf out (DesignFault fault token) →
-      GainsLine err (told_line (DesignFault fault token)) → kept ≡ None → IsShown command shelf out err kept 3
-  shown-design fault token faulty line none = record {
-    known = refl;
-    says = record { fault = fault; token = token; faulty = faulty; line = line };
+  -- a fault of a text that was told is one that its status says
+  shown-text : {F : Type 0} (stop : F → ℕ → Stop) (fault : F) (token : ℕ) → IsTrue (is_status (status_of (stop fault token))) →
+      (ReportsFault stop command shelf out err → SaysAt command shelf out err kept (status_of (stop fault token))) →
+      IsFaulty command shelf out (stop fault token) → GainsLine err (told_line (stop fault token)) → kept ≡ None →
+      IsShown command shelf out err kept (status_of (stop fault token))
+  shown-text stop fault token known at faulty line none = record {
+    known = known;
+    says = at (record { fault = fault; token = token; faulty = faulty; line = line });
     unkept = λ no no_write no_memory. none;
-    answers = λ tells quiet. fault-answers (DesignFault fault token) faulty tells;
-  }
-
-  shown-solution : (fault : SolutionFaultKind) (token : ℕ) → IsFaulty command shelf out (SolutionFault fault token) →
-      GainsLine err (told_line (SolutionFault fault token)) → kept ≡ None → IsShown command shelf out err kept 5
-  shown-solution fault token faulty line none = record {
-    known = refl;
-    says = record { fault = fault; token = token; faulty = faulty; line = line };
-    unkept = λ no no_write no_memory. none;
-    answers = λ tells quiet. fault-answers (SolutionFault fault token) faulty tells;
+    answers = λ tells quiet. fault-answers (stop fault token) faulty tells;
   }
 
   -- a cause of a failed read that is no fault of the shelf is a name that isn't held
@@ -204,10 +197,13 @@ module _ (command : Command) (law : IsLawful command) (shelf : Reading) (out err
   shown (Err Usage) faults written status leaves told = absurd leaves
   shown (Err (DesignFault fault token)) faults written status leaves told =
       shown-fault (DesignFault fault token) faults written told.0 status leaves.0 leaves.1 told.1 told.2
-      (λ line. shown-design fault token leaves.0 line leaves.1.1)
+      (λ line. shown-text DesignFault fault token refl (λ says. says) leaves.0 line leaves.1.1)
+  shown (Err (LibraryFault fault token)) faults written status leaves told =
+      shown-fault (LibraryFault fault token) faults written told.0 status leaves.0 leaves.1 told.1 told.2
+      (λ line. shown-text LibraryFault fault token refl (λ says. says) leaves.0 line leaves.1.1)
   shown (Err (SolutionFault fault token)) faults written status leaves told =
       shown-fault (SolutionFault fault token) faults written told.0 status leaves.0 leaves.1 told.1 told.2
-      (λ line. shown-solution fault token leaves.0 line leaves.1.1)
+      (λ line. shown-text SolutionFault fault token refl (λ says. says) leaves.0 line leaves.1.1)
   shown (Err ReadFailed) faults written status leaves told =
       shown-told ReadFailed told.0 status told.1.0 told.2
       (shown-read leaves.0 (line-then err faults written (told_line ReadFailed) leaves.1.0 told.1.1) leaves.1.1)
@@ -242,6 +238,7 @@ by-shown order shelf out err kept status is_shown = record {
   whole = λ is. subst says is is_shown.says;
   unjoined = λ is. subst says is is_shown.says;
   design_fault = λ is. subst says is is_shown.says;
+  library_fault = λ is. subst says is is_shown.says;
   solution_fault = λ is. subst says is is_shown.says;
   read_failed = λ is. subst says is is_shown.says;
   write_failed = λ is. subst says is is_shown.says;
@@ -273,6 +270,7 @@ by-usage shelf out err kept untouched line none = record {
   whole = λ status. tt;
   unjoined = λ status. tt;
   design_fault = λ status. tt;
+  library_fault = λ status. tt;
   solution_fault = λ status. tt;
   read_failed = λ status. tt;
   write_failed = λ status. tt;

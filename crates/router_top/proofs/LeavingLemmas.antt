@@ -6,11 +6,11 @@ use Rattle.router_top.specs.Commands.{HandedBack, Command, rounds_back}
 use Rattle.router_top.specs.Ends.{LeavesFor}
 use Rattle.router_top.specs.Leaving.{IsDone, FailsToWrite, Leaves, LeavesOut, SomeIsCut, IsWritten}
 use Rattle.router_top.specs.Orders.{command_of}
-use Rattle.router_top.specs.Words.{Order}
+use Rattle.word_reader.specs.Orders.{Order}
 use Rattle.router_top.specs.declared.stop.Outcome.{Outcome}
 use Rattle.router_top.specs.declared.stop.Outcome.TheVariants.{Whole}
 use Rattle.router_top.specs.declared.stop.Stop.{Stop}
-use Rattle.router_top.specs.declared.stop.Stop.TheVariants.{Usage, DesignFault, SolutionFault, ReadFailed, WriteFailed, NoMemory}
+use Rattle.router_top.specs.declared.stop.Stop.TheVariants.{Usage, DesignFault, LibraryFault, SolutionFault, ReadFailed, WriteFailed, NoMemory}
 
 -- an untouched sink gained the empty text
 pub gains-nothing : (device : Device) → IsUntouched device → Gains device []
@@ -34,6 +34,7 @@ written command shelf out err kept text report (Ok outcome) reports reads says i
     (record { reads = reads; text = text; report = report; out_gains = is.1; err_gains = is.2; says = says })
 written command shelf out err kept text report (Err Usage) reports reads says is = absurd is
 written command shelf out err kept text report (Err (DesignFault fault token)) reports reads says is = absurd is
+written command shelf out err kept text report (Err (LibraryFault fault token)) reports reads says is = absurd is
 written command shelf out err kept text report (Err (SolutionFault fault token)) reports reads says is = absurd is
 written command shelf out err kept text report (Err ReadFailed) reports reads says is = absurd is
 written command shelf out err kept text report (Err WriteFailed) reports reads says is = cut is

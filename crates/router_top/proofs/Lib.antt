@@ -1,4 +1,5 @@
-pub mod WordLemmas
+pub mod StopLemmas
+pub mod BufferingLemmas
 pub mod DemandLemmas
 pub mod RouteLemmas
 pub mod RoutingLemmas

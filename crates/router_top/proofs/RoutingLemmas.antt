@@ -21,8 +21,9 @@ use Rattle.solution_text.specs.WrittenText.{written_text}
 use Rattle.solution_text.proofs.LawLemmas.{written-text-covers}
 use Rattle.gr_io.specs.Devices.{Reading}
 use Rattle.router_top.specs.Routing.{booked_edges, AllJoined, AreTrees, IsRoutedDesign, IsRouting}
-use Rattle.router_top.specs.Said.{design_said}
-use Rattle.router_top.specs.declared.words.Options.{Options}
+use Rattle.rc_library.specs.Libraries.{LibraryView}
+use Rattle.router_top.specs.Said.{design_said, library_said}
+use Rattle.word_reader.specs.declared.order.Options.{Options}
 use Rattle.router_top.specs.declared.routing.RoutedDesign.{RoutedDesign}
 use Rattle.router_top.proofs.DemandLemmas.{booked-demand}
 
@@ -71,11 +72,15 @@ joined-same : (d : DesignView) (sets others : ℕ → Edges) → ((net : ℕ) (e
 joined-same d sets others same joined = subst (λ (s : ℕ → Edges). AllJoined d s) (fun_ext (λ net. fun_ext (λ e. same net e))) joined
 
 -- routes of a design that was read, and their report, are a routing
-pub is-routing : (shelf : Reading) (name : List ℕ) (d : DesignView) (options : Options) (r : RoutedDesign) → (IsTrue shelf.tells → design_said shelf.held name ≡ Some (Ok d)) →
-    IsDesign d → IsRoutedDesign d options r → IsRouting shelf name options r.rounds.book r.rounds.hands.items (written_text d (route_edges r.routes)) r.report
-is-routing shelf name d options r said design is = record {
+pub is-routing : (shelf : Reading) (design_name library_name : List ℕ) (d : DesignView) (lib : LibraryView) (options : Options) (r : RoutedDesign) →
+    (IsTrue shelf.tells → design_said shelf.held design_name ≡ Some (Ok d)) → (IsTrue shelf.tells → library_said shelf.held library_name d ≡ Some (Ok lib)) →
+    IsDesign d → IsRoutedDesign d lib options r →
+    IsRouting shelf design_name library_name options r.rounds.book r.rounds.hands.items (written_text d (route_edges r.routes)) r.report
+is-routing shelf design_name library_name d lib options r said read design is = record {
   design = d;
   said = said;
+  library = lib;
+  read = read;
   made = is.made;
   chosen = r.rounds.chosen;
   least = is.routes.least;
@@ -84,6 +89,10 @@ is-routing shelf name d options r said design is = record {
   demand = λ e edge wire. demand-same d r.rounds.book.capacity h r.routes design is.made.capacity is.trees is.routes.booked is.routes.free e;
   verdict = is.verdict;
   judged = verdict-same d options.via_cost (route_edges r.routes) (cover d (written_text d (route_edges r.routes))) is.verdict same is.judged;
+  trees = r.routes;
+  booked = is.routes.booked;
+  plans = is.plans;
+  planned = is.planned;
   reports = is.reports;
 }
   where

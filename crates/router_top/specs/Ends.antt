@@ -5,7 +5,7 @@ use Rattle.router_top.specs.Commands.{HandedBack}
 use Rattle.router_top.specs.Leaving.{IsSilent, Leaves}
 use Rattle.router_top.specs.Orders.{command_of}
 use Rattle.router_top.specs.Stops.{Finishes}
-use Rattle.router_top.specs.Words.{Order}
+use Rattle.word_reader.specs.Orders.{Order}
 use Rattle.router_top.specs.declared.stop.Outcome.{Outcome}
 use Rattle.router_top.specs.declared.stop.Stop.{Stop}
 use Rattle.router_top.specs.declared.stop.Stop.TheVariants.{Usage}

@@ -6,7 +6,7 @@ use Rattle.router_top.specs.Commands.{HandedBack, Command}
 use Rattle.router_top.specs.declared.stop.Outcome.{Outcome}
 use Rattle.router_top.specs.declared.stop.Outcome.TheVariants.{Whole}
 use Rattle.router_top.specs.declared.stop.Stop.{Stop}
-use Rattle.router_top.specs.declared.stop.Stop.TheVariants.{Usage, DesignFault, SolutionFault, ReadFailed, WriteFailed, NoMemory}
+use Rattle.router_top.specs.declared.stop.Stop.TheVariants.{Usage, DesignFault, LibraryFault, SolutionFault, ReadFailed, WriteFailed, NoMemory}
 
 -- out and err gained their whole texts
 pub record IsDone (command : Command) (shelf : Reading) (out err : Device) (kept : Option HandedBack)
@@ -75,6 +75,8 @@ abbrev pub Leaves : Command → Reading → (out err : Device) → Option Handed
 Leaves command shelf out err kept (Ok outcome) = IsDone command shelf out err kept outcome
 Leaves command shelf out err kept (Err (DesignFault fault token)) =
     IsFaulty command shelf out (DesignFault fault token) × IsSilent err kept
+Leaves command shelf out err kept (Err (LibraryFault fault token)) =
+    IsFaulty command shelf out (LibraryFault fault token) × IsSilent err kept
 Leaves command shelf out err kept (Err (SolutionFault fault token)) =
     IsFaulty command shelf out (SolutionFault fault token) × IsSilent err kept
 Leaves command shelf out err kept (Err ReadFailed) = FailsToRead command shelf out × IsSilent err kept

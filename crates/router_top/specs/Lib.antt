@@ -1,10 +1,10 @@
-pub mod Words
 pub mod Orders
 pub mod Said
 pub mod Opening
 pub mod Stops
 pub mod Commands
 pub mod Leaving
+pub mod Buffering
 pub mod Routing
 pub mod Judging
 pub mod Ends

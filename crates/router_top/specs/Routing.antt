@@ -1,5 +1,5 @@
 -- The command `route`: the book of its rounds, the text of its routes, and their report.
-use Rattle.std.specs.Prelude.{◌≡◌, ℕ, true, false, List, Option, Some, None, Ok, slice_get, take, IsTrue, IsSomeAnd}
+use Rattle.std.specs.Prelude.{◌≡◌, ℕ, true, false, List, ◌++◌, Option, Some, None, Ok, slice_get, take, IsTrue, IsSomeAnd}
 use Rattle.gr_base.specs.Designs.{DesignView, is_routed, is_routed_net}
 use Rattle.gr_base.specs.EdgeSets.{Edges, IsJoined}
 use Rattle.gr_base.specs.Grid.{has_edge, is_wire}
@@ -22,12 +22,16 @@ use Rattle.gr_io.specs.Devices.{Reading}
 use Rattle.round_core.specs.Hands.{ArePartedTo}
 use Rattle.round_core.specs.Rounds.{hand, AreRoundsUpTo}
 use Rattle.router_top.specs.Commands.{Command, checked}
-use Rattle.router_top.specs.Said.{design_said, report_of}
+use Rattle.elmore_delay.specs.declared.plans.Plan.{Plan}
+use Rattle.rc_library.specs.Libraries.{LibraryView}
+use Rattle.report_text.specs.BufferTexts.{buffers_text}
+use Rattle.router_top.specs.Buffering.{ArePlans}
+use Rattle.router_top.specs.Said.{design_said, library_said, report_of}
 use Rattle.round_core.specs.declared.hands.HandLog.{HandLog}
 use Rattle.router_top.specs.declared.routing.RoutedDesign.{RoutedDesign}
 use Rattle.router_top.specs.declared.stop.Outcome.TheVariants.{Whole}
-use Rattle.router_top.specs.declared.stop.Stop.TheVariants.{DesignFault}
-use Rattle.router_top.specs.declared.words.Options.{Options}
+use Rattle.router_top.specs.declared.stop.Stop.TheVariants.{DesignFault, LibraryFault}
+use Rattle.word_reader.specs.declared.order.Options.{Options}
 
 -- the edges of each net's booked tree
 abbrev pub booked_edges : List Entry → ℕ → Edges
@@ -67,22 +71,31 @@ pub record AreChosenRoutes (d : DesignView) (book : BookView) (front : ℕ) (tre
 abbrev pub AreTrees : Shape → List (Option TreeView) → Type 0
 AreTrees g trees = (net : ℕ) → (t : TreeView) → tree_at trees net ≡ Some t → IsTree t × (t.shape ≡ g)
 
+-- the report of a verdict on routes, and the buffers of their plans
+abbrev pub routing_report : DesignView → LibraryView → Verdict → List (Option TreeView) → List (Option Plan) → List ℕ
+routing_report d lib v trees plans = report_of v ++ buffers_text d lib trees plans
+
 -- a design's routes and their report, with the rounds that they are from
-pub record IsRoutedDesign (d : DesignView) (options : Options) (r : RoutedDesign) : Type 0 where
+pub record IsRoutedDesign (d : DesignView) (lib : LibraryView) (options : Options) (r : RoutedDesign) : Type 0 where
   pub made : IsBookOf d options r.rounds.book r.rounds.hands.items
   pub routes : AreChosenRoutes d r.rounds.book r.rounds.chosen r.routes
   pub trees : AreTrees d.frame.shape r.routes
   pub verdict : Verdict
   pub judged : IsVerdict d options.via_cost (route_edges r.routes) verdict
-  pub reports : r.report ≡ report_of verdict
+  pub plans : List (Option Plan)
+  pub planned : ArePlans d lib r.routes plans
+  pub reports : r.report ≡ routing_report d lib verdict r.routes plans
 
 -- the text and the report of routes of the design that was read: the text is that of the trees booked at the first mark
--- of least overflow; by what it covers, each routed net is joined, booked demand is that of the text, and the five
--- numbers of the report are the text's
-pub record IsRouting (shelf : Reading) (name : List ℕ) (options : Options) (book : BookView)
+-- of least overflow; by what it covers, each routed net is joined, booked demand is that of the text, and the first five
+-- numbers of the report are the text's; the rest of the report tells, of each routed net, the buffers of a plan, and
+-- the required time of its booked tree with them
+pub record IsRouting (shelf : Reading) (design_name library_name : List ℕ) (options : Options) (book : BookView)
     (hands : List HandLog) (text report : List ℕ) : Type 0 where
   pub design : DesignView
-  pub said : IsTrue shelf.tells → design_said shelf.held name ≡ Some (Ok design)
+  pub said : IsTrue shelf.tells → design_said shelf.held design_name ≡ Some (Ok design)
+  pub library : LibraryView
+  pub read : IsTrue shelf.tells → library_said shelf.held library_name design ≡ Some (Ok library)
   pub made : IsBookOf design options book hands
   pub chosen : ℕ
   pub least : least_mark book.history ≡ Some chosen
@@ -91,13 +104,18 @@ pub record IsRouting (shelf : Reading) (name : List ℕ) (options : Options) (bo
   pub demand : IsBookedDemand design book chosen (cover design text)
   pub verdict : Verdict
   pub judged : IsVerdict design options.via_cost (cover design text) verdict
-  pub reports : report ≡ report_of verdict
+  pub trees : List (Option TreeView)
+  pub booked : (net : ℕ) → tree_at trees net ≡ booked (take chosen book.history) net
+  pub plans : List (Option Plan)
+  pub planned : ArePlans design library trees plans
+  pub reports : report ≡ routing_report design library verdict trees plans
 
-abbrev pub routing : (name : List ℕ) → Options → Command
-routing name options = record {
-  files = λ shelf. checked (design_said shelf.held name) DesignFault (λ d. Some (Ok tt));
+abbrev pub routing : (design library : List ℕ) → Options → Command
+routing design library options = record {
+  files = λ shelf. checked (design_said shelf.held design) DesignFault
+      (λ d. checked (library_said shelf.held library d) LibraryFault (λ lib. Some (Ok tt)));
   says = λ shelf kept outcome text report.
-      (outcome ≡ Whole) × IsSomeAnd kept (λ k. IsRouting shelf name options k.book k.hands text report);
+      (outcome ≡ Whole) × IsSomeAnd kept (λ k. IsRouting shelf design library options k.book k.hands text report);
   reports = true;
   is_open = λ shelf. ⊥;
 }

@@ -3,33 +3,26 @@ use Rattle.std.specs.Prelude.{◌≡◌, ℕ, ◌⊎◌, ◌↔◌, Bool, nat_eq
 use Rattle.std.specs.List.{list_any}
 use Rattle.gr_io.specs.Counts.{Rose}
 use Rattle.gr_io.specs.Devices.{Device, Reading, IsUntouched, GainsLine}
-use Rattle.ispd_reader.specs.declared.fault.DesignFault.{DesignFault as DesignFaultKind}
-use Rattle.solution_text.specs.declared.fault.SolutionFault.{SolutionFault as SolutionFaultKind}
 use Rattle.router_top.specs.Commands.{HandedBack, Command}
 use Rattle.router_top.specs.Leaving.{IsDone, IsFaulty, FailsToRead, FailsToWrite, WantsMemory}
 use Rattle.router_top.specs.Orders.{command_of}
 use Rattle.router_top.specs.Stops.{status_of, told_line}
-use Rattle.router_top.specs.Words.{Order}
+use Rattle.word_reader.specs.Orders.{Order}
 use Rattle.router_top.specs.declared.stop.Stop.{Stop}
 use Rattle.router_top.specs.declared.stop.Outcome.TheVariants.{Whole, Open}
-use Rattle.router_top.specs.declared.stop.Stop.TheVariants.{Usage, DesignFault, SolutionFault, ReadFailed, NoMemory}
+use Rattle.router_top.specs.declared.stop.Stop.TheVariants.{Usage, DesignFault, LibraryFault, SolutionFault, ReadFailed, NoMemory}
 
 -- the statuses of a run
 abbrev pub is_status : ℕ → Bool
-is_status status = list_any (nat_eq status) (0 ∷ 1 ∷ 2 ∷ 3 ∷ 5 ∷ 6 ∷ 7 ∷ 8 ∷ [])
+is_status status = list_any (nat_eq status) (0 ∷ 1 ∷ 2 ∷ 3 ∷ 4 ∷ 5 ∷ 6 ∷ 7 ∷ 8 ∷ [])
 
--- the held texts have a first fault, which err was told
-pub record ReportsDesignFault (command : Command) (shelf : Reading) (out err : Device) : Type 0 where
-  pub fault : DesignFaultKind
+-- the held texts have a first fault of this sort, which err was told
+pub record ReportsFault {F : Type 0} (stop : F → ℕ → Stop) (command : Command) (shelf : Reading)
+    (out err : Device) : Type 0 where
+  pub fault : F
   pub token : ℕ
-  pub faulty : IsFaulty command shelf out (DesignFault fault token)
-  pub line : GainsLine err (told_line (DesignFault fault token))
-
-pub record ReportsSolutionFault (command : Command) (shelf : Reading) (out err : Device) : Type 0 where
-  pub fault : SolutionFaultKind
-  pub token : ℕ
-  pub faulty : IsFaulty command shelf out (SolutionFault fault token)
-  pub line : GainsLine err (told_line (SolutionFault fault token))
+  pub faulty : IsFaulty command shelf out (stop fault token)
+  pub line : GainsLine err (told_line (stop fault token))
 
 -- a write that may fail failed: one to out, or, where the command writes a report, one to err
 abbrev pub SomeWriteFails : Command → (out err : Device) → Type 0
@@ -59,9 +52,11 @@ pub record IsByStatus (order : Option Order) (shelf : Reading) (out err : Device
   -- it was done, and some routed net isn't joined
   pub unjoined : status ≡ 1 → OfCommand order (λ command. IsDone command shelf out err kept Open)
   -- the design's text has a fault: the first one, and its token, are told
-  pub design_fault : status ≡ 3 → OfCommand order (λ command. ReportsDesignFault command shelf out err)
-  -- the design is accepted, and the solution's text has a fault
-  pub solution_fault : status ≡ 5 → OfCommand order (λ command. ReportsSolutionFault command shelf out err)
+  pub design_fault : status ≡ 3 → OfCommand order (λ command. ReportsFault DesignFault command shelf out err)
+  -- the design is accepted, and the library's text has a fault, which is told likewise
+  pub library_fault : status ≡ 4 → OfCommand order (λ command. ReportsFault LibraryFault command shelf out err)
+  -- the texts before it are accepted, and the solution's text has a fault
+  pub solution_fault : status ≡ 5 → OfCommand order (λ command. ReportsFault SolutionFault command shelf out err)
   -- a read failed, or a name of the order is missing
   pub read_failed : status ≡ 6 →
       OfCommand order (λ command. FailsToRead command shelf out × GainsLine err (told_line ReadFailed))

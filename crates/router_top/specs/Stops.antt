@@ -3,11 +3,12 @@ use Rattle.std.specs.Prelude.{◌≡◌, ℕ, ◌⊎◌, List, [], ◌++◌, Res
 use Rattle.std.specs.Fmt.{decimal}
 use Rattle.gr_io.specs.Devices.{Device, IsUntouched, GainsLine}
 use Rattle.ispd_reader.specs.Faults.{fault_number as design_number}
+use Rattle.rc_library.specs.Faults.{fault_number as library_number}
 use Rattle.solution_text.specs.Faults.{fault_number as solution_number}
 use Rattle.router_top.specs.declared.stop.Outcome.{Outcome}
 use Rattle.router_top.specs.declared.stop.Outcome.TheVariants.{Whole, Open}
 use Rattle.router_top.specs.declared.stop.Stop.{Stop}
-use Rattle.router_top.specs.declared.stop.Stop.TheVariants.{Usage, DesignFault, SolutionFault, ReadFailed, WriteFailed, NoMemory}
+use Rattle.router_top.specs.declared.stop.Stop.TheVariants.{Usage, DesignFault, LibraryFault, SolutionFault, ReadFailed, WriteFailed, NoMemory}
 
 -- the status of a command that was done: another one where a net isn't joined
 abbrev pub status_done : Outcome → ℕ
@@ -18,6 +19,7 @@ status_done Open = 1
 abbrev pub status_of : Stop → ℕ
 status_of Usage = 2
 status_of (DesignFault fault token) = 3
+status_of (LibraryFault fault token) = 4
 status_of (SolutionFault fault token) = 5
 status_of ReadFailed = 6
 status_of WriteFailed = 7
@@ -32,20 +34,25 @@ fault_line text fault token =
 abbrev pub told_line : Stop → List ℕ
 told_line Usage = codes "groute: usage\n"
 told_line (DesignFault fault token) = fault_line (codes "design") (design_number fault) token
+told_line (LibraryFault fault token) = fault_line (codes "library") (library_number fault) token
 told_line (SolutionFault fault token) = fault_line (codes "solution") (solution_number fault) token
 told_line ReadFailed = codes "groute: a read failed\n"
 told_line WriteFailed = []
 told_line NoMemory = codes "groute: out of memory\n"
 
--- err is told why a command stopped, or, where memory is wanting for the line, that
+-- err is told this line of a stop, or, where memory is wanting for the line, that
+abbrev pub IsLineToldOrNot : Device → (line : List ℕ) → Stop → Stop → Type 0
+IsLineToldOrNot err line stop told =
+    ((told ≡ stop) × GainsLine err line) ⊎ ((told ≡ NoMemory) × GainsLine err (told_line NoMemory))
+
 abbrev pub IsToldOrNot : Device → Stop → Stop → Type 0
-IsToldOrNot err stop told =
-    ((told ≡ stop) × GainsLine err (told_line stop)) ⊎ ((told ≡ NoMemory) × GainsLine err (told_line NoMemory))
+IsToldOrNot err stop told = IsLineToldOrNot err (told_line stop) stop told
 
 -- err is told why a command stopped; a write that failed isn't told
 abbrev pub IsTold : Device → Stop → Stop → Type 0
 IsTold err WriteFailed told = (told ≡ WriteFailed) × IsUntouched err
 IsTold err (DesignFault fault token) told = IsToldOrNot err (DesignFault fault token) told
+IsTold err (LibraryFault fault token) told = IsToldOrNot err (LibraryFault fault token) told
 IsTold err (SolutionFault fault token) told = IsToldOrNot err (SolutionFault fault token) told
 IsTold err stop told = (told ≡ stop) × GainsLine err (told_line stop)
 

@@ -2,17 +2,19 @@
 ghost use Rattle.std.specs.Prelude.{◌≡◌, ℕ, List, IsTrue, IfOk, OnOk};
 ghost use Rattle.gr_base.specs.Designs.{IsDesign};
 ghost use Rattle.gr_io.specs.declared.shelf.Slot.{Slot};
-ghost use Rattle.gr_io.specs.declared.shelf.Slot.TheVariants.{Design as DesignSlot, Solution as SolutionSlot};
+ghost use Rattle.gr_io.specs.declared.shelf.Slot.TheVariants.{Design as DesignSlot, Library as LibrarySlot, Solution as SolutionSlot};
+ghost use Rattle.rc_library.specs.Libraries.{IsLibraryOf};
 ghost use Rattle.route_reader.specs.Solutions.{IsOf};
 ghost use Rattle.gr_io.specs.Devices.{reading_of};
 ghost use Rattle.router_top.specs.Opening.{IsReached, Opens, IsCovered};
-ghost use Rattle.router_top.specs.Said.{design_said, solution_said};
-ghost use Rattle.router_top.specs.declared.stop.Stop.TheVariants.{DesignFault, SolutionFault};
+ghost use Rattle.router_top.specs.Said.{design_said, library_said, solution_said};
+ghost use Rattle.router_top.specs.declared.stop.Stop.TheVariants.{DesignFault, LibraryFault, SolutionFault};
 
 use crate::stop::Stop;
 use gr_base::Design;
 use gr_io::{ReachError, Shelf, Slot};
 use ispd_reader::{DesignError, read_design};
+use rc_library::{Library, LibraryError, read_library};
 use route_reader::{Solution, SolutionError, read_solution};
 use std::alloc::Global;
 
@@ -33,6 +35,28 @@ pub(crate) fn open_design<S: Shelf>(
         Err(DesignError::Fault { fault, token }) => Err(Stop::DesignFault { fault, token }),
         Err(DesignError::Failed) => Err(Stop::ReadFailed),
         Err(DesignError::NoMemory) => Err(Stop::NoMemory),
+    }
+}
+
+/// Reads the library that is held under a name, for this design.
+pub(crate) fn open_library<S: Shelf>(
+    alloc: Global,
+    shelf: &mut S,
+    design: &Design,
+    name: &str,
+) -> Result<Library, Stop>
+    ensures opens { Opens (reading_of S.tells S.held S.faults S.misses shelf.old shelf.new)
+        (S.held shelf.old LibrarySlot name.now) (library_said (S.held shelf.old) name.now design.now) LibraryFault
+        result }
+    ensures held { (slot : Slot) → (other : List ℕ) → S.held shelf.new slot other ≡ S.held shelf.old slot other }
+    ensures library { IfOk result (IsLibraryOf design.now) }
+{
+    reach(alloc, shelf, Slot::Library, name)?;
+    match read_library(alloc, shelf, design) {
+        Ok(library) => Ok(library),
+        Err(LibraryError::Fault { fault, token }) => Err(Stop::LibraryFault { fault, token }),
+        Err(LibraryError::Failed) => Err(Stop::ReadFailed),
+        Err(LibraryError::NoMemory) => Err(Stop::NoMemory),
     }
 }
 

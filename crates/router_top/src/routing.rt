@@ -1,30 +1,36 @@
 //! The command that routes a design.
 ghost use Rattle.std.specs.Prelude.{◌≡◌, IfOk};
 ghost use Rattle.gr_base.specs.Designs.{IsDesign};
-ghost use Rattle.gr_base.specs.Trees.{route_edges};
+ghost use Rattle.gr_base.specs.Trees.{TreeView, route_edges};
+ghost use Rattle.rc_library.specs.Libraries.{IsLibraryOf};
 ghost use Rattle.gr_io.specs.Devices.{device_of, reading_of};
 ghost use Rattle.straight_runs.specs.Routed.{AreRouted};
 ghost use Rattle.solution_text.specs.WrittenText.{written_text};
 ghost use Rattle.router_top.specs.Commands.{rounds_back};
 ghost use Rattle.router_top.specs.Leaving.{IsWritten, Leaves};
-ghost use Rattle.router_top.specs.Orders.{AreInRange};
-ghost use Rattle.router_top.specs.Routing.{IsRoutedDesign, routing};
+ghost use Rattle.word_reader.specs.Orders.{AreInRange};
+ghost use Rattle.report_text.specs.BufferTexts.{ArePlanned};
+ghost use Rattle.router_top.specs.Routing.{IsRoutedDesign, routing, routing_report};
 
+use crate::buffering::plain_plans;
 use crate::left::Left;
-use crate::opening::open_design;
+use crate::opening::{open_design, open_library};
 use crate::stop::{Outcome, Stop};
-use crate::words::Options;
 use cost_rules::CostRule;
+use elmore_delay::Plans;
 use gr_base::{Design, Routes};
 use gr_io::{Shelf, Sink, write_whole};
 use gr_text::Text;
-use report_text::report;
+use rc_library::Library;
+use report_text::{buffers, report};
 use round_core::{Rounds, route_rounds};
-use route_evaluator::evaluate_routes;
+use route_evaluator::{Verdict, evaluate_routes};
 use route_writer::{WriteError, write_solution};
 use std::alloc::{AllocError, Global};
+use word_reader::Options;
 
-/// The routes of a design and their report, with the rounds that they are from.
+/// The routes of a design, and the report of them and of their buffers, with the rounds that they
+/// are from.
 #[derive(Drop)]
 struct RoutedDesign {
     rounds: Rounds,
@@ -32,19 +38,21 @@ struct RoutedDesign {
     report: Text,
 }
 
-/// Reads the design of this name, routes it, and writes the routes on out and their report on err.
+/// Reads the design and the library of these names, routes the design, and writes the routes on out,
+/// and the report of them and of their buffers on err.
 pub(crate) fn route<S: Shelf, O: Sink, E: Sink>(
     alloc: Global,
     shelf: &mut S,
     out: &mut O,
     err: &mut E,
     design: &str,
+    library: &str,
     options: Options,
     rule: &CostRule,
 ) -> Left
     requires options { AreInRange options }
     requires rule { rule.now.formula ≡ options.formula }
-    ensures { Leaves (routing design.now options)
+    ensures { Leaves (routing design.now library.now options)
         (reading_of S.tells S.held S.faults S.misses shelf.old shelf.new)
         (device_of O.tells O.faults O.written out.old out.new)
         (device_of E.tells E.faults E.written err.old err.new)
@@ -54,7 +62,11 @@ pub(crate) fn route<S: Shelf, O: Sink, E: Sink>(
         Ok(design) => design,
         Err(stop) => return Left::without_rounds(Err(stop)),
     };
-    let Ok(routed) = route_design(alloc, &design, options, rule) else {
+    let library = match open_library(alloc, shelf, &design, library) {
+        Ok(library) => library,
+        Err(stop) => return Left::without_rounds(Err(stop)),
+    };
+    let Ok(routed) = route_design(alloc, &design, &library, options, rule) else {
         return Left::without_rounds(Err(Stop::NoMemory));
     };
     let end = write_routes(alloc, out, err, &design, &routed);
@@ -69,23 +81,46 @@ pub(crate) fn route<S: Shelf, O: Sink, E: Sink>(
 fn route_design(
     alloc: Global,
     design: &Design,
+    library: &Library,
     options: Options,
     rule: &CostRule,
 ) -> Result<RoutedDesign, AllocError>
     requires design { IsDesign design.now }
+    requires library { IsLibraryOf design.now library.now }
     requires options { AreInRange options }
     requires rule { rule.now.formula ≡ options.formula }
-    ensures { IfOk result (IsRoutedDesign design.now options) }
+    ensures { IfOk result (IsRoutedDesign design.now library.now options) }
 {
     let rounds = route_rounds(alloc, design, options.rounds, rule)?;
     let routes = rounds.book.routes_at(rounds.chosen)?;
     let verdict = evaluate_routes(alloc, design, &routes, options.via_cost)?;
-    let report = report(alloc, &verdict)?;
+    let plans = plain_plans(alloc, design, library, &routes)?;
+    let report = routing_report(alloc, design, library, &verdict, &routes, &plans)?;
     Ok(RoutedDesign {
         rounds,
         routes,
         report,
     })
+}
+
+/// The report of a verdict on routes, and the buffers of their plans. The only error is want of
+/// memory.
+fn routing_report(
+    alloc: Global,
+    design: &Design,
+    library: &Library,
+    verdict: &Verdict,
+    routes: &Routes,
+    plans: &Plans,
+) -> Result<Text, AllocError>
+    requires { ArePlanned design.now library.now routes.now plans.now }
+    ensures { IfOk result (λ text. text
+        ≡ routing_report design.now library.now verdict.now routes.now plans.now) }
+{
+    let mut text = report(alloc, verdict)?;
+    let buffers = buffers(alloc, design, library, routes, plans)?;
+    text.put(buffers.bytes())?;
+    Ok(text)
 }
 
 /// Writes the routes on out, and their report on err.

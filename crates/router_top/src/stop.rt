@@ -1,11 +1,12 @@
 //! Why a command stopped, and how it is told.
 ghost use Rattle.std.specs.Prelude.{◌≡◌, IfOk};
 ghost use Rattle.gr_io.specs.Devices.{device_of, GainsLine};
-ghost use Rattle.router_top.specs.Stops.{status_done, status_of, fault_line, IsTold, Finishes};
+ghost use Rattle.router_top.specs.Stops.{status_done, status_of, fault_line, IsLineToldOrNot, IsTold, Finishes};
 
 use gr_io::{Sink, write_whole};
 use gr_text::Text;
 use ispd_reader::DesignFault as DesignFaultKind;
+use rc_library::LibraryFault as LibraryFaultKind;
 use solution_text::SolutionFault as SolutionFaultKind;
 use std::alloc::{AllocError, Global};
 
@@ -23,6 +24,10 @@ pub(crate) enum Stop {
     Usage,
     DesignFault {
         fault: DesignFaultKind,
+        token: u64,
+    },
+    LibraryFault {
+        fault: LibraryFaultKind,
         token: u64,
     },
     SolutionFault {
@@ -51,6 +56,7 @@ fn status(stop: Stop) -> u8
     match stop {
         Stop::Usage => 2,
         Stop::DesignFault { .. } => 3,
+        Stop::LibraryFault { .. } => 4,
         Stop::SolutionFault { .. } => 5,
         Stop::ReadFailed => 6,
         Stop::WriteFailed => 7,
@@ -74,25 +80,48 @@ fn tell<E: Sink>(alloc: Global, err: &mut E, stop: Stop) -> Stop
     ensures { IsTold (device_of E.tells E.faults E.written err.old err.new) stop result }
 {
     match stop {
-        Stop::Usage => write_line(err, b"groute: usage\n"),
+        Stop::Usage => {
+            write_line(err, b"groute: usage\n");
+            stop
+        }
         Stop::DesignFault { fault, token } => {
-            let Ok(line) = fault_line(alloc, b"design", fault.number(), token) else {
-                write_line(err, b"groute: out of memory\n");
-                return Stop::NoMemory;
-            };
-            write_line(err, line.bytes());
+            tell_fault(alloc, err, stop, b"design", fault.number(), token)
+        }
+        Stop::LibraryFault { fault, token } => {
+            tell_fault(alloc, err, stop, b"library", fault.number(), token)
         }
         Stop::SolutionFault { fault, token } => {
-            let Ok(line) = fault_line(alloc, b"solution", fault.number(), token) else {
-                write_line(err, b"groute: out of memory\n");
-                return Stop::NoMemory;
-            };
-            write_line(err, line.bytes());
+            tell_fault(alloc, err, stop, b"solution", fault.number(), token)
         }
-        Stop::ReadFailed => write_line(err, b"groute: a read failed\n"),
-        Stop::WriteFailed => {}
-        Stop::NoMemory => write_line(err, b"groute: out of memory\n"),
+        Stop::ReadFailed => {
+            write_line(err, b"groute: a read failed\n");
+            stop
+        }
+        Stop::WriteFailed => stop,
+        Stop::NoMemory => {
+            write_line(err, b"groute: out of memory\n");
+            stop
+        }
     }
+}
+
+/// Tells on err the fault of a text, for which a command stopped, and says what was told.
+fn tell_fault<E: Sink>(
+    alloc: Global,
+    err: &mut E,
+    stop: Stop,
+    text: &[u8],
+    fault: u8,
+    token: u64,
+) -> Stop
+    ensures { IsLineToldOrNot (device_of E.tells E.faults E.written err.old err.new)
+        (fault_line text.now fault token) stop result }
+{
+    let Ok(line) = fault_line(alloc, text, fault, token) else {
+        write_line(err, b"groute: out of memory\n");
+        return Stop::NoMemory;
+    };
+    write_line(err, line.bytes());
     stop
 }
 

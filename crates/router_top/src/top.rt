@@ -4,18 +4,18 @@ ghost use Rattle.gr_io.specs.Devices.{device_of, reading_of};
 ghost use Rattle.router_top.specs.Commands.{handed_back, rounds_back};
 ghost use Rattle.router_top.specs.Ends.{LeavesFor, Ends};
 ghost use Rattle.router_top.specs.Statuses.{IsByStatus};
-ghost use Rattle.router_top.specs.Words.{order_of};
+ghost use Rattle.word_reader.specs.Orders.{order_of};
 
 use crate::judging::judge;
 use crate::left::Left;
 use crate::routing::route;
 use crate::stop::{Stop, finish};
-use crate::words::{Order, read_order};
 use book_state::BookState;
 use cost_rules::Rules;
 use gr_io::{Shelf, Sink};
 use round_core::{HandLog, Rounds};
 use std::alloc::Global;
+use word_reader::{Order, read_words};
 
 /// How a run ended.
 #[derive(Debug, Drop)]
@@ -51,17 +51,23 @@ impl Ended {
     }
 }
 
-/// Carries out the command that the words give, over these devices. `route DESIGN ROUNDS` reads the
-/// design of that name and gives each routed net a pattern plan over the loads of the nets before
-/// it, by the rule of the first formula. Then, in up to ROUNDS rounds (0 to 64), each net on an
-/// edge over its capacity is released and rerouted by a maze plan. It writes the routes of the
-/// first round of least overflow on out, and their report of demand, overflow, wirelength and vias
-/// on err. `evaluate DESIGN SOLUTION` reads a design and any router's solution for it, and writes
-/// on out the report, and the routed nets that the solution leaves unjoined.
+/// Carries out the command that the words give, over these devices.
+///
+/// `route DESIGN LIBRARY ROUNDS` reads the design of that name and the library of its wires and
+/// buffers. It gives each routed net a pattern plan over the loads of the nets before it, by the
+/// rule of the first formula. Then, in up to ROUNDS rounds (0 to 64), each net on an edge over its
+/// capacity is released and rerouted by a maze plan; one hand does it, whatever `--workers` says.
+/// It writes the routes of the first round of least overflow on out, and on err their report of
+/// demand, overflow, wirelength and vias, and each routed net's required time, yet without buffers.
+///
+/// `evaluate DESIGN SOLUTION` reads a design and any router's solution for it, and writes on out
+/// the report, and the routed nets that the solution leaves unjoined. In both reports a via edge
+/// counts as many wire edges as `--via-cost` says.
 ///
 /// Status 0: done. 1: done, and a net is left unjoined. 2: the words give no order. 3: the design's
-/// text is at fault. 5: the solution's text is at fault. 6: a read failed, or a name is missing.
-/// 7: a write failed. 8: out of memory. At 2, 3, 5, 6 and 8 a line on err tells it.
+/// text is at fault. 4: the library's text is at fault. 5: the solution's text is at fault. 6: a
+/// read failed, or a name is missing. 7: a write failed. 8: out of memory. At 2 to 6 and at 8 a
+/// line on err tells it.
 pub fn run<R, S: Shelf, O: Sink, E: Sink>(
     _rt: &R,
     alloc: Global,
@@ -103,18 +109,24 @@ fn carry_out<S: Shelf, O: Sink, E: Sink>(
         (device_of E.tells E.faults E.written err.old err.new)
         (rounds_back result.rounds) result.end }
 {
-    match read_order(words) {
-        Some(Order::Route { design, options }) => {
+    match read_words(words) {
+        Ok(
+            Order::Route {
+                design,
+                library,
+                options,
+            },
+        ) => {
             let rule = rules.of(options.formula);
-            route(alloc, shelf, out, err, design, options, rule)
+            route(alloc, shelf, out, err, design, library, options, rule)
         }
-        Some(
+        Ok(
             Order::Evaluate {
                 design,
                 solution,
                 via_cost,
             },
         ) => Left::without_rounds(judge(alloc, shelf, out, design, solution, via_cost)),
-        None => Left::without_rounds(Err(Stop::Usage)),
+        Err(_) => Left::without_rounds(Err(Stop::Usage)),
     }
 }

@@ -1,7 +1,8 @@
 use Rattle.std.proofs.Common.{take, subst}
 use Rattle.cost_rules.specs.declared.site.Formula.{Formula}
 use Rattle.round_core.specs.Rounds.{AreRoundsUpTo}
-use Rattle.router_top.proofs.RouteLemmas.{routes-booked, routes-routed, routes-free, routes-trees, routes-joined}
+use Rattle.router_top.proofs.BufferingLemmas.{planned-for}
+use Rattle.router_top.proofs.RouteLemmas.{held-tree, routes-booked, routes-routed, routes-free, routes-trees, routes-joined}
 use Rattle.router_top.proofs.routing.route_design.Goals as goal
 
 pub evaluate_routes-requires-clause-routes : goal.evaluate_routes-requires-clause-routes
@@ -12,6 +13,26 @@ evaluate_routes-requires-clause-routes g c =
     let h = take rounds.chosen rounds.book.history in
     routes-routed d h c.in_ok-routes.routes made.stands
     (routes-booked d rounds.book.capacity h c.in_ok-routes.routes made.capacity made.stands c.in_ok-routes.ensures)
+
+pub plain_plans-requires-clause-routes : goal.plain_plans-requires-clause-routes
+plain_plans-requires-clause-routes g c =
+    let d = c.args.design.now in
+    let made = c.in_ok-rounds.ensures in
+    let rounds = c.in_ok-rounds.rounds in
+    let h = take rounds.chosen rounds.book.history in
+    held-tree d h c.in_ok-routes.routes made.stands
+    (routes-booked d rounds.book.capacity h c.in_ok-routes.routes made.capacity made.stands c.in_ok-routes.ensures)
+
+pub routing_report-requires : goal.routing_report-requires
+routing_report-requires g c =
+    let d = c.args.design.now in
+    let made = c.in_ok-rounds.ensures in
+    let rounds = c.in_ok-rounds.rounds in
+    let h = take rounds.chosen rounds.book.history in
+    let trees = c.in_ok-routes.routes in
+    planned-for d c.args.library.now trees c.in_ok-plans.plans
+    (held-tree d h trees made.stands (routes-booked d rounds.book.capacity h trees made.capacity made.stands c.in_ok-routes.ensures))
+    c.in_ok-plans.ensures
 
 pub returns : goal.returns
 returns g c =
@@ -38,5 +59,7 @@ returns g c =
       trees = routes-trees d h trees made.stands booked c.in_ok-verdict.ensures.trees;
       verdict = c.in_ok-verdict.verdict;
       judged = c.in_ok-verdict.ensures.verdict;
+      plans = c.in_ok-plans.plans;
+      planned = c.in_ok-plans.ensures;
       reports = c.in_ok-report.ensures;
     }

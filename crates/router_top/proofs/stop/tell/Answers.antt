@@ -1,16 +1,27 @@
-use Rattle.std.proofs.Common.{◌≡◌, ℕ, sym, ap, subst, ◌∙◌, inl, refl, codes}
-use Rattle.gr_io.specs.Devices.{Device, GainsLine}
-use Rattle.router_top.specs.Stops.{told_line, fault_line, IsTold}
-use Rattle.router_top.specs.declared.stop.Stop.{Stop}
-use Rattle.router_top.specs.declared.stop.Stop.TheVariants.{DesignFault}
+use Rattle.std.proofs.Common.{ℕ, ap, codes}
+use Rattle.gr_io.specs.Devices.{device_of}
+use Rattle.router_top.specs.Stops.{fault_line}
+use Rattle.router_top.specs.declared.stop.Stop.TheVariants.{DesignFault, LibraryFault, SolutionFault}
+use Rattle.router_top.proofs.StopLemmas.{told-line}
 use Rattle.router_top.proofs.stop.tell.Goals as goal
 
-pub returns-in-Ok : goal.returns-in-Ok
-returns-in-Ok g c =
-    let fault = c.in-DesignFault.fault in
-    let token = c.in-DesignFault.token in
-    let err : Device = record { tells = g.E.Sink.tells; faults = g.E.Sink.faults c.args.err.now; faults_after = g.E.Sink.faults c.write_line-in-DesignFault.new.err; written = g.E.Sink.written c.args.err.now; written_after = g.E.Sink.written c.write_line-in-DesignFault.new.err } in
-    let is : c.bytes.result.now ≡ told_line (DesignFault fault token) =
-    c.bytes.ensures ∙ c.in-Ok.ensures ∙ ap (λ (n : ℕ). fault_line (codes "design") n token) c.number.ensures in
-    subst (λ (stop : Stop). IsTold err stop (DesignFault fault token)) (sym c.in-DesignFault.is)
-    (inl (refl, subst (GainsLine err) is c.write_line-in-DesignFault.ensures))
+pub returns-in-DesignFault : goal.returns-in-DesignFault
+returns-in-DesignFault g c =
+    let sink = g.E.Sink in
+    let f = c.in-DesignFault in
+    told-line (device_of sink.tells sink.faults sink.written c.args.err.now c.tell_fault.new.err) (DesignFault f.fault f.token) _ _ _ (λ told. told) f.is
+    (ap (λ (n : ℕ). fault_line (codes "design") n f.token) c.number.ensures) c.tell_fault.ensures
+
+pub returns-in-LibraryFault : goal.returns-in-LibraryFault
+returns-in-LibraryFault g c =
+    let sink = g.E.Sink in
+    let f = c.in-LibraryFault in
+    told-line (device_of sink.tells sink.faults sink.written c.args.err.now c.tell_fault-in-LibraryFault.new.err) (LibraryFault f.fault f.token) _ _ _ (λ told. told) f.is
+    (ap (λ (n : ℕ). fault_line (codes "library") n f.token) c.number-in-LibraryFault.ensures) c.tell_fault-in-LibraryFault.ensures
+
+pub returns-in-SolutionFault : goal.returns-in-SolutionFault
+returns-in-SolutionFault g c =
+    let sink = g.E.Sink in
+    let f = c.in-SolutionFault in
+    told-line (device_of sink.tells sink.faults sink.written c.args.err.now c.tell_fault-in-SolutionFault.new.err) (SolutionFault f.fault f.token) _ _ _ (λ told. told) f.is
+    (ap (λ (n : ℕ). fault_line (codes "solution") n f.token) c.number-in-SolutionFault.ensures) c.tell_fault-in-SolutionFault.ensures
