@@ -1,8 +1,9 @@
 #!/usr/bin/env python3
-"""Compares the proved router with the slow one on random small designs: reference/compare.py [SEED [COUNT]]
+"""Compares the proved router with the slow one on random small texts: reference/compare.py [SEED [COUNT]]
 
-Routes, report and status are compared byte for byte. A design on which they differ is kept in the
-working folder under the name of its seed.
+For each seed a design is routed with a library, and then its routes are judged; in some cases a place of
+one of the texts was changed. Status, standard output and standard error are compared byte for byte. Texts
+on which the two differ are kept in the working folder under the names of their seed.
 """
 import os
 import random
@@ -10,9 +11,16 @@ import subprocess
 import sys
 
 import route
+from design import read_design
 
 HERE = os.path.dirname(os.path.abspath(__file__))
 ROUTER = os.path.join(HERE, "..", "crates", "groute", "out", "groute")
+NUMBERS = "-1 -0 0 1 2 3 01 +1 1x 1001 1000001 2147483647 2147483648 99999999999999999999"
+WORDS = "x end via sink wire driver kind pin block library 1125899906842625 -1125899906842625"
+POINTS = (
+    "! ( (5,5,1)-(5,5,1) (5,5,1)-(15,15,1) (5,5,1)-(5,5,9) (5,5,01)-(9,-0,1) (5,5,1)(5,5,1) (-1,5,1)-(5,5,1) "
+    "(5,5,1)-(5,5,2147483648) (20000000000000,5,1)-(5,5,1)"
+)
 
 
 def capacities(rng, layers, most):
@@ -33,13 +41,14 @@ def nets(rng, columns, rows, layers):
     """Records of nets of one to six pins, most of them among a few tiles, so that they meet."""
     spots = [(rng.randrange(columns), rng.randrange(rows)) for _ in range(rng.randint(2, 5))]
     lines = []
-    for net in range(rng.randint(1, 12)):
+    ids = rng.sample(range(100), rng.randint(1, 12))
+    for net, ident in enumerate(ids):
         pins = rng.choice([1, 2, 2, 2, 3, 3, 4, 5, 6])
-        lines.append(f"n{net} {net} {pins} {rng.choice([0, 1, 1, 1, 2, 3])}")
+        lines.append(f"n{net} {ident} {pins} {rng.choice([0, 1, 1, 1, 2, 3])}")
         for _ in range(pins):
             x, y = rng.choice(spots) if rng.random() < 0.7 else (rng.randrange(columns), rng.randrange(rows))
             lines.append(f"{10 * x + 5} {10 * y + 5} {rng.choice([1, rng.randint(1, layers)])}")
-    return [f"num net {net + 1}", *lines]
+    return [f"num net {len(ids)}", *lines]
 
 
 def adjustments(rng, columns, rows, layers):
@@ -69,24 +78,126 @@ def design(rng):
     return "".join(line + "\n" for line in lines).encode()
 
 
+def weight(rng):
+    """Ohms or femtofarads."""
+    return rng.choice([0, 1, 10, 100, rng.randint(0, 1000), rng.randint(0, 1000000)])
+
+
+def time(rng, sign):
+    """Femtoseconds; of one sign or of either."""
+    return rng.choice(sign) * rng.choice([0, 20000, rng.randint(0, 2**20), rng.randint(0, 2**50)])
+
+
+def kinds(rng, words):
+    """Items of kinds of buffers."""
+    return [f"{rng.choice(words)} k{kind} {weight(rng)} {weight(rng)} {time(rng, [1])}"
+            for kind in range(rng.randint(0, 3))]
+
+
+def sink_of(rng, d):
+    """The id of a net and the number of a sink of it, if there is one."""
+    net = rng.choice([net for net in d.nets if len(net.pins) > 1] or d.nets)
+    return f"{net.id} {rng.randint(1, max(1, len(net.pins) - 1))}"
+
+
+def of_places(rng, d):
+    """Items of blocked tiles, and of nets and sinks with weights of their own."""
+    return [
+        *(f"block {rng.randrange(d.X)} {rng.randrange(d.Y)}" for _ in range(rng.randint(0, 3))),
+        *(f"drive {rng.choice(d.nets).id} {weight(rng)}" for _ in range(rng.randint(0, 3))),
+        *(f"pin {sink_of(rng, d)} {weight(rng)} {time(rng, [1, -1])}" for _ in range(rng.randint(0, 6))),
+    ]
+
+
+def flips(rng, d):
+    """Items of sinks that want the inverted signal."""
+    return [f"flip {sink_of(rng, d)}" for _ in range(rng.randint(0, 2))]
+
+
+def library(rng, d):
+    """A library for a design, of one of the three versions, its items in any order; at times one of them is wanting
+    or comes twice."""
+    version = rng.randint(1, 3)
+    items = [f"wire {layer} {weight(rng)} {weight(rng)}" for layer in range(1, d.L + 1)]
+    items += [f"via {weight(rng)} {weight(rng)}", f"driver {weight(rng)}", f"sink {weight(rng)} {time(rng, [1, -1])}"]
+    items += kinds(rng, ["kind", "inverter"] if version == 3 else ["kind"])
+    if version >= 2:
+        items += of_places(rng, d)
+    if version == 3:
+        items += flips(rng, d)
+    rng.shuffle(items)
+    if rng.random() < 0.1:
+        items = rng.choice([items[1:], items + items[:1]])
+    return "".join(line + "\n" for line in [f"library {version}", *items, "end"]).encode()
+
+
+def changed(rng, text, odd):
+    """A text of which one token was left out, doubled or replaced, also by an odd one, or which is cut off there."""
+    tokens = text.split() or [b"x"]
+    at = rng.randrange(len(tokens))
+    here = rng.choice([[], 2 * [tokens[at]], [rng.choice(odd.split()).encode()], [rng.choice(tokens)]])
+    rest = [] if rng.random() < 0.2 else tokens[at + 1:]
+    return rng.choice([b" ", b"\n", b"\r\n", b"\t"]).join(tokens[:at] + here + rest)
+
+
+def at_times(rng, share, text, odd):
+    """A text, changed in this share of cases."""
+    return changed(rng, text, odd) if rng.random() < share else text
+
+
+class Case:
+    """A seed's texts, and whether the two routers did the same with them."""
+
+    def __init__(self, seed):
+        self.seed, self.kept, self.agrees = seed, [], True
+
+    def put(self, name, text):
+        """The path of a file with this text."""
+        path = f"{self.seed}.{name}"
+        with open(path, "wb") as file:
+            file.write(text)
+        self.kept.append(path)
+        return path
+
+    def compare(self, wanted, *words):
+        """With what the slow router leaves of the same command."""
+        done = subprocess.run([ROUTER, *words], capture_output=True, check=False)
+        if (done.returncode, done.stdout, done.stderr) != wanted:
+            self.agrees = False
+            print("differs:", *words)
+
+    def close(self):
+        if self.agrees:
+            for path in self.kept:
+                os.remove(path)
+
+
+def tried(seed):
+    """Whether the two routers agree on a seed's texts."""
+    rng = random.Random(seed)
+    case = Case(seed)
+    text = design(rng)
+    rc = at_times(rng, 0.3, library(rng, read_design(text)), f"{NUMBERS} {WORDS}")
+    text = at_times(rng, 0.1, text, NUMBERS)
+    rounds, via_cost = rng.randint(0, 4), rng.choice([0, 1, 1, 3, 1000])
+    options = ["--via-cost", str(via_cost)]
+    path = case.put("ispd", text)
+    wanted = route.route_command(text, rc, rounds, via_cost)
+    case.compare(wanted, "route", path, case.put("library", rc), str(rounds), *options)
+    twice = rng.random() < 0.05
+    solution = at_times(rng, 0.5, wanted[1] * (1 + twice), f"{NUMBERS} {POINTS}")
+    wanted = route.evaluate_command(text, solution, via_cost)
+    case.compare(wanted, "evaluate", path, case.put("solution", solution), *options)
+    case.close()
+    return case.agrees
+
+
 def main():
     first = int(sys.argv[1]) if len(sys.argv) > 1 else 1
     count = int(sys.argv[2]) if len(sys.argv) > 2 else 300
-    differ = 0
-    for seed in range(first, first + count):
-        rng = random.Random(seed)
-        text, rounds = design(rng), rng.randint(0, 4)
-        path = f"{seed}.ispd"
-        with open(path, "wb") as file:
-            file.write(text)
-        done = subprocess.run([ROUTER, "route", path, str(rounds)], capture_output=True, check=False)
-        if (done.returncode, done.stdout, done.stderr) == route.program(text, rounds):
-            os.remove(path)
-        else:
-            differ += 1
-            print(f"{path} differs with {rounds} rounds")
-    print(f"{count} designs: {count - differ} agree, {differ} differ")
-    return 1 if differ else 0
+    agree = sum(tried(seed) for seed in range(first, first + count))
+    print(f"{count} cases: {agree} agree, {count - agree} differ")
+    return 0 if agree == count else 1
 
 
 if __name__ == "__main__":

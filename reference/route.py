@@ -1,184 +1,28 @@
 #!/usr/bin/env python3
-"""A slow router for small designs, to compare the proved one with: reference/route.py DESIGN ROUNDS
+"""A slow router for small designs, to compare the proved one with:
+
+    reference/route.py route DESIGN LIBRARY ROUNDS [--via-cost V]
+    reference/route.py evaluate DESIGN SOLUTION [--via-cost V]
 
 It was written without a look at the proved code, and follows the definitions as they are worded where
-that can be done in time: layers are found by trying all assignments while there are few. It writes the
-routes on standard output and their report on standard error.
-
-A cell is its number (layer * rows + y) * columns + x. An edge is a pair of cells, the lower first. A
-tile is (column, row).
+that can be done in time: layers are found by trying all assignments while there are few, required times
+are sums along paths. It writes and ends as the proved router does, which has more words.
 """
+import argparse
 import heapq
-import re
 import sys
 from itertools import product
 
+from design import capacity, cell, edge, need, place, read_design, usable, way
+from library import buffers_text, read_library
+from solution import read_solution, report_text, solution_text, unjoined_text
+from text import Fault
+
 VIA = 3
 TOP = 1048576
-if hasattr(sys, "set_int_max_str_digits"):
-    sys.set_int_max_str_digits(0)
 
 
-# Design text.
-
-class Fault(Exception):
-    def __init__(self, fault, token):
-        Exception.__init__(self, fault, token)
-        self.fault, self.token = fault, token
-
-
-class Net:
-    def __init__(self, name, id_, width, pins):
-        self.name, self.id, self.width, self.pins = name, id_, width, pins   # pins: (x, y, layer from 0)
-
-
-class Design:
-    pass
-
-
-def tokens_of(data):
-    return [t for t in re.split(rb"[ \t\r\n]+", data) if t]
-
-
-def read_design(data):
-    toks = tokens_of(data)
-    at = [0]                                  # tokens taken so far = number of the token in hand
-
-    def take():
-        if at[0] == len(toks):
-            raise Fault(1, len(toks) + 1)
-        at[0] += 1
-        return toks[at[0] - 1]
-
-    def check(ok, fault):
-        if not ok:
-            raise Fault(fault, at[0])
-
-    def word(w):
-        check(take() == w, 2)
-
-    def number(low, high):
-        t = take()
-        check(re.fullmatch(rb"-?[0-9]+", t) is not None, 3)
-        v = int(t)
-        check(low <= v <= high, 3)
-        return v
-
-    d = Design()
-    word(b"grid")
-    d.X = number(1, 8388608)
-    d.Y = number(1, 8388608)
-    d.L = number(1, 16)
-    check(d.X * d.Y * d.L <= 8388608, 4)
-
-    def row(w1, w2, high, among=False):
-        word(w1)
-        word(w2)
-        got = [number(0, high) for _ in range(d.L)]
-        if among:
-            check(any(got), 6)
-        return got
-
-    d.vertical = row(b"vertical", b"capacity", 1000000, d.Y > 1)
-    d.horizontal = row(b"horizontal", b"capacity", 1000000, d.X > 1)
-    d.width = row(b"minimum", b"width", 1000)
-    d.spacing = row(b"minimum", b"spacing", 1000)
-    row(b"via", b"spacing", 1000)
-    d.lx = number(-2**40, 2**40)
-    d.ly = number(-2**40, 2**40)
-    d.tw = number(0, 1000000)
-    check(d.tw != 0, 5)
-    d.th = number(0, 1000000)
-    check(d.th != 0, 5)
-    word(b"num")
-    word(b"net")
-    n = number(0, 4194304)
-    d.nets = []
-    ids = set()
-    pins_so_far = 0
-    for _ in range(n):
-        name = take()
-        id_ = number(0, 2147483647)
-        check(id_ not in ids, 10)
-        ids.add(id_)
-        p = number(0, 16777216)
-        pins_so_far += p
-        check(p != 0 and pins_so_far <= 16777216, 7)
-        width = number(0, 1000)
-        pins = []
-        for _ in range(p):
-            x = number(-2**44, 2**44)
-            check(d.lx <= x <= d.lx + d.X * d.tw, 8)
-            y = number(-2**44, 2**44)
-            check(d.ly <= y <= d.ly + d.Y * d.th, 8)
-            l = number(0, 2147483647)
-            check(1 <= l <= d.L, 9)
-            pins.append((min((x - d.lx) // d.tw, d.X - 1), min((y - d.ly) // d.th, d.Y - 1), l - 1))
-        d.nets.append(Net(name, id_, width, pins))
-    d.adjusted = {}
-    if at[0] < len(toks):
-        a = number(0, 16777216)
-        for _ in range(a):
-            ends = []
-            for end in range(2):
-                c = number(0, 2147483647)
-                check(c < d.X, 11)
-                r = number(0, 2147483647)
-                check(r < d.Y, 11)
-                l = number(0, 2147483647)
-                check(1 <= l <= d.L, 11)
-                ends.append((c, r, l - 1))
-            (c1, r1, l1), (c2, r2, l2) = ends
-            check(l1 == l2 and abs(c1 - c2) + abs(r1 - r2) == 1, 11)
-            cap = number(0, 1000000)
-            d.adjusted[edge(cell(d, *ends[0]), cell(d, *ends[1]))] = cap    # the last one counts
-        if at[0] < len(toks):
-            at[0] += 1
-            raise Fault(12, at[0])
-    return d
-
-
-# Cells, edges, capacity, need.
-
-def cell(d, x, y, layer):
-    return (layer * d.Y + y) * d.X + x
-
-
-def place(d, c):
-    return c % d.X, c // d.X % d.Y, c // (d.X * d.Y)
-
-
-def edge(a, b):
-    return (a, b) if a < b else (b, a)
-
-
-def way(d, e):
-    (x1, y1, l1), (x2, y2, l2) = place(d, e[0]), place(d, e[1])
-    diff = (x2 - x1, y2 - y1, l2 - l1)
-    return {(1, 0, 0): "East", (0, 1, 0): "North", (0, 0, 1): "Up"}[diff]
-
-
-def stated(d, layer, w):
-    return d.horizontal[layer] if w == "East" else d.vertical[layer]
-
-
-def usable(d, e):
-    w = way(d, e)
-    return w == "Up" or stated(d, place(d, e[0])[2], w) != 0
-
-
-def capacity(d, e):
-    if e in d.adjusted:
-        return d.adjusted[e]
-    return stated(d, place(d, e[0])[2], way(d, e))
-
-
-def need(d, net, e):
-    if way(d, e) == "Up":
-        return 0
-    layer = place(d, e[0])[2]
-    return max(d.nets[net].width, d.width[layer]) + d.spacing[layer]
-
+# Cost and book.
 
 def first_cost(demand, cap, needed, marks):
     over = max(0, demand + needed - cap)
@@ -554,8 +398,7 @@ def maze_plan(book, net, margin):
 def route(d, rounds):
     """The edges of each routed net at the first mark of least overflow."""
     book = Book(d)
-    routed = [n for n in range(len(d.nets)) if 1 <= len(d.nets[n].pins) <= 1000]
-    for n in routed:
+    for n in d.routed():
         book.claim(n, pattern_plan(book, n), None)
     best = (book.mark(), dict(book.booked))
     r = 0
@@ -576,72 +419,68 @@ def route(d, rounds):
     return best[1]
 
 
-# Texts.
+# The commands: status, standard output and standard error.
 
-def centre(d, c):
-    x, y, l = place(d, c)
-    return b"(%d,%d,%d)" % (d.lx + x * d.tw + d.tw // 2, d.ly + y * d.th + d.th // 2, l + 1)
-
-
-def runs(d, edges):
-    out = []
-    for w in ("East", "North", "Up"):
-        mine = {e for e in edges if way(d, e) == w}
-        dx, dy, dl = {"East": (1, 0, 0), "North": (0, 1, 0), "Up": (0, 0, 1)}[w]
-
-        def next_cell(c, sign):
-            x, y, l = place(d, c)
-            x, y, l = x + sign * dx, y + sign * dy, l + sign * dl
-            return cell(d, x, y, l) if 0 <= x < d.X and 0 <= y < d.Y and 0 <= l < d.L else None
-
-        for low, high in sorted(mine):
-            before = next_cell(low, -1)
-            if before is not None and (before, low) in mine:
-                continue
-            while next_cell(high, 1) is not None and (high, next_cell(high, 1)) in mine:
-                high = next_cell(high, 1)
-            out.append((low, high))
-    return out
-
-
-def solution_text(d, trees):
-    lines = []
-    for n in sorted(trees):
-        lines.append(d.nets[n].name + b" %d" % d.nets[n].id)
-        for low, high in runs(d, trees[n]):
-            lines.append(centre(d, low) + b"-" + centre(d, high))
-        lines.append(b"!")
-    return b"".join(l + b"\n" for l in lines)
-
-
-def report_text(d, trees):
-    demand = {}
-    wires = vias = 0
-    for n, edges in trees.items():
-        for e in edges:
-            if way(d, e) == "Up":
-                vias += 1
-            else:
-                wires += 1
-                demand[e] = demand.get(e, 0) + need(d, n, e)
-    over = [max(0, v - capacity(d, e)) for e, v in demand.items()]
-    return b"routed %d\noverflow %d\nmaximum %d\nwirelength %d\nvias %d\n" % (
-        len(trees), sum(over), max(over, default=0), wires + vias, vias)
-
-
-def program(data, rounds):
-    """The status, standard output and standard error for a design's bytes."""
-    try:
-        d = read_design(data)
-    except Fault as f:
-        return 3, b"", b"groute: design fault %d at token %d\n" % (f.fault, f.token)
+def routed(d, library, rounds, via_cost):
     trees = route(d, rounds)
-    return 0, solution_text(d, trees), report_text(d, trees)
+    report = report_text(d, trees, via_cost) + buffers_text(d, library, trees)
+    return 0, solution_text(d, trees), report
+
+
+def judged(d, trees, via_cost):
+    unjoined = unjoined_text(d, trees)
+    status = 0 if unjoined == b"unjoined 0\n" else 1
+    return status, report_text(d, trees, via_cost) + unjoined, b""
+
+
+def faulty(status, text, fault):
+    return status, b"", b"groute: %s fault %d at token %d\n" % (text, fault.fault, fault.token)
+
+
+def route_command(design, library, rounds, via_cost):
+    """Of texts' bytes."""
+    try:
+        d = read_design(design)
+    except Fault as fault:
+        return faulty(3, b"design", fault)
+    try:
+        return routed(d, read_library(library, d), rounds, via_cost)
+    except Fault as fault:
+        return faulty(4, b"library", fault)
+
+
+def evaluate_command(design, solution, via_cost):
+    """Of texts' bytes."""
+    try:
+        d = read_design(design)
+    except Fault as fault:
+        return faulty(3, b"design", fault)
+    try:
+        return judged(d, read_solution(solution, d), via_cost)
+    except Fault as fault:
+        return faulty(5, b"solution", fault)
+
+
+def arguments():
+    parser = argparse.ArgumentParser(description="A slow router for small designs.")
+    commands = parser.add_subparsers(dest="command", required=True)
+    for command, files in ("route", ["design", "library"]), ("evaluate", ["design", "solution"]):
+        words = commands.add_parser(command)
+        for name in files:
+            words.add_argument(name, type=argparse.FileType("rb"))
+        if command == "route":
+            words.add_argument("rounds", type=int)
+        words.add_argument("--via-cost", type=int, default=1)
+    return parser.parse_args()
 
 
 def main():
-    with open(sys.argv[1], "rb") as file:
-        status, out, err = program(file.read(), int(sys.argv[2]))
+    words = arguments()
+    design = words.design.read()
+    if words.command == "route":
+        status, out, err = route_command(design, words.library.read(), words.rounds, words.via_cost)
+    else:
+        status, out, err = evaluate_command(design, words.solution.read(), words.via_cost)
     sys.stdout.buffer.write(out)
     sys.stderr.buffer.write(err)
     return status
