@@ -1,0 +1,134 @@
+//! The shared book.
+ghost use Rattle.std.specs.Prelude.{◌≡◌, ◌<◌, ◌≤◌, length, take, IfOk, IfErr, OnOk, OnErr};
+ghost use Rattle.book_front.specs.Seats.{word_of};
+ghost use Rattle.book_state.specs.Books.{nets_of, IsClaim};
+ghost use Rattle.book_state.specs.Replicas.{StandsFor};
+ghost use Rattle.track_book.specs.Passes.{IsAnswered, HasLearnt, AreAll, IsClosed};
+
+use crate::closed::{ClosedBook, close};
+use crate::locked::Locked;
+use crate::name::BookName;
+use crate::pass::Pass;
+use book_front::Front;
+use book_state::{Call, Claim, ClaimRefused, Replica, Reply};
+use grid_demand::Capacity;
+use std::alloc::AllocError;
+use std::sync::{Mutex, Wait};
+
+/// The book N, which threads share. Each call is one entry of one history, and its reply is the one
+/// that a book for one thread gives there. `claim`, `release`, `mark`, `sync` and `meet` take the
+/// lock and may wait for it; no other call does.
+#[derive(Drop)]
+pub struct TrackBook<N: BookName> {
+    pub(crate) front: Front,
+    pub(crate) capacity: Capacity,
+    pub(crate) lock: Mutex<Locked<N>>,
+    ghost word_is: { word_of front ≡ N.word },
+    ghost capacity_is: { capacity ≡ N.capacity },
+}
+
+impl<N: BookName> TrackBook<N> {
+    /// The capacity of the book's design.
+    pub fn capacity(&self) -> &Capacity
+        ensures { result.now ≡ N.capacity }
+    {
+        &self.capacity
+    }
+
+    /// Books a net with a tree, where it isn't booked and the tree's wire edges have room within
+    /// capacity and slack. The pass then has seen a history that ends with this call and its reply.
+    /// The claim comes back only for want of memory, and pass and book are then as they were.
+    pub fn claim<R: Wait>(
+        &self,
+        rt: &R,
+        pass: &mut Pass<N>,
+        claim: Claim,
+    ) -> Result<Reply, ClaimRefused>
+        requires { IsClaim N.capacity (length pass.old.seen) claim }
+        ensures reply { IfOk result (λ reply. IsAnswered N.capacity pass.old pass.new (Call.Claim claim) reply) }
+        ensures err { OnErr result (pass.new ≡ pass.old) }
+        ensures back { IfErr result (λ refused. refused.claim ≡ claim) }
+    {
+        self.lock.lock(rt).claim(&self.front, pass, claim)
+    }
+
+    /// Frees a booked net. The only error is want of memory, and leaves pass and book as they were.
+    pub fn release<R: Wait>(
+        &self,
+        rt: &R,
+        pass: &mut Pass<N>,
+        net: u32,
+    ) -> Result<Reply, AllocError>
+        requires { net < nets_of N.capacity }
+        ensures reply { IfOk result (λ reply. IsAnswered N.capacity pass.old pass.new (Call.Release net) reply) }
+        ensures err { OnErr result (pass.new ≡ pass.old) }
+    {
+        self.lock.lock(rt).release(&self.front, pass, net)
+    }
+
+    /// Marks the edges whose demand is above their capacity. The answer carries the total overflow.
+    /// The only error is want of memory, and leaves pass and book as they were.
+    pub fn mark<R: Wait>(&self, rt: &R, pass: &mut Pass<N>) -> Result<Reply, AllocError>
+        ensures reply { IfOk result (λ reply. IsAnswered N.capacity pass.old pass.new Call.Mark reply) }
+        ensures err { OnErr result (pass.new ≡ pass.old) }
+    {
+        self.lock.lock(rt).mark(&self.front, pass)
+    }
+
+    /// The pass sees the whole history, and the replica comes to stand for it. Under the lock the
+    /// pass only takes a hold on the entries; the replica reads them behind it. The only error is
+    /// want of memory, and leaves both as they were.
+    pub fn sync<R: Wait>(
+        &self,
+        rt: &R,
+        pass: &mut Pass<N>,
+        replica: &mut Replica,
+    ) -> Result<(), AllocError>
+        requires { StandsFor N.capacity (take replica.old.front pass.old.seen) replica.old }
+        ensures learnt { OnOk result (HasLearnt N.capacity pass.old pass.new) }
+        ensures stands { OnOk result (StandsFor N.capacity pass.new.seen replica.new) }
+        ensures err { OnErr result (pass.new ≡ pass.old) }
+        ensures replica_err { OnErr result (replica.new ≡ replica.old) }
+    {
+        self.lock.lock(rt).sync(&self.front, pass)?;
+        replica.catch_up(&self.capacity, pass.past());
+        Ok(())
+    }
+
+    /// Both passes come to have seen one history, which begins with what each had seen.
+    pub fn meet<R: Wait>(&self, rt: &R, one: &mut Pass<N>, other: &mut Pass<N>)
+        ensures one { HasLearnt N.capacity one.old one.new }
+        ensures other { HasLearnt N.capacity other.old other.new }
+        ensures same { one.new.seen ≡ other.new.seen }
+    {
+        self.lock.lock(rt).meet(&self.front, one, other);
+    }
+
+    /// How many entries the history has, at least. It waits for nobody.
+    pub fn front(&self, pass: &mut Pass<N>) -> u64
+        ensures front { length pass.old.seen ≤ result }
+        ensures same { pass.new ≡ pass.old }
+    {
+        pass.count(&self.front)
+    }
+
+    /// Ends the book. The passes are all of its passes, by number. The only error is want of memory,
+    /// and hands all back as it was.
+    pub fn close(self, passes: Vec<Pass<N>>) -> Result<ClosedBook, (TrackBook<N>, Vec<Pass<N>>)>
+        requires { AreAll N.passes passes.items }
+        ensures book { IfOk result (λ closed. IsClosed N.capacity passes.items closed.state.history) }
+        ensures capacity { IfOk result (λ closed. closed.state.capacity ≡ N.capacity) }
+        ensures same { IfErr result (λ back. back.0 ≡ self) }
+        ensures back { IfErr result (λ back. back.1.items ≡ passes.items) }
+    {
+        let Ok(seats) = Vec::with_capacity(*passes.allocator(), passes.len()) else {
+            return Err((self, passes));
+        };
+        let TrackBook {
+            front,
+            capacity: _,
+            lock,
+        } = self;
+        Ok(close(front, lock.into_inner(), passes, seats))
+    }
+}
