@@ -5,10 +5,9 @@ ghost use Rattle.route_reader.specs.Solutions.{IsOf};
 
 use gr_base::Design;
 use gr_io::{MemoryShelf, Shelf, Slot};
-use gr_text::Text;
 use ispd_reader::read_design;
 use route_reader::{Solution, read_solution};
-use std::alloc::{AllocError, Global};
+use std::alloc::Global;
 use std::test::Fail;
 
 /// A shelf on which this text was reached. It gives at most so many bytes at once, and the call of
@@ -28,13 +27,6 @@ pub(crate) fn reached(
     shelf.piece(piece);
     shelf.reach(alloc, slot, "text")?;
     Ok(shelf)
-}
-
-/// Puts the number of a fault and its token at the end of the text.
-pub(crate) fn put_fault(told: &mut Text, number: u8, token: u64) -> Result<(), AllocError> {
-    told.put_number(number)?;
-    told.put(b" at ")?;
-    told.put_number(token)
 }
 
 /// The design that a text describes.

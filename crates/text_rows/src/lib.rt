@@ -1,9 +1,7 @@
-//! Worked rows of texts, as tests alone: devices, tokens, designs and solutions that are read,
-//! verdicts, trees of nets, and what is written.
+//! Worked rows of texts, as tests alone: devices, tokens, trees of nets, verdicts on trees, and texts
+//! that are written.
 #![tactic(auto)]
 
-#[cfg(test)]
-mod designs;
 #[cfg(test)]
 mod devices;
 #[cfg(test)]
@@ -11,12 +9,8 @@ mod given;
 #[cfg(test)]
 mod net_trees;
 #[cfg(test)]
-mod solutions;
-#[cfg(test)]
 mod texts;
 #[cfg(test)]
 mod tokens;
 #[cfg(test)]
 mod verdicts;
-#[cfg(test)]
-mod writing;

@@ -1,43 +1,17 @@
-//! Verdicts on solutions and on trees.
-ghost use Rattle.std.specs.Prelude.{◌≡◌, ◌≤◌, length, IfOk};
+//! Verdicts on trees.
+ghost use Rattle.std.specs.Prelude.{◌≡◌, length, IfOk};
 
-use crate::given::{design, solution};
+use crate::given::design;
 use gr_base::{Design, RouteTree, Routes, Shape};
-use route_evaluator::{Verdict, evaluate, evaluate_routes};
+use route_evaluator::{Verdict, evaluate_routes};
 use std::alloc::{AllocError, Global};
 use std::test::Fail;
-
-/// A grid of three by two tiles on two layers, and the head of its one net, which lacks its pins.
-const GRID: &str = "grid 3 2 2\nvertical capacity 0 4\nhorizontal capacity 4 0\n\
-    minimum width 1 1\nminimum spacing 1 1\nvia spacing 1 1\n0 0 10 10\nnum net 1\na 0 ";
-
-/// One net of two pins on that grid.
-const WIDE: &str = "grid 3 2 2\nvertical capacity 0 4\nhorizontal capacity 4 0\n\
-    minimum width 1 1\nminimum spacing 1 1\nvia spacing 1 1\n0 0 10 10\nnum net 1\n\
-    a 0 2 1\n5 5 1\n25 15 1\n";
-
-/// Two nets on two tiles, with one wire edge that has room for one of them.
-const NARROW: &str = "grid 2 1 1\nvertical capacity 0\nhorizontal capacity 2\n\
-    minimum width 1\nminimum spacing 1\nvia spacing 1\n0 0 10 10\nnum net 2\n\
-    a 0 2 1\n5 5 1\n15 5 1\nb 1 2 1\n5 5 1\n15 5 1\n";
 
 /// Two nets on a grid of three by two tiles on two layers, where the wire edges of the first layer
 /// have room for one net.
 const ROOM_FOR_ONE: &str = "grid 3 2 2\nvertical capacity 0 4\nhorizontal capacity 2 0\n\
     minimum width 1 1\nminimum spacing 1 1\nvia spacing 1 1\n0 0 10 10\nnum net 2\n\
     a 0 2 1\n5 5 1\n25 15 1\nb 1 2 1\n5 5 1\n15 5 1\n";
-
-/// A route of the one net: a number behind the id, segments that overlap, one inside a tile, and
-/// one that goes backward.
-const ROUTE: &str = "a 0 4\n(5,5,1)-(25,5,1)\n(15,5,1)-(25,5,1)\n(1,1,1)-(9,9,1)\n\
-    (25,5,1)-(25,5,2)\n(25,5,2)-(25,15,2)\n(25,15,2)-(25,15,1)\n!\n";
-
-/// The same without its last segment.
-const CUT: &str = "a 0 4\n(5,5,1)-(25,5,1)\n(15,5,1)-(25,5,1)\n(1,1,1)-(9,9,1)\n\
-    (25,5,1)-(25,5,2)\n(25,5,2)-(25,15,2)\n!\n";
-
-/// The two nets on the one edge.
-const BOTH: &str = "a 0\n(5,5,1)-(15,5,1)\n!\nb 1\n(5,5,1)-(15,5,1)\n!\n";
 
 /// What a verdict says: routed, total, max, wirelength and vias, and behind them the unjoined nets.
 fn told(alloc: Global, verdict: &Verdict) -> Result<String, Fail> {
@@ -49,52 +23,6 @@ fn told(alloc: Global, verdict: &Verdict) -> Result<String, Fail> {
         told.push_str(&format!(in alloc; " {net}")?)?;
     }
     Ok(told)
-}
-
-/// What is said of a solution of a design.
-fn judge(alloc: Global, design_text: &str, text: &str, via_cost: u32) -> Result<String, Fail>
-    requires { via_cost ≤ 1000 }
-{
-    let design = design(alloc, design_text)?;
-    let solution = solution(alloc, &design, text)?;
-    let verdict = evaluate(alloc, &design, &solution, via_cost)?;
-    told(alloc, &verdict)
-}
-
-#[test]
-fn solutions_are_judged(rt: HostRuntime) -> Result<(), Fail> {
-    let alloc = rt.alloc();
-    for (design, text, via_cost, wanted) in [
-        // An edge counts once, and a via edge its cost.
-        (WIDE, ROUTE, 1, "1 0 0 5 2:"),
-        (WIDE, ROUTE, 3, "1 0 0 9 2:"),
-        // A pin that no walk reaches.
-        (WIDE, CUT, 1, "1 0 0 4 1: 0"),
-        (WIDE, "", 1, "1 0 0 0 0: 0"),
-        // Two nets on one edge.
-        (NARROW, BOTH, 1, "2 2 2 2 0:"),
-        // The nets come in the design's order, and not in the solution's.
-        (NARROW, "b 1\n!\na 0\n!\n", 1, "2 0 0 0 0: 0 1"),
-    ] {
-        assert!(rt; via_cost <= 1000);
-        let told = judge(alloc, design, text, via_cost)?;
-        assert_eq!(rt; told.as_str(), wanted, "{text}");
-    }
-    Ok(())
-}
-
-#[test]
-fn nets_of_many_pins_are_not_routed(rt: HostRuntime) -> Result<(), Fail> {
-    let alloc = rt.alloc();
-    for (pins, wanted) in [(1000, "1 0 0 0 0:"), (1001, "0 0 0 0 0:")] {
-        let mut text = format!(in alloc; "{GRID}{pins} 1\n")?;
-        for _ in 0..pins {
-            text.push_str("5 5 1\n")?;
-        }
-        let told = judge(alloc, &text, "a 0\n!\n", 1)?;
-        assert_eq!(rt; told.as_str(), wanted, "{pins}");
-    }
-    Ok(())
 }
 
 /// What is said of two trees of two nets, at a via cost of 3.
