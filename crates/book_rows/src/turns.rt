@@ -89,7 +89,7 @@ fn sync<N: BookName, R: Wait + Print>(
     let mut replica = Replica::new(alloc, design)?;
     book.sync(rt, zero, &mut replica)?;
     println!(rt;
-        "pass 0 syncs: front {}, demand {}",
+        "pass 0 syncs: front {}, demand is {}",
         replica.front(),
         replica.loads().demand(EDGE)
     )
