@@ -2,7 +2,7 @@
 use Rattle.std.proofs.Common.{◌≡◌, ℕ, ◌<◌, ◌≤◌, inl, inr, List, [], ◌∷◌, ◌++◌, true, false, nat_lt, refl, sym, ap, subst, ◌∙◌, arith, All}
 use Rattle.std.proofs.lemmas.Bool.{cases_lt}
 use Rattle.std.proofs.lemmas.Bool.Decides.{nat_tests}
-use Rattle.std.proofs.lemmas.List.Elements.{All-nil, All-cons, All-append, All-weaker}
+use Rattle.std.proofs.lemmas.List.Elements.{All-nil, All-cons, All-head, All-tail, All-append, All-weaker}
 use Rattle.pattern_route.specs.Walks.{cheaper, least_of, first_least, IsFirstLeast}
 
 pub cheaper-second : (cost : List ℕ → ℕ) (a b : List ℕ) → cost b < cost a → cheaper cost a b ≡ b
@@ -50,10 +50,12 @@ pub least_of-append : (cost : List ℕ → ℕ) (a : List ℕ) (xs ys : List (Li
 least_of-append cost a [] ys = refl
 least_of-append cost a (x ∷ xs) ys = least_of-append cost (cheaper cost a x) xs ys
 
--- the first least walk of two lists is the cheaper of theirs
-pub least-of-both : (cost : List ℕ → ℕ) (a b : List ℕ) (xs ys : List (List ℕ)) →
-    first_least cost ((a ∷ xs) ++ (b ∷ ys)) ≡ cheaper cost (first_least cost (a ∷ xs)) (first_least cost (b ∷ ys))
-least-of-both cost a b xs ys = least_of-append cost a xs (b ∷ ys) ∙ least_of-cons cost (least_of cost a xs) b ys
+-- a walk stays the first least one before others that cost no less
+pub least_of-kept : (cost : List ℕ → ℕ) (a : List ℕ) (rest : List (List ℕ)) → All (λ w. cost a ≤ cost w) rest → least_of cost a rest ≡ a
+least_of-kept cost a [] all = refl
+least_of-kept cost a (b ∷ rest) all =
+    let P : List ℕ → Type 0 = λ w. cost a ≤ cost w in
+    ap (λ w. least_of cost w rest) (cheaper-first cost a b (All-head P b rest all)) ∙ least_of-kept cost a rest (All-tail P b rest all)
 
 first-of-one : (cost : List ℕ → ℕ) (a : List ℕ) → IsFirstLeast cost (a ∷ []) a
 first-of-one cost a = record {

@@ -15,7 +15,7 @@ use Rattle.pattern_route.specs.declared.line.Span.{Span}
 use Rattle.pattern_route.specs.Steps.{toward, onward}
 use Rattle.pattern_route.specs.Walks.{by_column, by_row, flat_walk, walk_cost, cheaper, least_of, last_of, StepsOn, Recedes, IsDirect}
 use Rattle.pattern_route.specs.Lines.{across, line_cell, place_on, IsOn, IsBetween, along, span_of, leaving, crossing, arriving, SpanFits, walk_by}
-use Rattle.pattern_route.proofs.StepLemmas.{onward-none, onward-step, step-cases, gap-toward, between-next}
+use Rattle.pattern_route.proofs.StepLemmas.{onward-none, onward-step, step-cases, gap-toward, all-onward, all-lines}
 use Rattle.pattern_route.proofs.LineLemmas.{step-joined, next-on-line}
 use Rattle.pattern_route.proofs.CrossingLemmas.{turned, leaving-on, arriving-on, crossing-on-from, crossing-on-to}
 use Rattle.pattern_route.proofs.ChoiceLemmas.{cheaper-first, cheaper-second}
@@ -222,28 +222,6 @@ direct-span g a span at fits between sees_it first =
       recedes =
           (start_lies ∙ none, leg-recedes (gap span.start at) g a (leaving span) 0 span.start at (gap span.start at + 1) (leg_2 ++ leg_3) refl begins fits.start left_on lies_1 recedes_2);
     }
-
--- what holds of every number between two holds of those on the way from one to the other
-all-onward : (P : ℕ → Type 0) (n start from to : ℕ) → gap from to ≡ n → IsBetween start from to →
-    ((p : ℕ) → IsBetween start p to → P p) → All P (onward from to)
-all-onward P zero start from to steps between holds =
-    let same : from ≡ to = omega arith in
-    let Q : ℕ → Type 0 = λ t. All P (onward from t) in
-    let R : List ℕ → Type 0 = λ xs. All P xs in
-    subst Q same (subst R (sym (onward-none from)) (All-nil P))
-all-onward P (suc n) start from to steps between holds =
-    let other : from ≢ to = omega arith in
-    let nearer = gap-toward from to other in
-    let next = toward from to in
-    let facts = between-next start from to next refl between other in
-    let R : List ℕ → Type 0 = λ xs. All P xs in
-    subst R (sym (onward-step from to other))
-    (All-cons P next (onward next to) (holds next (facts.1)) (all-onward P n start next to (omega arith) (facts.1) holds))
-
-all-lines : (P : ℕ → Type 0) (start end : ℕ) → ((p : ℕ) → IsBetween start p end → P p) → All P (start ∷ onward start end)
-all-lines P start end holds =
-    let here : IsBetween start start end = omega arith in
-    All-cons P start (onward start end) (holds start here) (all-onward P (gap start end) start start end refl here holds)
 
 -- what holds of all walks holds of the first least one
 least_of-holds : (P : List ℕ → Type 0) (cost : List ℕ → ℕ) (walk : List ℕ) (rest : List (List ℕ)) → P walk → All P rest → P (least_of cost walk rest)

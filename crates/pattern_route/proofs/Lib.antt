@@ -5,3 +5,4 @@ pub mod CrossingLemmas
 pub mod ChoiceLemmas
 pub mod ChosenLemmas
 pub mod DirectLemmas
+pub mod LeastLemmas

@@ -1,7 +1,8 @@
 -- Steps from one number to another.
-use Rattle.std.proofs.Common.{◌≡◌, ◌≢◌, ℕ, zero, suc, ◌+◌, ◌-◌, ◌<◌, ◌≤◌, ◌⊎◌, inl, inr, [], ◌∷◌, ◌++◌, true, false, nat_lt, refl, sym, ap, subst, ◌∙◌, arith}
+use Rattle.std.proofs.Common.{◌≡◌, ◌≢◌, ℕ, zero, suc, ◌+◌, ◌-◌, ◌<◌, ◌≤◌, ◌⊎◌, inl, inr, List, [], ◌∷◌, ◌++◌, All, true, false, nat_lt, refl, sym, ap, subst, ◌∙◌, arith}
 use Rattle.std.proofs.lemmas.Bool.{cases_lt}
 use Rattle.std.proofs.lemmas.Bool.Decides.{nat_tests}
+use Rattle.std.proofs.lemmas.List.Elements.{All-nil, All-cons}
 use Rattle.gr_base.specs.Grid.{gap}
 use Rattle.pattern_route.specs.Steps.{toward, steps_toward, onward}
 use Rattle.pattern_route.specs.Lines.{IsBetween}
@@ -87,3 +88,25 @@ between-next start at end next is between other =
 pub onward-one : (at next : ℕ) → toward at next ≡ next → at ≢ next → onward at next ≡ next ∷ []
 onward-one at next is other =
     onward-step at next other ∙ ap (λ p. p ∷ onward p next) is ∙ ap (λ xs. next ∷ xs) (onward-none next)
+
+-- what holds of every number between two holds of those on the way from one to the other
+pub all-onward : (P : ℕ → Type 0) (n start from to : ℕ) → gap from to ≡ n → IsBetween start from to →
+    ((p : ℕ) → IsBetween start p to → P p) → All P (onward from to)
+all-onward P zero start from to steps between holds =
+    let same : from ≡ to = omega arith in
+    let Q : ℕ → Type 0 = λ t. All P (onward from t) in
+    let R : List ℕ → Type 0 = λ xs. All P xs in
+    subst Q same (subst R (sym (onward-none from)) (All-nil P))
+all-onward P (suc n) start from to steps between holds =
+    let other : from ≢ to = omega arith in
+    let nearer = gap-toward from to other in
+    let next = toward from to in
+    let facts = between-next start from to next refl between other in
+    let R : List ℕ → Type 0 = λ xs. All P xs in
+    subst R (sym (onward-step from to other))
+    (All-cons P next (onward next to) (holds next (facts.1)) (all-onward P n start next to (omega arith) (facts.1) holds))
+
+pub all-lines : (P : ℕ → Type 0) (start end : ℕ) → ((p : ℕ) → IsBetween start p end → P p) → All P (start ∷ onward start end)
+all-lines P start end holds =
+    let here : IsBetween start start end = omega arith in
+    All-cons P start (onward start end) (holds start here) (all-onward P (gap start end) start start end refl here holds)

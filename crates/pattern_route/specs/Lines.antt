@@ -81,6 +81,14 @@ walk_by g span at =
 abbrev pub walks_by : Shape → Span → List (List ℕ)
 walks_by g span = map (walk_by g span) (span.start ∷ onward span.start span.end)
 
+-- the walk of a crossing
+abbrev pub walk_at : Shape → Crossing → List ℕ
+walk_at g crossing = walk_by g crossing.span crossing.at
+
+-- the walks by the lines after a sweep's
+abbrev pub walks_after : Shape → Sweep → List (List ℕ)
+walks_after g sweep = map (walk_by g sweep.span) (onward sweep.at sweep.span.end)
+
 -- the sweep has come to a line of the span's and knows what the legs to it and from it cost
 pub record IsAtLine (g : Shape) (price : Edge → Option ℕ) (sweep : Sweep) : Type 0 where
   pub fits : SpanFits g sweep.span
@@ -92,5 +100,6 @@ pub record IsAtLine (g : Shape) (price : Edge → Option ℕ) (sweep : Sweep) : 
 
 -- the crossing is a line of the span's and knows what the walk by it costs
 pub record IsCrossing (g : Shape) (price : Edge → Option ℕ) (crossing : Crossing) : Type 0 where
+  pub fits : SpanFits g crossing.span
   pub between : IsBetween crossing.span.start crossing.at crossing.span.end
-  pub cost : crossing.cost ≡ walk_cost g price (walk_by g crossing.span crossing.at)
+  pub cost : crossing.cost ≡ walk_cost g price (walk_at g crossing)

@@ -1,8 +1,9 @@
-ghost use Rattle.std.specs.Prelude.{◌≡◌, ◌≢◌, ◌++◌, IfOk, if◌then◌else◌, nat_lt};
+ghost use Rattle.std.specs.Prelude.{◌≡◌, ◌≢◌, ◌+◌, ◌++◌, IfOk, if◌then◌else◌, nat_lt};
+ghost use Rattle.gr_base.specs.Grid.{gap};
 ghost use Rattle.gr_base.specs.declared.grid.Cell.{Cell};
 ghost use Rattle.pattern_route.specs.Steps.{toward};
-ghost use Rattle.pattern_route.specs.Walks.{IsFlat, walk_cost, first_least, cheaper};
-ghost use Rattle.pattern_route.specs.Lines.{across, span_of, leaving, arriving, crossing, SpanFits, walk_by, walks_by, IsBetween, IsAtLine, IsCrossing};
+ghost use Rattle.pattern_route.specs.Walks.{IsFlat, walk_cost, first_least, least_of, cheaper};
+ghost use Rattle.pattern_route.specs.Lines.{across, span_of, leaving, arriving, crossing, SpanFits, walk_by, walk_at, walks_by, walks_after, IsBetween, IsAtLine, IsCrossing};
 
 use crate::leg::{cost_along, one_toward, push_along, step_along};
 use crate::line::{Axis, Crossing, Line, Span, Sweep};
@@ -72,6 +73,20 @@ impl Span {
             at: self.to,
         }
     }
+
+    /// How many steps a walk takes along the lines that it crosses by.
+    fn steps_across(self) -> u64
+        ensures { result ≡ gap self.from self.to }
+    {
+        u64::from(self.from.abs_diff(self.to))
+    }
+
+    /// How many steps each walk takes. None of them costs less than 1.
+    fn steps(self) -> u64
+        ensures { result ≡ gap self.start self.end + gap self.from self.to }
+    {
+        u64::from(self.start.abs_diff(self.end)) + self.steps_across()
+    }
 }
 
 /// The sweep at the span's first line.
@@ -131,7 +146,7 @@ fn crossing_at<C: Costs>(costs: &C, shape: Shape, sweep: Sweep) -> Crossing
 }
 
 /// Of two crossings the second where it costs less, else the first.
-pub(crate) fn cheaper_of(first: Crossing, second: Crossing) -> Crossing
+fn cheaper_of(first: Crossing, second: Crossing) -> Crossing
     ensures { result ≡ (if nat_lt second.cost first.cost then second else first) }
 {
     if second.cost < first.cost {
@@ -141,30 +156,81 @@ pub(crate) fn cheaper_of(first: Crossing, second: Crossing) -> Crossing
     }
 }
 
+/// Of a crossing and that by the sweep's line the second where it costs less, else the first. The
+/// line isn't priced where even steps that cost 1 each would not make it cheaper.
+fn cheaper_at<C: Costs>(costs: &C, shape: Shape, best: Crossing, sweep: Sweep) -> Crossing
+    requires grid { C.grid costs.now ≡ shape }
+    requires flat { IsFlat shape (C.price costs.now) }
+    requires best { IsCrossing shape (C.price costs.now) best }
+    requires sweep { IsAtLine shape (C.price costs.now) sweep }
+    ensures crossing { IsCrossing shape (C.price costs.now) result }
+    ensures walk { let cost = walk_cost shape (C.price costs.now) in
+        walk_at shape result ≡ cheaper cost (walk_at shape best) (walk_by shape sweep.span sweep.at) }
+{
+    if best.cost <= sweep.left + sweep.span.steps_across() + sweep.to_come {
+        return best;
+    }
+    cheaper_of(best, crossing_at(costs, shape, sweep))
+}
+
+/// The first of least cost of a crossing and those by the lines after a sweep's. The sweep ends
+/// early at a crossing that costs 1 a step.
+fn least_after<C: Costs>(costs: &C, shape: Shape, first: Sweep, found: Crossing) -> Crossing
+    requires grid { C.grid costs.now ≡ shape }
+    requires flat { IsFlat shape (C.price costs.now) }
+    requires first { IsAtLine shape (C.price costs.now) first }
+    requires found { IsCrossing shape (C.price costs.now) found }
+    ensures crossing { IsCrossing shape (C.price costs.now) result }
+    ensures least { let cost = walk_cost shape (C.price costs.now) in
+        walk_at shape result ≡ least_of cost (walk_at shape found) (walks_after shape first) }
+{
+    let mut sweep = first;
+    let mut best = found;
+    while sweep.at != sweep.span.end {
+        if best.cost <= sweep.span.steps() {
+            return best;
+        }
+        sweep = next(costs, shape, sweep);
+        best = cheaper_at(costs, shape, best, sweep);
+    }
+    best
+}
+
 /// The first crossing of least cost by a line of the span.
 pub(crate) fn least_crossing<C: Costs>(costs: &C, shape: Shape, span: Span) -> Crossing
     requires grid { C.grid costs.now ≡ shape }
     requires flat { IsFlat shape (C.price costs.now) }
     requires fits { SpanFits shape span }
     ensures crossing { IsCrossing shape (C.price costs.now) result }
-    ensures span { result.span ≡ span }
     ensures least { let cost = walk_cost shape (C.price costs.now) in
-        walk_by shape span result.at ≡ first_least cost (walks_by shape span) }
+        walk_at shape result ≡ first_least cost (walks_by shape span) }
 {
-    let mut sweep = start(costs, shape, span);
-    let mut best = crossing_at(costs, shape, sweep);
-    while sweep.at != span.end {
-        sweep = next(costs, shape, sweep);
-        best = cheaper_of(best, crossing_at(costs, shape, sweep));
+    let sweep = start(costs, shape, span);
+    least_after(costs, shape, sweep, crossing_at(costs, shape, sweep))
+}
+
+/// The first of least cost of a crossing and those by the lines of the span.
+pub(crate) fn least_with<C: Costs>(costs: &C, shape: Shape, found: Crossing, span: Span) -> Crossing
+    requires grid { C.grid costs.now ≡ shape }
+    requires flat { IsFlat shape (C.price costs.now) }
+    requires found { IsCrossing shape (C.price costs.now) found }
+    requires fits { SpanFits shape span }
+    ensures crossing { IsCrossing shape (C.price costs.now) result }
+    ensures least { let cost = walk_cost shape (C.price costs.now) in
+        walk_at shape result ≡ least_of cost (walk_at shape found) (walks_by shape span) }
+{
+    if found.cost <= span.steps() {
+        return found;
     }
-    best
+    let sweep = start(costs, shape, span);
+    least_after(costs, shape, sweep, cheaper_at(costs, shape, found, sweep))
 }
 
 /// The walk by a crossing.
 pub(crate) fn walk_of(alloc: Global, shape: Shape, crossing: Crossing) -> Result<Cells, AllocError>
     requires fits { SpanFits shape crossing.span }
     requires between { IsBetween crossing.span.start crossing.at crossing.span.end }
-    ensures { IfOk result (λ cells. cells ≡ walk_by shape crossing.span crossing.at) }
+    ensures { IfOk result (λ cells. cells ≡ walk_at shape crossing) }
 {
     let span = crossing.span;
     let mut cells = Cells::new(alloc);

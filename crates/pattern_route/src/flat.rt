@@ -2,7 +2,7 @@ ghost use Rattle.std.specs.Prelude.{◌≡◌, ◌<◌, IfOk};
 ghost use Rattle.gr_base.specs.Grid.{cells_of, place_at};
 ghost use Rattle.pattern_route.specs.Walks.{IsFlat, walk_cost, flat_walks, flat_walk, IsFirstLeast, IsDirect};
 
-use crate::crossing::{cheaper_of, least_crossing, walk_of};
+use crate::crossing::{least_crossing, least_with, walk_of};
 use crate::line::{Axis, Span};
 use cost_rules::Costs;
 use gr_base::{Cells, Shape};
@@ -37,7 +37,7 @@ pub fn pattern<C: Costs>(
     least_walk(alloc, costs, shape, a, b)
 }
 
-/// The same walk, by the least crossing column and the least crossing row.
+/// The same walk: by the least crossing column, or by a crossing row that costs less.
 fn least_walk<C: Costs>(
     alloc: Global,
     costs: &C,
@@ -54,6 +54,6 @@ fn least_walk<C: Costs>(
     let from = shape.place_of(a);
     let to = shape.place_of(b);
     let by_column = least_crossing(costs, shape, Span::new(Axis::Columns, from, to));
-    let by_row = least_crossing(costs, shape, Span::new(Axis::Rows, from, to));
-    walk_of(alloc, shape, cheaper_of(by_column, by_row))
+    let best = least_with(costs, shape, by_column, Span::new(Axis::Rows, from, to));
+    walk_of(alloc, shape, best)
 }

@@ -13,6 +13,7 @@ returns-clause-crossing g c =
     let span = c.args.sweep.span in
     let whole = walk_cost-walk_by c.args.shape price span c.args.sweep.at in
     record {
+      fits = c.requires.sweep.fits;
       between = c.requires.sweep.between;
       cost =
           three _ _ _ _ _ _ _ whole c.requires.sweep.left
