@@ -1,10 +1,11 @@
 -- Layers are eliminated node by node, from the last: what is left costs the least, and choices lead to the first.
-use Rattle.std.proofs.Common.{Option, Some, None, ◌≡◌, ◌≢◌, ℕ, suc, zero, ◌+◌, ◌*◌, ◌<◌, ◌≤◌, inl, inr, Bool, true, false, ◌&&◌, ◌||◌, ◌==◌, nat_lt, if◌then◌else◌, IsTrue, refl, sym, ap, subst, ◌∙◌, arith}
-use Rattle.std.proofs.lemmas.Bool.{cases_eq, cases_Bool}
+use Rattle.std.proofs.Common.{Option, Some, None, ◌≡◌, ◌≢◌, ℕ, suc, zero, ◌+◌, ◌*◌, ◌<◌, ◌≤◌, ◌⊎◌, inl, inr, min, max, Bool, true, false, ◌&&◌, ◌||◌, ◌==◌, nat_lt, if◌then◌else◌, IsTrue, refl, sym, ap, subst, ◌∙◌, arith}
+use Rattle.std.proofs.lemmas.Bool.{cases_eq, cases_lt, cases_Bool}
 use Rattle.std.proofs.lemmas.Bool.Decides.{nat_tests}
 use Rattle.layer_assign.specs.declared.span.Span.{Span}
 use Rattle.layer_assign.specs.Spans.{widened, climb, IsWithin, span_by}
 use Rattle.layer_assign.specs.Choices.{IsBest}
+use Rattle.layer_assign.specs.Chosen.{is_near, may_precede}
 use Rattle.layer_assign.proofs.Sums.{sums, sums-same, sums-changed, sums-at}
 
 -- what assignments are judged by: the parents of nodes, what each node's edge costs on a layer,
@@ -47,13 +48,19 @@ FollowsFrom p choice i a = (v : ℕ) → i ≤ v → 0 < v → v < p.nodes → a
 abbrev pub Alike : (ℕ → ℕ) → (ℕ → ℕ) → ℕ → Type 0
 Alike a b v = (w : ℕ) → 0 < w → w < v → a w ≡ b w
 
+-- a tile has this span before the edge of a node, where the layers of the nodes below are allowed
+pub record Precedes (p : Problem) (u i : ℕ) (s : Option Span) : Type 0 where
+  pub layers : ℕ → ℕ
+  pub allowed : (w : ℕ) → 0 < w → w < i → IsTrue (p.may w (layers w))
+  pub is : span p layers u i ≡ s
+
 -- the layers of the nodes from a number on are eliminated: E tells what they cost at least, and the choices the first layers that cost this
 pub record Eliminates (p : Problem) (i : ℕ) (E choice : ℕ → Option Span → ℕ) : Type 0 where
   pub bound : (a : ℕ → ℕ) → Assigned p a → total p E a i ≤ whole p a
   pub attained : (a : ℕ → ℕ) → Assigned p a → FollowsFrom p choice i a → whole p a ≡ total p E a i
   pub first : (a b : ℕ → ℕ) → Assigned p a → Assigned p b → FollowsFrom p choice i a → whole p b ≡ total p E b i →
       (v : ℕ) → i ≤ v → 0 < v → v < p.nodes → Alike a b v → a v ≤ b v
-  pub allowed : (v : ℕ) → i ≤ v → 0 < v → v < p.nodes → (s : Option Span) → IsWithin p.layers s → IsTrue (p.may v (choice v s))
+  pub allowed : (v : ℕ) → i ≤ v → 0 < v → v < p.nodes → (s : Option Span) → Precedes p (p.parent v) v s → IsTrue (p.may v (choice v s))
 
 pub widened-within : (layers : ℕ) (s : Option Span) (l : ℕ) → IsWithin layers s → l < layers → IsWithin layers (widened s l)
 widened-within layers None l within below = record { ordered = omega arith; high = below }
@@ -92,15 +99,76 @@ span-base p a u (suc (suc i)) sound inside le =
     let earlier = sound.earlier (suc i) (omega arith) (omega arith) in
     span-kept p a u (suc i) (ends-other p u (suc i) (λ e. omega arith) (λ e. omega arith)) ∙ span-base p a u (suc i) sound inside (omega arith)
 
-pub span-within : (p : Problem) (a : ℕ → ℕ) (u i : ℕ) → IsSound p → Assigned p a → i ≤ p.nodes → IsWithin p.layers (span p a u i)
-span-within p a u zero sound assigned le = sound.within u
-span-within p a u (suc zero) sound assigned le = sound.within u
-span-within p a u (suc (suc i)) sound assigned le =
-    let before = span-within p a u (suc i) sound assigned (omega arith) in
-    let below = sound.below (suc i) (a (suc i)) (assigned (suc i) (omega arith) (omega arith)) in
+pub span-within_below : (p : Problem) (a : ℕ → ℕ) (u i : ℕ) → IsSound p → ((w : ℕ) → 0 < w → w < i → a w < p.layers) → IsWithin p.layers (span p a u i)
+span-within_below p a u zero sound each = sound.within u
+span-within_below p a u (suc zero) sound each = sound.within u
+span-within_below p a u (suc (suc i)) sound each =
+    let before = span-within_below p a u (suc i) sound (λ w later lt. each w later (omega arith)) in
+    let below = each (suc i) (omega arith) (omega arith) in
     elim (cases_Bool (ends p u (suc i))) [
       | inl is ↦ subst (λ (s : Option Span). IsWithin p.layers s) (sym (span-more p a u (suc i) is)) (widened-within p.layers (span p a u (suc i)) (a (suc i)) before below)
       | inr is ↦ subst (λ (s : Option Span). IsWithin p.layers s) (sym (span-kept p a u (suc i) is)) before
+    ]
+
+pub span-within : (p : Problem) (a : ℕ → ℕ) (u i : ℕ) → IsSound p → Assigned p a → i ≤ p.nodes → IsWithin p.layers (span p a u i)
+span-within p a u i sound assigned le = span-within_below p a u i sound (λ w later lt. sound.below w (a w) (assigned w later (omega arith)))
+
+-- spans that come before a node are within the grid
+pub precedes-within : (p : Problem) (u i : ℕ) (s : Option Span) → IsSound p → Precedes p u i s → IsWithin p.layers s
+precedes-within p u i s sound precedes =
+    subst (λ (r : Option Span). IsWithin p.layers r) precedes.is
+    (span-within_below p precedes.layers u i sound (λ w later lt. sound.below w (precedes.layers w) (precedes.allowed w later lt)))
+
+pub span-precedes : (p : Problem) (a : ℕ → ℕ) (u i : ℕ) → Assigned p a → i ≤ p.nodes → Precedes p u i (span p a u i)
+span-precedes p a u i assigned le = record {
+  layers = a;
+  allowed = λ w later lt. assigned w later (omega arith);
+  is = refl;
+}
+
+-- a span ends where it did with one layer more or without
+near-same : (f : Option Span) → is_near 0 f f ≡ true
+near-same None = refl
+near-same (Some f) = grind (arith, nat_tests)
+
+near-widened : (layers parent : ℕ) (f : Option Span) (l : ℕ) → IsWithin layers f → is_near parent f (widened f l) ≡ true
+near-widened layers parent None l within = grind (arith, nat_tests)
+near-widened layers parent (Some f) l within =
+    let ordered = within.ordered in
+    elim (cases_lt l f.low) [
+      | inl below ↦ let high : max f.high l ≡ f.high = omega arith in rw high (plain (min f.low l == f.low) f.high)
+      | inr above ↦ let low : min f.low l ≡ f.low = omega arith in rw low (first f.low (max f.high l == f.high))
+    ]
+  where
+    plain : (b : Bool) (n : ℕ) → (b || (n == n)) ≡ true
+    plain true n = refl
+    plain false n = grind (arith, nat_tests)
+
+    first : (n : ℕ) (b : Bool) → ((n == n) || b) ≡ true
+    first n b = let is : (n == n) ≡ true = grind (arith, nat_tests) in rw is refl
+
+near-first : (p : Problem) (a : ℕ → ℕ) (u : ℕ) → IsSound p → u < p.nodes → is_near u (p.base u) (span p a u (suc u)) ≡ true
+near-first p a zero sound inside = near-same (p.base 0)
+near-first p a (suc u) sound inside =
+    let is : span p a (suc u) (suc (suc u)) ≡ widened (p.base (suc u)) (a (suc u)) =
+    span-more p a (suc u) (suc u) (ends-own p (suc u) (omega arith)) ∙
+    ap (λ (s : Option Span). widened s (a (suc u))) (span-base p a (suc u) (suc u) sound inside (omega arith)) in
+    subst (λ (s : Option Span). is_near (suc u) (p.base (suc u)) s ≡ true) (sym is) (near-widened p.layers (suc u) (p.base (suc u)) (a (suc u)) (sound.within (suc u)))
+
+-- what may come before a node is what does
+pub precedes-may : (p : Problem) (v : ℕ) (s : Option Span) → IsSound p → 0 < v → v < p.nodes → Precedes p (p.parent v) v s →
+    may_precede (p.parent v) v (p.base (p.parent v)) s ≡ true
+precedes-may p v s sound later inside precedes =
+    let up = p.parent v in
+    elim (cases_eq (up + 1) v) [
+      | inl next ↦
+          let test : (up + 1 == v) ≡ true = grind (arith, nat_tests) in
+          let at : suc up ≡ v = omega arith in
+          let near : is_near up (p.base up) (span p precedes.layers up v) ≡ true =
+          subst (λ (k : ℕ). is_near up (p.base up) (span p precedes.layers up k) ≡ true) at (near-first p precedes.layers up sound (omega arith)) in
+          let here : is_near up (p.base up) s ≡ true = subst (λ (r : Option Span). is_near up (p.base up) r ≡ true) precedes.is near in
+          rw test (rw here refl)
+      | inr other ↦ let test : (up + 1 == v) ≡ false = grind (arith, nat_tests) in rw test refl
     ]
 
 pub span-alike : (p : Problem) (a b : ℕ → ℕ) (u i : ℕ) → Alike a b i → span p a u i ≡ span p b u i
@@ -118,7 +186,8 @@ onward p E v s l = p.wire v l + E v (widened (p.base v) l) + E (p.parent v) (wid
 
 -- one node's layer is eliminated: its parent's costs change, and its own are gone
 pub record Step (p : Problem) (v : ℕ) (E F choice later : ℕ → Option Span → ℕ) : Type 0 where
-  pub best : (s : Option Span) → IsWithin p.layers s → IsBest (onward p E v s) (p.may v) (choice v s) (F (p.parent v) s)
+  pub best : (s : Option Span) → Precedes p (p.parent v) v s → IsBest (onward p E v s) (p.may v) (choice v s) (F (p.parent v) s)
+  pub either : (s : Option Span) → IsWithin p.layers s → IsBest (onward p E v s) (p.may v) (choice v s) (F (p.parent v) s) ⊎ (F (p.parent v) s ≡ E (p.parent v) s)
   pub others : (u : ℕ) (s : Option Span) → u < v → u ≢ p.parent v → IsWithin p.layers s → F u s ≡ E u s
   pub kept : (w : ℕ) (s : Option Span) → v < w → w < p.nodes → IsWithin p.layers s → choice w s ≡ later w s
 
@@ -148,21 +217,21 @@ pub eliminates-more : (p : Problem) (v : ℕ) (E F choice later : ℕ → Option
 eliminates-more p v E F choice later sound positive below step done = record {
   bound = λ a assigned.
       let s = span p a (p.parent v) v in
-      let best = step.best s (span-within p a (p.parent v) v sound assigned (omega arith)) in
+      let best = step.best s (span-precedes p a (p.parent v) v assigned (omega arith)) in
       let least = best.least (a v) (assigned v positive below) in
       let change = total-step p v E F choice later a sound positive below assigned step in
       let rest = done.bound a assigned in
       low (total p F a v) (total p E a (suc v)) (whole p a) (F (p.parent v) s) (onward p E v s (a v)) least change rest;
   attained = λ a assigned follows.
       let s = span p a (p.parent v) v in
-      let best = step.best s (span-within p a (p.parent v) v sound assigned (omega arith)) in
+      let best = step.best s (span-precedes p a (p.parent v) v assigned (omega arith)) in
       let change = total-step p v E F choice later a sound positive below assigned step in
       let taken : onward p E v s (a v) ≡ F (p.parent v) s = ap (λ (l : ℕ). onward p E v s l) (follows v (omega arith) positive below) ∙ best.cost in
       let rest = done.attained a assigned (later-follows a assigned follows) in
       even (total p F a v) (total p E a (suc v)) (whole p a) (F (p.parent v) s) (onward p E v s (a v)) taken change rest;
   first = λ a b assigned other follows least w from later_node inside alike.
       let s = span p b (p.parent v) v in
-      let best = step.best s (span-within p b (p.parent v) v sound other (omega arith)) in
+      let best = step.best s (span-precedes p b (p.parent v) v other (omega arith)) in
       let change = total-step p v E F choice later b sound positive below other step in
       let over = best.least (b v) (other v positive below) in
       let rest = done.bound b other in
@@ -178,11 +247,14 @@ eliminates-more p v E F choice later sound positive below step done = record {
             let equal : whole p b ≡ total p E b (suc v) = equal_by (total p F b v) (total p E b (suc v)) (whole p b) (F (p.parent v) s) (onward p E v s (b v)) over change rest least in
             done.first a b assigned other (later-follows a assigned follows) equal w (omega arith) later_node inside alike
       ];
-  allowed = λ w from positive_w inside s within.
+  allowed = λ w from positive_w inside s precedes.
       elim (cases_eq v w) [
-        | inl same ↦ subst (λ (k : ℕ). IsTrue (p.may k (choice k s))) same (step.best s within).allowed
+        | inl same ↦
+            let here : Precedes p (p.parent v) v s = subst (λ (k : ℕ). Precedes p (p.parent k) k s) (sym same) precedes in
+            subst (λ (k : ℕ). IsTrue (p.may k (choice k s))) same (step.best s here).allowed
         | inr apart ↦
-            let rest = done.allowed w (omega arith) positive_w inside s within in
+            let rest = done.allowed w (omega arith) positive_w inside s precedes in
+            let within = precedes-within p (p.parent w) w s sound precedes in
             subst (λ (l : ℕ). IsTrue (p.may w l)) (sym (step.kept w s (omega arith) inside within)) rest
       ];
 }
@@ -211,7 +283,7 @@ eliminates-none p E choice sound each = record {
   bound = λ a assigned. let e = same a assigned in omega (arith, e);
   attained = λ a assigned follows. sym (same a assigned);
   first = λ a b assigned other follows least w from positive inside alike. absurd (omega arith);
-  allowed = λ w from positive inside s within. absurd (omega arith);
+  allowed = λ w from positive inside s precedes. absurd (omega arith);
 }
   where
     same : (a : ℕ → ℕ) → Assigned p a → total p E a p.nodes ≡ whole p a
@@ -240,29 +312,20 @@ eliminated-first p E choice sound done a assigned follows b other same v positiv
     let equal : whole p b ≡ total p E b 1 = omega (arith, own, same, first, second) in
     done.first a b assigned other follows equal v (omega arith) positive inside alike
 
-pub span-within_below : (p : Problem) (a : ℕ → ℕ) (u i : ℕ) → IsSound p → ((w : ℕ) → 0 < w → w < i → a w < p.layers) → IsWithin p.layers (span p a u i)
-span-within_below p a u zero sound each = sound.within u
-span-within_below p a u (suc zero) sound each = sound.within u
-span-within_below p a u (suc (suc i)) sound each =
-    let before = span-within_below p a u (suc i) sound (λ w later lt. each w later (omega arith)) in
-    let below = each (suc i) (omega arith) (omega arith) in
-    elim (cases_Bool (ends p u (suc i))) [
-      | inl is ↦ subst (λ (s : Option Span). IsWithin p.layers s) (sym (span-more p a u (suc i) is)) (widened-within p.layers (span p a u (suc i)) (a (suc i)) before below)
-      | inr is ↦ subst (λ (s : Option Span). IsWithin p.layers s) (sym (span-kept p a u (suc i) is)) before
-    ]
-
 -- layers that follow allowed choices are an assignment
 pub follows-assigned : (p : Problem) (choice : ℕ → Option Span → ℕ) (a : ℕ → ℕ) → IsSound p → FollowsFrom p choice 1 a →
-    ((v : ℕ) → 0 < v → v < p.nodes → (s : Option Span) → IsWithin p.layers s → IsTrue (p.may v (choice v s))) →
+    ((v : ℕ) → 0 < v → v < p.nodes → (s : Option Span) → Precedes p (p.parent v) v s → IsTrue (p.may v (choice v s))) →
     (i : ℕ) → i ≤ p.nodes → (w : ℕ) → 0 < w → w < i → IsTrue (p.may w (a w))
 follows-assigned p choice a sound follows allowed zero le w later lt = absurd (omega arith)
 follows-assigned p choice a sound follows allowed (suc i) le w later lt =
     elim (cases_eq w i) [
       | inl same ↦
-          let each : (v : ℕ) → 0 < v → v < w → a v < p.layers =
-          λ v positive less. sound.below v (a v) (follows-assigned p choice a sound follows allowed i (omega arith) v positive (omega arith)) in
-          let within = span-within_below p a (p.parent w) w sound each in
-          subst (λ (l : ℕ). IsTrue (p.may w l)) (sym (follows w (omega arith) later (omega arith))) (allowed w later (omega arith) (span p a (p.parent w) w) within)
+          let precedes : Precedes p (p.parent w) w (span p a (p.parent w) w) = record {
+            layers = a;
+            allowed = λ v positive less. follows-assigned p choice a sound follows allowed i (omega arith) v positive (omega arith);
+            is = refl;
+          } in
+          subst (λ (l : ℕ). IsTrue (p.may w l)) (sym (follows w (omega arith) later (omega arith))) (allowed w later (omega arith) (span p a (p.parent w) w) precedes)
       | inr other ↦ follows-assigned p choice a sound follows allowed i (omega arith) w later (omega arith)
     ]
 
@@ -294,14 +357,18 @@ weighed-more p v E F choice later sound positive below cheap step so_far = recor
   bound = λ u s lt within.
       elim (cases_eq u up) [
         | inl same ↦
-            let best = step.best s within in
-            let l = choice v s in
-            let wire = cheap l best.allowed in
-            let less = sound.below v l best.allowed in
-            let own = so_far.bound v (widened (p.base v) l) (omega arith) (widened-within p.layers (p.base v) l (sound.within v) less) in
-            let above = so_far.bound up (widened s l) (omega arith) (widened-within p.layers s l within less) in
-            let cost = best.cost in
-            subst (λ (k : ℕ). F k s ≤ heavier w up v k) (sym same) (rw at_up (omega (arith, wire, own, above, cost)))
+            let more : F up s ≤ w up + w v + 1048576 = elim (step.either s within) [
+              | inl best ↦
+                  let l = choice v s in
+                  let wire = cheap l best.allowed in
+                  let less = sound.below v l best.allowed in
+                  let own = so_far.bound v (widened (p.base v) l) (omega arith) (widened-within p.layers (p.base v) l (sound.within v) less) in
+                  let above = so_far.bound up (widened s l) (omega arith) (widened-within p.layers s l within less) in
+                  let cost = best.cost in
+                  omega (arith, wire, own, above, cost)
+              | inr kept ↦ let above = so_far.bound up s (omega arith) within in omega (arith, kept, above)
+            ] in
+            subst (λ (k : ℕ). F k s ≤ heavier w up v k) (sym same) (rw at_up more)
         | inr other ↦
             let test : (u == up) ≡ false = grind (arith, nat_tests) in
             let kept = step.others u s lt other within in

@@ -5,6 +5,8 @@ pub mod Problems
 pub mod TableLemmas
 pub mod ChoiceLemmas
 pub mod Choosing
+pub mod RunLemmas
+pub mod Running
 pub mod Following
 pub mod PinLemmas
 pub mod Turns

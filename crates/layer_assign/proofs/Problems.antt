@@ -18,7 +18,7 @@ use Rattle.layer_assign.specs.Spans.{span_of, widened, climb, IsWithin}
 use Rattle.layer_assign.specs.Assignments.{tile_of, level_of, parent_of, tile_at, goes_on, may_take, wire_cost, ends_at, pin_layers, met_below, cost_of}
 use Rattle.layer_assign.specs.Choices.{Follows, AreBest}
 use Rattle.layer_assign.proofs.Sums.{sums, sums-range, sums-same, range-more}
-use Rattle.layer_assign.proofs.Elimination.{widened-within, Problem, IsSound, span, whole, FollowsFrom, Eliminates, eliminated-least, eliminated-first}
+use Rattle.layer_assign.proofs.Elimination.{widened-within, Problem, IsSound, span, whole, FollowsFrom, Eliminates, eliminated-least, eliminated-first, follows-assigned}
 use Rattle.layer_assign.proofs.FlatLemmas.{level-below, parent-before, root_edge}
 
 -- the span of the pins of a node's tile
@@ -128,7 +128,8 @@ problem-sound g ways price t pins tree each = record {
 pub eliminates-best : (g : Shape) (ways : ℕ → Way → Bool) (price : Edge → Option ℕ) (t : TreeView) (pins : List ℕ) (E choice : ℕ → Option Span → ℕ) → IsTree t →
     All (λ pin. pin < cells_of g) pins → Eliminates (problem g ways price t pins) 1 E choice → AreBest g ways price t pins choice
 eliminates-best g ways price t pins E choice tree each done = record {
-  allowed = λ node positive below s within. done.allowed node (omega arith) positive below s within;
+  allowed = λ a follows v positive below.
+      follows-assigned p choice a sound (from a follows) (λ w later inside s precedes. done.allowed w (omega arith) later inside s precedes) (length t.nodes) (omega arith) v positive below;
   least = λ a assigned follows b other.
       let le = eliminated-least p E choice sound done a assigned (from a follows) b other in
       let one = cost-whole g ways price t pins a in

@@ -5,8 +5,8 @@ use Rattle.gr_base.specs.declared.grid.Edge.{Edge}
 use Rattle.gr_base.specs.declared.grid.Shape.{Shape}
 use Rattle.gr_base.specs.declared.grid.Way.{Way}
 use Rattle.layer_assign.specs.declared.span.Span.{Span}
-use Rattle.layer_assign.specs.Spans.{span_of, span_by, IsWithin, span_number, spans_of}
-use Rattle.layer_assign.specs.Assignments.{parent_of, may_take, IsAssignment, ends_at, met_below, IsLeast, IsFirst}
+use Rattle.layer_assign.specs.Spans.{span_of, span_by, span_number, spans_of}
+use Rattle.layer_assign.specs.Assignments.{parent_of, IsAssignment, ends_at, met_below, IsLeast, IsFirst}
 
 -- the first of the allowed layers at which f is least, and f there
 pub record IsBest (f : ℕ → ℕ) (may : ℕ → Bool) (layer value : ℕ) : Type 0 where
@@ -31,10 +31,9 @@ FollowsFrom t first choice a =
     (node : ℕ) → 0 < node → node < length t.nodes →
     a node ≡ choice node (span_by (ends_at t) first a (parent_of t node) node)
 
--- choices that lead to the first least assignment
+-- choices that lead to an assignment, and this is the first least one
 pub record AreBest (g : Shape) (ways : ℕ → Way → Bool) (price : Edge → Option ℕ) (t : TreeView) (pins : List ℕ)
     (choice : ℕ → Option Span → ℕ) : Type 0 where
-  pub allowed : (node : ℕ) → 0 < node → node < length t.nodes → (s : Option Span) → IsWithin g.layers s →
-      IsTrue (may_take g ways t node (choice node s))
+  pub allowed : (a : ℕ → ℕ) → Follows g t pins choice a → IsAssignment g ways t a
   pub least : (a : ℕ → ℕ) → IsAssignment g ways t a → Follows g t pins choice a → IsLeast g ways price t pins a
   pub first : (a : ℕ → ℕ) → IsAssignment g ways t a → Follows g t pins choice a → IsFirst g ways price t pins a

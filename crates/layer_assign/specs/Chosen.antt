@@ -1,12 +1,12 @@
 -- What the choice of one node's layers writes into the tables.
-use Rattle.std.specs.Prelude.{◌≡◌, ◌≢◌, ℕ, ◌+◌, Bool, List, ◌*◌, length, Option, Some, slice_set}
+use Rattle.std.specs.Prelude.{◌≡◌, ◌≢◌, ◌⊎◌, ℕ, ◌+◌, Bool, false, ◌||◌, ◌==◌, not, List, ◌*◌, ◌<◌, length, Option, Some, None, get_or, slice_set}
 use Rattle.gr_base.specs.Trees.{TreeView}
 use Rattle.gr_base.specs.declared.grid.Edge.{Edge}
 use Rattle.gr_base.specs.declared.grid.Shape.{Shape}
 use Rattle.gr_base.specs.declared.grid.Way.{Way}
 use Rattle.layer_assign.specs.declared.span.Best.{Best}
 use Rattle.layer_assign.specs.declared.span.Span.{Span}
-use Rattle.layer_assign.specs.Spans.{widened, IsWithin, span_number, spans_of}
+use Rattle.layer_assign.specs.Spans.{widened, climb, IsWithin, span_number, spans_of}
 use Rattle.layer_assign.specs.Assignments.{parent_of, may_take, wire_cost}
 use Rattle.layer_assign.specs.Choices.{IsBest, entry}
 use Rattle.layer_assign.specs.Tables.{HasRows}
@@ -17,14 +17,44 @@ onward_cost g price t costs node base s layer =
     wire_cost g price t node layer + entry g.layers costs node (widened base layer)
     + entry g.layers costs (parent_of t node) (widened s layer)
 
--- the choices of a node are the best, and its parent's costs are with them; nothing else changes
+-- a span ends, above or below, where a first one does; of no layers it is one layer, or none in node 0's tile
+abbrev pub is_near : ℕ → Option Span → Option Span → Bool
+is_near parent None None = parent == 0
+is_near parent None (Some s) = s.low == s.high
+is_near parent (Some f) None = false
+is_near parent (Some f) (Some s) = (s.low == f.low) || (s.high == f.high)
+
+-- a tile may have the span before the edge of a node: before that of the next node it has its pins and its own edge
+-- alone
+abbrev pub may_precede : ℕ → ℕ → Option Span → Option Span → Bool
+may_precede parent node pins s = not (parent + 1 == node) || is_near parent pins s
+
+-- the tiles that have joined no edge yet cost the climbs of their spans
+abbrev pub AreUntouched : ℕ → List Bool → List ℕ → Type 0
+AreUntouched layers joined costs =
+    (u : ℕ) → (s : Option Span) → u < length joined → get_or joined u false ≡ false → IsWithin layers s →
+    entry layers costs u s ≡ climb s
+
+-- entries of a span that can't come before are left as they were
+pub record IsLeft (comes : Bool) (old new before after : ℕ) : Type 0 where
+  pub never : comes ≡ false
+  pub cost : new ≡ old
+  pub choice : after ≡ before
+
+-- what is chosen is the best, or the span can't come before
+abbrev pub Settles : (ℕ → ℕ) → (ℕ → Bool) → Bool → ℕ → ℕ → ℕ → ℕ → Type 0
+Settles f may comes old new before after = IsBest f may after new ⊎ IsLeft comes old new before after
+
+-- for each span that may come before, a node's choice is the best, and its parent's costs are with it; nothing else
+-- changes
 pub record Chooses (g : Shape) (ways : ℕ → Way → Bool) (price : Edge → Option ℕ) (t : TreeView) (node : ℕ)
-    (base : Option Span) (old new before after : List ℕ) : Type 0 where
+    (base above : Option Span) (old new before after : List ℕ) : Type 0 where
   pub costs : HasRows g.layers (length t.nodes) new
   pub choices : HasRows g.layers (length t.nodes) after
-  pub best : (s : Option Span) → IsWithin g.layers s →
-      IsBest (onward_cost g price t old node base s) (may_take g ways t node) (entry g.layers after node s)
-      (entry g.layers new (parent_of t node) s)
+  pub each : (s : Option Span) → IsWithin g.layers s →
+      Settles (onward_cost g price t old node base s) (may_take g ways t node)
+      (may_precede (parent_of t node) node above s) (entry g.layers old (parent_of t node) s)
+      (entry g.layers new (parent_of t node) s) (entry g.layers before node s) (entry g.layers after node s)
   pub others : (u : ℕ) (s : Option Span) → u ≢ parent_of t node → IsWithin g.layers s →
       entry g.layers new u s ≡ entry g.layers old u s
   pub kept : (u : ℕ) (s : Option Span) → u ≢ node → IsWithin g.layers s →

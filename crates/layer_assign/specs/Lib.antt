@@ -3,6 +3,7 @@ pub mod Assignments
 pub mod Choices
 pub mod Tables
 pub mod Chosen
+pub mod Runs
 pub mod Answers
 pub mod Raised
 pub mod Raising

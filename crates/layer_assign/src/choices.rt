@@ -1,31 +1,72 @@
-ghost use Rattle.std.specs.Prelude.{◌≡◌, ℕ, ◌+◌, ◌*◌, ◌^◌, ◌<◌, ◌≤◌, Option, length, slice_get, IfSome, IsSome, IsTrue};
+ghost use Rattle.std.specs.Prelude.{◌≡◌, ℕ, ◌+◌, ◌*◌, ◌^◌, ◌<◌, ◌≤◌, ◌||◌, ◌==◌, false, not, Option, length, slice_get, get_or, IfSome, IsSome, IsTrue};
 ghost use Rattle.std.specs.Option.{option_and_then};
 ghost use Rattle.cost_rules.specs.Formulas.{most_cost};
 ghost use Rattle.gr_base.specs.Limits.{most_cells};
 ghost use Rattle.gr_base.specs.Trees.{IsTree};
 ghost use Rattle.layer_assign.specs.declared.span.Span.{Span as SpanView};
-ghost use Rattle.layer_assign.specs.Spans.{IsWithin, widened, spans_of};
+ghost use Rattle.layer_assign.specs.Spans.{IsWithin, widened, climb, growing, spans_of};
 ghost use Rattle.layer_assign.specs.Assignments.{IsFlat, parent_of, may_take};
 ghost use Rattle.layer_assign.specs.Choices.{entry};
 ghost use Rattle.layer_assign.specs.Tables.{HasRows, IsSmall, offer, best_below};
-ghost use Rattle.layer_assign.specs.Chosen.{Chooses, Writes};
+ghost use Rattle.layer_assign.specs.Chosen.{is_near, may_precede, AreUntouched, Chooses, Writes};
 
+use crate::runs::{choose_on_run, is_run};
 use crate::span::Span;
 use crate::spans::{next_span, spans_of};
-use crate::tables::{best_layer, limb_costs, place_in};
+use crate::tables::{best_layer, limb_costs, write_best};
 use cost_rules::Costs;
 use gr_base::{RouteTree, Shape};
 
 /// Chooses the best layer of one node's edge for each span that its parent's tile may have before,
 /// where the layers of later nodes are chosen so already. The parent's tile then costs what the
-/// node's edge and limb cost as well.
-///
-/// Spans go from narrow to wide, since a span's cost is read where it is as wide or wider.
+/// node's edge and limb cost as well. `joined` says which tiles have joined edges of later nodes.
 pub(crate) fn choose_layers<C: Costs>(
     costs: &C,
     shape: Shape,
     flat: &RouteTree,
+    pins: &[Option<Span>],
+    joined: &[bool],
+    node: u32,
+    least: &mut Vec<u64>,
+    choices: &mut Vec<u32>,
+)
+    requires grid { C.grid costs.now ≡ shape }
+    requires flat { IsFlat shape flat.now.shape }
+    requires later { 0 < node }
+    requires node { node < length flat.now.nodes }
+    requires layer { (layer : ℕ) × IsTrue (may_take shape (C.ways costs.now) flat.now node layer) }
+    requires pins { length pins.now ≡ length flat.now.nodes }
+    requires within { (u : ℕ) → u < length flat.now.nodes → IsWithin shape.layers (growing pins.now u) }
+    requires joined { length joined.now ≡ length flat.now.nodes }
+    requires untouched { AreUntouched shape.layers joined.now least.old.items }
+    requires costs { HasRows shape.layers (length flat.now.nodes) least.old.items }
+    requires choices { HasRows shape.layers (length flat.now.nodes) choices.old.items }
+    requires own { IsSmall shape.layers least.old.items node }
+    requires parent { IsSmall shape.layers least.old.items (parent_of flat.now node) }
+    ensures { Chooses shape (C.ways costs.now) (C.price costs.now) flat.now node
+        (growing pins.now node) (growing pins.now (parent_of flat.now node))
+        least.old.items least.new.items choices.old.items choices.new.items }
+{
+    let parent = flat.parent(node);
+    let base = pins[node as usize];
+    let above = pins[parent as usize];
+    if is_run(parent, node, above, joined[parent as usize]) {
+        choose_on_run(costs, shape, flat, base, node, least, choices);
+        return;
+    }
+    choose_by_span(costs, shape, flat, base, above, node, least, choices);
+}
+
+/// Chooses the best layer of one node's edge for each span that its parent's tile may have before,
+/// whatever edges this tile has.
+///
+/// Spans go from narrow to wide, since a span's cost is read where it is as wide or wider.
+fn choose_by_span<C: Costs>(
+    costs: &C,
+    shape: Shape,
+    flat: &RouteTree,
     base: Option<Span>,
+    above: Option<Span>,
     node: u32,
     least: &mut Vec<u64>,
     choices: &mut Vec<u32>,
@@ -40,15 +81,40 @@ pub(crate) fn choose_layers<C: Costs>(
     requires choices { HasRows shape.layers (length flat.now.nodes) choices.old.items }
     requires own { IsSmall shape.layers least.old.items node }
     requires parent { IsSmall shape.layers least.old.items (parent_of flat.now node) }
-    ensures { Chooses shape (C.ways costs.now) (C.price costs.now) flat.now node base
+    ensures { Chooses shape (C.ways costs.now) (C.price costs.now) flat.now node base above
         least.old.items least.new.items choices.old.items choices.new.items }
 {
     let limbs = limb_costs(costs, shape, flat, least, node, base);
     let parent = flat.parent(node);
-    let mut span = None;
+    let mut next = None;
     for _ in 0..spans_of(shape) {
+        let span = next;
+        next = next_span(shape, span);
+        if !may_precede(parent, node, above, span) {
+            continue;
+        }
         choose_layer(shape, &limbs, parent, node, span, least, choices);
-        span = next_span(shape, span);
+    }
+}
+
+/// Whether a tile may have a span before the edge of a node. Before that of the next node it has
+/// its pins and its own edge alone.
+fn may_precede(parent: u32, node: u32, pins: Option<Span>, span: Option<Span>) -> bool
+    requires { parent < most_cells }
+    ensures { result ≡ may_precede parent node pins span }
+{
+    parent + 1 != node || is_near(parent, pins, span)
+}
+
+/// Whether a span may be that of a tile's pins and its own edge, which node 0 doesn't have.
+fn is_near(parent: u32, pins: Option<Span>, span: Option<Span>) -> bool
+    ensures { result ≡ is_near parent pins span }
+{
+    match (pins, span) {
+        (None, None) => parent == 0,
+        (None, Some(span)) => span.low == span.high,
+        (Some(_), None) => false,
+        (Some(pins), Some(span)) => span.low == pins.low || span.high == pins.high,
     }
 }
 
@@ -77,7 +143,6 @@ fn choose_layer(
         (best_below (offer shape limbs.now least.old.items parent span) shape.layers)
         least.old.items least.new.items choices.old.items choices.new.items }
 {
-    let best = best_layer(shape, limbs, least, parent, span).unwrap();
-    least[place_in(shape, parent, span)] = best.cost;
-    choices[place_in(shape, node, span)] = best.layer;
+    let best = best_layer(shape, limbs, least, parent, span);
+    write_best(shape, parent, node, span, best, least, choices);
 }

@@ -20,8 +20,8 @@ use std::alloc::{AllocError, Global};
 /// layers of nodes 1, 2 and so on is taken. The only error is want of memory.
 ///
 /// After Lee and Wang, "Congestion-constrained layer assignment for via minimization in global
-/// routing", 2008: by tables from the last node down, here for each span of layers of a tile. The
-/// time is the number of nodes times the third power of the number of layers.
+/// routing", 2008: by tables from the last node down, here for each span of layers of a tile. A node
+/// takes time in the square of the number of layers, and in its third power where edges branch.
 pub fn assign<C: Costs>(
     alloc: Global,
     costs: &C,
@@ -64,9 +64,19 @@ fn first_least<C: Costs>(
     let nodes = flat.len();
     let mut least = climbs(alloc, shape, nodes)?;
     let mut choices = vec![in alloc; 0; nodes as usize * spans_of(shape)]?;
+    let mut joined = vec![in alloc; false; nodes as usize]?;
     for node in (1..nodes).rev() {
-        let base = spans[node as usize];
-        choose_layers(costs, shape, flat, base, node, &mut least, &mut choices);
+        choose_layers(
+            costs,
+            shape,
+            flat,
+            &spans,
+            &joined,
+            node,
+            &mut least,
+            &mut choices,
+        );
+        joined[flat.parent(node) as usize] = true;
     }
     follow(alloc, shape, flat, &mut spans, &choices)
 }

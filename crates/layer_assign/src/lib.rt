@@ -7,6 +7,7 @@ mod columns;
 mod first_least;
 mod layers;
 mod raised;
+mod runs;
 mod span;
 mod spans;
 mod tables;

@@ -10,6 +10,7 @@ ghost use Rattle.layer_assign.specs.Spans.{IsWithin, widened, climb, span_number
 ghost use Rattle.layer_assign.specs.Assignments.{IsFlat};
 ghost use Rattle.layer_assign.specs.Choices.{entry};
 ghost use Rattle.layer_assign.specs.Tables.{HasRows, IsSmall, limb_cost, offer, better, best_below};
+ghost use Rattle.layer_assign.specs.Chosen.{Writes};
 
 use crate::span::{Best, Span};
 use crate::spans::{climb, next_span, span_number, spans_of, widened};
@@ -110,7 +111,7 @@ fn offer_of(
 }
 
 /// Of two offers the first, unless the second costs less.
-fn better_of(first: Option<Best>, second: Option<Best>) -> Option<Best>
+pub(crate) fn better_of(first: Option<Best>, second: Option<Best>) -> Option<Best>
     ensures { result ≡ better first second }
 {
     match (first, second) {
@@ -144,17 +145,56 @@ pub(crate) fn best_layer(
     best
 }
 
+/// Writes the best layer of a node's edge for a span of its parent's tile, and what the tile costs
+/// with it.
+pub(crate) fn write_best(
+    shape: Shape,
+    parent: u32,
+    node: u32,
+    span: Option<Span>,
+    best: Option<Best>,
+    least: &mut Vec<u64>,
+    choices: &mut Vec<u32>,
+)
+    requires span { IsWithin shape.layers span }
+    requires parent { parent < most_cells }
+    requires node { node < most_cells }
+    requires row { parent * spans_of shape.layers + spans_of shape.layers ≤ length least.old.items }
+    requires own { node * spans_of shape.layers + spans_of shape.layers ≤ length choices.old.items }
+    requires some { IsSome best }
+    ensures { Writes shape.layers parent node span best
+        least.old.items least.new.items choices.old.items choices.new.items }
+{
+    let best = best.unwrap();
+    least[place_in(shape, parent, span)] = best.cost;
+    choices[place_in(shape, node, span)] = best.layer;
+}
+
 /// What it costs to climb each span, for each node.
 pub(crate) fn climbs(alloc: Global, shape: Shape, nodes: u32) -> Result<Vec<u64>, AllocError>
-    requires { nodes ≤ most_cells }
+    requires some { 0 < nodes }
+    requires few { nodes ≤ most_cells }
     ensures rows { IfOk result (λ costs. HasRows shape.layers nodes costs.items) }
     ensures climbs { IfOk result (λ costs. (node : ℕ) → (s : Option SpanView) → node < nodes → IsWithin shape.layers s →
         entry shape.layers costs.items node s ≡ climb s) }
 {
-    let places = nodes as usize * spans_of(shape);
-    let mut costs = Vec::with_capacity(alloc, places)?;
+    let spans = spans_of(shape);
+    let mut costs = climb_row(alloc, shape, nodes as usize * spans)?;
+    for _ in 1..nodes {
+        costs.extend_from_within(..spans)?;
+    }
+    Ok(costs)
+}
+
+/// What it costs to climb each span, with room for so many costs.
+fn climb_row(alloc: Global, shape: Shape, room: usize) -> Result<Vec<u64>, AllocError>
+    ensures row { IfOk result (λ costs. HasRows shape.layers 1 costs.items) }
+    ensures climbs { IfOk result (λ costs. (s : Option SpanView) → IsWithin shape.layers s →
+        entry shape.layers costs.items 0 s ≡ climb s) }
+{
+    let mut costs = Vec::with_capacity(alloc, room)?;
     let mut span = None;
-    for _ in 0..places {
+    for _ in 0..spans_of(shape) {
         costs.push(climb(span))?;
         span = next_span(shape, span);
     }

@@ -1,15 +1,13 @@
-use Rattle.std.proofs.Common.{arith}
-use Rattle.layer_assign.proofs.TableLemmas.{number-within}
+use Rattle.std.proofs.Common.{ℕ, List, Option, ap, subst, ◌∙◌}
+use Rattle.layer_assign.specs.declared.span.Best.{Best}
+use Rattle.layer_assign.specs.Tables.{offer, best_below}
+use Rattle.layer_assign.specs.Chosen.{Writes}
 use Rattle.layer_assign.proofs.choices.choose_layer.Goals as goal
 
-pub index_mut-requires : goal.index_mut-requires
-index_mut-requires c =
-    let number = number-within c.args.shape.layers c.args.span c.requires.span in
-    let row = c.requires.row in
-    omega (arith, number, row, c.place_in.ensures, c.args.least.now.ok.0)
-
-pub index_mut-requires-2 : goal.index_mut-requires-2
-index_mut-requires-2 c =
-    let number = number-within c.args.shape.layers c.args.span c.requires.span in
-    let row = c.requires.own in
-    omega (arith, number, row, c.place_in-2.ensures, c.args.choices.now.ok.0)
+pub returns : goal.returns
+returns c =
+    let layers = c.args.shape.layers in
+    let best = c.best_layer-best.ensures ∙ ap (λ (xs : List ℕ). best_below (offer c.args.shape c.args.limbs.now xs c.args.parent c.args.span) layers) c.deref.ensures.value in
+    let P : Option Best → Type 0 =
+    λ o. Writes layers c.args.parent c.args.node c.args.span o c.args.least.now.items c.write_best.new.least.items c.args.choices.now.items c.write_best.new.choices.items in
+    subst P best c.write_best.ensures

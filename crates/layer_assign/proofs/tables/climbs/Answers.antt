@@ -1,62 +1,93 @@
-use Rattle.std.proofs.Common.{◌≡◌, ℕ, ◌+◌, ◌*◌, ◌<◌, Option, List, [], ◌∷◌, ◌++◌, length, map, get_or, refl, sym, ap, ◌∙◌, arith}
-use Rattle.std.proofs.lemmas.List.FromFn.{length-map-range_with_len, map-range_with_len_more, get_or-map-range_with_len}
-use Rattle.std.specs.List.{range_with_len}
-use Rattle.gr_base.specs.declared.grid.Shape.{Shape}
-use Rattle.gr_base.proofs.GridLemmas.{some_layers}
+use Rattle.std.proofs.Common.{◌≡◌, ℕ, ◌+◌, ◌-◌, ◌*◌, ◌<◌, ◌≤◌, inl, inr, Option, List, ◌++◌, length, take, get_or, ap, subst, ◌∙◌, arith}
+use Rattle.std.specs.Prelude.{slice_range}
+use Rattle.std.proofs.lemmas.Bool.{cases_eq}
+use Rattle.std.proofs.lemmas.List.{get_or_append_left, get_or-append_right, get_or-take, length-append, length-take-le}
 use Rattle.layer_assign.specs.declared.span.Span.{Span}
-use Rattle.layer_assign.specs.Spans.{climb, IsWithin, span_number, spans_of, span_at}
+use Rattle.layer_assign.specs.Spans.{climb, IsWithin, span_number, spans_of}
 use Rattle.layer_assign.specs.Choices.{entry}
 use Rattle.layer_assign.specs.Tables.{HasRows}
-use Rattle.layer_assign.proofs.TableLemmas.{ordered-within, turn-within, turn-next, span_at-row, span_at-number, place-within}
+use Rattle.layer_assign.proofs.TableLemmas.{number-within, place-within, row-within}
 use Rattle.layer_assign.proofs.tables.climbs.Goals as goal
 
-abbrev climb_at : ℕ → ℕ → ℕ
-climb_at layers place = climb (span_at layers place)
+-- the climbs of one node more, by a copy of the first row
+record Grown (layers nodes : ℕ) (costs : List ℕ) : Type 0 where
+  rows : HasRows layers nodes costs
+  climbs : (node : ℕ) → (s : Option Span) → node < nodes → IsWithin layers s → entry layers costs node s ≡ climb s
 
-more : (f : ℕ → ℕ) (xs new : List ℕ) (n y : ℕ) → xs ≡ map f (range_with_len 0 n) → new ≡ xs ++ y ∷ [] → y ≡ f n → new ≡ map f (range_with_len 0 (n + 1))
-more f xs new n y so_far pushed is =
-    pushed ∙ ap (λ (k : ℕ). xs ++ k ∷ []) is ∙ ap (λ (ys : List ℕ). ys ++ f n ∷ []) so_far ∙ sym (map-range_with_len_more f 0 n n (omega arith))
+grown : (layers n : ℕ) (xs new : List ℕ) → 0 < n → Grown layers n xs → new ≡ xs ++ take (spans_of layers) xs → Grown layers (n + 1) new
+grown layers n xs new some so_far copied =
+    let rows = so_far.rows in
+    let first : spans_of layers ≤ length xs = let h = row-within layers n 0 xs rows some in omega arith in
+    let long : length (take (spans_of layers) xs) ≡ spans_of layers = length-take-le (spans_of layers) xs first in
+    let count : length new ≡ n * spans_of layers + spans_of layers =
+    ap (λ (ys : List ℕ). length ys) copied ∙ length-append xs (take (spans_of layers) xs) ∙ omega (arith, rows, long) in
+    record {
+      rows = more_rows n (spans_of layers) (length new) count;
+      climbs = λ node s lt within.
+          let number = span_number layers s in
+          let small = number-within layers s within in
+          ap (λ (ys : List ℕ). entry layers ys node s) copied ∙
+          elim (cases_eq node n) [
+            | inl same ↦
+                let place : n * spans_of layers + number - n * spans_of layers ≡ number = omega arith in
+                let first_place : number ≡ 0 * spans_of layers + number = omega arith in
+                ap (λ (k : ℕ). get_or (xs ++ take (spans_of layers) xs) (k * spans_of layers + number) 0) same ∙
+                get_or-append_right xs (take (spans_of layers) xs) (n * spans_of layers) (n * spans_of layers + number) 0 rows (omega arith) ∙
+                ap (λ (k : ℕ). get_or (take (spans_of layers) xs) k 0) place ∙
+                get_or-take (spans_of layers) xs number 0 small ∙
+                ap (λ (k : ℕ). get_or xs k 0) first_place ∙
+                so_far.climbs 0 s some within
+            | inr other ↦
+                get_or_append_left xs (take (spans_of layers) xs) 0 (node * spans_of layers + number)
+                (place-within layers n node s xs rows (omega arith) within) ∙
+                so_far.climbs node s (omega arith) within
+          ];
+    }
+  where
+    more_rows : (n spans long : ℕ) → long ≡ n * spans + spans → long ≡ (n + 1) * spans
+    more_rows n spans long is = omega arith
 
-rows : (layers nodes n : ℕ) (xs : List ℕ) → xs ≡ map (climb_at layers) (range_with_len 0 n) → n ≡ nodes * spans_of layers → HasRows layers nodes xs
-rows layers nodes n xs is count = ap (λ (ys : List ℕ). length ys) is ∙ length-map-range_with_len (climb_at layers) 0 n ∙ count
-
-climbs-at : (g : Shape) (nodes n : ℕ) (xs : List ℕ) → xs ≡ map (climb_at g.layers) (range_with_len 0 n) → n ≡ nodes * spans_of g.layers →
-    (node : ℕ) → (s : Option Span) → node < nodes → IsWithin g.layers s → entry g.layers xs node s ≡ climb s
-climbs-at g nodes n xs is count node s below within =
-    let layers = g.layers in
-    let place = node * spans_of layers + span_number layers s in
-    let inside = place-within layers nodes node s xs (rows layers nodes n xs is count) below within in
-    let long : length xs ≡ n = ap (λ (ys : List ℕ). length ys) is ∙ length-map-range_with_len (climb_at layers) 0 n in
-    let read : get_or (map (climb_at layers) (range_with_len 0 n)) place 0 ≡ climb_at layers place =
-    get_or-map-range_with_len (climb_at layers) 0 n place place 0 (omega arith) (omega arith) in
-    let at : span_at layers place ≡ s = span_at-row layers node (span_number layers s) (some_layers g) ∙ span_at-number layers s (some_layers g) within in
-    ap (λ (ys : List ℕ). get_or ys place 0) is ∙ read ∙ ap (λ (t : Option Span). climb t) at
+first-part : (xs : List ℕ) (n : ℕ) → slice_range xs 0 n ≡ take n xs
+first-part xs n = let none : n - 0 ≡ n = omega arith in ap (λ (k : ℕ). take k xs) none
 
 pub loop-init : goal.loop-init
-unfolding span_at
-loop-init c = record { span = refl; costs = c.in_ok-costs.ensures.items }
+loop-init c = record {
+  some = omega arith;
+  rows = c.in_ok-costs.ensures.row;
+  climbs = λ node s lt within.
+      let same : 0 ≡ node = omega arith in
+      subst (λ (k : ℕ). entry c.args.shape.layers c.in_ok-costs.costs.items k s ≡ climb s) same (c.in_ok-costs.ensures.climbs s within);
+}
 
-pub climb-requires : goal.climb-requires
-climb-requires c =
-    ordered-within c.args.shape.layers c.loop.span (turn-within c.args.shape c.loop.span c.loop.counter c.loop.invariant.span)
-
-pub next_span-span-requires : goal.next_span-span-requires
-next_span-span-requires c = turn-within c.args.shape c.loop.span c.loop.counter c.loop.invariant.span
+pub extend_from_within-requires-clause-in_bounds : goal.extend_from_within-requires-clause-in_bounds
+extend_from_within-requires-clause-in_bounds c =
+    let h = row-within c.args.shape.layers c.loop.counter 0 c.loop.costs.items c.loop.invariant.rows c.loop.invariant.some in
+    omega (arith, h, c.spans_of-spans.ensures.count, c.loop.costs.ok.0)
 
 pub loop-preserved : goal.loop-preserved
-loop-preserved c = record {
-  span = turn-next c.args.shape.layers c.loop.span c.next_span-span.result c.loop.counter c.loop.invariant.span c.next_span-span.ensures;
-  costs =
-      more (climb_at c.args.shape.layers) c.loop.costs.items c.push.new.self.items c.loop.counter c.climb.result c.loop.invariant.costs c.in_ok-push.ensures.items
-      (c.climb.ensures ∙ ap (λ (s : Option Span). climb s) c.loop.invariant.span);
-}
+loop-preserved c =
+    let layers = c.args.shape.layers in
+    let old = c.loop.costs.items in
+    let copied = c.in_ok-extend_from_within.ensures.items ∙
+    ap (λ (n : ℕ). old ++ slice_range old 0 n) c.spans_of-spans.ensures.count ∙
+    ap (λ (ys : List ℕ). old ++ ys) (first-part old (spans_of layers)) in
+    let more = grown layers c.loop.counter old c.extend_from_within.new.self.items c.loop.invariant.some
+    (record { rows = c.loop.invariant.rows; climbs = c.loop.invariant.climbs }) copied in
+    record {
+      some = omega arith;
+      rows = more.rows;
+      climbs = more.climbs;
+    }
 
 pub returns-clause-rows : goal.returns-clause-rows
 returns-clause-rows c =
-    rows c.args.shape.layers c.args.nodes c.loop.counter c.loop.costs.items c.loop.invariant.costs
-    (let e = c.loop-test.false in let f = c.loop.auto.counter-end in let h = ap (λ (k : ℕ). c.args.nodes * k) c.spans_of.ensures.count in omega (arith, h))
+    let some = c.requires.some in
+    let past = c.loop-test.false in
+    let end = c.loop.auto.counter-end in
+    let all : c.loop.counter ≡ c.args.nodes = omega arith in
+    subst (λ (n : ℕ). HasRows c.args.shape.layers n c.loop.costs.items) all c.loop.invariant.rows
 
 pub returns-clause-climbs : goal.returns-clause-climbs
-returns-clause-climbs c =
-    climbs-at c.args.shape c.args.nodes c.loop.counter c.loop.costs.items c.loop.invariant.costs
-    (let e = c.loop-test.false in let f = c.loop.auto.counter-end in let h = ap (λ (k : ℕ). c.args.nodes * k) c.spans_of.ensures.count in omega (arith, h))
+returns-clause-climbs c = λ node s lt within.
+    let past = c.loop-test.false in
+    c.loop.invariant.climbs node s (omega arith) within

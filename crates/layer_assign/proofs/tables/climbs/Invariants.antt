@@ -1,10 +1,13 @@
-use Rattle.std.proofs.Common.{◌≡◌, ℕ, map}
-use Rattle.std.specs.List.{range_with_len}
-use Rattle.layer_assign.specs.Spans.{climb, span_at}
+use Rattle.std.proofs.Common.{◌≡◌, ℕ, ◌<◌, Option}
+use Rattle.layer_assign.specs.declared.span.Span.{Span}
+use Rattle.layer_assign.specs.Spans.{climb, IsWithin}
+use Rattle.layer_assign.specs.Choices.{entry}
+use Rattle.layer_assign.specs.Tables.{HasRows}
 use Rattle.layer_assign.proofs.tables.climbs.Given as goal
 
 abbrev pub invariant-loop : goal.invariant-loop
 invariant-loop l = record {
-  span : l.span ≡ span_at l.fn.shape.layers l.counter;
-  costs : l.costs.items ≡ map (λ (place : ℕ). climb (span_at l.fn.shape.layers place)) (range_with_len 0 l.counter);
+  some : 0 < l.counter;
+  rows : HasRows l.fn.shape.layers l.counter l.costs.items;
+  climbs : (node : ℕ) → (s : Option Span) → node < l.counter → IsWithin l.fn.shape.layers s → entry l.fn.shape.layers l.costs.items node s ≡ climb s;
 }
