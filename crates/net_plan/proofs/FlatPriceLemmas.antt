@@ -1,7 +1,7 @@
 -- The least prices over all layers.
-use Rattle.std.proofs.Common.{◌≡◌, ℕ, ◌+◌, ◌<◌, ◌≤◌, ◌↔◌, inl, inr, Bool, true, false, ◌||◌, min, List, [], ◌∷◌, map, fold, All, Option, Some, None, is_some, if◌then◌else◌, IfSome, IsTrue, refl, sym, ap, subst, ◌∙◌, arith}
+use Rattle.std.proofs.Common.{◌≡◌, ℕ, zero, suc, ◌+◌, ◌<◌, ◌≤◌, ◌↔◌, inl, inr, Bool, true, false, ◌||◌, min, List, [], ◌∷◌, map, fold, All, Option, Some, None, is_some, if◌then◌else◌, IfSome, IsTrue, refl, sym, ap, subst, ◌∙◌, arith}
 use Rattle.std.specs.List.{range_with_len, list_any}
-use Rattle.std.proofs.lemmas.Bool.{cases_lt}
+use Rattle.std.proofs.lemmas.Bool.{cases_lt, cases_eq}
 use Rattle.std.proofs.lemmas.Bool.Decides.{nat_tests}
 use Rattle.std.proofs.lemmas.List.Elements.{All-head, All-tail}
 use Rattle.std.proofs.lemmas.List.FromFn.{map-range_with_len_more}
@@ -120,6 +120,43 @@ least-more f n least new price so_far is made =
     made ∙ ap (lesser least) is ∙ ap (λ (o : Option ℕ). lesser o (f n)) so_far ∙
     sym (fold_push lesser None (map f (range_with_len 0 n)) (f n)) ∙
     ap (fold lesser None) (sym (map-range_with_len_more f 0 n n (omega arith)))
+
+-- a price of 1 is the least where none is below 1
+lesser-one : (a : Option ℕ) → IfSome a (λ n. 1 ≤ n) → lesser (Some 1) a ≡ Some 1
+lesser-one None least = refl
+lesser-one (Some n) least = let e : min 1 n ≡ 1 = omega arith in ap (λ (k : ℕ). Some k) e
+
+one-lesser : (a : Option ℕ) → IfSome a (λ n. 1 ≤ n) → lesser a (Some 1) ≡ Some 1
+one-lesser None least = refl
+one-lesser (Some n) least = let e : min n 1 ≡ 1 = omega arith in ap (λ (k : ℕ). Some k) e
+
+one-stays : (f : ℕ → Option ℕ) (xs : List ℕ) → All (λ x. IfSome (f x) (λ n. 1 ≤ n)) xs → fold lesser (Some 1) (map f xs) ≡ Some 1
+one-stays f [] each = refl
+one-stays f (x ∷ xs) each =
+    let P : ℕ → Type 0 = λ y. IfSome (f y) (λ n. 1 ≤ n) in
+    ap (λ (o : Option ℕ). fold lesser o (map f xs)) (lesser-one (f x) (All-head P x xs each)) ∙ one-stays f xs (All-tail P x xs each)
+
+pub least-one : (f : ℕ → Option ℕ) (n a k : ℕ) (least : Option ℕ) → a ≤ k → k < a + n → f k ≡ Some 1 → IfSome least (λ n. 1 ≤ n) →
+    ((j : ℕ) → j < a + n → IfSome (f j) (λ n. 1 ≤ n)) → fold lesser least (map f (range_with_len a n)) ≡ Some 1
+least-one f zero a k least low high is so_far each = absurd (omega arith)
+least-one f (suc n) a k least low high is so_far each =
+    let rest = range_with_len (a + 1) n in
+    elim (cases_eq a k) [
+      | inl same ↦
+          ap (λ (o : Option ℕ). fold lesser (lesser least o) (map f rest)) (ap f same ∙ is) ∙
+          ap (λ (o : Option ℕ). fold lesser o (map f rest)) (one-lesser least so_far) ∙
+          one-stays f rest (All-range (λ j. IfSome (f j) (λ n. 1 ≤ n)) n (a + 1) (λ j below. each j (omega arith)))
+      | inr other ↦
+          least-one f n (a + 1) k (lesser least (f a)) (omega arith) (omega arith) is
+          (lesser-if (λ n. 1 ≤ n) least (f a) so_far (each a (omega arith))) (λ j below. each j (omega arith))
+    ]
+
+-- where one layer's edge over a flat edge costs 1 so does the flat edge
+pub flat-one : (c : CapacityView) (l : LoadsView) (f : Formula) (net : ℕ) (flat : Shape) (e : Edge) (layer : ℕ) → IsFlattened c.shape flat → IsTrue (has_edge flat e) →
+    layer < c.shape.layers → price_of c l f net (on_layer c.shape layer e) ≡ Some 1 → Some 1 ≡ flat_price c.shape (price_of c l f net) e
+flat-one c l f net flat e layer flattened edge below is =
+    sym (least-one (λ n. price_of c l f net (on_layer c.shape n e)) c.shape.layers 0 layer None (omega arith) (omega arith) is tt
+    (λ n inside. (prices-of_net c l f net).least (on_layer c.shape n e) (on_layer-edge c.shape flat n e flattened edge (omega arith))))
 
 -- some layer goes up
 pub some-up : (c : CapacityView) (way : Way) (n : ℕ) → way ≡ Up → c.shape.layers ≤ n → list_any (λ layer. ways_of c layer way) (range_with_len 0 n) ≡ false → true ≡ false

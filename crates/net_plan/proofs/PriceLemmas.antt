@@ -1,6 +1,6 @@
 -- A net's prices are prices.
-use Rattle.std.proofs.Common.{ℕ, ◌≤◌, ◌↔◌, Bool, true, false, Some, None, IsSome, IfSome, IsTrue, if◌then◌else◌, refl, arith}
-use Rattle.cost_rules.specs.Formulas.{cost_at, most_cost}
+use Rattle.std.proofs.Common.{◌≡◌, ℕ, ◌+◌, ◌*◌, ◌≤◌, ◌↔◌, Bool, true, false, Some, None, IsSome, IfSome, IsTrue, if◌then◌else◌, min, refl, sym, ap, ◌∙◌, arith}
+use Rattle.cost_rules.specs.Formulas.{cost_at, most_cost, overflow_at}
 use Rattle.cost_rules.specs.Prices.{ArePrices}
 use Rattle.cost_rules.specs.declared.site.Formula.{Formula}
 use Rattle.cost_rules.specs.declared.site.Formula.TheVariants.{First, Steep, Flat}
@@ -44,3 +44,11 @@ prices-of_net c l f net = record {
   most = λ e edge. let P : ℕ → Type 0 = λ n. n ≤ most_cost in
       if-paid (usable_at c e) _ P (either (is_wire e) _ 3 P (cost-most f (site_of c l net e)) (omega arith));
 }
+
+-- where a net fits and there is no mark each formula gives 1
+pub cost-free : (f : Formula) (site : Site) → site.marks ≡ 0 → site.demand + site.need ≤ site.capacity → 1 ≡ cost_at f site
+cost-free First site none fits = let free : overflow_at site ≡ 0 = omega arith in omega (arith, free, none)
+cost-free Steep site none fits =
+    let free : overflow_at site ≡ 0 = omega arith in
+    sym (ap (λ (m : ℕ). min most_cost (1 + m + (8 + m) * overflow_at site)) none ∙ ap (λ (k : ℕ). min most_cost (1 + 0 + (8 + 0) * k)) free)
+cost-free Flat site none fits = let free : overflow_at site ≡ 0 = omega arith in omega (arith, free)

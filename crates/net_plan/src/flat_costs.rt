@@ -1,4 +1,4 @@
-ghost use Rattle.std.specs.Prelude.{◌≡◌, ◌<◌, IsTrue};
+ghost use Rattle.std.specs.Prelude.{◌≡◌, ◌<◌, Some, IsTrue};
 ghost use Rattle.gr_base.specs.Grid.{has_edge, on_layer};
 ghost use Rattle.net_plan.specs.Prices.{kept_prices};
 ghost use Rattle.layer_assign.specs.Assignments.{IsFlat as IsFlattened};
@@ -79,10 +79,24 @@ impl Costs for FlatCosts<'_> {
     fn cost(&self, e: Edge) -> Option<u64> {
         let mut least = None;
         for layer in 0..self.layers() {
-            least = lesser(least, self.costs.cost(self.over(e, layer)));
+            let cost = self.costs.cost(self.over(e, layer));
+            if is_least(cost) {
+                return cost;
+            }
+            least = lesser(least, cost);
         }
         least
     }
+}
+
+/// Whether there is a cost, and it is 1: no edge costs less.
+fn is_least(cost: Option<u64>) -> bool
+    ensures { IsTrue result → cost ≡ Some 1 }
+{
+    let Some(cost) = cost else {
+        return false;
+    };
+    cost == 1
 }
 
 /// The lesser of two costs, if there are two.

@@ -1,5 +1,5 @@
-ghost use Rattle.std.specs.Prelude.{◌≡◌, IsTrue};
-ghost use Rattle.cost_rules.specs.Formulas.{IsInRange};
+ghost use Rattle.std.specs.Prelude.{◌≡◌, ◌≤◌, IsTrue};
+ghost use Rattle.cost_rules.specs.Formulas.{IsInRange, most_cost, cost_at};
 ghost use Rattle.gr_base.specs.Grid.{has_edge, is_wire};
 ghost use Rattle.grid_demand.specs.Tables.{capacity_of};
 ghost use Rattle.net_plan.specs.Prices.{HasBoundedDemand, HasNetPrices, kept_prices, site_of, price_of, ways_of};
@@ -63,6 +63,19 @@ impl<'a> NetCosts<'a> {
             marks: self.loads.marks(e),
         }
     }
+
+    /// What a site costs by the rule. Where the net fits and no mark was left, each formula gives 1.
+    fn cost_at(&self, site: Site) -> u64
+        requires { IsInRange site }
+        ensures value { result ≡ cost_at self.now.rule.now.formula site }
+        ensures least { 1 ≤ result }
+        ensures most { result ≤ most_cost }
+    {
+        if site.marks == 0 && site.demand + site.need <= site.capacity {
+            return 1;
+        }
+        self.rule.cost(site)
+    }
 }
 
 impl Costs for NetCosts<'_> {
@@ -91,6 +104,6 @@ impl Costs for NetCosts<'_> {
         if e.way == Way::Up {
             return Some(VIA_COST);
         }
-        Some(self.rule.cost(self.site(e)))
+        Some(self.cost_at(self.site(e)))
     }
 }
