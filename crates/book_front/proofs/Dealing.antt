@@ -4,9 +4,9 @@ use Rattle.std.proofs.lemmas.List.{append-nil, map-append}
 use Rattle.std.proofs.lemmas.Option.{slice_get-map}
 use mathlib.Core.List.{IsPrefix}
 use Rattle.atomic_table.specs.Seated.{TableId}
+use Rattle.book_state.specs.Entries.{calls_of}
 use Rattle.book_state.specs.declared.entry.Entry.{Entry}
 use Rattle.book_state.proofs.HistoryLists.{slice_get-right}
-use Rattle.book_front.specs.Calls.{calls_of}
 use Rattle.book_front.specs.Seats.{knows, IsKeeper, IsPass, IsNew, AreFresh, AreAll, AreIn}
 use Rattle.book_front.specs.Steps.{IsTold}
 use Rattle.book_front.specs.Views.{with_pass, new_pass, ended_of, with_ended}

@@ -9,8 +9,8 @@ use mathlib.Core.Option.{some}
 use lib.ListN.{get_elem?}
 use Rattle.atomic_table.specs.Table.{Me, Allows, keeps}
 use Rattle.gr_base.proofs.General.{filter-yes, filter-no}
+use Rattle.book_state.specs.Entries.{calls_of}
 use Rattle.book_state.specs.declared.entry.Entry.{Entry}
-use Rattle.book_front.specs.Calls.{calls_of}
 use Rattle.book_front.specs.Rule.{Holder, Standing, IsHeldBy, IsKeeping, Fits, HasKeeper, Kept, Seat, Gone}
 use Rattle.book_front.specs.Steps.{Appends}
 use Rattle.book_front.specs.Views.{with_entry}

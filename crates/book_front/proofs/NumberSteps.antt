@@ -8,8 +8,8 @@ use lib.ListN.{get_elem?}
 use Rattle.atomic_table.specs.Table.{Splits}
 use Rattle.atomic_table.proofs.Lists.{at_last}
 use Rattle.gr_base.proofs.General.{filter-no}
+use Rattle.book_state.specs.Entries.{calls_of}
 use Rattle.book_state.specs.declared.entry.Entry.{Entry}
-use Rattle.book_front.specs.Calls.{calls_of}
 use Rattle.book_front.specs.Rule.{Holder, Standing, IsHeldBy, Fits, HasHolder, HasKeeper, Kept, Seat, Gone}
 use Rattle.book_front.specs.Views.{with_pass, new_pass}
 use Rattle.book_front.specs.declared.view.View.{View}

@@ -5,8 +5,8 @@ use mathlib.Core.Option.{some}
 use lib.ListN.{get_elem?}
 use Rattle.atomic_table.specs.Table.{Splits, Joins}
 use Rattle.atomic_table.proofs.Lists.{at_last, set_else}
+use Rattle.book_state.specs.Entries.{calls_of}
 use Rattle.book_state.specs.declared.entry.Entry.{Entry}
-use Rattle.book_front.specs.Calls.{calls_of}
 use Rattle.book_front.specs.Rule.{Holder, Standing, IsHeldBy, IsKeeping, Fits, Kept, Seat, Gone}
 use Rattle.book_front.specs.Views.{with_role, without_role, role_of, nobody}
 use Rattle.book_front.specs.declared.view.View.{View}

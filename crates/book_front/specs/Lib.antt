@@ -1,4 +1,3 @@
-pub mod Calls
 pub mod Views
 pub mod Rule
 pub mod Steps

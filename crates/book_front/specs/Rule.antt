@@ -3,8 +3,8 @@ use Rattle.std.specs.Prelude.{◌≡◌, ℕ, ◌<◌, true, List, [], ◌∷◌
 use mathlib.Core.List.{IsPrefix}
 use mathlib.Core.Option.{some}
 use lib.ListN.{get_elem?}
+use Rattle.book_state.specs.Entries.{calls_of}
 use Rattle.book_state.specs.declared.entry.Entry.{Entry}
-use Rattle.book_front.specs.Calls.{calls_of}
 use Rattle.book_front.specs.declared.view.Ended.{Ended}
 use Rattle.book_front.specs.declared.view.View.{View}
 

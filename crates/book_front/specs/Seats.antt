@@ -2,8 +2,8 @@
 use Rattle.std.specs.Prelude.{◌≡◌, ℕ, true, false, List, [], length, Some, slice_get}
 use mathlib.Core.List.{IsPrefix}
 use Rattle.atomic_table.specs.Seated.{TableId}
+use Rattle.book_state.specs.Entries.{calls_of}
 use Rattle.book_state.specs.declared.entry.Entry.{Entry}
-use Rattle.book_front.specs.Calls.{calls_of}
 use Rattle.book_front.specs.declared.seat.Front.{Front}
 use Rattle.book_front.specs.declared.seat.PassSeat.{PassSeat}
 use Rattle.book_front.specs.declared.view.View.{View}

@@ -1,9 +1,9 @@
 //! What the seats of a front do.
 ghost use Rattle.std.specs.Prelude.{◌≡◌, true, ◌^◌, ◌<◌, ◌≤◌, [], ◌∷◌, ◌++◌, length, All, IfOk};
 ghost use mathlib.Core.List.{IsPrefix};
-ghost use Rattle.book_front.specs.Calls.{calls_of};
 ghost use Rattle.book_front.specs.Seats.{word_of, knows, IsKeeper, IsPass, IsSame, AreFresh, AreAll, AreIn};
 ghost use Rattle.book_front.specs.Views.{with_pass, new_pass, with_role, without_role, role_of, with_ended};
+ghost use Rattle.book_state.specs.Entries.{calls_of};
 
 use crate::plays::{Append, EndPass, Finish, GiveRole, Look, NewPass, Said, TakeRole};
 use crate::seat::{Front, PassSeat};

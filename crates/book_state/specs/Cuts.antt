@@ -1,7 +1,7 @@
 -- Histories, cut at their marks.
-use Rattle.std.specs.Prelude.{ℕ, ◌+◌, List, [], ◌∷◌, ◌++◌, if◌then◌else◌}
+use Rattle.std.specs.Prelude.{ℕ, ◌+◌, List, [], ◌∷◌, ◌++◌, if◌then◌else◌, IsTrue}
 use Rattle.std.specs.List.{fold}
-use Rattle.book_state.specs.Entries.{is_mark}
+use Rattle.book_state.specs.Entries.{AtEach, is_mark}
 use Rattle.book_state.specs.declared.entry.Entry.{Entry}
 
 -- a history cut at its last mark: how many marks it has, what is up to and with the last, and what is after it
@@ -21,3 +21,7 @@ cut_after cut e =
 
 unfoldable pub cut : List Entry → Cut
 cut h = fold cut_after uncut h
+
+-- P holds at each mark, of the history before the mark, cut at the last mark in it
+abbrev pub AtMarks : (Cut → Type 0) → List Entry → Type 0
+AtMarks P h = AtEach (λ before e. IsTrue (is_mark e) → P (cut before)) h

@@ -1,5 +1,6 @@
 -- The entries of histories.
-use Rattle.std.specs.Prelude.{◌≡◌, ℕ, Bool, true, false, List, take, Option, Some, None, slice_get}
+use Rattle.std.specs.Prelude.{◌≡◌, ℕ, Bool, true, false, ◌==◌, List, take, Option, Some, None, slice_get}
+use Rattle.std.specs.List.{filter}
 use Rattle.book_state.specs.declared.entry.Call.{Call}
 use Rattle.book_state.specs.declared.entry.Call.TheVariants.{Claim as Claims, Mark}
 use Rattle.book_state.specs.declared.entry.Entry.{Entry}
@@ -27,3 +28,7 @@ is_mark_in (Some e) = is_mark e
 
 abbrev pub is_mark_at : List Entry → ℕ → Bool
 is_mark_at h p = is_mark_in (slice_get h p)
+
+-- the entries of a history that a number added, in order
+abbrev pub calls_of : ℕ → List Entry → List Entry
+calls_of number h = filter (λ (e : Entry). e.number == number) h

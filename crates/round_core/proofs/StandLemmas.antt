@@ -29,7 +29,7 @@ use Rattle.book_state.specs.declared.entry.PlanKind.{PlanKind}
 use Rattle.book_state.specs.declared.entry.PlanKind.TheVariants.{Pattern, Maze}
 use Rattle.book_state.specs.declared.entry.Reply.{Reply}
 use Rattle.book_state.specs.declared.entry.Reply.TheVariants.{Claimed, Taken, Full, Released, NotBooked, Marked}
-use Rattle.round_core.specs.Rounds.{marker, hand, IsRouteOfNet, claim_of, Tries, IsFirstRound, Begins, Skips, Gets, IsFull, ClaimsUntilGot, slacks_of_turn, IsTurn, AreTurns, AreRounds, FirstRound, Reroutes}
+use Rattle.round_core.specs.Rounds.{hand, IsRouteOfNet, claim_of, Tries, IsFirstRound, Begins, Skips, Gets, IsFull, ClaimsUntilGot, slacks_of_turn, IsTurn, AreTurns, IsMarking, AreRounds, FirstRound, Reroutes}
 use Rattle.round_core.proofs.TurnLemmas.{routed-below}
 use Rattle.round_core.specs.Standing.{IsHeld, StandsBelow, Stands, StandsBut}
 
@@ -83,7 +83,7 @@ stands-release d h e net call reply stands = record {
 full-claimed : IsFull Claimed → ⊥
 full-claimed is = is
 
-full-booked : (h : List Entry) (e : Entry) (claim : Claim) (net : ℕ) → e.call ≡ Claims claim → IsFull e.reply → booked (h ++ e ∷ []) net ≡ booked h net
+pub full-booked : (h : List Entry) (e : Entry) (claim : Claim) (net : ℕ) → e.call ≡ Claims claim → IsFull e.reply → booked (h ++ e ∷ []) net ≡ booked h net
 full-booked h e claim net call full =
     let idle : IsIdle (Claims claim) e.reply = λ is. full-claimed (subst IsFull is full) in
     booked-idle h e net (idle-by net (booked h net) e.call e.reply (subst (λ (k : Call). IsIdle k e.reply) (sym call) idle))
@@ -210,18 +210,15 @@ rounds-hold d formula (Reroutes {r = r} {h = h} {e = e} after rounds some turns 
 pub rounds-stand : (d : DesignView) (formula : Formula) (r : ℕ) (h : List Entry) → AreRounds d formula r h → Stands d h
 rounds-stand d formula r h rounds = rounds-hold d formula rounds
 
--- what holds of each entry of the hand, and of each mark after a history in which exactly the routed nets are booked, holds of each
--- entry of the rounds
+-- what holds of each claim and each release of the hand holds of each entry of round 0 and of turns
 module _ (d : DesignView) (formula : Formula) (P : List Entry → Entry → Type 0)
-    (by_hand : (before : List Entry) (e : Entry) → e.number ≡ hand → (e.call ≡ Mark → ⊥) → P before e)
-    (by_marker : (before : List Entry) (e : Entry) → e.number ≡ marker → Stands d before → P before e) where
+    (by_try : (net : ℕ) (kind : PlanKind) (slack : Option ℕ) (before : List Entry) (e : Entry) → Tries d formula net kind slack before e → P before e)
+    (by_release : (net : ℕ) (before : List Entry) (e : Entry) → e.number ≡ hand → e.call ≡ Release net → P before e) where
   each-try : (net : ℕ) (kind : PlanKind) (slack : Option ℕ) (h : List Entry) (e : Entry) → Tries d formula net kind slack h e → AtEach P h →
       AtEach P (h ++ e ∷ [])
-  each-try net kind slack h e tries each =
-      let call = tries.call in
-      each-push P h e each (by_hand h e tries.number (λ is. absurd (cc)))
+  each-try net kind slack h e tries each = each-push P h e each (by_try net kind slack h e tries)
 
-  each-first : {n : ℕ} {h : List Entry} → IsFirstRound d formula n h → AtEach P h
+  pub each-first : {n : ℕ} {h : List Entry} → IsFirstRound d formula n h → AtEach P h
   each-first Begins = λ p e there. absurd (none-some e there)
   each-first (Skips first off) = each-first first
   each-first (Gets {net = net} {h = h} {e = e} first on tries claimed) = each-try net Pattern None h e tries (each-first first)
@@ -236,36 +233,45 @@ module _ (d : DesignView) (formula : Formula) (P : List Entry → Entry → Type
         | inr on ↦ each-until net kind slacks (h ++ until.0 ∷ []) after on.1 more
       ]
 
-  each-turns : (margin : ℕ) (nets : List ℕ) (h after : List Entry) → AreTurns d formula margin nets h after → AtEach P h → AtEach P after
+  pub each-turns : (margin : ℕ) (nets : List ℕ) (h after : List Entry) → AreTurns d formula margin nets h after → AtEach P h → AtEach P after
   each-turns margin [] h after turns each = subst (AtEach P) turns each
   each-turns margin (net ∷ nets) h after turns each =
       let turn = turns.1 in
-      let call = turn.call in
-      let freed = each-push P h turn.freed each (by_hand h turn.freed turn.number (λ is. absurd (cc))) in
+      let freed = each-push P h turn.freed each (by_release net h turn.freed turn.number turn.call) in
       each-turns margin nets turns.0 after turns.2
       (each-until net (Maze margin) slacks_of_turn (h ++ turn.freed ∷ []) turns.0 turn.until freed)
 
-  each-rounds : {r : ℕ} {h : List Entry} → AreRounds d formula r h → AtEach P h
+-- and what holds also of each mark after a history in which exactly the routed nets are booked holds of each entry of
+-- the rounds
+module _ (d : DesignView) (formula : Formula) (P : List Entry → Entry → Type 0)
+    (by_try : (net : ℕ) (kind : PlanKind) (slack : Option ℕ) (before : List Entry) (e : Entry) → Tries d formula net kind slack before e → P before e)
+    (by_release : (net : ℕ) (before : List Entry) (e : Entry) → e.number ≡ hand → e.call ≡ Release net → P before e)
+    (by_marker : (before : List Entry) (e : Entry) → IsMarking e → Stands d before → P before e) where
+  pub each-rounds : {r : ℕ} {h : List Entry} → AreRounds d formula r h → AtEach P h
   each-rounds (FirstRound {h = h} {e = e} first marking) =
-      each-push P h e (each-first first) (by_marker h e marking.number (below-all d h (first-stand d formula first)))
+      each-push P h e (each-first d formula P by_try by_release first) (by_marker h e marking (below-all d h (first-stand d formula first)))
   each-rounds (Reroutes {r = r} {h = h} {e = e} after rounds some turns marking) =
       let before = rounds-hold d formula rounds in
       let stands = turns-stand d formula (4 * suc r) (victims (capacity_of d) h) h after (victims-routed d h before) turns before in
-      each-push P after e (each-turns (4 * suc r) (victims (capacity_of d) h) h after turns (each-rounds rounds)) (by_marker after e marking.number stands)
+      each-push P after e (each-turns d formula P by_try by_release (4 * suc r) (victims (capacity_of d) h) h after turns (each-rounds rounds))
+      (by_marker after e marking stands)
 
 -- exactly the routed nets are booked at each mark
 pub marks-stand : (d : DesignView) (formula : Formula) (r : ℕ) (h : List Entry) → AreRounds d formula r h →
     AtEach (λ before e. e.call ≡ Mark → Stands d before) h
 marks-stand d formula r h rounds =
-    each-rounds d formula (λ before e. e.call ≡ Mark → Stands d before) (λ before e number other is. absurd (other is))
-    (λ before e number stands is. stands) rounds
+    each-rounds d formula (λ before e. e.call ≡ Mark → Stands d before)
+    (λ net kind slack before e tries is. let call = tries.call in absurd (cc))
+    (λ net before e number call is. absurd (cc))
+    (λ before e marking stands is. stands) rounds
 
 -- each entry is the marker's or the hand's
 pub rounds-numbers : (d : DesignView) (formula : Formula) (r : ℕ) (h : List Entry) → AreRounds d formula r h → AtEach (λ before e. e.number ≤ 1) h
 rounds-numbers d formula r h rounds =
     each-rounds d formula (λ before e. e.number ≤ 1)
-    (λ before e number other. let one : e.number ≡ 1 = number in omega (arith, one))
-    (λ before e number stands. let none : e.number ≡ 0 = number in omega (arith, none)) rounds
+    (λ net kind slack before e tries. let one : e.number ≡ 1 = tries.number in omega (arith, one))
+    (λ net before e number call. let one : e.number ≡ 1 = number in omega (arith, one))
+    (λ before e marking stands. let none : e.number ≡ 0 = marking.number in omega (arith, none)) rounds
 
 -- only a mark is answered Marked
 full-unmarked : (demands : Edge → ℕ) (o : Option Edge) (n : ℕ) → reply_by_full demands o ≡ Marked n → ⊥

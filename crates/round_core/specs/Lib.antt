@@ -3,3 +3,10 @@ pub mod Standing
 pub mod Turns
 pub mod Hands
 pub mod Results
+pub mod Attempts
+pub mod TurnWords
+pub mod RunHistories
+pub mod Apart
+pub mod Worlds
+pub mod WorldRules
+pub mod WorldStore

@@ -22,9 +22,9 @@ abbrev pub IsRoundOrEnd : DesignView → Formula → ℕ → List Entry → List
 IsRoundOrEnd d formula done h after true = AreRounds d formula (done + 1) after
 IsRoundOrEnd d formula done h after false = (after ≡ h) × (victims (capacity_of d) h ≡ [])
 
--- what at most so many rounds of one hand give: each entry of the history has the reply that the rules give, the callers'
--- logs part the history, and at the first mark of least overflow exactly the routed nets are booked, each by a tree that
--- routes it
+-- what at most so many rounds of one hand give: each entry of the history has the reply that the rules give, the
+-- callers' logs part the history, and at the first mark of least overflow exactly the routed nets are booked, each by a
+-- tree that routes it
 pub record IsMade (d : DesignView) (formula : Formula) (rounds : ℕ) (r : Rounds) : Type 0 where
   pub capacity : r.book.capacity ≡ capacity_of d
   pub legal : IsLegal r.book.capacity r.book.history

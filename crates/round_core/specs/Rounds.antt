@@ -53,8 +53,8 @@ pub record Tries (d : DesignView) (formula : Formula) (net : ℕ) (kind : PlanKi
   pub plan : IsPlanAfter d formula h net kind tree
   pub routes : IsRouteOfNet d net tree
 
--- round 0 for the nets below a number: in order, each routed net is claimed for its pattern plan at any demand, and gets
--- it
+-- round 0 for the nets below a number: in order, each routed net is claimed for its pattern plan at any demand, and
+-- gets it
 pub data IsFirstRound (d : DesignView) (formula : Formula) : ℕ → List Entry → Type 0 where
   Begins : IsFirstRound d formula zero []
   Skips : {net : ℕ} {h : List Entry} → IsFirstRound d formula net h → is_routed d net ≡ false →

@@ -3,8 +3,17 @@
 #![tactic(auto)]
 
 mod hands;
+mod laws;
+mod machine;
+mod moves;
+mod phases;
 mod rounds;
+mod steps;
 mod turns;
+mod world;
 
-pub use hands::{HandLog, Places};
+pub use hands::{HandLog, MOST_WORKERS, Places};
+pub use laws::{attempts_are_turns, one_hand_is_one_worker};
 pub use rounds::{Rounds, route_rounds};
+pub use steps::{Phase, Step, StepRefused};
+pub use world::World;

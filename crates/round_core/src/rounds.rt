@@ -16,7 +16,7 @@ use net_plan::pattern_plan;
 use std::alloc::{AllocError, Global};
 
 /// By how many tiles the window of a net's pins grows on each side with each round.
-const MARGIN: u32 = 4;
+pub(crate) const MARGIN: u32 = 4;
 
 /// What the rounds of a design give.
 #[derive(Debug, Drop)]

@@ -4,13 +4,13 @@ use Rattle.std.proofs.lemmas.List.{append-nil}
 use Rattle.std.proofs.lemmas.Option.{slice_get_within}
 use mathlib.Core.List.{IsPrefix}
 use Rattle.atomic_table.specs.Seated.{TableId}
-use Rattle.book_front.specs.Calls.{calls_of}
 use Rattle.book_front.specs.Seats.{knows, IsPassOf, IsNew as IsNewSeat, AreIn as AreSeatsIn, AreAll as AreAllSeats}
 use Rattle.book_front.specs.declared.seat.PassSeat.{PassSeat}
 use Rattle.book_front.proofs.Holding.{get-push}
 use Rattle.book_front.proofs.Prefixes.{prefix-then}
 use Rattle.book_state.proofs.HistoryLists.{slice_get-right}
 use Rattle.book_state.specs.Books.{IsLegal}
+use Rattle.book_state.specs.Entries.{calls_of}
 use Rattle.book_state.specs.declared.entry.Entry.{Entry}
 use Rattle.grid_demand.specs.Tables.{CapacityView}
 use Rattle.track_book.specs.Passes.{PassView, IsNew, AreBegun, AreAll, IsClosed}

@@ -4,11 +4,11 @@ use Rattle.std.proofs.lemmas.List.{take-append-drop, take-append-le, take_all, l
 use Rattle.std.proofs.Math.Seq.{drop-append_seam}
 use mathlib.Core.List.{IsPrefix}
 use Rattle.atomic_table.specs.Seated.{TableId}
-use Rattle.book_front.specs.Calls.{calls_of}
 use Rattle.book_front.specs.declared.seat.PassSeat.{PassSeat}
 use Rattle.book_front.proofs.Prefixes.{prefix-then}
 use Rattle.book_front.proofs.Holding.{get-last}
 use Rattle.book_state.specs.Books.{IsLegal}
+use Rattle.book_state.specs.Entries.{calls_of}
 use Rattle.book_state.specs.declared.entry.Entry.{Entry}
 use Rattle.grid_demand.specs.Tables.{CapacityView}
 use Rattle.track_book.specs.Passes.{PassView, HasLearnt}

@@ -2,8 +2,8 @@
 use Rattle.std.specs.Prelude.{◌≡◌, ℕ, ◌<◌, List, [], ◌∷◌, ◌++◌, length, All, Some, slice_get}
 use mathlib.Core.List.{IsPrefix}
 use Rattle.atomic_table.specs.Seated.{TableId}
-use Rattle.book_front.specs.Calls.{calls_of}
 use Rattle.book_state.specs.Books.{IsLegal}
+use Rattle.book_state.specs.Entries.{calls_of}
 use Rattle.book_state.specs.Views.{entry_of}
 use Rattle.book_state.specs.declared.entry.Call.{Call}
 use Rattle.book_state.specs.declared.entry.Entry.{Entry}

@@ -1,9 +1,9 @@
 -- What the fields of passes and of the locked book keep.
 use Rattle.std.specs.Prelude.{◌≡◌, ℕ, ◌≤◌, List, length, take, Option}
 use Rattle.atomic_table.specs.Seated.{TableId}
-use Rattle.book_front.specs.Calls.{calls_of}
 use Rattle.book_front.specs.declared.seat.PassSeat.{PassSeat}
 use Rattle.book_state.specs.Books.{IsLegal}
+use Rattle.book_state.specs.Entries.{calls_of}
 use Rattle.book_state.specs.Views.{BookView}
 use Rattle.book_state.specs.declared.entry.Entry.{Entry}
 use Rattle.grid_demand.specs.Tables.{CapacityView}

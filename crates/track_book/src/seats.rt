@@ -1,9 +1,9 @@
 //! Steps of seats that stay in their place.
 ghost use Rattle.std.specs.Prelude.{◌≡◌, ◌^◌, ◌<◌, [], ◌∷◌, ◌++◌, length};
 ghost use mathlib.Core.List.{IsPrefix};
-ghost use Rattle.book_front.specs.Calls.{calls_of};
 ghost use Rattle.book_front.specs.Seats.{word_of};
 ghost use Rattle.track_book.specs.SeatOptions.{view_in, HasKeeper, HasPass};
+ghost use Rattle.book_state.specs.Entries.{calls_of};
 
 use book_front::{Front, PassSeat};
 use book_state::Entry;

@@ -1,0 +1,84 @@
+-- The state of the machine at first, and the end.
+use Rattle.std.proofs.Common.{◌≡◌, ℕ, suc, zero, Bool, true, false, [], length, replicate, slice_get, if◌then◌else◌, refl, sym, ap, subst, arith}
+use Rattle.std.specs.List.{count_by}
+use Rattle.std.proofs.lemmas.Bool.{both_ways}
+use Rattle.std.proofs.lemmas.List.{length-replicate}
+use Rattle.std.proofs.lemmas.Option.{none-some}
+use Rattle.gr_base.specs.Designs.{is_routed}
+use Rattle.grid_demand.specs.Tables.{capacity_of}
+use Rattle.book_state.proofs.LegalHistories.{legal-nothing}
+use Rattle.book_state.specs.Cuts.{cut}
+use Rattle.round_core.specs.Attempts.{Rests}
+use Rattle.round_core.specs.RunHistories.{Setting, IsRunHistory}
+use Rattle.round_core.specs.WorldRules.{stage_in, stage_at, is_holding_net, IsPhaseRight, IsRunning, IsWorld}
+use Rattle.round_core.specs.Worlds.{WorldView, phase_in, phase_before_end, phase_at, since_of, at_first}
+use Rattle.round_core.specs.declared.steps.Phase.{Phase}
+use Rattle.round_core.specs.declared.steps.Phase.TheVariants.{Idle, Ended}
+use Rattle.round_core.proofs.JoiningLaw.{none-apart}
+use Rattle.round_core.proofs.RangeCounts.{times-kept}
+use Rattle.round_core.proofs.TurnLemmas.{routed-below}
+
+-- the state at first
+first-phase : (n worker : ℕ) → phase_in (slice_get (replicate n Idle) worker) ≡ Idle
+first-phase zero worker = refl
+first-phase (suc n) zero = refl
+first-phase (suc n) (suc worker) = first-phase n worker
+
+first-held : (n net : ℕ) → count_by (is_holding_net net) (replicate n Idle) ≡ 0
+first-held zero net = refl
+first-held (suc n) net = first-held n net
+
+first-stages : (t : Setting) (number : ℕ) → Rests ≡ stage_at (at_first t) number
+first-stages t zero = refl
+first-stages t (suc worker) = ap stage_in (sym (first-phase t.workers worker))
+
+first-running : (t : Setting) → IsRunning (at_first t) (cut [])
+unfolding cut
+first-running t = record {
+  round = refl;
+  asked = λ later. absurd (omega (arith, later));
+  phases = length-replicate t.workers Idle;
+  since = length-replicate t.workers 0;
+  stages = first-stages t;
+  nets = λ net.
+      let kept = times-kept (is_routed t.design) (length t.design.nets) net (routed-below t.design net) in
+      let held = first-held t.workers net in
+      omega (arith, kept, held);
+  last = λ worker place own there number. absurd (none-some own there);
+  right = λ worker. subst (λ (p : Phase). IsPhaseRight 0 (since_of (at_first t) worker) p) (sym (first-phase t.workers worker)) tt;
+  apart = none-apart t.design;
+}
+
+pub first-world : (t : Setting) → IsWorld (at_first t)
+first-world t = record {
+  rules = record {
+    legal = legal-nothing (capacity_of t.design);
+    numbers = λ p e there. absurd (none-some e there);
+    plans = λ p e there. absurd (none-some e there);
+    granted = λ p e there. absurd (none-some e there);
+    whole = λ p e there. absurd (none-some e there);
+    due = λ p e there. absurd (none-some e there);
+    asked = λ p e there. absurd (none-some e there);
+  };
+  running = λ still. first-running t;
+  ended = λ over. absurd (both_ways false refl over);
+}
+
+-- once a worker's phase is Ended, the history is a run history
+never-ended : (round last : ℕ) (phase : Phase) → IsPhaseRight round last phase → phase ≡ Ended → ⊥
+never-ended round last phase right is = subst (IsPhaseRight round last) is right
+
+pub ended-run : (v : WorldView) (worker : ℕ) → IsWorld v → phase_at v worker ≡ Ended → IsRunHistory v.setting v.history
+ended-run v worker world is = by v.over refl is
+  where
+    by : (over : Bool) → v.over ≡ over → (if over then Ended else phase_before_end v worker) ≡ Ended → IsRunHistory v.setting v.history
+    by false runs is = let running = world.running runs in absurd (never-ended (cut v.history).round (since_of v worker) (phase_before_end v worker) (running.right worker) is)
+    by true over is =
+        let rules = world.rules in
+        let ended = world.ended over in
+        record {
+          attempts = record { legal = rules.legal; last = ended.last; numbers = rules.numbers; plans = rules.plans; whole = rules.whole; due = rules.due };
+          granted = rules.granted;
+          asked = rules.asked;
+          over = ended.over;
+        }

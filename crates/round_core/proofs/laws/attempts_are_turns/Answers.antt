@@ -1,0 +1,13 @@
+use Rattle.round_core.proofs.JoiningLaw.{attempts-granted}
+use Rattle.round_core.proofs.RoutedTrees.{attempts-stand}
+use Rattle.round_core.proofs.TurnWordLemmas.{attempts-turns}
+use Rattle.round_core.proofs.laws.attempts_are_turns.Goals as goal
+
+pub returns-clause-granted : goal.returns-clause-granted
+returns-clause-granted c = attempts-granted
+
+pub returns-clause-turns : goal.returns-clause-turns
+returns-clause-turns c = attempts-turns
+
+pub returns-clause-stands : goal.returns-clause-stands
+returns-clause-stands c = attempts-stand

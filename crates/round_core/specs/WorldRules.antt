@@ -1,0 +1,80 @@
+-- What every state of the machine keeps.
+use Rattle.std.specs.Prelude.{◌≡◌, ℕ, zero, suc, ◌+◌, ◌<◌, ◌≤◌, Bool, true, false, ◌==◌, List, length, drop, slice_get, Some, if◌then◌else◌, IsTrue}
+use Rattle.std.specs.List.{count_by}
+use Rattle.grid_demand.specs.Tables.{capacity_of}
+use Rattle.book_state.specs.Books.{IsLegal}
+use Rattle.book_state.specs.Cuts.{Cut, cut, AtMarks}
+use Rattle.book_state.specs.Entries.{AtEach, calls_of}
+use Rattle.book_state.specs.declared.entry.Call.TheVariants.{Claim as Claims}
+use Rattle.book_state.specs.declared.entry.Claim.{Claim}
+use Rattle.book_state.specs.declared.entry.Entry.{Entry}
+use Rattle.round_core.specs.Apart.{AreApartIn}
+use Rattle.round_core.specs.Attempts.{Stage, Rests, Claiming, stage_of, attempts_at}
+use Rattle.round_core.specs.Rounds.{slacks_of_turn}
+use Rattle.round_core.specs.RunHistories.{Setting, IsNumbered, IsPlanned, is_due, AreWhole, AreOfDue, ends_with_mark, AreGranted, IsAsked, IsOver}
+use Rattle.round_core.specs.Worlds.{WorldView, phase_before_end, since_of}
+use Rattle.round_core.specs.declared.steps.Phase.{Phase}
+use Rattle.round_core.specs.declared.steps.Phase.TheVariants.{Idle, Holding, Trying, Ended}
+
+-- a history of which all finished segments are those of a run history
+pub record KeepsRules (t : Setting) (h : List Entry) : Type 0 where
+  pub legal : IsLegal (capacity_of t.design) h
+  pub numbers : AtEach (λ before e. IsNumbered t.workers e.call e.number) h
+  pub plans : AtEach (λ before e. (claim : Claim) → e.call ≡ Claims claim → IsPlanned t before e.number claim) h
+  pub granted : AreGranted h
+  pub whole : AtMarks AreWhole h
+  pub due : AtMarks (AreOfDue t.design) h
+  pub asked : AtMarks (λ s. 0 < s.round → IsAsked t s) h
+
+-- where the entries of a worker in a phase have led
+abbrev pub stage_in : Phase → Stage
+stage_in (Trying net tries since) = Claiming net (drop tries slacks_of_turn)
+stage_in _ = Rests
+
+-- and the entries of a number: the workers' are counted from 1
+abbrev pub stage_at : WorldView → ℕ → Stage
+stage_at v zero = Rests
+stage_at v (suc worker) = stage_in (phase_before_end v worker)
+
+-- a worker holds the net
+abbrev pub is_holding_net : ℕ → Phase → Bool
+is_holding_net net (Holding other) = net == other
+is_holding_net net _ = false
+
+-- how often in all a net is left, held by a worker, or begun in a segment
+abbrev pub times_in : WorldView → Cut → ℕ → ℕ
+times_in v s net =
+    count_by (λ (left : ℕ). left == net) v.left + count_by (is_holding_net net) v.phases + attempts_at s.round net s.segment
+
+-- before the end a worker tries in later rounds alone, has tried at most twice, and knows its last entry
+abbrev pub IsPhaseRight : ℕ → ℕ → Phase → Type 0
+IsPhaseRight round last Idle = Unit {0}
+IsPhaseRight round last (Holding net) = Unit {0}
+IsPhaseRight round last (Trying net tries since) = (0 < round) × (tries ≤ 2) × (since ≡ last)
+IsPhaseRight round last Ended = ⊥
+
+-- before the end, with the history cut at its last mark: each net that is due is once left, or held, or begun, and no
+-- other is; each worker's entries in the last segment have led to its phase, and its last entry lies where the state
+-- says
+pub record IsRunning (v : WorldView) (s : Cut) : Type 0 where
+  pub round : s.round ≡ v.round
+  pub asked : 0 < s.round → IsAsked v.setting s
+  pub phases : length v.phases ≡ v.setting.workers
+  pub since : length v.since ≡ v.setting.workers
+  pub stages : (number : ℕ) → stage_of s.round (calls_of number s.segment) ≡ stage_at v number
+  pub nets : (net : ℕ) → times_in v s net ≡ (if is_due v.setting.design s.round s.before net then 1 else 0)
+  pub last : (worker place : ℕ) (own : Entry) → slice_get v.history place ≡ Some own →
+      own.number ≡ suc worker → place < since_of v worker
+  pub right : (worker : ℕ) → IsPhaseRight s.round (since_of v worker) (phase_before_end v worker)
+  pub apart : AreApartIn v.setting.design v.history s
+
+-- at the end the last entry is a mark at which the rounds are over
+pub record HasEnded (t : Setting) (h : List Entry) : Type 0 where
+  pub last : IsTrue (ends_with_mark h)
+  pub over : IsOver t h
+
+-- what every state keeps
+pub record IsWorld (v : WorldView) : Type 0 where
+  pub rules : KeepsRules v.setting v.history
+  pub running : v.over ≡ false → IsRunning v (cut v.history)
+  pub ended : v.over ≡ true → HasEnded v.setting v.history
