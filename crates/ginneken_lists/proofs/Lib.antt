@@ -1,0 +1,14 @@
+pub mod TimeOrder
+pub mod Serving
+pub mod Thinned
+pub mod ThinnedAgain
+pub mod Walk
+pub mod Unique
+pub mod WalkThins
+pub mod TrailLemmas
+pub mod StoredLemmas
+pub mod WiringLemmas
+pub mod Driving
+pub mod Placing
+pub mod OfferLemmas
+pub mod MergeLemmas

@@ -1,0 +1,5 @@
+use Rattle.ginneken_lists.proofs.Thinned.{thinned-is}
+use Rattle.ginneken_lists.proofs.laws.thinning.Goals as goal
+
+pub returns : goal.returns
+returns c = thinned-is

@@ -1,0 +1,10 @@
+pub mod Candidates
+pub mod ChosenCode
+pub mod Thinning
+pub mod Trails
+pub mod Pairs
+pub mod StoredPairs
+pub mod Offering
+pub mod Merging
+pub mod ListStore
+pub mod TrailStore

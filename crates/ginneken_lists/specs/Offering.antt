@@ -1,0 +1,42 @@
+-- Buffers over stored pairs, one for each kind in the order of the kinds.
+use Rattle.std.specs.Prelude.{ℕ, ◌+◌, not, nat_lt, List, [], ◌∷◌, Option, Some, None, if◌then◌else◌}
+use Rattle.std.specs.List.{fold, filter}
+use Rattle.elmore_delay.specs.declared.seen.Seen.{Seen}
+use Rattle.ginneken_lists.specs.Candidates.{Chosen, Buffered, Candidate, serves, with_one}
+use Rattle.ginneken_lists.specs.Pairs.{seen_of}
+use Rattle.ginneken_lists.specs.StoredPairs.{pair_of}
+use Rattle.ginneken_lists.specs.Trails.{chosen_of}
+use Rattle.ginneken_lists.specs.declared.stored.Stored.{Stored}
+
+-- one more candidate after another
+abbrev pub with_all : List Candidate → List Candidate → List Candidate
+with_all kept all = fold (λ before o. with_one o before) kept all
+
+-- those that a candidate doesn't serve as well as
+abbrev pub unserved : Candidate → List Candidate → List Candidate
+unserved o all = filter (λ other. not (serves o.seen other.seen)) all
+
+-- what is chosen with buffers at a node over what the marks of pairs name, of the kinds from a number on
+abbrev pub buffers_over : List Chosen → (node number : ℕ) → List Stored → List Chosen
+buffers_over trail node number [] = []
+buffers_over trail node number (stored ∷ rest) =
+    Buffered node number (chosen_of trail stored.mark) ∷ buffers_over trail node (number + 1) rest
+
+-- the candidates of pairs with these buffers
+abbrev pub offered : List Chosen → (node number : ℕ) → List Stored → List Candidate
+offered trail node number [] = []
+offered trail node number (stored ∷ rest) =
+    record { seen = seen_of (pair_of stored); chosen = Buffered node number (chosen_of trail stored.mark) }
+    ∷ offered trail node (number + 1) rest
+
+-- the place of something that is seen among pairs, behind those of smaller load, where none of these and the next serves as
+-- well; the places are counted from a number on
+abbrev pub place_of : Seen → (from : ℕ) → List Stored → Option ℕ
+place_of s from [] = Some from
+place_of s from (stored ∷ rest) =
+    if serves (seen_of (pair_of stored)) s then None
+    else (if nat_lt stored.load s.load then place_of s (from + 1) rest else Some from)
+
+-- the pairs that a pair doesn't serve as well as
+abbrev pub without_served : Stored → List Stored → List Stored
+without_served stored items = filter (λ other. not (serves (seen_of (pair_of stored)) (seen_of (pair_of other)))) items

@@ -1,0 +1,148 @@
+//! Lists of pairs.
+ghost use Rattle.std.specs.Prelude.{◌≡◌, ◌+◌, ◌*◌, ◌<◌, ◌≤◌, ◌^◌, [], ◌∷◌, List, length, slice_get, Some, All, IfOk, OnOk, OnErr, IfSome, Contains};
+ghost use Rattle.rc_library.specs.Libraries.{IsWire, IsLibrary};
+ghost use Rattle.ginneken_lists.specs.Candidates.{Chosen, all_along, all_joined, best_driven, with_offers};
+ghost use Rattle.ginneken_lists.specs.Pairs.{candidate_of, candidates, AreMarked, IsList, IsTime, IsInRange};
+ghost use Rattle.ginneken_lists.specs.Trails.{IsTrail, Keeps};
+
+use crate::pair::Pair;
+use crate::steps::Steps;
+use crate::stored::{Stored, read};
+use crate::trail::Trail;
+use crate::{merging, offering, wiring};
+use rc_library::{Library, Wire};
+use std::alloc::{AllocError, Global};
+use std::marker::Model;
+use std::sync::ledger::Ledger;
+
+/// The pairs that are kept at a point of a tree. Loads and times rise from each to the next. The
+/// operations are for loads of at most 2^60 femtofarads and times from -2^110 to 2^110 half
+/// femtoseconds.
+#[derive(Debug, Drop)]
+pub struct OptionList {
+    pairs: Vec<Stored>,
+}
+
+impl Model for OptionList {
+    ghost use Rattle.std.specs.Prelude.{List};
+    ghost use Rattle.ginneken_lists.specs.declared.pair.Pair.{Pair};
+    ghost use Rattle.ginneken_lists.specs.StoredPairs.{pairs_of};
+    ghost use Rattle.ginneken_lists.specs.ListStore.{IsStored};
+
+    ghost Value = { List Pair };
+
+    ghost view = { λ list. pairs_of list.pairs.items };
+
+    ghost invariant = { IsStored };
+}
+
+impl OptionList {
+    /// The list of one pair without buffers. The only error is want of memory.
+    pub fn leaf(alloc: Global, load: u64, time: Option<i128>) -> Result<OptionList, AllocError>
+        requires { IfSome time IsTime }
+        ensures { IfOk result (λ list. list ≡ record { load = load; time = time; mark = 0 } ∷ []) }
+    {
+        let mut pairs = Vec::new(alloc);
+        pairs.push(Stored::new(load, time, 0))?;
+        Ok(OptionList { pairs })
+    }
+
+    /// How many pairs it has.
+    pub fn len(&self) -> usize
+        ensures len { result ≡ length self.now }
+        ensures list { IsList self.now }
+    {
+        self.pairs.len()
+    }
+
+    /// The pair at a place. It is the one way to read a pair, and counts one step.
+    pub fn pair<L: Ledger>(&self, at: usize, steps: &mut Steps<L>) -> Pair
+        requires { at < length self.now }
+        ensures pair { slice_get self.now at ≡ Some result }
+        ensures steps { steps.new ≡ steps.old + 1 }
+        ensures list { IsList self.now }
+    {
+        read(&self.pairs, at, steps).pair()
+    }
+
+    /// The pair that a resistance in ohms drives best: of greatest time at the input of what drives
+    /// it, and of these of least load.
+    pub fn best_driven<L: Ledger>(&self, r: u32, steps: &mut Steps<L>) -> Pair
+        requires { All IsInRange self.now }
+        ensures best { (trail : List Chosen) → best_driven r (candidates trail self.now)
+            ≡ Some (candidate_of trail result) }
+        ensures one { Contains self.now result }
+        ensures steps { steps.new ≤ steps.old + length self.now + 1 }
+        ensures list { IsList self.now }
+    {
+        offering::best_driven(&self.pairs, r, steps).pair()
+    }
+
+    /// Takes the list from the lower to the upper end of an edge. It takes no memory, and reads each
+    /// pair once.
+    pub fn wire<L: Ledger>(&mut self, wire: Wire, steps: &mut Steps<L>)
+        requires range { All IsInRange self.old }
+        requires wire { IsWire wire }
+        ensures along { (trail : List Chosen) → candidates trail self.new ≡ all_along wire (candidates trail self.old) }
+        ensures marks { (trail : List Chosen) → AreMarked trail self.old → AreMarked trail self.new }
+        ensures short { length self.new ≤ length self.old }
+        ensures steps { steps.new ≡ steps.old + length self.old }
+        ensures list { IsList self.new }
+    {
+        wiring::wire(&mut self.pairs, wire, steps);
+    }
+
+    /// Offers a buffer of each kind at a node, over the pair that the kind drives best. On an error,
+    /// which is want of memory, the list and the trail stay as they are.
+    pub fn offer<L: Ledger>(
+        &mut self,
+        alloc: Global,
+        node: u32,
+        library: &Library,
+        trail: &mut Trail,
+        steps: &mut Steps<L>,
+    ) -> Result<(), AllocError>
+        requires range { All IsInRange self.old }
+        requires marks { AreMarked trail.old self.old }
+        ensures offered { OnOk result (candidates trail.new self.new
+            ≡ with_offers library.now node (candidates trail.old self.old)) }
+        ensures err { OnErr result (self.new ≡ self.old) }
+        ensures err_trail { OnErr result (trail.new ≡ trail.old) }
+        ensures kept { Keeps trail.old trail.new }
+        ensures marks { AreMarked trail.new self.new }
+        ensures short { length self.new ≤ length self.old + length library.now.kinds }
+        ensures steps { steps.new ≤ steps.old
+            + 3 * (length library.now.kinds * (length self.old + length library.now.kinds)) }
+        ensures list { IsList self.new }
+    {
+        let found = offering::offers(alloc, &self.pairs, library, steps)?;
+        self.pairs.reserve(found.len())?;
+        let first = trail.buffers(node, &found)?;
+        offering::offer_each(&mut self.pairs, &found, first, steps);
+        Ok(())
+    }
+
+    /// Joins the lists of two branches. The only error is want of memory, and then both lists are
+    /// given up.
+    pub fn merge<L: Ledger>(
+        alloc: Global,
+        left: OptionList,
+        right: OptionList,
+        trail: &mut Trail,
+        steps: &mut Steps<L>,
+    ) -> Result<OptionList, AllocError>
+        requires left_range { All IsInRange left }
+        requires right_range { All IsInRange right }
+        requires left_marks { AreMarked trail.old left }
+        requires right_marks { AreMarked trail.old right }
+        ensures joined { IfOk result (λ merged. candidates trail.new merged
+            ≡ all_joined (candidates trail.old left) (candidates trail.old right)) }
+        ensures marks { IfOk result (AreMarked trail.new) }
+        ensures short { IfOk result (λ merged. length merged + 1 ≤ length left + length right) }
+        ensures kept { Keeps trail.old trail.new }
+        ensures steps { steps.new ≤ steps.old + 2 * (length left + length right) }
+    {
+        let pairs = merging::merge(alloc, &left.pairs, &right.pairs, trail, steps)?;
+        Ok(OptionList { pairs })
+    }
+}
