@@ -1,0 +1,271 @@
+-- The lists of nodes, one node after another.
+use Rattle.std.proofs.Common.{◌≡◌, ◌≢◌, ℕ, zero, suc, ◌+◌, ◌-◌, ◌*◌, ◌<◌, ◌≤◌, inl, inr, List, [], ◌∷◌, ◌++◌, length, All, Contains, sum_by, Option, Some, None, slice_set, refl, sym, ap, subst, ◌∙◌, arith, le_refl, mul-le-mul}
+use Rattle.std.proofs.lemmas.Bool.{cases_eq}
+use Rattle.std.proofs.lemmas.List.{length-set, length-map, get_or-set_same, get_or-set_other, set-set, get_or_at, get_or_append_left, get_or_default}
+use Rattle.std.proofs.lemmas.List.Elements.{All-head, All-tail}
+use Rattle.std.proofs.lemmas.List.Sums.{sum_by-set, sum_by-le, get_or-le-sum_by}
+use Rattle.elmore_delay.specs.RcTrees.{IsRcTree}
+use Rattle.elmore_delay.specs.FromLeaves.{sinks_seen}
+use Rattle.ginneken_lists.specs.Candidates.{Chosen, Candidate, all_joined}
+use Rattle.ginneken_lists.specs.Pairs.{candidate_of, candidates, AreMarked}
+use Rattle.ginneken_lists.specs.Trails.{Keeps}
+use Rattle.ginneken_lists.specs.declared.pair.Pair.{Pair}
+use Rattle.buffer_plan.specs.Picked.{Sites, all_hanging, candidates_of_last}
+use Rattle.buffer_plan.specs.Gathered.{pairs_in, pairs_at, more_pairs, AreGathered, most_steps}
+use Rattle.buffer_plan.proofs.HungLemmas.{candidates-hung, candidates-other}
+use Rattle.buffer_plan.proofs.Complete.{complete}
+
+-- what marks name stays, and with it the candidates of pairs
+pub candidates-kept : (trail now : List Chosen) (pairs : List Pair) → Keeps trail now → AreMarked trail pairs → candidates now pairs ≡ candidates trail pairs
+candidates-kept trail now [] kept marked = refl
+candidates-kept trail now (pair ∷ pairs) kept marked =
+    let same = kept.same pair.mark (All-head (λ (p : Pair). p.mark ≤ length trail) pair pairs marked) in
+    let first : candidate_of now pair ≡ candidate_of trail pair =
+    ap (λ (c : Chosen). record { seen = record { load = pair.load; time = pair.time }; chosen = c }) same in
+    ap (λ (o : Candidate). o ∷ candidates now pairs) first
+    ∙ ap (λ (os : List Candidate). candidate_of trail pair ∷ os)
+    (candidates-kept trail now pairs kept (All-tail (λ (p : Pair). p.mark ≤ length trail) pair pairs marked))
+
+pub marks-kept : (trail now : List Chosen) (pairs : List Pair) → Keeps trail now → AreMarked trail pairs → AreMarked now pairs
+marks-kept trail now pairs kept marked k d inside =
+    let longer = kept.longer in
+    let mark = marked k d inside in
+    omega arith
+
+pub keeps-through : (trail upper now : List Chosen) → Keeps trail upper → Keeps upper now → Keeps trail now
+keeps-through trail upper now first second =
+    let a = first.longer in
+    let b = second.longer in
+    record {
+      longer = omega arith;
+      same = λ mark low. second.same mark (omega arith) ∙ first.same mark low;
+    }
+
+-- a list of candidates has one
+member-long : {A : Type 0} (xs : List A) (x : A) → Contains xs x → 0 < length xs
+member-long xs x at = let below = at.1 in omega arith
+
+pub gathered-long : (s : Sites) (from node : ℕ) (trail : List Chosen) (lists : List (Option (List Pair))) → AreGathered s from trail lists → node < from →
+    0 < length (pairs_at lists node)
+gathered-long s from node trail lists are below =
+    let within = are.within in
+    let n : ℕ = s.tree.nodes - from in
+    let served = complete n from node s (λ v. None) (omega arith) (λ v. tt) in
+    let all = member-long (candidates_of_last n s node) served.by served.among in
+    let long = length-map (pairs_at lists node) (candidate_of trail) in
+    let same = ap (λ (os : List Candidate). length os) (are.listed node below) in
+    omega arith
+
+-- no list is longer than the number of kinds and of hung nodes says
+pub gathered-few : (s : Sites) (from node : ℕ) (trail : List Chosen) (lists : List (Option (List Pair))) → AreGathered s from trail lists → node < from →
+    length (pairs_at lists node) ≤ 1 + length s.library.kinds * (s.tree.nodes - from)
+gathered-few s from node trail lists are below =
+    let long = are.long in
+    let within = are.within in
+    let few = are.few in
+    let one = get_or-le-sum_by more_pairs lists node None (omega arith) in
+    omega arith
+
+-- the steps of a node, where no list is longer than b
+steps-by : (k b below own upper : ℕ) → below + k ≤ b → own ≤ b → upper ≤ below + k →
+    3 * (k * (below + k)) + below + k + 2 * (own + upper) ≤ 8 * (1 + k) * b
+steps-by k b below own upper low few short =
+    let offers : k * (below + k) ≤ k * b = mul-le-mul (le_refl k) low in
+    let out : 8 * (1 + k) * b ≡ 8 * b + 8 * (k * b) = omega arith in
+    omega arith
+
+pub steps-low : (k nodes n below own upper : ℕ) → n + 2 ≤ nodes → below ≤ 1 + k * n → own ≤ 1 + k * n → upper ≤ below + k →
+    3 * (k * (below + k)) + below + k + 2 * (own + upper) ≤ most_steps k nodes
+steps-low k nodes n below own upper some few_below few_own short =
+    let more : k * (n + 1) ≤ k * nodes = mul-le-mul (le_refl k) (omega arith) in
+    let out : k * (n + 1) ≡ k * n + k = omega arith in
+    steps-by k (1 + k * nodes) below own upper (omega arith) (omega arith) short
+
+-- the pair of the sinks at a node
+abbrev pub sinks_pair : Sites → ℕ → Pair
+sinks_pair s node = record { load = (sinks_seen s.tree node).load; time = (sinks_seen s.tree node).time; mark = 0 }
+
+one-marked : (pair : Pair) → pair.mark ≡ 0 → AreMarked [] (pair ∷ [])
+one-marked pair none zero d inside = omega arith
+one-marked pair none (suc k) d inside = absurd (omega arith)
+
+-- one more node's list
+pub lists-more : (s : Sites) (n : ℕ) (before after : List (Option (List Pair))) (list : Option (List Pair)) → length before ≡ n → after ≡ before ++ list ∷ [] →
+    pairs_in list ≡ sinks_pair s n ∷ [] → ((node : ℕ) → node < n → pairs_at before node ≡ sinks_pair s node ∷ []) →
+    (node : ℕ) → node < n + 1 → pairs_at after node ≡ sinks_pair s node ∷ []
+lists-more s n before after list long pushed is each node inside = elim (cases_eq node n) [
+  | inl same ↦
+      ap (λ (lists : List (Option (List Pair))). pairs_at lists node) pushed
+      ∙ ap (λ (u : ℕ). pairs_at (before ++ list ∷ []) u) same
+      ∙ ap pairs_in (get_or_at before list [] None n long) ∙ is
+      ∙ ap (λ (u : ℕ). sinks_pair s u ∷ []) (sym same)
+  | inr apart ↦
+      ap (λ (lists : List (Option (List Pair))). pairs_at lists node) pushed
+      ∙ ap pairs_in (get_or_append_left before (list ∷ []) None node (omega arith)) ∙ each node (omega arith)
+]
+
+-- at the start each node has the list of its sinks
+pub gathered-start : (s : Sites) (from : ℕ) (lists : List (Option (List Pair))) → IsRcTree s.tree → from ≡ s.tree.nodes → length lists ≡ s.tree.nodes →
+    ((node : ℕ) → node < s.tree.nodes → pairs_at lists node ≡ sinks_pair s node ∷ []) → AreGathered s from [] lists
+gathered-start s from lists tree all long each =
+    let rooted = tree.rooted in
+    let none : s.tree.nodes - from ≡ 0 = omega arith in
+    let one : All (λ list. more_pairs list ≤ 0) lists = λ node d inside.
+    let same = ap (λ (pairs : List Pair). length pairs - 1) (each node (omega arith)) in
+    let here = ap more_pairs (get_or_default lists node d None inside) in
+    omega arith in
+    let sum = sum_by-le more_pairs 0 lists one in
+    record {
+      long = long;
+      some = omega arith;
+      within = omega arith;
+      listed = λ node below. ap (λ (pairs : List Pair). candidates [] pairs) (each node (omega arith))
+          ∙ ap (λ (n : ℕ). candidates_of_last n s node) (sym none);
+      marked = λ node below. subst (λ (pairs : List Pair). AreMarked [] pairs) (sym (each node (omega arith))) (one-marked (sinks_pair s node) refl);
+      few = omega arith;
+    }
+
+-- what is known of a node that was hung on its parent: the lists of the node, of its parent before and then
+pub record IsHung (s : Sites) (node : ℕ) (trail upper_trail now : List Chosen) (below own upper joined : List Pair) : Type 0 where
+  pub upper_kept : Keeps trail upper_trail
+  pub kept : Keeps upper_trail now
+  pub upper_is : candidates upper_trail upper ≡ all_hanging s node (candidates trail below)
+  pub upper_short : length upper ≤ length below + length s.library.kinds
+  pub joined_is : candidates now joined ≡ all_joined (candidates upper_trail own) (candidates upper_trail upper)
+  pub marked : AreMarked now joined
+  pub short : length joined + 1 ≤ length own + length upper
+
+-- the lists after a node was hung: the node has none, and its parent the joined one
+abbrev pub hung_lists : List (Option (List Pair)) → (node parent : ℕ) → List Pair → List (Option (List Pair))
+hung_lists lists node parent joined = slice_set (slice_set lists node None) parent (Some joined)
+
+hung-at_parent : (lists : List (Option (List Pair))) (node parent : ℕ) (joined : List Pair) → parent < length lists →
+    pairs_at (hung_lists lists node parent joined) parent ≡ joined
+hung-at_parent lists node parent joined inside =
+    let long = length-set lists node None in
+    ap pairs_in (get_or-set_same (slice_set lists node None) parent (Some joined) None (omega arith))
+
+hung-elsewhere : (lists : List (Option (List Pair))) (node parent v : ℕ) (joined : List Pair) → v ≢ parent → v ≢ node →
+    pairs_at (hung_lists lists node parent joined) v ≡ pairs_at lists v
+hung-elsewhere lists node parent v joined other apart =
+    ap pairs_in (get_or-set_other (slice_set lists node None) parent v (Some joined) None other ∙ get_or-set_other lists node v None None apart)
+
+-- the pairs beyond one of each list
+few-hung : (k n : ℕ) (lists : List (Option (List Pair))) (node parent : ℕ) (upper joined : List Pair) → node < length lists → parent < node →
+    0 < length (pairs_at lists node) → 0 < length (pairs_at lists parent) → length upper ≤ length (pairs_at lists node) + k →
+    length joined + 1 ≤ length (pairs_at lists parent) + length upper → sum_by more_pairs lists ≤ k * n →
+    sum_by more_pairs (hung_lists lists node parent joined) ≤ k * (n + 1)
+few-hung k n lists node parent upper joined inside earlier some_below some_own short joined_short few =
+    let long = length-set lists node None in
+    let first = sum_by-set more_pairs lists node None None inside in
+    let second = sum_by-set more_pairs (slice_set lists node None) parent (Some joined) None (omega arith) in
+    let same = ap more_pairs (get_or-set_other lists node parent None None (λ e. omega arith)) in
+    let out : k * (n + 1) ≡ k * n + k = omega arith in
+    omega arith
+
+pub gathered-next : (s : Sites) (node parent : ℕ) (trail upper_trail now : List Chosen) (lists : List (Option (List Pair))) (upper joined : List Pair) →
+    IsRcTree s.tree → 0 < node → s.tree.parent node ≡ parent → AreGathered s (node + 1) trail lists →
+    IsHung s node trail upper_trail now (pairs_at lists node) (pairs_at lists parent) upper joined →
+    AreGathered s node now (hung_lists lists node parent joined)
+gathered-next s node parent trail upper_trail now lists upper joined tree later hangs are hung =
+    let long = are.long in
+    let within = are.within in
+    let earlier = tree.earlier node later (omega arith) in
+    let before : parent < node = omega arith in
+    let n : ℕ = s.tree.nodes - (node + 1) in
+    let at : node + suc n ≡ s.tree.nodes = omega arith in
+    let more : s.tree.nodes - node ≡ suc n = omega arith in
+    let through = keeps-through trail upper_trail now hung.upper_kept hung.kept in
+    let all = hung_lists lists node parent joined in
+    let own : candidates upper_trail (pairs_at lists parent) ≡ candidates_of_last n s parent =
+    candidates-kept trail upper_trail (pairs_at lists parent) hung.upper_kept (are.marked parent (omega arith)) ∙ are.listed parent (omega arith) in
+    let above : candidates upper_trail upper ≡ all_hanging s node (candidates_of_last n s node) =
+    hung.upper_is ∙ ap (all_hanging s node) (are.listed node (omega arith)) in
+    record {
+      long = length-set (slice_set lists node None) parent (Some joined) ∙ length-set lists node None ∙ long;
+      some = later;
+      within = omega arith;
+      listed = λ v below. elim (cases_eq v parent) [
+        | inl same ↦
+            ap (λ (u : ℕ). candidates now (pairs_at all u)) same
+            ∙ ap (λ (pairs : List Pair). candidates now pairs) (hung-at_parent lists node parent joined (omega arith))
+            ∙ hung.joined_is
+            ∙ ap (λ (os : List Candidate). all_joined os (candidates upper_trail upper)) own
+            ∙ ap (λ (os : List Candidate). all_joined (candidates_of_last n s parent) os) above
+            ∙ sym (candidates-hung n node parent s at (sym hangs))
+            ∙ ap (λ (u : ℕ). candidates_of_last (suc n) s u) (sym same)
+            ∙ ap (λ (m : ℕ). candidates_of_last m s v) (sym more)
+        | inr other ↦
+            ap (λ (pairs : List Pair). candidates now pairs) (hung-elsewhere lists node parent v joined other (λ e. omega arith))
+            ∙ candidates-kept trail now (pairs_at lists v) through (are.marked v (omega arith))
+            ∙ are.listed v (omega arith)
+            ∙ sym (candidates-other n node v s at (λ e. other (e ∙ hangs)))
+            ∙ ap (λ (m : ℕ). candidates_of_last m s v) (sym more)
+      ];
+      marked = λ v below. elim (cases_eq v parent) [
+        | inl same ↦
+            subst (λ (pairs : List Pair). AreMarked now pairs)
+            (sym (ap (λ (u : ℕ). pairs_at all u) same ∙ hung-at_parent lists node parent joined (omega arith))) hung.marked
+        | inr other ↦
+            subst (λ (pairs : List Pair). AreMarked now pairs) (sym (hung-elsewhere lists node parent v joined other (λ e. omega arith)))
+            (marks-kept trail now (pairs_at lists v) through (are.marked v (omega arith)))
+      ];
+      few =
+          let fewer = few-hung (length s.library.kinds) n lists node parent upper joined (omega arith) before
+          (gathered-long s (node + 1) node trail lists are (omega arith)) (gathered-long s (node + 1) parent trail lists are (omega arith))
+          hung.upper_short hung.short are.few in
+          let same : n + 1 ≡ s.tree.nodes - node = omega arith in
+          subst (λ (m : ℕ). sum_by more_pairs all ≤ length s.library.kinds * m) same fewer;
+    }
+
+-- the same with the lists as they were taken out, and the list of the parent as it was put in
+pub gathered-put : (s : Sites) (node parent : ℕ) (trail upper_trail now : List Chosen) (lists without neither : List (Option (List Pair)))
+    (below own upper joined : List Pair) → IsRcTree s.tree → 0 < node → s.tree.parent node ≡ parent → AreGathered s (node + 1) trail lists →
+    without ≡ slice_set lists node None → neither ≡ slice_set without parent None → below ≡ pairs_at lists node → own ≡ pairs_at lists parent →
+    IsHung s node trail upper_trail now below own upper joined → AreGathered s node now (slice_set neither parent (Some joined))
+gathered-put s node parent trail upper_trail now lists without neither below own upper joined tree later hangs are taken taken_too below_is own_is hung =
+    let put : hung_lists lists node parent joined ≡ slice_set neither parent (Some joined) =
+    sym (ap (λ (xs : List (Option (List Pair))). slice_set xs parent (Some joined))
+    (taken_too ∙ ap (λ (xs : List (Option (List Pair))). slice_set xs parent None) taken)
+    ∙ set-set (slice_set lists node None) parent None (Some joined)) in
+    let one = subst (λ (ps : List Pair). IsHung s node trail upper_trail now ps own upper joined) below_is hung in
+    let both = subst (λ (ps : List Pair). IsHung s node trail upper_trail now (pairs_at lists node) ps upper joined) own_is one in
+    subst (λ (xs : List (Option (List Pair))). AreGathered s node now xs) put
+    (gathered-next s node parent trail upper_trail now lists upper joined tree later hangs are both)
+
+-- the list of a parent is there still when that of its child was taken
+pub own-is : (lists without : List (Option (List Pair))) (node parent : ℕ) (own : List Pair) → without ≡ slice_set lists node None →
+    own ≡ pairs_at without parent → parent < node → own ≡ pairs_at lists parent
+own-is lists without node parent own taken is earlier =
+    is ∙ ap (λ (xs : List (Option (List Pair))). pairs_at xs parent) taken
+    ∙ ap pairs_in (get_or-set_other lists node parent None None (λ e. omega arith))
+
+-- the steps of a node
+pub steps-hung : (s : Sites) (node parent k nodes upper : ℕ) (trail : List Chosen) (lists : List (Option (List Pair))) (below own : List Pair) →
+    AreGathered s (node + 1) trail lists → 0 < node → parent < node → below ≡ pairs_at lists node → own ≡ pairs_at lists parent →
+    length s.library.kinds ≡ k → s.tree.nodes ≡ nodes → upper ≤ length below + k →
+    3 * (k * (length below + k)) + length below + k + 2 * (length own + upper) ≤ most_steps k nodes
+steps-hung s node parent k nodes upper trail lists below own are later earlier below_is own_is kinds long short =
+    let within = are.within in
+    let n : ℕ = s.tree.nodes - (node + 1) in
+    let few_below = gathered-few s (node + 1) node trail lists are (omega arith) in
+    let few_own = gathered-few s (node + 1) parent trail lists are (omega arith) in
+    let same_below = ap (λ (ps : List Pair). length ps) below_is in
+    let same_own = ap (λ (ps : List Pair). length ps) own_is in
+    let product : length s.library.kinds * n ≡ k * n = ap (λ (m : ℕ). m * n) kinds in
+    steps-low k nodes n (length below) (length own) upper (omega arith) (omega arith) (omega arith) short
+
+-- the steps of all nodes so far, where a node takes at most m
+pub steps-turn : (m nodes node old before now : ℕ) → 1 < node → node ≤ nodes → before ≤ old + m * (nodes - node) → now ≤ before + m →
+    now ≤ old + m * (nodes - (node - 1))
+steps-turn m nodes node old before now later inside so_far one =
+    let d : ℕ = nodes - node in
+    let more : nodes - (node - 1) ≡ d + 1 = omega arith in
+    let out : m * (d + 1) ≡ m * d + m = omega arith in
+    let whole : m * (nodes - (node - 1)) ≡ m * d + m = ap (λ (k : ℕ). m * k) more ∙ out in
+    omega arith
+
+pub steps-ended : (m nodes node old now : ℕ) → 0 < node → now ≤ old + m * (nodes - node) → now ≤ old + m * (nodes - 1)
+steps-ended m nodes node old now some so_far =
+    let fewer : m * (nodes - node) ≤ m * (nodes - 1) = mul-le-mul (le_refl m) (omega arith) in
+    omega arith

@@ -1,0 +1,17 @@
+pub mod Members
+pub mod ServingKept
+pub mod BestDriven
+pub mod Served
+pub mod HungLemmas
+pub mod Complete
+pub mod Comings
+pub mod Real
+pub mod Apart
+pub mod TimeKnown
+pub mod BestLemmas
+pub mod Small
+pub mod Gathering
+pub mod TakenLemmas
+pub mod PlanLemmas
+pub mod FollowingLemmas
+pub mod PlansLemmas

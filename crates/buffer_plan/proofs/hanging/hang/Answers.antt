@@ -1,0 +1,100 @@
+use Rattle.std.proofs.Common.{◌+◌, length, refl, ap, ◌∙◌, arith}
+use Rattle.gr_base.specs.Trees.{TreeView}
+use Rattle.rc_library.specs.Libraries.{LibraryView}
+use Rattle.elmore_delay.proofs.RcLemmas.{rc-tree, parent-read}
+use Rattle.ginneken_lists.specs.Pairs.{candidates}
+use Rattle.buffer_plan.specs.Picked.{sites_of}
+use Rattle.buffer_plan.specs.Gathered.{pairs_in, pairs_at}
+use Rattle.buffer_plan.proofs.Gathering.{marks-kept, gathered-put, own-is, steps-hung}
+use Rattle.buffer_plan.proofs.Small.{hanging-pairs}
+use Rattle.buffer_plan.proofs.TakenLemmas.{taken-small, taken-range, taken-marked}
+use Rattle.buffer_plan.proofs.hanging.hang.Goals as goal
+
+pub raised-requires-clause-marks : goal.raised-requires-clause-marks
+raised-requires-clause-marks g c =
+    taken-marked c.args.loading.now (c.args.node + 1) c.args.node c.args.trail.now c.args.lists.now.items c.in_ok-below.below c.requires.loading c.requires.lists
+    (omega arith) (c.in_ok-below.ensures ∙ c.take.ensures.list)
+
+pub raised-requires-clause-small : goal.raised-requires-clause-small
+raised-requires-clause-small g c =
+    taken-small c.args.loading.now (c.args.node + 1) c.args.node c.args.trail.now c.args.lists.now.items c.in_ok-below.below c.requires.loading c.requires.lists
+    (omega arith) (c.in_ok-below.ensures ∙ c.take.ensures.list)
+
+pub returns-in_err-upper-clause-steps : goal.returns-in_err-upper-clause-steps
+returns-in_err-upper-clause-steps g c =
+    let l = c.args.loading.now in
+    let lists = c.args.lists.now.items in
+    let steps = steps-hung (sites_of l) c.args.node 0 (length c.args.library.now.kinds) (length c.args.tree.now.nodes) 0 c.args.trail.now lists
+    c.in_ok-below.below (pairs_at lists 0) c.requires.lists c.requires.later c.requires.later (c.in_ok-below.ensures ∙ c.take.ensures.list) refl
+    (ap (λ (lib : LibraryView). length lib.kinds) c.requires.library) (ap (λ (t : TreeView). length t.nodes) c.requires.tree) (omega arith) in
+    omega (arith, steps, c.in_err-upper.ensures.steps)
+
+pub join-requires-clause-own_range : goal.join-requires-clause-own_range
+join-requires-clause-own_range g c =
+    let earlier = c.parent-parent.ensures.earlier c.requires.later in
+    let lists = c.args.lists.now.items in
+    taken-range c.args.loading.now (c.args.node + 1) c.parent-parent.result c.args.trail.now lists (pairs_in c.take-own.result) c.requires.loading c.requires.lists
+    (omega (arith, earlier))
+    (own-is lists c.take.new.lists.items c.args.node c.parent-parent.result (pairs_in c.take-own.result) c.take.ensures.taken c.take-own.ensures.list earlier)
+
+pub join-requires-clause-range : goal.join-requires-clause-range
+join-requires-clause-range g c =
+    let l = c.args.loading.now in
+    let small = taken-small l (c.args.node + 1) c.args.node c.args.trail.now c.args.lists.now.items c.in_ok-below.below c.requires.loading c.requires.lists
+    (omega arith) (c.in_ok-below.ensures ∙ c.take.ensures.list) in
+    hanging-pairs l c.args.node c.raised.new.trail c.in_ok-upper.upper (candidates c.args.trail.now c.in_ok-below.below) c.requires.loading small
+    c.in_ok-upper.ensures.upper
+
+pub join-requires-clause-own_marks : goal.join-requires-clause-own_marks
+join-requires-clause-own_marks g c =
+    let earlier = c.parent-parent.ensures.earlier c.requires.later in
+    let lists = c.args.lists.now.items in
+    let marked = taken-marked c.args.loading.now (c.args.node + 1) c.parent-parent.result c.args.trail.now lists (pairs_in c.take-own.result) c.requires.loading c.requires.lists
+    (omega (arith, earlier))
+    (own-is lists c.take.new.lists.items c.args.node c.parent-parent.result (pairs_in c.take-own.result) c.take.ensures.taken c.take-own.ensures.list earlier) in
+    marks-kept c.args.trail.now c.raised.new.trail (pairs_in c.take-own.result) c.in_ok-upper.ensures.kept marked
+
+pub returns-in_err-joined-clause-steps : goal.returns-in_err-joined-clause-steps
+returns-in_err-joined-clause-steps g c =
+    let l = c.args.loading.now in
+    let lists = c.args.lists.now.items in
+    let earlier = c.parent-parent.ensures.earlier c.requires.later in
+    let kinds = ap (λ (lib : LibraryView). length lib.kinds) c.requires.library in
+    let steps = steps-hung (sites_of l) c.args.node c.parent-parent.result (length c.args.library.now.kinds) (length c.args.tree.now.nodes) (length c.in_ok-upper.upper) c.args.trail.now lists
+    c.in_ok-below.below (pairs_in c.take-own.result) c.requires.lists c.requires.later earlier (c.in_ok-below.ensures ∙ c.take.ensures.list)
+    (own-is lists c.take.new.lists.items c.args.node c.parent-parent.result (pairs_in c.take-own.result) c.take.ensures.taken c.take-own.ensures.list earlier)
+    kinds (ap (λ (t : TreeView). length t.nodes) c.requires.tree) c.in_ok-upper.ensures.short in
+    omega (arith, steps, c.in_ok-upper.ensures.steps, c.in_err-joined.ensures.steps)
+
+pub returns-clause-lists : goal.returns-clause-lists
+returns-clause-lists g c =
+    let l = c.args.loading.now in
+    let lists = c.args.lists.now.items in
+    let earlier = c.parent-parent.ensures.earlier c.requires.later in
+    let kinds = ap (λ (lib : LibraryView). length lib.kinds) c.requires.library in
+    gathered-put (sites_of l) c.args.node c.parent-parent.result c.args.trail.now c.raised.new.trail c.join.new.trail lists c.take.new.lists.items c.take-own.new.lists.items
+    c.in_ok-below.below (pairs_in c.take-own.result) c.in_ok-upper.upper c.in_ok-joined.joined (rc-tree l c.requires.loading) c.requires.later
+    (parent-read l c.args.tree.now c.args.node c.parent-parent.result c.requires.tree c.parent-parent.ensures.parent) c.requires.lists
+    c.take.ensures.taken c.take-own.ensures.taken (c.in_ok-below.ensures ∙ c.take.ensures.list)
+    (own-is lists c.take.new.lists.items c.args.node c.parent-parent.result (pairs_in c.take-own.result) c.take.ensures.taken c.take-own.ensures.list earlier)
+    (record {
+      upper_kept = c.in_ok-upper.ensures.kept;
+      kept = c.in_ok-joined.ensures.kept;
+      upper_is = c.in_ok-upper.ensures.upper;
+      upper_short = omega (arith, kinds, c.in_ok-upper.ensures.short);
+      joined_is = c.in_ok-joined.ensures.joined;
+      marked = c.in_ok-joined.ensures.marks;
+      short = c.in_ok-joined.ensures.short;
+    })
+
+pub returns-clause-steps : goal.returns-clause-steps
+returns-clause-steps g c =
+    let l = c.args.loading.now in
+    let lists = c.args.lists.now.items in
+    let earlier = c.parent-parent.ensures.earlier c.requires.later in
+    let kinds = ap (λ (lib : LibraryView). length lib.kinds) c.requires.library in
+    let steps = steps-hung (sites_of l) c.args.node c.parent-parent.result (length c.args.library.now.kinds) (length c.args.tree.now.nodes) (length c.in_ok-upper.upper) c.args.trail.now lists
+    c.in_ok-below.below (pairs_in c.take-own.result) c.requires.lists c.requires.later earlier (c.in_ok-below.ensures ∙ c.take.ensures.list)
+    (own-is lists c.take.new.lists.items c.args.node c.parent-parent.result (pairs_in c.take-own.result) c.take.ensures.taken c.take-own.ensures.list earlier)
+    kinds (ap (λ (t : TreeView). length t.nodes) c.requires.tree) c.in_ok-upper.ensures.short in
+    omega (arith, steps, c.in_ok-upper.ensures.steps, c.in_ok-joined.ensures.steps)

@@ -1,0 +1,5 @@
+pub mod Best
+pub mod Picked
+pub mod Gathered
+pub mod Following
+pub mod Plans

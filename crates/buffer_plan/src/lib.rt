@@ -1,0 +1,13 @@
+//! The best placement of a net's buffers, by van Ginneken's method.
+#![tactic(auto)]
+
+mod hanging;
+mod laws;
+mod lists;
+mod nets;
+mod placing;
+mod planner;
+
+pub use laws::picked_is_best;
+pub use nets::plan_all;
+pub use planner::Planner;

@@ -1,0 +1,123 @@
+//! Plans of nets, one after the other.
+ghost use Rattle.std.specs.Prelude.{◌≡◌, ◌+◌, ◌*◌, ◌≤◌, Some, length, IfOk};
+ghost use Rattle.elmore_delay.specs.Loadings.{IsLoading};
+ghost use Rattle.ginneken_lists.specs.Pairs.{candidate_of};
+ghost use Rattle.buffer_plan.specs.Best.{IsBest, time_with};
+ghost use Rattle.buffer_plan.specs.Picked.{picked_candidate, picked};
+
+use crate::hanging::hang_all;
+use crate::lists::{self, Lists};
+use crate::placing::place;
+use elmore_delay::{Loading, Placement, Plan};
+use ginneken_lists::{Pair, Steps, Trail};
+use gr_base::RouteTree;
+use rc_library::Library;
+use std::alloc::{AllocError, Global};
+use std::sync::ledger::Ledger;
+
+/// Makes the plans of nets, and keeps the memory of one for the next.
+#[derive(Debug, Drop)]
+pub struct Planner {
+    trail: Trail,
+    lists: Lists,
+    marks: Vec<u64>,
+}
+
+impl Planner {
+    /// A planner, which takes no memory yet.
+    pub fn new(alloc: Global) -> Planner {
+        Planner {
+            trail: Trail::new(alloc),
+            lists: Vec::new(alloc),
+            marks: Vec::new(alloc),
+        }
+    }
+
+    /// The picked plan of a net's tree: a placement of buffers with which the required time at the
+    /// driver is the greatest, and that time in half femtoseconds. The only error is want of memory.
+    ///
+    /// After van Ginneken, "Buffer placement in distributed RC-tree networks for minimal Elmore
+    /// delay", 1990.
+    pub fn plan<L: Ledger>(
+        &mut self,
+        alloc: Global,
+        tree: &RouteTree,
+        library: &Library,
+        loading: &Loading,
+        steps: &mut Steps<L>,
+    ) -> Result<Plan, AllocError>
+        requires tree { loading.now.tree ≡ tree.now }
+        requires library { loading.now.library ≡ library.now }
+        ensures picked { IfOk result (λ plan. plan.placement ≡ picked loading.now) }
+        ensures best { IfOk result (λ plan. IsBest loading.now plan.placement) }
+        ensures required { IfOk result (λ plan. plan.required ≡ time_with loading.now plan.placement) }
+        ensures steps { steps.new ≤ steps.old
+            + 8 * (1 + length library.now.kinds) * length tree.now.nodes
+            * (1 + length library.now.kinds * length tree.now.nodes) }
+    {
+        let pair = self.best_pair(alloc, tree, library, loading, steps)?;
+        self.plan_of(alloc, tree, loading, pair)
+    }
+
+    /// The pair at node 0 that the driver drives best.
+    fn best_pair<L: Ledger>(
+        &mut self,
+        alloc: Global,
+        tree: &RouteTree,
+        library: &Library,
+        loading: &Loading,
+        steps: &mut Steps<L>,
+    ) -> Result<Pair, AllocError>
+        requires tree { loading.now.tree ≡ tree.now }
+        requires library { loading.now.library ≡ library.now }
+        ensures picked { IfOk result (λ pair. picked_candidate loading.now ≡ Some (candidate_of self.new.trail pair)) }
+        ensures mark { IfOk result (λ pair. pair.mark ≤ length self.new.trail) }
+        ensures loading { IsLoading loading.now }
+        ensures steps { steps.new ≤ steps.old
+            + 8 * (1 + length library.now.kinds) * length tree.now.nodes
+            * (1 + length library.now.kinds * length tree.now.nodes) }
+    {
+        let driver = loading.driver();
+        self.trail.clear();
+        lists::start(alloc, tree, loading, &mut self.lists)?;
+        hang_all(
+            alloc,
+            tree,
+            library,
+            loading,
+            &mut self.lists,
+            &mut self.trail,
+            steps,
+        )?;
+        let pairs = lists::whole(alloc, lists::take(&mut self.lists, 0))?;
+        Ok(pairs.best_driven(driver, steps))
+    }
+
+    /// The plan with what a pair's mark names. A net without sinks has no time, and gets no buffers.
+    fn plan_of(
+        &mut self,
+        alloc: Global,
+        tree: &RouteTree,
+        loading: &Loading,
+        pair: Pair,
+    ) -> Result<Plan, AllocError>
+        requires tree { loading.now.tree ≡ tree.now }
+        requires picked { picked_candidate loading.now ≡ Some (candidate_of self.old.trail pair) }
+        requires mark { pair.mark ≤ length self.old.trail }
+        ensures picked { IfOk result (λ plan. plan.placement ≡ picked loading.now) }
+        ensures required { IfOk result (λ plan. plan.required ≡ time_with loading.now (picked loading.now)) }
+    {
+        let driver = loading.driver();
+        let Some(time) = pair.time else {
+            return Ok(Plan {
+                placement: Placement::none(alloc, tree.len())?,
+                required: 0,
+            });
+        };
+        let delay = 2 * u128::from(driver) * u128::from(pair.load);
+        Ok(Plan {
+            placement: place(alloc, tree.len(), &self.trail, pair.mark, &mut self.marks)?,
+            required: time - delay as i128,
+        })
+    }
+}
