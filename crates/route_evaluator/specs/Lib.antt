@@ -5,4 +5,5 @@ pub mod EdgeNumbers
 pub mod Gathers
 pub mod Counts
 pub mod NetTrees
+pub mod TreeSets
 pub mod Floods

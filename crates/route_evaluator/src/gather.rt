@@ -7,6 +7,7 @@ ghost use Rattle.solution_text.specs.Runs.{LieIn};
 ghost use Rattle.route_reader.specs.Solutions.{IsOf, IsRun, edges_by};
 ghost use Rattle.route_evaluator.specs.EdgeNumbers.{edges_numbered};
 ghost use Rattle.route_evaluator.specs.Gathers.{covered_by, Adds};
+ghost use Rattle.route_evaluator.specs.NumberSets.{empty_set};
 
 use crate::edge_numbers::edge_number;
 use crate::number_set::NumberSet;
@@ -46,6 +47,25 @@ pub(crate) fn gather(edges: &mut NumberSet, shape: Shape, runs: &[Run]) -> Resul
     Ok(())
 }
 
+/// Puts the edges that the runs of a net in a solution cover into an empty set. The only error is
+/// want of memory.
+pub(crate) fn gather_net(
+    edges: &mut NumberSet,
+    design: &Design,
+    solution: &Solution,
+    net: u32,
+) -> Result<(), AllocError>
+    requires of { IsOf design.now solution.now }
+    requires net { net < length design.now.nets }
+    requires empty { edges.old ≡ empty_set (3 * cells_of design.now.frame.shape) }
+    ensures bound { OnOk result (edges.new.bound ≡ 3 * cells_of design.now.frame.shape) }
+    ensures edges { OnOk result (edges_numbered edges.new.numbers ≡ edges_by solution.now net) }
+    ensures grid { OnOk result (LieIn design.now.frame.shape (edges_numbered edges.new.numbers)) }
+{
+    gather(edges, design.frame().shape, solution.runs(net))?;
+    Ok(())
+}
+
 /// The set of edges that the runs of a net in a solution cover. The only error is want of memory.
 pub(crate) fn edges_of_net(
     alloc: Global,
@@ -59,9 +79,8 @@ pub(crate) fn edges_of_net(
     ensures edges { IfOk result (λ set. edges_numbered set.numbers ≡ edges_by solution.now net) }
     ensures grid { IfOk result (λ set. LieIn design.now.frame.shape (edges_numbered set.numbers)) }
 {
-    let shape = design.frame().shape;
-    let mut edges = NumberSet::new(alloc, 3 * shape.cells())?;
-    gather(&mut edges, shape, solution.runs(net))?;
+    let mut edges = NumberSet::new(alloc, 3 * design.frame().shape.cells())?;
+    gather_net(&mut edges, design, solution, net)?;
     Ok(edges)
 }
 

@@ -17,7 +17,7 @@ mod verdict;
 
 pub use judgement::{evaluate, evaluate_routes};
 pub use net_runs::straight;
-pub use net_tree::tree_of;
+pub use net_tree::{TreeMaker, tree_of};
 pub use straight_list::Straight;
 pub use tree_error::TreeError;
 pub use verdict::Verdict;
