@@ -1,93 +1,222 @@
--- The plans of routed nets, net by net.
-use Rattle.std.proofs.Common.{◌≡◌, ℕ, inl, inr, ◌<◌, ◌+◌, false, List, length, get_or, slice_set, replicate, Option, Some, None, IsTrue, sym, ap, subst, ◌∙◌, arith}
-use Rattle.std.specs.Borrow.{Bor}
-use Rattle.std.specs.Option.{option_and_then, option_copied, IfSome, IsSomeAnd}
+-- A buffering, and what the files of it say.
+use Rattle.std.proofs.Common.{◌≡◌, ℕ, ◌+◌, ◌<◌, ◌≤◌, ◌⊎◌, inl, inr, false, List, length, slice_set, get_or, Option, Some, None, Result, Ok, Err, IsTrue, refl, sym, ap, subst, ◌∙◌, arith}
+use Rattle.std.proofs.Math.Path.{fun_ext}
 use Rattle.std.proofs.lemmas.Bool.{cases_eq}
-use Rattle.std.proofs.lemmas.List.{get_or-set_same, get_or-set_other, length-set, length-replicate}
-use Rattle.std.proofs.lemmas.List.Elements.{All-replicate}
+use Rattle.std.specs.Option.{IsSomeAnd, option_and_then, option_map}
+use Rattle.std.proofs.lemmas.List.{get_or-set_same, get_or-set_other, length-set}
 use Rattle.std.proofs.lemmas.Option.{slice_get-get_or, slice_get_within}
 use Rattle.gr_base.specs.Designs.{DesignView, is_routed}
+use Rattle.gr_base.specs.EdgeSets.{Edges}
 use Rattle.gr_base.specs.Trees.{TreeView, tree_at}
-use Rattle.gr_base.proofs.General.{and-some}
-use Rattle.elmore_delay.specs.Loadings.{IsTreeOf}
-use Rattle.round_core.proofs.TurnLemmas.{IsNetOf, routed-net}
+use Rattle.gr_io.specs.Devices.{Device, Reading, IsUntouched}
+use Rattle.gr_io.specs.Counts.{Rose}
+use Rattle.gr_io.specs.declared.shelf.Slot.{Slot}
+use Rattle.gr_io.specs.declared.shelf.Slot.TheVariants.{Solution}
+use Rattle.ispd_reader.specs.declared.fault.DesignFault.{DesignFault as DesignFaultKind}
 use Rattle.rc_library.specs.Libraries.{LibraryView}
-use Rattle.elmore_delay.specs.Placements.{NamesKinds}
-use Rattle.elmore_delay.specs.PlanLists.{plan_at}
-use Rattle.elmore_delay.specs.declared.plans.Plan.{Plan}
-use Rattle.router_top.specs.Buffering.{AreRoutesOf, IsPlan, ArePlansBelow, ArePlans}
-use Rattle.report_text.specs.BufferTexts.{IsPlanFor, ArePlanned}
+use Rattle.rc_library.specs.declared.fault.LibraryFault.{LibraryFault as LibraryFaultKind}
+use Rattle.route_reader.specs.SolutionText.{solution_of}
+use Rattle.solution_text.specs.declared.fault.SolutionFault.{SolutionFault as SolutionFaultKind}
+use Rattle.round_core.proofs.TurnLemmas.{IsNetOf, routed-net}
+use Rattle.route_reader.specs.Solutions.{SolutionView, edges_by}
+use Rattle.solution_text.specs.Cover.{cover}
+use Rattle.router_top.specs.Buffering.{HasTree, IsTreeBy, AreTreesBy, StopsAtNet, AreAccepted, IsBuffersText, IsBuffering, RefusesNet, GivesTree, GiveTrees, buffering}
+use Rattle.router_top.specs.Commands.{checked}
+use Rattle.router_top.specs.Leaving.{IsMissing, LeavesOut}
+use Rattle.router_top.specs.Opening.{IsCovered, Opens}
+use Rattle.router_top.specs.Said.{design_said, library_said, solution_said}
+use Rattle.router_top.specs.declared.stop.Stop.{Stop}
+use Rattle.router_top.specs.declared.stop.Stop.TheVariants.{Usage, DesignFault, LibraryFault, SolutionFault, NotTree, ReadFailed, WriteFailed, NoMemory}
 
--- the tree of a routed net is one of the design's grid
-pub tree-shape : (d : DesignView) (trees : List (Option TreeView)) (net : ℕ) (o : Option (Bor TreeView)) → IsTrue (is_routed d net) → AreRoutesOf d trees →
-    option_copied o ≡ tree_at trees net → IfSome o (λ (tree : Bor TreeView). tree.now.shape ≡ d.frame.shape)
-tree-shape d trees net None routed routes is = tt
-tree-shape d trees net (Some tree) routed routes is =
-    let one = routed-net d net routed in
-    (and-some (IsTreeOf d net) (tree_at trees net) tree.now (sym is) (routes net routed) one.net one.there).shape
+-- what holds of the sets of edges that a solution's runs cover holds of those that the held bytes cover
+by-cover : (P : (ℕ → Edges) → Type 0) (d : DesignView) (s : SolutionView) (held : Option (List ℕ)) → IsCovered d held s → P (edges_by s) →
+    IsSomeAnd held (λ bytes. P (cover d bytes))
+by-cover P d s None covered holds = covered
+by-cover P d s (Some bytes) covered holds = subst P (fun_ext (λ net. fun_ext (λ e. covered net e))) holds
 
-get-plan : (plans : List (Option Plan)) (net : ℕ) → net < length plans → plan_at plans net ≡ get_or plans net None
-get-plan plans net below = ap (option_and_then (λ (plan : Option Plan). plan)) (slice_get-get_or plans net None below)
+-- the texts of a buffering, all of which are accepted
+module _ (shelf : Reading) (design_name library_name solution_name : List ℕ) (files : AreAccepted shelf design_name library_name solution_name)
+    (covered : IsTrue shelf.tells → IsCovered files.design (shelf.held Solution solution_name) files.solution) where
+  pub is-buffering : (trees : List (Option TreeView)) (text : List ℕ) → AreTreesBy files.design (edges_by files.solution) trees →
+      IsBuffersText files.design files.library trees text → IsBuffering shelf design_name library_name solution_name text
+  is-buffering trees text are says = record {
+    files = files;
+    trees = trees;
+    are = are;
+    covered = λ tells. by-cover (λ sets. AreTreesBy files.design sets trees) files.design files.solution (shelf.held Solution solution_name) (covered tells) are;
+    says = says;
+  }
 
-module _ (plans : List (Option Plan)) (net : ℕ) (plan : Plan) (below : net < length plans) where
-  abbrev after : List (Option Plan)
-  after = slice_set plans net (Some plan)
+  refused : (stop : Stop) → StopsAtNet files.design (edges_by files.solution) stop → RefusesNet shelf design_name library_name solution_name stop
+  refused stop first = record {
+    files = files;
+    first = first;
+    covered = λ tells. by-cover (λ sets. StopsAtNet files.design sets stop) files.design files.solution (shelf.held Solution solution_name) (covered tells) first;
+  }
 
-  same-length : length after ≡ length plans
-  same-length = length-set plans net (Some plan)
+  -- a stop for a net is for nothing else
+  no_net : (stop : Stop) → StopsAtNet files.design (edges_by files.solution) stop → ((id : ℕ) → stop ≡ NotTree id → ⊥) → ⊥
+  no_net stop first other = other first.net.id first.is
 
-  -- the plan that was set, and the others
-  has-set : plan_at after net ≡ Some plan
-  has-set = get-plan after net (omega (arith, below, same-length)) ∙ get_or-set_same plans net (Some plan) None below
+  -- a command that stopped at the solution's trees
+  pub stopped : (out : Device) (stop : Stop) → shelf.faults_after ≡ shelf.faults → IsUntouched out →
+      GiveTrees files.design (edges_by files.solution) (Err stop) → LeavesOut (buffering design_name library_name solution_name) shelf out (Err stop)
+  stopped out NoMemory reads unwritten given err untouched = (inl (unwritten, refl), untouched)
+  stopped out (NotTree id) reads unwritten given err untouched =
+      (record { reads = reads; refuses = refused (NotTree id) given; unwritten = unwritten }, (untouched, refl))
+  stopped out Usage reads unwritten given err untouched = absurd (no_net Usage given (λ id is. cc))
+  stopped out (DesignFault fault token) reads unwritten given err untouched = absurd (no_net (DesignFault fault token) given (λ id is. cc))
+  stopped out (LibraryFault fault token) reads unwritten given err untouched = absurd (no_net (LibraryFault fault token) given (λ id is. cc))
+  stopped out (SolutionFault fault token) reads unwritten given err untouched = absurd (no_net (SolutionFault fault token) given (λ id is. cc))
+  stopped out ReadFailed reads unwritten given err untouched = absurd (no_net ReadFailed given (λ id is. cc))
+  stopped out WriteFailed reads unwritten given err untouched = absurd (no_net WriteFailed given (λ id is. cc))
 
-  has-other : (other : ℕ) → (other ≡ net → ⊥) → other < length plans → plan_at after other ≡ plan_at plans other
-  has-other other apart within =
-      get-plan after other (omega (arith, within, same-length)) ∙ get_or-set_other plans net other (Some plan) None apart ∙ sym (get-plan plans other within)
-
--- one more net, which isn't routed
-pub planned-unrouted : (d : DesignView) (lib : LibraryView) (trees : List (Option TreeView)) (plans : List (Option Plan)) (net : ℕ) →
-    is_routed d net ≡ false → ArePlansBelow net d lib trees plans → ArePlansBelow (net + 1) d lib trees plans
-planned-unrouted d lib trees plans net unrouted planned other below routed =
-    elim (cases_eq other net) [
-      | inl is ↦ (let no : is_routed d net ≡ false = unrouted in cc)
-      | inr apart ↦ planned other (omega (arith, below, apart)) routed
-    ]
-
--- one more net, with its plan
-pub planned-next : (d : DesignView) (lib : LibraryView) (trees : List (Option TreeView)) (plans : List (Option Plan)) (net : ℕ) (t : TreeView) (plan : Plan) →
-    net < length plans → tree_at trees net ≡ Some t → IsPlan d lib net t plan → ArePlansBelow net d lib trees plans →
-    ArePlansBelow (net + 1) d lib trees (slice_set plans net (Some plan))
-planned-next d lib trees plans net t plan within has is planned other below routed =
-    elim (cases_eq other net) [
-      | inl same ↦
-          subst (λ (n : ℕ). IsSomeAnd (tree_at trees n) (λ t. IsSomeAnd (plan_at (slice_set plans net (Some plan)) n) (IsPlan d lib n t))) (sym same)
-          (subst (λ (o : Option TreeView). IsSomeAnd o (λ t. IsSomeAnd (plan_at (slice_set plans net (Some plan)) net) (IsPlan d lib net t))) (sym has)
-          (subst (λ (o : Option Plan). IsSomeAnd o (IsPlan d lib net t)) (sym (has-set plans net plan within)) is))
-      | inr apart ↦
-          let earlier : other < net = omega (arith, below, apart) in
-          subst (λ (o : Option Plan). IsSomeAnd (tree_at trees other) (λ t. IsSomeAnd o (IsPlan d lib other t)))
-          (sym (has-other plans net plan within other apart (omega (arith, earlier, within)))) (planned other earlier routed)
-    ]
-
--- a placement without buffers names no kinds but the library's
-no-kinds : (lib : LibraryView) (n : ℕ) → NamesKinds lib (replicate n None)
-no-kinds lib n = All-replicate (λ (kind : Option ℕ). IfSome kind (λ number. number < length lib.kinds)) n None tt
-
--- such plans are plans for the trees
-pub planned-for : (d : DesignView) (lib : LibraryView) (trees : List (Option TreeView)) (plans : List (Option Plan)) →
-    AreRoutesOf d trees → ArePlans d lib trees plans → ArePlanned d lib trees plans
-planned-for d lib trees plans routes are net routed =
-    by (tree_at trees net) (plan_at plans net) (routes net routed) (are net (slice_get_within d.nets net one.net one.there) routed)
+-- a net whose edges aren't a tree, behind nets that have theirs, is a stop
+pub stops-at : (d : DesignView) (sets : ℕ → Edges) (net : ℕ) (stop : Stop) → IsTrue (is_routed d net) →
+    ((other : ℕ) → other < net → IsTrue (is_routed d other) → HasTree d sets other) → GivesTree d sets net (Err stop) → GiveTrees d sets (Err stop)
+stops-at d sets net stop routed before given = by stop given
   where
     one : IsNetOf d net
     one = routed-net d net routed
 
-    by : (o : Option TreeView) (p : Option Plan) → IsSomeAnd o (IsTreeOf d net) → IsSomeAnd o (λ t. IsSomeAnd p (IsPlan d lib net t)) →
-        IsSomeAnd o (λ t. IsSomeAnd p (IsPlanFor d lib t))
-    by None p route is = absurd is
-    by (Some t) None route is = absurd is
-    by (Some t) (Some plan) route is = record {
-      shape = (route one.net one.there).shape;
-      nodes = ap length is.bare ∙ length-replicate (length t.nodes) None;
-      kinds = subst (NamesKinds lib) (sym is.bare) (no-kinds lib (length t.nodes));
+    stopped-by : (stop : Stop) → (stop ≡ NotTree one.net.id) × (HasTree d sets net → ⊥) → StopsAtNet d sets stop
+    stopped-by stop is = record {
+      number = net;
+      net = one.net;
+      there = one.there;
+      routed = routed;
+      none = is.1;
+      before = before;
+      is = is.0;
     }
+
+    by : (stop : Stop) → GivesTree d sets net (Err stop) → GiveTrees d sets (Err stop)
+    by NoMemory given = tt
+    by (NotTree id) given = stopped-by (NotTree id) (given one.net one.there)
+    by Usage given = stopped-by Usage (given one.net one.there)
+    by (DesignFault fault token) given = stopped-by (DesignFault fault token) (given one.net one.there)
+    by (LibraryFault fault token) given = stopped-by (LibraryFault fault token) (given one.net one.there)
+    by (SolutionFault fault token) given = stopped-by (SolutionFault fault token) (given one.net one.there)
+    by ReadFailed given = stopped-by ReadFailed (given one.net one.there)
+    by WriteFailed given = stopped-by WriteFailed (given one.net one.there)
+
+-- so many nets have the trees of their edges
+pub record AreTreesBelow (most : ℕ) (d : DesignView) (sets : ℕ → Edges) (trees : List (Option TreeView)) : Type 0 where
+  pub trees_are : (net : ℕ) → net < most → IsTrue (is_routed d net) → IsSomeAnd (tree_at trees net) (IsTreeBy d sets net)
+  pub have : (net : ℕ) → net < most → IsTrue (is_routed d net) → HasTree d sets net
+
+get-tree : (trees : List (Option TreeView)) (net : ℕ) → net < length trees → tree_at trees net ≡ get_or trees net None
+get-tree trees net below = ap (option_and_then (λ (tree : Option TreeView). tree)) (slice_get-get_or trees net None below)
+
+-- one more net, which isn't routed
+pub below-unrouted : (d : DesignView) (sets : ℕ → Edges) (trees : List (Option TreeView)) (net : ℕ) → is_routed d net ≡ false →
+    AreTreesBelow net d sets trees → AreTreesBelow (net + 1) d sets trees
+below-unrouted d sets trees net unrouted are = record {
+  trees_are = λ other below routed. are.trees_are other (earlier other below routed) routed;
+  have = λ other below routed. are.have other (earlier other below routed) routed;
+}
+  where
+    earlier : (other : ℕ) → other < net + 1 → IsTrue (is_routed d other) → other < net
+    earlier other below routed = elim (cases_eq other net) [
+      | inl is ↦ absurd (let no : is_routed d net ≡ false = unrouted in cc)
+      | inr apart ↦ omega (arith, below, apart)
+    ]
+
+-- one more net, with its tree
+pub below-next : (d : DesignView) (sets : ℕ → Edges) (trees : List (Option TreeView)) (net : ℕ) (t : TreeView) → net < length trees →
+    GivesTree d sets net (Ok t) → AreTreesBelow net d sets trees → AreTreesBelow (net + 1) d sets (slice_set trees net (Some t))
+below-next d sets trees net t within gives are = record {
+  trees_are = λ other below routed. elim (cases_eq other net) [
+    | inl same ↦
+        subst (λ (n : ℕ). IsSomeAnd (tree_at after n) (IsTreeBy d sets n)) (sym same)
+        (subst (λ (o : Option TreeView). IsSomeAnd o (IsTreeBy d sets net)) (sym has-set) gives.0)
+    | inr apart ↦
+        let earlier : other < net = omega (arith, below, apart) in
+        subst (λ (o : Option TreeView). IsSomeAnd o (IsTreeBy d sets other)) (sym (has-other other apart (omega (arith, earlier, within))))
+        (are.trees_are other earlier routed)
+  ];
+  have = λ other below routed. elim (cases_eq other net) [
+    | inl same ↦ subst (HasTree d sets) (sym same) gives.1
+    | inr apart ↦ are.have other (omega (arith, below, apart)) routed
+  ];
+}
+  where
+    after : List (Option TreeView)
+    after = slice_set trees net (Some t)
+
+    same-length : length after ≡ length trees
+    same-length = length-set trees net (Some t)
+
+    has-set : tree_at after net ≡ Some t
+    has-set = get-tree after net (omega (arith, within, same-length)) ∙ get_or-set_same trees net (Some t) None within
+
+    has-other : (other : ℕ) → (other ≡ net → ⊥) → other < length trees → tree_at after other ≡ tree_at trees other
+    has-other other apart inside =
+        get-tree after other (omega (arith, inside, same-length)) ∙ get_or-set_other trees net other (Some t) None apart ∙ sym (get-tree trees other inside)
+
+-- all nets have their trees
+pub below-all : (d : DesignView) (sets : ℕ → Edges) (trees : List (Option TreeView)) (most : ℕ) → length d.nets ≤ most →
+    AreTreesBelow most d sets trees → AreTreesBy d sets trees
+below-all d sets trees most all are net routed =
+    let one = routed-net d net routed in
+    let inside = slice_get_within d.nets net one.net one.there in
+    are.trees_are net (omega (arith, all, inside)) routed
+
+-- files of which the design and the library are accepted say what the solution says
+pub files-read : (design library solution : List ℕ) (shelf : Reading) (d : DesignView) (lib : LibraryView) →
+    design_said shelf.held design ≡ Some (Ok d) → library_said shelf.held library d ≡ Some (Ok lib) →
+    (buffering design library solution).files shelf ≡ checked (solution_said shelf.held solution d) SolutionFault (λ s. Some (Ok tt))
+files-read design library solution shelf d lib said read =
+    ap (λ (o : Option (Result DesignView (DesignFaultKind × ℕ))). checked o DesignFault (λ d. checked (library_said shelf.held library d) LibraryFault
+    (λ lib. checked (solution_said shelf.held solution d) SolutionFault (λ s. Some (Ok tt))))) said
+    ∙ ap (λ (o : Option (Result LibraryView (LibraryFaultKind × ℕ))). checked o LibraryFault
+    (λ lib. checked (solution_said shelf.held solution d) SolutionFault (λ s. Some (Ok tt)))) read
+
+-- a command that stopped at the solution's text
+module _ (shelf : Reading) (design library solution : List ℕ) (d : DesignView) (lib : LibraryView)
+    (said : IsTrue shelf.tells → design_said shelf.held design ≡ Some (Ok d)) (read : IsTrue shelf.tells → library_said shelf.held library d ≡ Some (Ok lib))
+    (held_then : Slot → List ℕ → Option (List ℕ)) (faults misses : ℕ) (same_faults : faults ≡ shelf.faults) (same_misses : misses ≡ shelf.misses)
+    (same_held : held_then Solution solution ≡ shelf.held Solution solution) (out : Device) (unwritten : IsUntouched out) where
+  abbrev then_on : Reading
+  then_on = record {
+    tells = shelf.tells;
+    held = held_then;
+    faults = faults;
+    faults_after = shelf.faults_after;
+    misses = misses;
+    misses_after = shelf.misses_after;
+  }
+
+  abbrev after : Option (List ℕ) → Option (Result (Unit {0}) Stop)
+  after held = checked (option_map (solution_of d) held) SolutionFault (λ s. Some (Ok tt))
+
+  files-then : IsTrue shelf.tells → (buffering design library solution).files shelf ≡ after (held_then Solution solution)
+  files-then tells = files-read design library solution shelf d lib (said tells) (read tells) ∙ ap after (sym same_held)
+
+  cause : Rose faults shelf.faults_after ⊎ (Rose misses shelf.misses_after × (IsTrue shelf.tells → held_then Solution solution ≡ None)) →
+      Rose shelf.faults shelf.faults_after ⊎ IsMissing (buffering design library solution) shelf
+  cause (inl rose) = inl (subst (λ (n : ℕ). Rose n shelf.faults_after) same_faults rose)
+  cause (inr missing) =
+      inr (subst (λ (n : ℕ). Rose n shelf.misses_after) same_misses missing.0, λ tells. files-then tells ∙ ap after (missing.1 tells))
+
+  pub solution-fails : (stop : Stop) →
+      Opens then_on (held_then Solution solution) (option_map (solution_of d) (held_then Solution solution)) SolutionFault (Err stop) →
+      LeavesOut (buffering design library solution) shelf out (Err stop)
+  solution-fails NoMemory opens err untouched = (inl (unwritten, refl), untouched)
+  solution-fails ReadFailed opens err untouched = (record { cause = cause opens; unwritten = unwritten }, (untouched, refl))
+  solution-fails (SolutionFault fault token) opens err untouched = (
+    record {
+      reads = opens.reads ∙ same_faults;
+      said = λ tells.
+          files-then tells
+          ∙ ap (λ (o : Option (Result SolutionView (SolutionFaultKind × ℕ))). checked o SolutionFault (λ s. Some (Ok tt))) (opens.says tells)
+          ∙ ap (λ (s : Stop). Some (Err s)) (sym opens.is);
+      unwritten = unwritten;
+    },
+    (untouched, refl),
+  )
+  solution-fails Usage opens err untouched = absurd (let is = opens.is in cc)
+  solution-fails (DesignFault fault token) opens err untouched = absurd (let is = opens.is in cc)
+  solution-fails (LibraryFault fault token) opens err untouched = absurd (let is = opens.is in cc)
+  solution-fails (NotTree id) opens err untouched = absurd (let is = opens.is in cc)
+  solution-fails WriteFailed opens err untouched = absurd (let is = opens.is in cc)

@@ -5,6 +5,7 @@ use Rattle.gr_io.specs.Devices.{Reading}
 use Rattle.ispd_reader.specs.declared.fault.DesignFault.{DesignFault as DesignFaultKind}
 use Rattle.route_reader.specs.Solutions.{SolutionView}
 use Rattle.solution_text.specs.declared.fault.SolutionFault.{SolutionFault as SolutionFaultKind}
+use Rattle.router_top.specs.Buffering.{AreAccepted, buffering}
 use Rattle.router_top.specs.Commands.{HandedBack, Command, checked}
 use Rattle.router_top.specs.Judging.{judging}
 use Rattle.router_top.specs.Orders.{command_of}
@@ -12,14 +13,17 @@ use Rattle.router_top.specs.Routing.{routing}
 use Rattle.rc_library.specs.Libraries.{LibraryView}
 use Rattle.rc_library.specs.declared.fault.LibraryFault.{LibraryFault as LibraryFaultKind}
 use Rattle.router_top.specs.Said.{library_said, solution_said}
-use Rattle.word_reader.specs.Orders.{Order, Route, Evaluate}
+use Rattle.word_reader.specs.Orders.{Order, Route, Evaluate, Buffer}
 use Rattle.router_top.specs.declared.stop.Outcome.{Outcome}
 use Rattle.router_top.specs.declared.stop.Outcome.TheVariants.{Whole, Open}
+use Rattle.router_top.specs.declared.stop.Stop.{Stop}
 use Rattle.router_top.specs.declared.stop.Stop.TheVariants.{DesignFault, LibraryFault, SolutionFault}
 use Rattle.word_reader.specs.declared.order.Options.{Options}
 use Rattle.router_top.proofs.JudgingLemmas.{judged-open, judged-whole}
 
 pub record IsLawful (command : Command) : Type 0 where
+  -- what is refused has accepted files
+  pub refuses : (shelf : Reading) (stop : Stop) → command.refuses shelf stop → IsTrue shelf.tells → command.files shelf ≡ Some (Ok tt)
   -- files are accepted where texts were made of them
   pub accepts : (shelf : Reading) (kept : Option HandedBack) (outcome : Outcome) (text report : List ℕ) →
       command.says shelf kept outcome text report → IsTrue shelf.tells → command.files shelf ≡ Some (Ok tt)
@@ -45,6 +49,7 @@ routing-accepts design library options shelf (Some k) outcome text report says t
 
 routing-lawful : (design library : List ℕ) (options : Options) → IsLawful (routing design library options)
 routing-lawful design library options = record {
+  refuses = λ shelf stop refused. absurd refused;
   accepts = routing-accepts design library options;
   opens = λ shelf kept text report says tells. absurd (routes-whole says.0);
   closes = λ shelf kept text report says tells left. left;
@@ -53,6 +58,7 @@ routing-lawful design library options = record {
 
 judging-lawful : (design solution : List ℕ) (via_cost : ℕ) → IsLawful (judging design solution via_cost)
 judging-lawful design solution via_cost = record {
+  refuses = λ shelf stop refused. absurd refused;
   accepts = λ shelf kept outcome text report says tells.
       ap (λ (o : Option (Result DesignView (DesignFaultKind × ℕ))). checked o DesignFault (λ d. checked (solution_said shelf.held solution d) SolutionFault (λ s. Some (Ok tt)))) (says.2.said tells)
       ∙ ap (λ (o : Option (Result SolutionView (SolutionFaultKind × ℕ))). checked o SolutionFault (λ s. Some (Ok tt))) (says.2.read tells);
@@ -61,6 +67,25 @@ judging-lawful design solution via_cost = record {
   unkept = λ shelf kept text report says. says.0;
 }
 
+buffering-accepts : (design library solution : List ℕ) (shelf : Reading) → AreAccepted shelf design library solution → IsTrue shelf.tells →
+    (buffering design library solution).files shelf ≡ Some (Ok tt)
+buffering-accepts design library solution shelf files tells =
+    ap (λ (o : Option (Result DesignView (DesignFaultKind × ℕ))). checked o DesignFault (λ d. checked (library_said shelf.held library d) LibraryFault
+    (λ lib. checked (solution_said shelf.held solution d) SolutionFault (λ s. Some (Ok tt))))) (files.said tells)
+    ∙ ap (λ (o : Option (Result LibraryView (LibraryFaultKind × ℕ))). checked o LibraryFault
+    (λ lib. checked (solution_said shelf.held solution files.design) SolutionFault (λ s. Some (Ok tt)))) (files.library_read tells)
+    ∙ ap (λ (o : Option (Result SolutionView (SolutionFaultKind × ℕ))). checked o SolutionFault (λ s. Some (Ok tt))) (files.solution_read tells)
+
+buffering-lawful : (design library solution : List ℕ) → IsLawful (buffering design library solution)
+buffering-lawful design library solution = record {
+  refuses = λ shelf stop refused. buffering-accepts design library solution shelf refused.files;
+  accepts = λ shelf kept outcome text report says. buffering-accepts design library solution shelf says.3.files;
+  opens = λ shelf kept text report says tells. absurd (routes-whole says.0);
+  closes = λ shelf kept text report says tells left. left;
+  unkept = λ shelf kept text report says. says.1;
+}
+
 pub lawful : (order : Order) → IsLawful (command_of order)
 lawful (Route design library options) = routing-lawful design library options
 lawful (Evaluate design solution via_cost) = judging-lawful design solution via_cost
+lawful (Buffer design library solution) = buffering-lawful design library solution

@@ -1,19 +1,19 @@
 -- What each status says, of how a command ended and what err was told.
-use Rattle.std.proofs.Common.{◌≡◌, ℕ, inl, inr, Bool, true, false, ◌==◌, List, ◌++◌, Option, Some, None, Result, Ok, Err, IsTrue, refl, sym, ap, subst, ◌∙◌}
+use Rattle.std.proofs.Common.{◌≡◌, ℕ, ◌⊎◌, inl, inr, Bool, true, false, ◌==◌, List, ◌++◌, Option, Some, None, Result, Ok, Err, IsTrue, refl, sym, ap, subst, ◌∙◌}
 use Rattle.gr_io.specs.Counts.{Rose}
 use Rattle.gr_io.specs.Devices.{Device, Reading, IsUntouched, Gains, GainsPart, GainsLine}
 use Rattle.gr_io.specs.Parts.{AppendsPart}
 use Rattle.router_top.specs.Commands.{HandedBack, Command}
 use Rattle.router_top.specs.Ends.{LeavesFor, upto, afterwards, Ends}
-use Rattle.router_top.specs.Leaving.{IsDone, IsFaulty, FailsToRead, FailsToWrite, WantsMemory, IsSilent, Leaves}
+use Rattle.router_top.specs.Leaving.{IsDone, IsFaulty, IsRefused, FailsToRead, FailsToWrite, WantsMemory, IsSilent, Leaves}
 use Rattle.router_top.specs.Orders.{command_of}
-use Rattle.router_top.specs.Statuses.{is_status, ReportsFault, IsAnswer, IsByStatus}
+use Rattle.router_top.specs.Statuses.{is_status, ReportsFault, ReportsNet, IsAnswer, IsByStatus}
 use Rattle.router_top.specs.Stops.{status_of, told_line, IsToldOrNot, Finishes}
 use Rattle.word_reader.specs.Orders.{Order}
 use Rattle.router_top.specs.declared.stop.Outcome.{Outcome}
 use Rattle.router_top.specs.declared.stop.Outcome.TheVariants.{Whole, Open}
 use Rattle.router_top.specs.declared.stop.Stop.{Stop}
-use Rattle.router_top.specs.declared.stop.Stop.TheVariants.{Usage, DesignFault, LibraryFault, SolutionFault, ReadFailed, WriteFailed, NoMemory}
+use Rattle.router_top.specs.declared.stop.Stop.TheVariants.{Usage, DesignFault, LibraryFault, SolutionFault, NotTree, ReadFailed, WriteFailed, NoMemory}
 use Rattle.router_top.proofs.CommandLaws.{IsLawful, lawful}
 
 -- err up to the moment at which it is told, and from there on
@@ -49,7 +49,7 @@ SaysAt command shelf out err kept status =
     (pick (status == 1) (IsDone command shelf out err kept Open)
     (pick (status == 3) (ReportsFault DesignFault command shelf out err)
     (pick (status == 4) (ReportsFault LibraryFault command shelf out err)
-    (pick (status == 5) (ReportsFault SolutionFault command shelf out err)
+    (pick (status == 5) (ReportsFault SolutionFault command shelf out err ⊎ ReportsNet command shelf out err)
     (pick (status == 6) (FailsToRead command shelf out × GainsLine err (told_line ReadFailed))
     (pick (status == 7) (FailsToWrite command shelf out err kept)
     (pick (status == 8) (WantsMemory command shelf out kept × GainsLine err (told_line NoMemory)) ⊥)))))))
@@ -60,7 +60,7 @@ record IsShown (command : Command) (shelf : Reading) (out err : Device) (kept : 
   says : SaysAt command shelf out err kept status
   unkept : (status ≡ 0 → ⊥) → (status ≡ 7 → ⊥) → (status ≡ 8 → ⊥) → kept ≡ None
   answers : IsTrue shelf.tells → (Rose shelf.faults shelf.faults_after → ⊥) → (said : Result (Unit {0}) Stop) →
-      command.files shelf ≡ Some said → IsAnswer command said out err status
+      command.files shelf ≡ Some said → IsAnswer command shelf said out err status
 
 -- files say one thing
 one_answer : (o : Option (Result (Unit {0}) Stop)) (a b : Result (Unit {0}) Stop) → o ≡ Some a → o ≡ Some b → a ≡ b
@@ -69,10 +69,10 @@ one_answer o a b first second = cc
 module _ (command : Command) (law : IsLawful command) (shelf : Reading) (out err : Device) (kept : Option HandedBack) where
   -- a command whose texts were made answers accepted files
   done-answers : (outcome : Outcome) (text report : List ℕ) (status : ℕ) → command.says shelf kept outcome text report →
-      IsAnswer command (Ok tt) out err status → IsTrue shelf.tells → (said : Result (Unit {0}) Stop) →
-      command.files shelf ≡ Some said → IsAnswer command said out err status
+      IsAnswer command shelf (Ok tt) out err status → IsTrue shelf.tells → (said : Result (Unit {0}) Stop) →
+      command.files shelf ≡ Some said → IsAnswer command shelf said out err status
   done-answers outcome text report status says answer tells said is =
-      subst (λ (r : Result (Unit {0}) Stop). IsAnswer command r out err status)
+      subst (λ (r : Result (Unit {0}) Stop). IsAnswer command shelf r out err status)
       (one_answer (command.files shelf) (Ok tt) said (law.accepts shelf kept outcome text report says tells) is) answer
 
   shown-whole : IsDone command shelf out err kept Whole → IsShown command shelf out err kept 0
@@ -93,10 +93,28 @@ module _ (command : Command) (law : IsLawful command) (shelf : Reading) (out err
 
   -- a fault answers files that say it
   fault-answers : (stop : Stop) → IsFaulty command shelf out stop → IsTrue shelf.tells → (said : Result (Unit {0}) Stop) →
-      command.files shelf ≡ Some said → IsAnswer command said out err (status_of stop)
+      command.files shelf ≡ Some said → IsAnswer command shelf said out err (status_of stop)
   fault-answers stop faulty tells said is =
-      subst (λ (r : Result (Unit {0}) Stop). IsAnswer command r out err (status_of stop))
+      subst (λ (r : Result (Unit {0}) Stop). IsAnswer command shelf r out err (status_of stop))
       (one_answer (command.files shelf) (Err stop) said (faulty.said tells) is) (inl refl)
+
+  -- another cause answers accepted files
+  refused-answers : (stop : Stop) → command.refuses shelf stop → IsTrue shelf.tells → (said : Result (Unit {0}) Stop) →
+      command.files shelf ≡ Some said → IsAnswer command shelf said out err (status_of stop)
+  refused-answers stop refused tells said is =
+      subst (λ (r : Result (Unit {0}) Stop). IsAnswer command shelf r out err (status_of stop))
+      (one_answer (command.files shelf) (Ok tt) said (law.refuses shelf stop refused tells) is)
+      (λ writes. inr (inr (inr (stop, refused, refl))))
+
+  -- a net without a tree that was told
+  shown-net : (id : ℕ) → IsRefused command shelf out (NotTree id) → GainsLine err (told_line (NotTree id)) → kept ≡ None →
+      IsShown command shelf out err kept 5
+  shown-net id refused line none = record {
+    known = refl;
+    says = inr (record { id = id; refused = refused; line = line });
+    unkept = λ no no_write no_memory. none;
+    answers = λ tells quiet. refused-answers (NotTree id) refused.refuses tells;
+  }
 
   -- a fault of a text that was told is one that its status says
   shown-text : {F : Type 0} (stop : F → ℕ → Stop) (fault : F) (token : ℕ) → IsTrue (is_status (status_of (stop fault token))) →
@@ -129,7 +147,7 @@ module _ (command : Command) (law : IsLawful command) (shelf : Reading) (out err
 
   -- a failed write is one that may fail
   write-answers : FailsToWrite command shelf out err kept → IsTrue shelf.tells → (said : Result (Unit {0}) Stop) →
-      command.files shelf ≡ Some said → IsAnswer command said out err 7
+      command.files shelf ≡ Some said → IsAnswer command shelf said out err 7
   write-answers (inl fails) tells said is =
       done-answers fails.part.outcome fails.part.text fails.part.report 7 fails.part.says
       (λ quiet. absurd (quiet (inl fails.cause))) tells said is
@@ -145,8 +163,8 @@ module _ (command : Command) (law : IsLawful command) (shelf : Reading) (out err
     answers = λ tells quiet. write-answers fails tells;
   }
 
-  any-answer : (said : Result (Unit {0}) Stop) → IsAnswer command said out err 8
-  any-answer (Ok done) = λ writes. inr (inr refl)
+  any-answer : (said : Result (Unit {0}) Stop) → IsAnswer command shelf said out err 8
+  any-answer (Ok done) = λ writes. inr (inr (inl refl))
   any-answer (Err stop) = inr refl
 
   shown-memory : WantsMemory command shelf out kept → GainsLine err (told_line NoMemory) → IsShown command shelf out err kept 8
@@ -162,16 +180,16 @@ module _ (command : Command) (law : IsLawful command) (shelf : Reading) (out err
       IsShown command shelf out err kept (status_of stop) → IsShown command shelf out err kept status
   shown-told stop told status is by shown = subst (IsShown command shelf out err kept) (sym (by ∙ ap status_of is)) shown
 
-  -- a fault that was told, or memory wanted for its line
-  shown-fault : (stop : Stop) (faults : ℕ) (written : List ℕ) (told : Stop) (status : ℕ) → IsFaulty command shelf out stop →
+  -- a cause that was told, or memory wanted for its line
+  shown-fault : (stop : Stop) (faults : ℕ) (written : List ℕ) (told : Stop) (status : ℕ) → IsUntouched out →
       IsSilent (upto err faults written) kept → IsToldOrNot (afterwards err faults written) stop told → status ≡ status_of told →
       (GainsLine err (told_line stop) → IsShown command shelf out err kept (status_of stop)) → IsShown command shelf out err kept status
-  shown-fault stop faults written told status faulty silent is_told by shown =
+  shown-fault stop faults written told status unwritten silent is_told by shown =
       elim is_told [
         | inl h ↦ shown-told stop told status h.0 by (shown (line-then err faults written (told_line stop) silent.0 h.1))
         | inr h ↦
             shown-told NoMemory told status h.0 by
-            (shown-memory (inl (faulty.unwritten, silent.1)) (line-then err faults written (told_line NoMemory) silent.0 h.1))
+            (shown-memory (inl (unwritten, silent.1)) (line-then err faults written (told_line NoMemory) silent.0 h.1))
       ]
 
   -- of a command that was done err is told nothing
@@ -196,14 +214,17 @@ module _ (command : Command) (law : IsLawful command) (shelf : Reading) (out err
       subst (IsShown command shelf out err kept) (sym told.0) (shown-open (done-told Open faults written leaves told.1))
   shown (Err Usage) faults written status leaves told = absurd leaves
   shown (Err (DesignFault fault token)) faults written status leaves told =
-      shown-fault (DesignFault fault token) faults written told.0 status leaves.0 leaves.1 told.1 told.2
+      shown-fault (DesignFault fault token) faults written told.0 status leaves.0.unwritten leaves.1 told.1 told.2
       (λ line. shown-text DesignFault fault token refl (λ says. says) leaves.0 line leaves.1.1)
   shown (Err (LibraryFault fault token)) faults written status leaves told =
-      shown-fault (LibraryFault fault token) faults written told.0 status leaves.0 leaves.1 told.1 told.2
+      shown-fault (LibraryFault fault token) faults written told.0 status leaves.0.unwritten leaves.1 told.1 told.2
       (λ line. shown-text LibraryFault fault token refl (λ says. says) leaves.0 line leaves.1.1)
   shown (Err (SolutionFault fault token)) faults written status leaves told =
-      shown-fault (SolutionFault fault token) faults written told.0 status leaves.0 leaves.1 told.1 told.2
-      (λ line. shown-text SolutionFault fault token refl (λ says. says) leaves.0 line leaves.1.1)
+      shown-fault (SolutionFault fault token) faults written told.0 status leaves.0.unwritten leaves.1 told.1 told.2
+      (λ line. shown-text SolutionFault fault token refl (λ says. inl says) leaves.0 line leaves.1.1)
+  shown (Err (NotTree id)) faults written status leaves told =
+      shown-fault (NotTree id) faults written told.0 status leaves.0.unwritten leaves.1 told.1 told.2
+      (λ line. shown-net id leaves.0 line leaves.1.1)
   shown (Err ReadFailed) faults written status leaves told =
       shown-told ReadFailed told.0 status told.1.0 told.2
       (shown-read leaves.0 (line-then err faults written (told_line ReadFailed) leaves.1.0 told.1.1) leaves.1.1)

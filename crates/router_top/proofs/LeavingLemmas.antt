@@ -10,7 +10,7 @@ use Rattle.word_reader.specs.Orders.{Order}
 use Rattle.router_top.specs.declared.stop.Outcome.{Outcome}
 use Rattle.router_top.specs.declared.stop.Outcome.TheVariants.{Whole}
 use Rattle.router_top.specs.declared.stop.Stop.{Stop}
-use Rattle.router_top.specs.declared.stop.Stop.TheVariants.{Usage, DesignFault, LibraryFault, SolutionFault, ReadFailed, WriteFailed, NoMemory}
+use Rattle.router_top.specs.declared.stop.Stop.TheVariants.{Usage, DesignFault, LibraryFault, SolutionFault, NotTree, ReadFailed, WriteFailed, NoMemory}
 
 -- an untouched sink gained the empty text
 pub gains-nothing : (device : Device) → IsUntouched device → Gains device []
@@ -36,6 +36,7 @@ written command shelf out err kept text report (Err Usage) reports reads says is
 written command shelf out err kept text report (Err (DesignFault fault token)) reports reads says is = absurd is
 written command shelf out err kept text report (Err (LibraryFault fault token)) reports reads says is = absurd is
 written command shelf out err kept text report (Err (SolutionFault fault token)) reports reads says is = absurd is
+written command shelf out err kept text report (Err (NotTree id)) reports reads says is = absurd is
 written command shelf out err kept text report (Err ReadFailed) reports reads says is = absurd is
 written command shelf out err kept text report (Err WriteFailed) reports reads says is = cut is
   where

@@ -1,4 +1,5 @@
 pub mod StopLemmas
+pub mod PlannedLemmas
 pub mod BufferingLemmas
 pub mod DemandLemmas
 pub mod RouteLemmas

@@ -1,32 +1,100 @@
--- The plans of buffers of a design's routes.
-use Rattle.std.specs.Prelude.{◌≡◌, ℕ, ◌<◌, List, length, replicate, Option, None, IsTrue, IsSomeAnd}
+-- The command `buffer`: what its files say, and what it writes.
+use Rattle.std.specs.Prelude.{◌≡◌, ℕ, ◌<◌, false, List, [], Option, Some, None, Result, Ok, Err, slice_get, IsTrue, IsSomeAnd}
 use Rattle.gr_base.specs.Designs.{DesignView, is_routed, pins_at}
-use Rattle.gr_base.specs.Trees.{TreeView, tree_at}
-use Rattle.rc_library.specs.Libraries.{LibraryView}
-use Rattle.elmore_delay.specs.Loadings.{LoadingView, IsTreeOf, rc_of}
-use Rattle.elmore_delay.specs.Placements.{buffers_of}
-use Rattle.elmore_delay.specs.PlanLists.{plan_at}
-use Rattle.elmore_delay.specs.RcTrees.{required_time}
+use Rattle.gr_base.specs.EdgeSets.{Edges}
+use Rattle.gr_base.specs.Trees.{TreeView, IsTree, tree_at}
+use Rattle.gr_base.specs.declared.frame.Net.{Net}
+use Rattle.gr_io.specs.Devices.{Reading}
+use Rattle.gr_io.specs.declared.shelf.Slot.TheVariants.{Solution}
+use Rattle.elmore_delay.specs.Loadings.{IsTreeOf}
 use Rattle.elmore_delay.specs.declared.plans.Plan.{Plan}
+use Rattle.rc_library.specs.Libraries.{LibraryView}
+use Rattle.report_text.specs.BufferTexts.{buffers_text}
+use Rattle.route_evaluator.specs.NetTrees.{AreTree, HasJust}
+use Rattle.route_reader.specs.Solutions.{SolutionView, edges_by}
+use Rattle.solution_text.specs.Cover.{cover}
+use Rattle.buffer_plan.specs.Plans.{ArePlans}
+use Rattle.router_top.specs.Commands.{Command, checked}
+use Rattle.router_top.specs.Said.{design_said, library_said, solution_said}
+use Rattle.router_top.specs.declared.stop.Outcome.TheVariants.{Whole}
+use Rattle.router_top.specs.declared.stop.Stop.{Stop}
+use Rattle.router_top.specs.declared.stop.Stop.TheVariants.{DesignFault, LibraryFault, SolutionFault, NotTree, NoMemory}
 
--- each routed net has a tree that routes it
-abbrev pub AreRoutesOf : DesignView → List (Option TreeView) → Type 0
-AreRoutesOf d trees = (net : ℕ) → IsTrue (is_routed d net) → IsSomeAnd (tree_at trees net) (IsTreeOf d net)
+-- a net's edges are a tree for its pins
+abbrev pub HasTree : DesignView → (ℕ → Edges) → ℕ → Type 0
+HasTree d sets net = AreTree d.frame.shape (sets net) (pins_at d net)
 
--- a net's tree with what a library says of it
-abbrev pub loading_of : DesignView → LibraryView → ℕ → TreeView → LoadingView
-loading_of d lib net t = record { library = lib; net = net; pins = pins_at d net; tree = t }
+-- the tree of a net's edges: it has just these, and routes the net
+pub record IsTreeBy (d : DesignView) (sets : ℕ → Edges) (net : ℕ) (t : TreeView) : Type 0 where
+  pub tree : IsTree t
+  pub edges : HasJust (sets net) t
+  pub routes : IsTreeOf d net t
 
--- no buffers, and the required time of the net's tree without them
-pub record IsPlan (d : DesignView) (lib : LibraryView) (net : ℕ) (t : TreeView) (plan : Plan) : Type 0 where
-  pub bare : plan.placement ≡ replicate (length t.nodes) None
-  pub required : plan.required ≡ required_time (rc_of (loading_of d lib net t)) (buffers_of lib plan.placement)
+-- each routed net has the tree of its edges
+abbrev pub AreTreesBy : DesignView → (ℕ → Edges) → List (Option TreeView) → Type 0
+AreTreesBy d sets trees = (net : ℕ) → IsTrue (is_routed d net) → IsSomeAnd (tree_at trees net) (IsTreeBy d sets net)
 
--- each routed net below a number has a tree, and a plan for it
-abbrev pub ArePlansBelow : ℕ → DesignView → LibraryView → List (Option TreeView) → List (Option Plan) → Type 0
-ArePlansBelow most d lib trees plans =
-    (net : ℕ) → net < most → IsTrue (is_routed d net) →
-    IsSomeAnd (tree_at trees net) (λ t. IsSomeAnd (plan_at plans net) (IsPlan d lib net t))
+-- a stop for the first routed net whose edges aren't a tree, and its id
+pub record StopsAtNet (d : DesignView) (sets : ℕ → Edges) (stop : Stop) : Type 0 where
+  pub number : ℕ
+  pub net : Net
+  pub there : slice_get d.nets number ≡ Some net
+  pub routed : IsTrue (is_routed d number)
+  pub none : ¬ HasTree d sets number
+  pub before : (other : ℕ) → other < number → IsTrue (is_routed d other) → HasTree d sets other
+  pub is : stop ≡ NotTree net.id
 
-abbrev pub ArePlans : DesignView → LibraryView → List (Option TreeView) → List (Option Plan) → Type 0
-ArePlans d lib trees plans = ArePlansBelow (length d.nets) d lib trees plans
+-- the plans' text of some trees
+pub record IsBuffersText (d : DesignView) (lib : LibraryView) (trees : List (Option TreeView)) (text : List ℕ) : Type 0 where
+  pub plans : List (Option Plan)
+  pub planned : ArePlans d lib trees plans
+  pub says : text ≡ buffers_text d lib trees plans
+
+-- what the files of the command say, where all are accepted
+pub record AreAccepted (shelf : Reading) (design_name library_name solution_name : List ℕ) : Type 0 where
+  pub design : DesignView
+  pub said : IsTrue shelf.tells → design_said shelf.held design_name ≡ Some (Ok design)
+  pub library : LibraryView
+  pub library_read : IsTrue shelf.tells → library_said shelf.held library_name design ≡ Some (Ok library)
+  pub solution : SolutionView
+  pub solution_read : IsTrue shelf.tells → solution_said shelf.held solution_name design ≡ Some (Ok solution)
+
+-- the buffers on the trees of the solution that was read, for the design and with the library that were read; where the
+-- shelf tells, the trees are those of what the solution's bytes cover
+pub record IsBuffering (shelf : Reading) (design_name library_name solution_name text : List ℕ) : Type 0 where
+  pub files : AreAccepted shelf design_name library_name solution_name
+  pub trees : List (Option TreeView)
+  pub are : AreTreesBy files.design (edges_by files.solution) trees
+  pub covered : IsTrue shelf.tells →
+      IsSomeAnd (shelf.held Solution solution_name) (λ bytes. AreTreesBy files.design (cover files.design bytes) trees)
+  pub says : IsBuffersText files.design files.library trees text
+
+-- a routed net of the solution that was read has no tree; where the shelf tells, by what the solution's bytes cover
+pub record RefusesNet (shelf : Reading) (design_name library_name solution_name : List ℕ) (stop : Stop) : Type 0 where
+  pub files : AreAccepted shelf design_name library_name solution_name
+  pub first : StopsAtNet files.design (edges_by files.solution) stop
+  pub covered : IsTrue shelf.tells →
+      IsSomeAnd (shelf.held Solution solution_name) (λ bytes. StopsAtNet files.design (cover files.design bytes) stop)
+
+-- the tree of one net, or of each, or a stop
+abbrev pub GivesTree : DesignView → (ℕ → Edges) → ℕ → Result TreeView Stop → Type 0
+GivesTree d sets net (Ok t) = IsTreeBy d sets net t × HasTree d sets net
+GivesTree d sets net (Err NoMemory) = Unit {0}
+GivesTree d sets net (Err stop) = (value : Net) → slice_get d.nets net ≡ Some value → (stop ≡ NotTree value.id) × ¬ HasTree d sets net
+
+abbrev pub GiveTrees : DesignView → (ℕ → Edges) → Result (List (Option TreeView)) Stop → Type 0
+GiveTrees d sets (Ok trees) = AreTreesBy d sets trees
+GiveTrees d sets (Err NoMemory) = Unit {0}
+GiveTrees d sets (Err stop) = StopsAtNet d sets stop
+
+abbrev pub buffering : (design library solution : List ℕ) → Command
+buffering design library solution = record {
+  files = λ shelf. checked (design_said shelf.held design) DesignFault
+      (λ d. checked (library_said shelf.held library d) LibraryFault
+      (λ lib. checked (solution_said shelf.held solution d) SolutionFault (λ s. Some (Ok tt))));
+  refuses = λ shelf stop. RefusesNet shelf design library solution stop;
+  says = λ shelf kept outcome text report.
+      (outcome ≡ Whole) × (kept ≡ None) × (report ≡ []) × IsBuffering shelf design library solution text;
+  reports = false;
+  is_open = λ shelf. ⊥;
+}

@@ -23,6 +23,8 @@ pub record Command : Type 1 where
   -- what its files say, in the order in which they are read: all is well, or the first fault; None where the file that
   -- is wanted isn't held
   pub files : Reading → Option (Result (Unit {0}) Stop)
+  -- for which other cause it stops where all of its files are accepted
+  pub refuses : Reading → Stop → Type 0
   -- what out and err gain where it is carried out, and what is handed back
   pub says : Reading → Option HandedBack → Outcome → (text report : List ℕ) → Type 0
   -- whether it writes a report on err

@@ -54,6 +54,7 @@ abbrev pub judging : (design solution : List ℕ) → (via_cost : ℕ) → Comma
 judging design solution via_cost = record {
   files = λ shelf. checked (design_said shelf.held design) DesignFault
       (λ d. checked (solution_said shelf.held solution d) SolutionFault (λ s. Some (Ok tt)));
+  refuses = λ shelf stop. ⊥;
   says = λ shelf kept outcome text report.
       (kept ≡ None) × (report ≡ []) × IsJudging shelf design solution via_cost outcome text;
   reports = false;

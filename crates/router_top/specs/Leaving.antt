@@ -6,7 +6,7 @@ use Rattle.router_top.specs.Commands.{HandedBack, Command}
 use Rattle.router_top.specs.declared.stop.Outcome.{Outcome}
 use Rattle.router_top.specs.declared.stop.Outcome.TheVariants.{Whole}
 use Rattle.router_top.specs.declared.stop.Stop.{Stop}
-use Rattle.router_top.specs.declared.stop.Stop.TheVariants.{Usage, DesignFault, LibraryFault, SolutionFault, ReadFailed, WriteFailed, NoMemory}
+use Rattle.router_top.specs.declared.stop.Stop.TheVariants.{Usage, DesignFault, LibraryFault, SolutionFault, NotTree, ReadFailed, WriteFailed, NoMemory}
 
 -- out and err gained their whole texts
 pub record IsDone (command : Command) (shelf : Reading) (out err : Device) (kept : Option HandedBack)
@@ -41,6 +41,12 @@ pub record IsHalfDone (command : Command) (shelf : Reading) (out err : Device) (
 pub record IsFaulty (command : Command) (shelf : Reading) (out : Device) (stop : Stop) : Type 0 where
   pub reads : shelf.faults_after ≡ shelf.faults
   pub said : IsTrue shelf.tells → command.files shelf ≡ Some (Err stop)
+  pub unwritten : IsUntouched out
+
+-- the held texts are accepted, and the command stops for another cause that they have
+pub record IsRefused (command : Command) (shelf : Reading) (out : Device) (stop : Stop) : Type 0 where
+  pub reads : shelf.faults_after ≡ shelf.faults
+  pub refuses : command.refuses shelf stop
   pub unwritten : IsUntouched out
 
 -- a name of the command is missing
@@ -79,6 +85,7 @@ Leaves command shelf out err kept (Err (LibraryFault fault token)) =
     IsFaulty command shelf out (LibraryFault fault token) × IsSilent err kept
 Leaves command shelf out err kept (Err (SolutionFault fault token)) =
     IsFaulty command shelf out (SolutionFault fault token) × IsSilent err kept
+Leaves command shelf out err kept (Err (NotTree id)) = IsRefused command shelf out (NotTree id) × IsSilent err kept
 Leaves command shelf out err kept (Err ReadFailed) = FailsToRead command shelf out × IsSilent err kept
 Leaves command shelf out err kept (Err WriteFailed) = FailsToWrite command shelf out err kept
 Leaves command shelf out err kept (Err NoMemory) = WantsMemory command shelf out kept × IsUntouched err

@@ -25,7 +25,7 @@ use Rattle.router_top.specs.Commands.{Command, checked}
 use Rattle.elmore_delay.specs.declared.plans.Plan.{Plan}
 use Rattle.rc_library.specs.Libraries.{LibraryView}
 use Rattle.report_text.specs.BufferTexts.{buffers_text}
-use Rattle.router_top.specs.Buffering.{ArePlans}
+use Rattle.buffer_plan.specs.Plans.{ArePlans}
 use Rattle.router_top.specs.Said.{design_said, library_said, report_of}
 use Rattle.round_core.specs.declared.hands.HandLog.{HandLog}
 use Rattle.router_top.specs.declared.routing.RoutedDesign.{RoutedDesign}
@@ -88,8 +88,8 @@ pub record IsRoutedDesign (d : DesignView) (lib : LibraryView) (options : Option
 
 -- the text and the report of routes of the design that was read: the text is that of the trees booked at the first mark
 -- of least overflow; by what it covers, each routed net is joined, booked demand is that of the text, and the first five
--- numbers of the report are the text's; the rest of the report tells, of each routed net, the buffers of a plan, and
--- the required time of its booked tree with them
+-- numbers of the report are the text's; the rest of the report tells, of each routed net, the buffers of a plan than
+-- which no allowed one gives its booked tree a greater required time, and that time
 pub record IsRouting (shelf : Reading) (design_name library_name : List ℕ) (options : Options) (book : BookView)
     (hands : List HandLog) (text report : List ℕ) : Type 0 where
   pub design : DesignView
@@ -114,6 +114,7 @@ abbrev pub routing : (design library : List ℕ) → Options → Command
 routing design library options = record {
   files = λ shelf. checked (design_said shelf.held design) DesignFault
       (λ d. checked (library_said shelf.held library d) LibraryFault (λ lib. Some (Ok tt)));
+  refuses = λ shelf stop. ⊥;
   says = λ shelf kept outcome text report.
       (outcome ≡ Whole) × IsSomeAnd kept (λ k. IsRouting shelf design library options k.book k.hands text report);
   reports = true;

@@ -4,13 +4,13 @@ use Rattle.std.specs.List.{list_any}
 use Rattle.gr_io.specs.Counts.{Rose}
 use Rattle.gr_io.specs.Devices.{Device, Reading, IsUntouched, GainsLine}
 use Rattle.router_top.specs.Commands.{HandedBack, Command}
-use Rattle.router_top.specs.Leaving.{IsDone, IsFaulty, FailsToRead, FailsToWrite, WantsMemory}
+use Rattle.router_top.specs.Leaving.{IsDone, IsFaulty, IsRefused, FailsToRead, FailsToWrite, WantsMemory}
 use Rattle.router_top.specs.Orders.{command_of}
 use Rattle.router_top.specs.Stops.{status_of, told_line}
 use Rattle.word_reader.specs.Orders.{Order}
 use Rattle.router_top.specs.declared.stop.Stop.{Stop}
 use Rattle.router_top.specs.declared.stop.Outcome.TheVariants.{Whole, Open}
-use Rattle.router_top.specs.declared.stop.Stop.TheVariants.{Usage, DesignFault, LibraryFault, SolutionFault, ReadFailed, NoMemory}
+use Rattle.router_top.specs.declared.stop.Stop.TheVariants.{Usage, DesignFault, LibraryFault, SolutionFault, NotTree, ReadFailed, NoMemory}
 
 -- the statuses of a run
 abbrev pub is_status : ℕ → Bool
@@ -24,16 +24,27 @@ pub record ReportsFault {F : Type 0} (stop : F → ℕ → Stop) (command : Comm
   pub faulty : IsFaulty command shelf out (stop fault token)
   pub line : GainsLine err (told_line (stop fault token))
 
+-- the solution has a routed net whose edges aren't a tree, of which err was told
+pub record ReportsNet (command : Command) (shelf : Reading) (out err : Device) : Type 0 where
+  pub id : ℕ
+  pub refused : IsRefused command shelf out (NotTree id)
+  pub line : GainsLine err (told_line (NotTree id))
+
 -- a write that may fail failed: one to out, or, where the command writes a report, one to err
 abbrev pub SomeWriteFails : Command → (out err : Device) → Type 0
 SomeWriteFails command out err =
     Rose out.faults out.faults_after ⊎ (IsTrue command.reports × Rose err.faults err.faults_after)
 
+-- the command stops for another cause than a fault of its files, with this status
+abbrev pub SomeIsRefused : Command → Reading → ℕ → Type 0
+SomeIsRefused command shelf status = (stop : Stop) × command.refuses shelf stop × (status ≡ status_of stop)
+
 -- the answer to accepted files, over sinks that don't fail, and to files at fault
-abbrev pub IsAnswer : Command → Result (Unit {0}) Stop → (out err : Device) → ℕ → Type 0
-IsAnswer command (Ok accepted) out err status =
-    (SomeWriteFails command out err → ⊥) → (status ≡ 0) ⊎ (status ≡ 1) ⊎ (status ≡ 8)
-IsAnswer command (Err stop) out err status = (status ≡ status_of stop) ⊎ (status ≡ 8)
+abbrev pub IsAnswer : Command → Reading → Result (Unit {0}) Stop → (out err : Device) → ℕ → Type 0
+IsAnswer command shelf (Ok accepted) out err status =
+    (SomeWriteFails command out err → ⊥) →
+    (status ≡ 0) ⊎ (status ≡ 1) ⊎ (status ≡ 8) ⊎ SomeIsRefused command shelf status
+IsAnswer command shelf (Err stop) out err status = (status ≡ status_of stop) ⊎ (status ≡ 8)
 
 -- what holds of the command of an order, where the words give one
 abbrev pub OfCommand : Option Order → (Command → Type 0) → Type 0
@@ -55,8 +66,10 @@ pub record IsByStatus (order : Option Order) (shelf : Reading) (out err : Device
   pub design_fault : status ≡ 3 → OfCommand order (λ command. ReportsFault DesignFault command shelf out err)
   -- the design is accepted, and the library's text has a fault, which is told likewise
   pub library_fault : status ≡ 4 → OfCommand order (λ command. ReportsFault LibraryFault command shelf out err)
-  -- the texts before it are accepted, and the solution's text has a fault
-  pub solution_fault : status ≡ 5 → OfCommand order (λ command. ReportsFault SolutionFault command shelf out err)
+  -- the texts before it are accepted, and the solution's text has a fault, or all are accepted, and the command asks
+  -- for trees where a routed net has none: the first such net's id is told
+  pub solution_fault : status ≡ 5 → OfCommand order (λ command.
+      ReportsFault SolutionFault command shelf out err ⊎ ReportsNet command shelf out err)
   -- a read failed, or a name of the order is missing
   pub read_failed : status ≡ 6 →
       OfCommand order (λ command. FailsToRead command shelf out × GainsLine err (told_line ReadFailed))
@@ -69,7 +82,7 @@ pub record IsByStatus (order : Option Order) (shelf : Reading) (out err : Device
   pub unkept : (status ≡ 0 → ⊥) → (status ≡ 7 → ⊥) → (status ≡ 8 → ⊥) → kept ≡ None
   -- over devices that don't fail, held files are answered by what they say, if memory serves
   pub completes : OfCommand order (λ command. IsTrue shelf.tells → (Rose shelf.faults shelf.faults_after → ⊥) →
-      (said : Result (Unit {0}) Stop) → command.files shelf ≡ Some said → IsAnswer command said out err status)
+      (said : Result (Unit {0}) Stop) → command.files shelf ≡ Some said → IsAnswer command shelf said out err status)
   -- of the commands that are done those end with 1 by whose files some routed net isn't joined
   pub opens : OfCommand order (λ command. IsTrue shelf.tells →
       (status ≡ 1 → command.is_open shelf) × (status ≡ 0 → command.is_open shelf → ⊥))

@@ -8,7 +8,7 @@ use Rattle.solution_text.specs.Faults.{fault_number as solution_number}
 use Rattle.router_top.specs.declared.stop.Outcome.{Outcome}
 use Rattle.router_top.specs.declared.stop.Outcome.TheVariants.{Whole, Open}
 use Rattle.router_top.specs.declared.stop.Stop.{Stop}
-use Rattle.router_top.specs.declared.stop.Stop.TheVariants.{Usage, DesignFault, LibraryFault, SolutionFault, ReadFailed, WriteFailed, NoMemory}
+use Rattle.router_top.specs.declared.stop.Stop.TheVariants.{Usage, DesignFault, LibraryFault, SolutionFault, NotTree, ReadFailed, WriteFailed, NoMemory}
 
 -- the status of a command that was done: another one where a net isn't joined
 abbrev pub status_done : Outcome → ℕ
@@ -21,6 +21,7 @@ status_of Usage = 2
 status_of (DesignFault fault token) = 3
 status_of (LibraryFault fault token) = 4
 status_of (SolutionFault fault token) = 5
+status_of (NotTree id) = 5
 status_of ReadFailed = 6
 status_of WriteFailed = 7
 status_of NoMemory = 8
@@ -30,12 +31,17 @@ abbrev pub fault_line : (text : List ℕ) → (fault token : ℕ) → List ℕ
 fault_line text fault token =
     codes "groute: " ++ text ++ codes " fault " ++ decimal fault ++ codes " at token " ++ decimal token ++ codes "\n"
 
+-- the line of a solution's net whose edges aren't a tree
+abbrev pub net_line : (id : ℕ) → List ℕ
+net_line id = codes "groute: solution net " ++ decimal id ++ codes " is not a tree\n"
+
 -- what is told of it on err
 abbrev pub told_line : Stop → List ℕ
 told_line Usage = codes "groute: usage\n"
 told_line (DesignFault fault token) = fault_line (codes "design") (design_number fault) token
 told_line (LibraryFault fault token) = fault_line (codes "library") (library_number fault) token
 told_line (SolutionFault fault token) = fault_line (codes "solution") (solution_number fault) token
+told_line (NotTree id) = net_line id
 told_line ReadFailed = codes "groute: a read failed\n"
 told_line WriteFailed = []
 told_line NoMemory = codes "groute: out of memory\n"
@@ -44,6 +50,11 @@ told_line NoMemory = codes "groute: out of memory\n"
 abbrev pub IsLineToldOrNot : Device → (line : List ℕ) → Stop → Stop → Type 0
 IsLineToldOrNot err line stop told =
     ((told ≡ stop) × GainsLine err line) ⊎ ((told ≡ NoMemory) × GainsLine err (told_line NoMemory))
+
+-- a line that was made is told of a stop; where memory was wanting for it, that is told
+abbrev pub TellsLine : {E : Type 0} → Device → Result (List ℕ) E → Stop → Stop → Type 0
+TellsLine err (Ok line) stop told = (told ≡ stop) × GainsLine err line
+TellsLine err (Err refused) stop told = (told ≡ NoMemory) × GainsLine err (told_line NoMemory)
 
 abbrev pub IsToldOrNot : Device → Stop → Stop → Type 0
 IsToldOrNot err stop told = IsLineToldOrNot err (told_line stop) stop told
@@ -54,6 +65,7 @@ IsTold err WriteFailed told = (told ≡ WriteFailed) × IsUntouched err
 IsTold err (DesignFault fault token) told = IsToldOrNot err (DesignFault fault token) told
 IsTold err (LibraryFault fault token) told = IsToldOrNot err (LibraryFault fault token) told
 IsTold err (SolutionFault fault token) told = IsToldOrNot err (SolutionFault fault token) told
+IsTold err (NotTree id) told = IsToldOrNot err (NotTree id) told
 IsTold err stop told = (told ≡ stop) × GainsLine err (told_line stop)
 
 -- the status of a command, whose stop is told on err

@@ -1,78 +1,109 @@
-//! The plans of buffers of routed nets.
-ghost use Rattle.std.specs.Prelude.{◌≡◌, ◌<◌, ◌≤◌, false, length, Some, None, IfOk, IfSome};
+//! The command that places buffers on a solution of a design.
+ghost use Rattle.std.specs.Prelude.{IsTrue, IfOk, OnOk};
 ghost use Rattle.gr_base.specs.Designs.{is_routed};
-ghost use Rattle.gr_base.specs.Trees.{tree_at};
-ghost use Rattle.elmore_delay.specs.Loadings.{IsTreeOf};
-ghost use Rattle.gr_base.specs.Grid.{cells_of};
+ghost use Rattle.gr_io.specs.Devices.{device_of, reading_of};
 ghost use Rattle.rc_library.specs.Libraries.{IsLibraryOf};
-ghost use Rattle.router_top.specs.Buffering.{IsPlan, ArePlans, AreRoutesOf};
+ghost use Rattle.route_evaluator.specs.TreeSets.{AreSetsOf};
+ghost use Rattle.route_reader.specs.Solutions.{IsOf, edges_by};
+ghost use Rattle.buffer_plan.specs.Plans.{AreRoutesOf};
+ghost use Rattle.router_top.specs.Buffering.{IsBuffersText, GivesTree, GiveTrees, buffering};
+ghost use Rattle.router_top.specs.Leaving.{LeavesOut};
 
-use elmore_delay::{Loading, Placement, Plan, Plans, required};
-use gr_base::{Design, NodeIndex, RouteTree, Routes};
+use crate::opening::{open_design, open_library, open_solution};
+use crate::stop::{Outcome, Stop};
+use buffer_plan::plan_all;
+use gr_base::{Design, RouteTree, Routes};
+use gr_io::{Shelf, Sink, write_whole};
+use gr_text::Text;
 use rc_library::Library;
+use report_text::buffers;
+use route_evaluator::{TreeError, TreeMaker};
+use route_reader::Solution;
 use std::alloc::{AllocError, Global};
 
-/// The plan of each routed net: no buffers, and its required time. The only error is want of
-/// memory.
-pub(crate) fn plain_plans(
+/// Reads the design, the library and the solution of these names, places buffers on the solution's
+/// trees, and writes them on out.
+pub(crate) fn buffer<S: Shelf, O: Sink>(
     alloc: Global,
-    design: &Design,
-    library: &Library,
-    routes: &Routes,
-) -> Result<Plans, AllocError>
-    requires library { IsLibraryOf design.now library.now }
-    requires routes { AreRoutesOf design.now routes.now }
-    ensures { IfOk result (ArePlans design.now library.now routes.now) }
+    shelf: &mut S,
+    out: &mut O,
+    design: &str,
+    library: &str,
+    solution: &str,
+) -> Result<Outcome, Stop>
+    ensures { LeavesOut (buffering design.now library.now solution.now)
+        (reading_of S.tells S.held S.faults S.misses shelf.old shelf.new)
+        (device_of O.tells O.faults O.written out.old out.new)
+        result }
 {
-    let mut index = NodeIndex::new(alloc, design.frame().shape.cells())?;
-    let mut plans = Plans::new(alloc, design.nets())?;
+    let design = open_design(alloc, shelf, design)?;
+    let library = open_library(alloc, shelf, &design, library)?;
+    let solution = open_solution(alloc, shelf, &design, solution)?;
+    let trees = solution_trees(alloc, &design, &solution)?;
+    let Ok(text) = buffers_on(alloc, &design, &library, &trees) else {
+        return Err(Stop::NoMemory);
+    };
+    match write_whole(out, text.bytes()) {
+        Ok(()) => Ok(Outcome::Whole),
+        Err(_) => Err(Stop::WriteFailed),
+    }
+}
+
+/// The tree of each routed net of a solution. It stops at the first net whose edges aren't one.
+fn solution_trees(alloc: Global, design: &Design, solution: &Solution) -> Result<Routes, Stop>
+    requires { IsOf design.now solution.now }
+    ensures { GiveTrees design.now (edges_by solution.now) result }
+{
+    let Ok(mut trees) = Routes::new(alloc, design.nets()) else {
+        return Err(Stop::NoMemory);
+    };
+    let Ok(mut maker) = TreeMaker::new(alloc, design.frame().shape) else {
+        return Err(Stop::NoMemory);
+    };
     for net in 0..design.nets() {
-        let Some(tree) = routed_tree(design, routes, net) else {
+        if !design.routed(net) {
             continue;
-        };
-        let plan = plain_plan(alloc, design, library, net, tree, &mut index)?;
-        plans.set(net, plan);
+        }
+        let tree = solution_tree(alloc, design, solution, net, &mut maker)?;
+        trees.set(net, tree);
     }
-    Ok(plans)
+    Ok(trees)
 }
 
-/// The tree of a routed net. None exactly where the net isn't routed.
-fn routed_tree<'r>(design: &Design, routes: &'r Routes, net: u32) -> Option<&'r RouteTree>
-    requires net { net < length design.now.nets }
-    requires routes { AreRoutesOf design.now routes.now }
-    ensures tree { IfSome result (λ tree. tree_at routes.now net ≡ Some tree.now) }
-    ensures routes { IfSome result (λ tree. IsTreeOf design.now net tree.now) }
-    ensures shape { IfSome result (λ tree. tree.now.shape ≡ design.now.frame.shape) }
-    ensures none { result ≡ None → is_routed design.now net ≡ false }
+/// The tree of a routed net of a solution.
+fn solution_tree(
+    alloc: Global,
+    design: &Design,
+    solution: &Solution,
+    net: u32,
+    maker: &mut TreeMaker,
+) -> Result<RouteTree, Stop>
+    requires of { IsOf design.now solution.now }
+    requires routed { IsTrue (is_routed design.now net) }
+    requires sets { AreSetsOf design.now.frame.shape maker.old }
+    ensures tree { GivesTree design.now (edges_by solution.now) net result }
+    ensures sets { OnOk result (AreSetsOf design.now.frame.shape maker.new) }
 {
-    if design.routed(net) {
-        routes.get(net)
-    } else {
-        None
+    match maker.tree_of(alloc, design, solution, net) {
+        Ok(tree) => Ok(tree),
+        Err(TreeError::NotTree) => Err(Stop::NotTree {
+            id: design.net(net).id,
+        }),
+        Err(TreeError::NoMemory) => Err(Stop::NoMemory),
     }
 }
 
-/// The plan of one net's tree.
-fn plain_plan(
+/// The text of the buffers that are placed on trees. The only error is want of memory.
+fn buffers_on(
     alloc: Global,
     design: &Design,
     library: &Library,
-    net: u32,
-    tree: &RouteTree,
-    index: &mut NodeIndex,
-) -> Result<Plan, AllocError>
+    trees: &Routes,
+) -> Result<Text, AllocError>
     requires library { IsLibraryOf design.now library.now }
-    requires net { net < length design.now.nets }
-    requires tree { IsTreeOf design.now net tree.now }
-    requires index { cells_of tree.now.shape ≤ length index.old }
-    ensures plan { IfOk result (IsPlan design.now library.now net tree.now) }
-    ensures index { length index.new ≡ length index.old }
+    requires trees { AreRoutesOf design.now trees.now }
+    ensures { IfOk result (IsBuffersText design.now library.now trees.now) }
 {
-    let loading = Loading::of(alloc, library, design, net, tree, index)?;
-    let placement = Placement::none(alloc, tree.len())?;
-    let required = required(alloc, tree, &loading, &placement)?;
-    Ok(Plan {
-        placement,
-        required,
-    })
+    let plans = plan_all(alloc, design, library, trees)?;
+    buffers(alloc, design, library, trees, &plans)
 }

@@ -12,10 +12,10 @@ ghost use Rattle.word_reader.specs.Orders.{AreInRange};
 ghost use Rattle.report_text.specs.BufferTexts.{ArePlanned};
 ghost use Rattle.router_top.specs.Routing.{IsRoutedDesign, routing, routing_report};
 
-use crate::buffering::plain_plans;
 use crate::left::Left;
 use crate::opening::{open_design, open_library};
 use crate::stop::{Outcome, Stop};
+use buffer_plan::plan_all;
 use cost_rules::CostRule;
 use elmore_delay::Plans;
 use gr_base::{Design, Routes};
@@ -94,7 +94,7 @@ fn route_design(
     let rounds = route_rounds(alloc, design, options.rounds, rule)?;
     let routes = rounds.book.routes_at(rounds.chosen)?;
     let verdict = evaluate_routes(alloc, design, &routes, options.via_cost)?;
-    let plans = plain_plans(alloc, design, library, &routes)?;
+    let plans = plan_all(alloc, design, library, &routes)?;
     let report = routing_report(alloc, design, library, &verdict, &routes, &plans)?;
     Ok(RoutedDesign {
         rounds,

@@ -1,7 +1,7 @@
 //! Why a command stopped, and how it is told.
 ghost use Rattle.std.specs.Prelude.{◌≡◌, IfOk};
 ghost use Rattle.gr_io.specs.Devices.{device_of, GainsLine};
-ghost use Rattle.router_top.specs.Stops.{status_done, status_of, fault_line, IsLineToldOrNot, IsTold, Finishes};
+ghost use Rattle.router_top.specs.Stops.{status_done, status_of, fault_line, net_line, IsLineToldOrNot, TellsLine, IsTold, Finishes};
 
 use gr_io::{Sink, write_whole};
 use gr_text::Text;
@@ -34,6 +34,10 @@ pub(crate) enum Stop {
         fault: SolutionFaultKind,
         token: u64,
     },
+    /// The edges of a solution's net of this id aren't a tree.
+    NotTree {
+        id: u32,
+    },
     ReadFailed,
     WriteFailed,
     NoMemory,
@@ -57,7 +61,7 @@ fn status(stop: Stop) -> u8
         Stop::Usage => 2,
         Stop::DesignFault { .. } => 3,
         Stop::LibraryFault { .. } => 4,
-        Stop::SolutionFault { .. } => 5,
+        Stop::SolutionFault { .. } | Stop::NotTree { .. } => 5,
         Stop::ReadFailed => 6,
         Stop::WriteFailed => 7,
         Stop::NoMemory => 8,
@@ -93,6 +97,7 @@ fn tell<E: Sink>(alloc: Global, err: &mut E, stop: Stop) -> Stop
         Stop::SolutionFault { fault, token } => {
             tell_fault(alloc, err, stop, b"solution", fault.number(), token)
         }
+        Stop::NotTree { id } => tell_line(err, stop, net_line(alloc, id)),
         Stop::ReadFailed => {
             write_line(err, b"groute: a read failed\n");
             stop
@@ -117,7 +122,15 @@ fn tell_fault<E: Sink>(
     ensures { IsLineToldOrNot (device_of E.tells E.faults E.written err.old err.new)
         (fault_line text.now fault token) stop result }
 {
-    let Ok(line) = fault_line(alloc, text, fault, token) else {
+    tell_line(err, stop, fault_line(alloc, text, fault, token))
+}
+
+/// Tells on err a line on which a command stopped, and says what was told: want of memory where
+/// there was none for the line.
+fn tell_line<E: Sink>(err: &mut E, stop: Stop, line: Result<Text, AllocError>) -> Stop
+    ensures { TellsLine (device_of E.tells E.faults E.written err.old err.new) line stop result }
+{
+    let Ok(line) = line else {
         write_line(err, b"groute: out of memory\n");
         return Stop::NoMemory;
     };
@@ -144,5 +157,16 @@ fn fault_line(alloc: Global, text: &[u8], fault: u8, token: u64) -> Result<Text,
     line.put(b" at token ")?;
     line.put_number(i128::from(token))?;
     line.put(b"\n")?;
+    Ok(line)
+}
+
+/// The line of a net whose edges aren't a tree. The only error is want of memory.
+fn net_line(alloc: Global, id: u32) -> Result<Text, AllocError>
+    ensures { IfOk result (λ line. line ≡ net_line id) }
+{
+    let mut line = Text::new(alloc);
+    line.put(b"groute: solution net ")?;
+    line.put_number(i128::from(id))?;
+    line.put(b" is not a tree\n")?;
     Ok(line)
 }

@@ -6,6 +6,7 @@ ghost use Rattle.router_top.specs.Ends.{LeavesFor, Ends};
 ghost use Rattle.router_top.specs.Statuses.{IsByStatus};
 ghost use Rattle.word_reader.specs.Orders.{order_of};
 
+use crate::buffering::buffer;
 use crate::judging::judge;
 use crate::left::Left;
 use crate::routing::route;
@@ -58,16 +59,20 @@ impl Ended {
 /// rule of the first formula. Then, in up to ROUNDS rounds (0 to 64), each net on an edge over its
 /// capacity is released and rerouted by a maze plan; one hand does it, whatever `--workers` says.
 /// It writes the routes of the first round of least overflow on out, and on err their report of
-/// demand, overflow, wirelength and vias, and each routed net's required time, yet without buffers.
+/// demand, overflow, wirelength and vias, and each routed net's buffers and required time.
 ///
 /// `evaluate DESIGN SOLUTION` reads a design and any router's solution for it, and writes on out
 /// the report, and the routed nets that the solution leaves unjoined. In both reports a via edge
 /// counts as many wire edges as `--via-cost` says.
 ///
+/// `buffer DESIGN LIBRARY SOLUTION` reads a design, a library and any router's solution, and writes
+/// on out each routed net's buffers and required time. In both texts of buffers no allowed placement
+/// gives a net's driver a greater required time; a library of version 3 gets none yet.
+///
 /// Status 0: done. 1: done, and a net is left unjoined. 2: the words give no order. 3: the design's
-/// text is at fault. 4: the library's text is at fault. 5: the solution's text is at fault. 6: a
-/// read failed, or a name is missing. 7: a write failed. 8: out of memory. At 2 to 6 and at 8 a
-/// line on err tells it.
+/// text is at fault. 4: the library's text is at fault. 5: the solution's text is at fault, or, for
+/// `buffer`, a routed net's edges aren't a tree. 6: a read failed, or a name is missing. 7: a write
+/// failed. 8: out of memory. At 2 to 6 and at 8 a line on err tells it.
 pub fn run<R, S: Shelf, O: Sink, E: Sink>(
     _rt: &R,
     alloc: Global,
@@ -127,6 +132,13 @@ fn carry_out<S: Shelf, O: Sink, E: Sink>(
                 via_cost,
             },
         ) => Left::without_rounds(judge(alloc, shelf, out, design, solution, via_cost)),
+        Ok(
+            Order::Buffer {
+                design,
+                library,
+                solution,
+            },
+        ) => Left::without_rounds(buffer(alloc, shelf, out, design, library, solution)),
         Err(_) => Left::without_rounds(Err(Stop::Usage)),
     }
 }

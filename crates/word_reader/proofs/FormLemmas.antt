@@ -1,5 +1,5 @@
 -- The forms of the table, and words that fit none of them.
-use Rattle.std.proofs.Common.{◌≡◌, ℕ, ◌<◌, ◌≤◌, inl, inr, ◌⊎◌, Bool, true, false, ◌==◌, ◌&&◌, List, [], ◌∷◌, length, Some, None, if◌then◌else◌, codes, refl, sym, ap, ◌∙◌, arith}
+use Rattle.std.proofs.Common.{◌≡◌, ℕ, ◌<◌, ◌≤◌, Bool, true, false, ◌==◌, ◌&&◌, List, [], ◌∷◌, length, Some, None, if◌then◌else◌, codes, refl, ap, subst, arith}
 use Rattle.std.proofs.lemmas.Bool.Decides.{nat_tests}
 use Rattle.std.proofs.lemmas.List.Folds.{list_all_at}
 use Rattle.std.proofs.lemmas.Option.{none-some, same_Some}
@@ -7,45 +7,32 @@ use Rattle.std.specs.Str.{bytes_eq}
 use Rattle.word_reader.specs.Forms.{Form, form_of, every_option, has, IsForm}
 use Rattle.word_reader.specs.Orders.{suits, has_all, fits, order_by}
 use Rattle.word_reader.specs.Sorting.{Sorted}
-use Rattle.word_reader.specs.declared.form.Command.TheVariants.{Route, Evaluate}
+use Rattle.word_reader.specs.declared.form.Command.TheVariants.{Route, Evaluate, Buffer}
 use Rattle.word_reader.specs.declared.form.OptionKind.{OptionKind}
 use Rattle.word_reader.specs.declared.form.OptionKind.TheVariants.{Workers, ViaCost}
 
--- the lines of the table
-is-line : (word : List ℕ) (form : Form) → form_of word ≡ Some form →
-    (form ≡ record { command = Route; positionals = 3; options = Workers ∷ ViaCost ∷ [] }) ⊎
-    (form ≡ record { command = Evaluate; positionals = 2; options = ViaCost ∷ [] })
-is-line word form is = by (bytes_eq word (codes "route")) (bytes_eq word (codes "evaluate")) is
+-- what holds of each line of the table holds of each form
+by-line : (P : Form → Type 0) →
+    P (record { command = Route; positionals = 3; options = Workers ∷ ViaCost ∷ [] }) →
+    P (record { command = Evaluate; positionals = 2; options = ViaCost ∷ [] }) →
+    P (record { command = Buffer; positionals = 3; options = [] }) →
+    (form : Form) → IsForm form → P form
+by-line P route evaluate buffer form (word, is) = by (bytes_eq word (codes "route")) (bytes_eq word (codes "evaluate")) (bytes_eq word (codes "buffer")) is
   where
-    by : (route evaluate : Bool) →
-        (if route then Some (record { command = Route; positionals = 3; options = Workers ∷ ViaCost ∷ [] }) else
-        (if evaluate then Some (record { command = Evaluate; positionals = 2; options = ViaCost ∷ [] }) else None)) ≡ Some form →
-        (form ≡ record { command = Route; positionals = 3; options = Workers ∷ ViaCost ∷ [] }) ⊎
-        (form ≡ record { command = Evaluate; positionals = 2; options = ViaCost ∷ [] })
-    by true evaluate h = inl (sym (same_Some _ form h))
-    by false true h = inr (sym (same_Some _ form h))
-    by false false h = absurd (none-some form h)
+    line : (other : Form) → P other → Some other ≡ Some form → P form
+    line other holds h = subst P (same_Some other form h) holds
 
-pub route-words : (form : Form) → IsForm form → form.command ≡ Route → form.positionals ≡ 3
-route-words form listed is =
-    elim (is-line listed.0 form listed.1) [
-      | inl route ↦ ap (λ (f : Form). f.positionals) route
-      | inr evaluate ↦ absurd (let e : Evaluate ≡ Route = sym (ap (λ (f : Form). f.command) evaluate) ∙ is in cc)
-    ]
-
-pub evaluate-words : (form : Form) → IsForm form → form.command ≡ Evaluate → form.positionals ≡ 2
-evaluate-words form listed is =
-    elim (is-line listed.0 form listed.1) [
-      | inl route ↦ absurd (let e : Route ≡ Evaluate = sym (ap (λ (f : Form). f.command) route) ∙ is in cc)
-      | inr evaluate ↦ ap (λ (f : Form). f.positionals) evaluate
-    ]
+    by : (a b c : Bool) →
+        (if a then Some (record { command = Route; positionals = 3; options = Workers ∷ ViaCost ∷ [] }) else
+        (if b then Some (record { command = Evaluate; positionals = 2; options = ViaCost ∷ [] }) else
+        (if c then Some (record { command = Buffer; positionals = 3; options = [] }) else None))) ≡ Some form → P form
+    by true b c h = line (record { command = Route; positionals = 3; options = Workers ∷ ViaCost ∷ [] }) route h
+    by false true c h = line (record { command = Evaluate; positionals = 2; options = ViaCost ∷ [] }) evaluate h
+    by false false true h = line (record { command = Buffer; positionals = 3; options = [] }) buffer h
+    by false false false h = absurd (none-some form h)
 
 most-words : (form : Form) → IsForm form → form.positionals ≤ 3
-most-words form listed =
-    elim (is-line listed.0 form listed.1) [
-      | inl route ↦ (let e = ap (λ (f : Form). f.positionals) route in omega arith)
-      | inr evaluate ↦ (let e = ap (λ (f : Form). f.positionals) evaluate in omega arith)
-    ]
+most-words = by-line (λ form. form.positionals ≤ 3) (omega arith) (omega arith) (omega arith)
 
 -- words that don't fit give no order
 unfit : (form : Form) (sorted : Sorted) → fits form sorted ≡ false → order_by form sorted ≡ None

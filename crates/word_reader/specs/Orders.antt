@@ -11,7 +11,7 @@ use Rattle.word_reader.specs.Sorting.{Sorted, sorted}
 use Rattle.word_reader.specs.declared.error.WordError.{WordError}
 use Rattle.word_reader.specs.declared.error.WordError.TheVariants.{Usage}
 use Rattle.word_reader.specs.declared.form.Command.{Command}
-use Rattle.word_reader.specs.declared.form.Command.TheVariants.{Route as Routes, Evaluate as Evaluates}
+use Rattle.word_reader.specs.declared.form.Command.TheVariants.{Route as Routes, Evaluate as Evaluates, Buffer as Buffers}
 use Rattle.word_reader.specs.declared.form.OptionKind.{OptionKind}
 use Rattle.word_reader.specs.declared.form.OptionKind.TheVariants.{Workers, ViaCost}
 use Rattle.word_reader.specs.declared.order.Options.{Options}
@@ -22,6 +22,7 @@ use Rattle.word_reader.specs.declared.sorted.Next.TheVariants.{Any}
 pub data Order : Type 0 where
   Route : (design library : List ℕ) → Options → Order
   Evaluate : (design solution : List ℕ) → (via_cost : ℕ) → Order
+  Buffer : (design library solution : List ℕ) → Order
 
 infixl 10 ◌>>=◌
 abbrev ◌>>=◌ : {A B : Type 0} → Option A → (A → Option B) → Option B
@@ -54,11 +55,13 @@ options_of sorted = do
   via_cost ← number_of via_costs (sorted.values ViaCost)
   Some (record { rounds = rounds; workers = workers; via_cost = via_cost; formula = First })
 
--- what each command asks for: `route DESIGN LIBRARY ROUNDS` and `evaluate DESIGN SOLUTION`
+-- what each command asks for: `route DESIGN LIBRARY ROUNDS`, `evaluate DESIGN SOLUTION` and
+-- `buffer DESIGN LIBRARY SOLUTION`
 abbrev pub order_as : Command → Sorted → Option Order
 order_as Routes sorted = option_map (Route (positional sorted 0) (positional sorted 1)) (options_of sorted)
 order_as Evaluates sorted =
     option_map (Evaluate (positional sorted 0) (positional sorted 1)) (number_of via_costs (sorted.values ViaCost))
+order_as Buffers sorted = Some (Buffer (positional sorted 0) (positional sorted 1) (positional sorted 2))
 
 -- the order of a command by the words behind its own
 abbrev pub order_by : Form → Sorted → Option Order
@@ -76,6 +79,7 @@ order_of (first ∷ rest) = do
 abbrev pub named : Given → Order
 named (Given.Route design library options) = Route design.now library.now options
 named (Given.Evaluate design solution via_cost) = Evaluate design.now solution.now via_cost
+named (Given.Buffer design library solution) = Buffer design.now library.now solution.now
 
 -- the order of the words, or that they give none
 abbrev pub Answers : Option Order → Result Given WordError → Type 0
@@ -93,3 +97,4 @@ pub record AreInRange (options : Options) : Type 0 where
 abbrev pub AsksInRange : Given → Type 0
 AsksInRange (Given.Route design library options) = AreInRange options
 AsksInRange (Given.Evaluate design solution via_cost) = via_cost ≤ most_via_cost
+AsksInRange (Given.Buffer design library solution) = Unit {0}

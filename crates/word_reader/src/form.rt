@@ -9,6 +9,7 @@ ghost use Rattle.word_reader.specs.Kept.{form_seen};
 pub(crate) enum Command {
     Route,
     Evaluate,
+    Buffer,
 }
 
 /// The options.
@@ -47,6 +48,11 @@ pub(crate) fn form_of(word: &str) -> Option<Form>
             command: Command::Evaluate,
             positionals: 2,
             options: &[OptionKind::ViaCost],
+        }),
+        "buffer" => Some(Form {
+            command: Command::Buffer,
+            positionals: 3,
+            options: &[],
         }),
         _ => None,
     }

@@ -29,4 +29,10 @@ pub enum Order<'w> {
         solution: &'w str,
         via_cost: u32,
     },
+    /// Places buffers on the routes of a solution of the design, with those of the library.
+    Buffer {
+        design: &'w str,
+        library: &'w str,
+        solution: &'w str,
+    },
 }

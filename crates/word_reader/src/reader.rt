@@ -1,12 +1,12 @@
 //! The public call.
-ghost use Rattle.std.specs.Prelude.{◌≡◌, ℕ, ◌≤◌, List, map, length, string_bytes, IfOk, IfSome};
+ghost use Rattle.std.specs.Prelude.{◌≡◌, ℕ, ◌≤◌, List, Some, map, length, string_bytes, IfOk, IfSome};
 ghost use Rattle.std.specs.Option.{option_map};
 ghost use Rattle.word_reader.specs.Forms.{IsForm, has};
 ghost use Rattle.word_reader.specs.Kept.{form_seen, kept_values, words_seen};
 ghost use Rattle.word_reader.specs.Orders.{named, fits, has_all, suits, options_of, order_as, order_by, order_of};
 ghost use Rattle.word_reader.specs.Orders.{AreInRange, AsksInRange, Answers};
 ghost use Rattle.word_reader.specs.Sorting.{SortsByRule};
-ghost use Rattle.word_reader.specs.declared.form.Command.TheVariants.{Route as Routes, Evaluate as Evaluates};
+ghost use Rattle.word_reader.specs.declared.form.Command.TheVariants.{Route as Routes, Evaluate as Evaluates, Buffer as Buffers};
 
 use crate::error::WordError;
 use crate::form::{Command, EVERY_OPTION, Form, OptionKind, form_of};
@@ -18,7 +18,8 @@ use gr_base::MOST_ROUNDS;
 use gr_text::natural_of;
 
 /// The order that the words behind the program's name give: `route DESIGN LIBRARY ROUNDS`, with
-/// the options `--workers N` and `--via-cost V`, or `evaluate DESIGN SOLUTION`, with `--via-cost V`.
+/// the options `--workers N` and `--via-cost V`, `evaluate DESIGN SOLUTION`, with `--via-cost V`, or
+/// `buffer DESIGN LIBRARY SOLUTION`.
 ///
 /// Each word behind the first one that is exactly `--` is a positional, and that word is dropped.
 /// Before it an option takes the next word as its value, or holds it behind `=`, and no other word
@@ -59,6 +60,7 @@ fn order_by<'w>(form: Form, sorted: &Sorted<'w>) -> Option<Order<'w>>
     match form.command {
         Command::Route => route(sorted),
         Command::Evaluate => evaluate(sorted),
+        Command::Buffer => Some(buffer(sorted)),
     }
 }
 
@@ -126,4 +128,16 @@ fn evaluate<'w>(sorted: &Sorted<'w>) -> Option<Order<'w>>
         solution: sorted.positional(1),
         via_cost,
     })
+}
+
+fn buffer<'w>(sorted: &Sorted<'w>) -> Order<'w>
+    requires { 3 ≤ length (words_seen sorted.now).positionals }
+    ensures order { Some (named result) ≡ order_as Buffers (words_seen sorted.now) }
+    ensures range { AsksInRange result }
+{
+    Order::Buffer {
+        design: sorted.positional(0),
+        library: sorted.positional(1),
+        solution: sorted.positional(2),
+    }
 }

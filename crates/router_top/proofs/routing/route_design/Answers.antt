@@ -1,7 +1,7 @@
 use Rattle.std.proofs.Common.{take, subst}
 use Rattle.cost_rules.specs.declared.site.Formula.{Formula}
 use Rattle.round_core.specs.Rounds.{AreRoundsUpTo}
-use Rattle.router_top.proofs.BufferingLemmas.{planned-for}
+use Rattle.router_top.proofs.PlannedLemmas.{planned-for}
 use Rattle.router_top.proofs.RouteLemmas.{held-tree, routes-booked, routes-routed, routes-free, routes-trees, routes-joined}
 use Rattle.router_top.proofs.routing.route_design.Goals as goal
 
@@ -14,8 +14,8 @@ evaluate_routes-requires-clause-routes g c =
     routes-routed d h c.in_ok-routes.routes made.stands
     (routes-booked d rounds.book.capacity h c.in_ok-routes.routes made.capacity made.stands c.in_ok-routes.ensures)
 
-pub plain_plans-requires-clause-routes : goal.plain_plans-requires-clause-routes
-plain_plans-requires-clause-routes g c =
+pub plan_all-requires-clause-routes : goal.plan_all-requires-clause-routes
+plan_all-requires-clause-routes g c =
     let d = c.args.design.now in
     let made = c.in_ok-rounds.ensures in
     let rounds = c.in_ok-rounds.rounds in

@@ -1,8 +1,8 @@
-use Rattle.std.proofs.Common.{ℕ, ap, codes}
+use Rattle.std.proofs.Common.{ℕ, ap, codes, refl}
 use Rattle.gr_io.specs.Devices.{device_of}
 use Rattle.router_top.specs.Stops.{fault_line}
-use Rattle.router_top.specs.declared.stop.Stop.TheVariants.{DesignFault, LibraryFault, SolutionFault}
-use Rattle.router_top.proofs.StopLemmas.{told-line}
+use Rattle.router_top.specs.declared.stop.Stop.TheVariants.{DesignFault, LibraryFault, SolutionFault, NotTree}
+use Rattle.router_top.proofs.StopLemmas.{told-line, tells-line}
 use Rattle.router_top.proofs.stop.tell.Goals as goal
 
 pub returns-in-DesignFault : goal.returns-in-DesignFault
@@ -25,3 +25,10 @@ returns-in-SolutionFault g c =
     let f = c.in-SolutionFault in
     told-line (device_of sink.tells sink.faults sink.written c.args.err.now c.tell_fault-in-SolutionFault.new.err) (SolutionFault f.fault f.token) _ _ _ (λ told. told) f.is
     (ap (λ (n : ℕ). fault_line (codes "solution") n f.token) c.number-in-SolutionFault.ensures) c.tell_fault-in-SolutionFault.ensures
+
+pub returns-in-NotTree : goal.returns-in-NotTree
+returns-in-NotTree g c =
+    let sink = g.E.Sink in
+    let f = c.in-NotTree in
+    told-line (device_of sink.tells sink.faults sink.written c.args.err.now c.tell_line.new.err) (NotTree f.id) _ _ _ (λ told. told) f.is refl
+    (tells-line _ c.net_line.result _ _ _ c.net_line.ensures c.tell_line.ensures)

@@ -1,0 +1,31 @@
+-- The plans of routed nets are plans for their trees.
+use Rattle.std.proofs.Common.{◌≡◌, ℕ, List, Option, Some, None, IsTrue}
+use Rattle.std.specs.Option.{IsSomeAnd}
+use Rattle.std.proofs.lemmas.Option.{slice_get_within}
+use Rattle.gr_base.specs.Designs.{DesignView}
+use Rattle.gr_base.specs.Trees.{TreeView, tree_at}
+use Rattle.rc_library.specs.Libraries.{LibraryView}
+use Rattle.elmore_delay.specs.Loadings.{IsTreeOf}
+use Rattle.elmore_delay.specs.PlanLists.{plan_at}
+use Rattle.elmore_delay.specs.declared.plans.Plan.{Plan}
+use Rattle.buffer_plan.specs.Plans.{AreRoutesOf, loading_of, IsPlan, ArePlans}
+use Rattle.report_text.specs.BufferTexts.{IsPlanFor, ArePlanned}
+use Rattle.round_core.proofs.TurnLemmas.{IsNetOf, routed-net}
+
+pub planned-for : (d : DesignView) (lib : LibraryView) (trees : List (Option TreeView)) (plans : List (Option Plan)) →
+    AreRoutesOf d trees → ArePlans d lib trees plans → ArePlanned d lib trees plans
+planned-for d lib trees plans routes are net routed =
+    by (tree_at trees net) (plan_at plans net) (routes net routed) (are net (slice_get_within d.nets net one.net one.there) routed)
+  where
+    one : IsNetOf d net
+    one = routed-net d net routed
+
+    by : (o : Option TreeView) (p : Option Plan) → IsSomeAnd o (IsTreeOf d net) → IsSomeAnd o (λ t. IsSomeAnd p (IsPlan (loading_of d lib net t))) →
+        IsSomeAnd o (λ t. IsSomeAnd p (IsPlanFor d lib t))
+    by None p route is = absurd is
+    by (Some t) None route is = absurd is
+    by (Some t) (Some plan) route is = record {
+      shape = (route one.net one.there).shape;
+      nodes = is.best.allowed.long;
+      kinds = is.best.allowed.kinds;
+    }

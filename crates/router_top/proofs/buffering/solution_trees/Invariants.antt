@@ -1,0 +1,12 @@
+use Rattle.std.proofs.Common.{◌≡◌, length}
+use Rattle.route_reader.specs.Solutions.{edges_by}
+use Rattle.route_evaluator.specs.TreeSets.{AreSetsOf}
+use Rattle.router_top.proofs.BufferingLemmas.{AreTreesBelow}
+use Rattle.router_top.proofs.buffering.solution_trees.Given as goal
+
+abbrev pub invariant-loop-net : goal.invariant-loop-net
+invariant-loop-net l = record {
+  long : length l.trees ≡ length l.design.nets;
+  sets : AreSetsOf l.design.frame.shape l.maker;
+  trees : AreTreesBelow l.net l.design (edges_by l.solution) l.trees;
+}
