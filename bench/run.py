@@ -4,7 +4,8 @@
 Each command is run three times, and the least time counts. Each design is routed without rounds,
 and its routes are judged; then it, and crowded designs, are routed with some numbers of rounds.
 Beside the files named, designs are made: nets of 2, 3 or 12 pins near one another, on layers that
-go one way each. Each is routed with a library of its number of layers, without kinds of buffers.
+go one way each. Each is routed with a library of its number of layers, without kinds of buffers; then
+some with 4 and with 32 kinds, and their routes get buffers alone.
 
 The texts are read whole before the first route is written, so a design with the same nets of more
 than 1,000 pins, which are read and not routed, tells what reading alone costs. A library or a
@@ -44,6 +45,9 @@ READ_ALONE = 1_400_000
 LONG_LIBRARY = (300, 300, 6, 100_000)
 BLOCKS = 50_000
 ROUNDS = [0, 3, 10]
+BUFFERED = (300, 300, 6, 100_000)
+WIDE = (300, 300, 6, 1_000)
+KINDS = [4, 32]
 
 
 def draws(seed):
@@ -97,6 +101,23 @@ def long_library(columns, rows, layers, nets):
     pins = "".join(f"pin {net} 1 {net % 50} {net}\n" for net in range(nets))
     blocks = "".join(f"block {at % columns} {at // columns % rows}\n" for at in range(BLOCKS))
     return library(layers, pins + blocks)
+
+
+def kinds(count):
+    """Items of so many kinds of buffers, of which most are of use somewhere."""
+    draw = draws(5)
+    next(draw)
+    return "".join(f"kind b{kind} {5 + draw.send(56)} {20 + draw.send(581)} {500 + draw.send(29501)}\n"
+                   for kind in range(count))
+
+
+def wide(columns, rows, layers, pins):
+    """A design of one net with pins all over it."""
+    draw = draws(7)
+    next(draw)
+    lines = [head(columns, rows, layers, 1), f"wide 0 {pins} 1\n"]
+    lines += [f"{10 * draw.send(columns) + 5} {10 * draw.send(rows) + 5} 1\n" for _ in range(pins)]
+    return "".join(lines)
 
 
 def once(command, status):
@@ -219,6 +240,31 @@ def long_read(bench):
     return table
 
 
+def buffers_row(bench, name, path, layers, count):
+    rc = bench.put("kinds", library(layers, kinds(count)))
+    routed = bench.timed("route", path, rc, "0")
+    solution, report = bench.outputs("route", path, rc, "0")
+    right = bench.put("solution", solution.decode())
+    bench.outputs("buffer", path, rc, right)
+    buffered = bench.timed("buffer", path, rc, right)
+    placed = next(line for line in report.decode().splitlines() if line.startswith("buffers ")).split()[1]
+    return (f"| {name} | {count} | {int(placed):,} | {bench.cells(routed)} | {routed[0][1]:,} | {bench.cells(buffered)} "
+            f"| {buffered[0][1]:,} |\n")
+
+
+def buffers(bench):
+    """Designs, routed and buffered with kinds of buffers, and their routes buffered alone."""
+    table = head_of(["buffers", "kinds", "placed", bench.columns("route 0 rounds, s"), "KiB",
+                     bench.columns("buffer, s"), "KiB"])
+    x, y, l, n = BUFFERED
+    path = bench.put("design", made(x, y, l, n))
+    table += [buffers_row(bench, f"made {x} by {y} by {l}, {n:,} nets", path, l, count) for count in KINDS]
+    x, y, l, n = WIDE
+    path = bench.put("design", wide(x, y, l, n))
+    table.append(buffers_row(bench, f"one net of {n:,} pins on {x} by {y} by {l}", path, l, KINDS[-1]))
+    return table
+
+
 def rounds_row(bench, name, path):
     """Times of some numbers of rounds, and the least overflow after each round."""
     rc, _ = bench.library_of(path)
@@ -293,8 +339,8 @@ def main():
     given = parser.parse_args()
     with tempfile.TemporaryDirectory() as folder:
         bench = Bench([ROUTER, *([given.beside] if given.beside else [])], folder)
-        tables = [routes(bench, given.designs), long_read(bench), rounds(bench, given.designs), plans(), mazes(),
-                  book()]
+        tables = [routes(bench, given.designs), long_read(bench), buffers(bench), rounds(bench, given.designs),
+                  plans(), mazes(), book()]
     note = ("Processor time, least of three runs; what is written goes to a null device. `read both` reads a design "
             "and its routes and judges nothing.")
     if given.beside:

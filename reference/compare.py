@@ -1,8 +1,8 @@
 #!/usr/bin/env python3
 """Compares the proved router with the slow one on random small texts: reference/compare.py [SEED [COUNT]]
 
-For each seed a design is routed with a library, and then its routes are judged; in some cases a place of
-one of the texts was changed. Status, standard output and standard error are compared byte for byte. Texts
+For each seed a design is routed with a library, and then its routes are judged and buffered; in some cases a
+place of one of the texts was changed. Status, standard output and standard error are compared byte for byte. Texts
 on which the two differ are kept in the working folder under the names of their seed.
 """
 import os
@@ -183,11 +183,15 @@ def tried(seed):
     options = ["--via-cost", str(via_cost)]
     path = case.put("ispd", text)
     wanted = route.route_command(text, rc, rounds, via_cost)
-    case.compare(wanted, "route", path, case.put("library", rc), str(rounds), *options)
+    rc_path = case.put("library", rc)
+    case.compare(wanted, "route", path, rc_path, str(rounds), *options)
     twice = rng.random() < 0.05
     solution = at_times(rng, 0.5, wanted[1] * (1 + twice), f"{NUMBERS} {POINTS}")
+    solution_path = case.put("solution", solution)
     wanted = route.evaluate_command(text, solution, via_cost)
-    case.compare(wanted, "evaluate", path, case.put("solution", solution), *options)
+    case.compare(wanted, "evaluate", path, solution_path, *options)
+    wanted = route.buffer_command(text, rc, solution)
+    case.compare(wanted, "buffer", path, rc_path, solution_path)
     case.close()
     return case.agrees
 

@@ -1,10 +1,5 @@
-"""Library texts, and the required times of trees without buffers.
-
-No buffers are placed yet: kinds and what bears on them are only read.
-"""
-from functools import lru_cache
-
-from design import MOST, cell, edge, place
+"""Library texts."""
+from design import MOST
 from text import WORD, Text
 
 LAYER, REPEATED_KIND, MISSING, TRAILING = range(4, 8)
@@ -138,57 +133,3 @@ ITEMS = {
     b"inverter": (3, read_inverter),
     b"flip": (3, read_flip),
 }
-
-
-# Required times.
-
-def ways_up(edges, driver):
-    """The cells from each cell of a tree up to the driver's, both included."""
-    near = {}
-    for a, b in edges:
-        near.setdefault(a, []).append(b)
-        near.setdefault(b, []).append(a)
-    up = {driver: [driver]}
-    todo = [driver]
-    while todo:
-        v = todo.pop()
-        for u in near.get(v, ()):
-            if u not in up:
-                up[u] = [u, *up[v]]
-                todo.append(u)
-    return up
-
-
-def required(d, library, net, edges):
-    """The least over the sinks of twice their time less the delay along their path, in half femtoseconds."""
-    driver, *sinks = [cell(d, *pin) for pin in net.pins]
-    if not sinks:
-        return 0
-    up = ways_up(edges, driver)
-    loads = {}
-    for pin, at in enumerate(sinks, 1):
-        loads[at] = loads.get(at, 0) + library.sink_of(net, pin)[0]
-
-    def wire(u):
-        """R and C of the edge from a cell towards the driver."""
-        low, high = (place(d, c) for c in edge(u, up[u][1]))
-        return library.wires[low[2]] if low[2] == high[2] else library.via
-
-    @lru_cache(None)
-    def below(v):
-        """The capacitance that is seen from a cell downwards."""
-        return loads.get(v, 0) + sum(wire(u)[1] + loads.get(u, 0) for u in up if u != v and v in up[u])
-
-    def delay(v):
-        along = sum(wire(u)[0] * (wire(u)[1] + 2 * below(u)) for u in up[v][:-1])
-        return 2 * library.driver_of(net) * below(driver) + along
-
-    return min(2 * library.sink_of(net, pin)[1] - delay(at) for pin, at in enumerate(sinks, 1))
-
-
-def buffers_text(d, library, trees):
-    lines = [b"buffers 0"]
-    for n in sorted(trees):
-        net = d.nets[n]
-        lines.append(b"net %s %d required %d buffers 0" % (net.name, net.id, required(d, library, net, trees[n])))
-    return b"".join(line + b"\n" for line in lines)

@@ -3,6 +3,7 @@
 
     reference/route.py route DESIGN LIBRARY ROUNDS [--via-cost V]
     reference/route.py evaluate DESIGN SOLUTION [--via-cost V]
+    reference/route.py buffer DESIGN LIBRARY SOLUTION
 
 It was written without a look at the proved code, and follows the definitions as they are worded where
 that can be done in time: layers are found by trying all assignments while there are few, required times
@@ -13,8 +14,9 @@ import heapq
 import sys
 from itertools import product
 
+from buffers import buffers_text, first_without_tree
 from design import capacity, cell, edge, need, place, read_design, usable, way
-from library import buffers_text, read_library
+from library import read_library
 from solution import read_solution, report_text, solution_text, unjoined_text
 from text import Fault
 
@@ -437,50 +439,70 @@ def faulty(status, text, fault):
     return status, b"", b"groute: %s fault %d at token %d\n" % (text, fault.fault, fault.token)
 
 
+def buffered(d, library, trees):
+    net = first_without_tree(d, trees)
+    if net is not None:
+        return 5, b"", b"groute: solution net %d is not a tree\n" % net
+    return 0, buffers_text(d, library, trees), b""
+
+
+def read(files):
+    """Of the bytes of a design and of others that go with it, in the order in which they are read: what they say,
+    or the status and texts of the first fault."""
+    said = []
+    for status, name, reader, data in files:
+        try:
+            said.append(reader(data, *said[:1]))
+        except Fault as fault:
+            return None, faulty(status, name, fault)
+    return said, None
+
+
 def route_command(design, library, rounds, via_cost):
     """Of texts' bytes."""
-    try:
-        d = read_design(design)
-    except Fault as fault:
-        return faulty(3, b"design", fault)
-    try:
-        return routed(d, read_library(library, d), rounds, via_cost)
-    except Fault as fault:
-        return faulty(4, b"library", fault)
+    said, fault = read([(3, b"design", read_design, design), (4, b"library", read_library, library)])
+    return fault or routed(*said, rounds, via_cost)
 
 
 def evaluate_command(design, solution, via_cost):
     """Of texts' bytes."""
-    try:
-        d = read_design(design)
-    except Fault as fault:
-        return faulty(3, b"design", fault)
-    try:
-        return judged(d, read_solution(solution, d), via_cost)
-    except Fault as fault:
-        return faulty(5, b"solution", fault)
+    said, fault = read([(3, b"design", read_design, design), (5, b"solution", read_solution, solution)])
+    return fault or judged(*said, via_cost)
+
+
+def buffer_command(design, library, solution):
+    """Of texts' bytes."""
+    said, fault = read([(3, b"design", read_design, design), (4, b"library", read_library, library),
+                        (5, b"solution", read_solution, solution)])
+    return fault or buffered(*said)
+
+
+FILES = {"route": ["design", "library"], "evaluate": ["design", "solution"], "buffer": ["design", "library", "solution"]}
 
 
 def arguments():
     parser = argparse.ArgumentParser(description="A slow router for small designs.")
     commands = parser.add_subparsers(dest="command", required=True)
-    for command, files in ("route", ["design", "library"]), ("evaluate", ["design", "solution"]):
+    for command, files in FILES.items():
         words = commands.add_parser(command)
         for name in files:
             words.add_argument(name, type=argparse.FileType("rb"))
         if command == "route":
             words.add_argument("rounds", type=int)
-        words.add_argument("--via-cost", type=int, default=1)
+        if command != "buffer":
+            words.add_argument("--via-cost", type=int, default=1)
     return parser.parse_args()
 
 
 def main():
     words = arguments()
-    design = words.design.read()
+    texts = [getattr(words, name).read() for name in FILES[words.command]]
     if words.command == "route":
-        status, out, err = route_command(design, words.library.read(), words.rounds, words.via_cost)
+        status, out, err = route_command(*texts, words.rounds, words.via_cost)
+    elif words.command == "evaluate":
+        status, out, err = evaluate_command(*texts, words.via_cost)
     else:
-        status, out, err = evaluate_command(design, words.solution.read(), words.via_cost)
+        status, out, err = buffer_command(*texts)
     sys.stdout.buffer.write(out)
     sys.stderr.buffer.write(err)
     return status
