@@ -2,6 +2,7 @@
 //! nets a and b from the one tile to the other.
 ghost use Rattle.std.specs.Prelude.{◌≡◌, ◌≤◌, ◌∷◌, [], length, IfOk};
 ghost use Rattle.gr_base.specs.Designs.{IsFrame};
+ghost use Rattle.grid_demand.specs.Tables.{capacity_of};
 ghost use Rattle.book_rows.specs.Rows.{AreOfTwo};
 
 use gr_base::{Cells, Design, Frame, Layer, Name, Net, RouteTree, Shape};
@@ -83,6 +84,15 @@ fn two_tiles(alloc: Global, shape: Shape) -> Result<RouteTree, AllocError>
     Ok(tree)
 }
 
+/// The design and the tree.
+pub(crate) fn of_two(alloc: Global) -> Result<(Design, RouteTree), AllocError>
+    ensures { IfOk result (λ made. AreOfTwo (capacity_of made.0) made.0 made.1) }
+{
+    let design = design(alloc)?;
+    let tree = two_tiles(alloc, design.frame().shape)?;
+    Ok((design, tree))
+}
+
 /// The design, the tree, and a book of so many passes that isn't begun.
 pub(crate) fn made(alloc: Global, passes: u32) -> Result<(Design, RouteTree, Blank), AllocError>
     requires some { 1 ≤ passes }
@@ -90,8 +100,7 @@ pub(crate) fn made(alloc: Global, passes: u32) -> Result<(Design, RouteTree, Bla
     ensures of_two { IfOk result (λ made. AreOfTwo made.2.capacity made.0 made.1) }
     ensures passes { IfOk result (λ made. made.2.passes ≡ passes) }
 {
-    let design = design(alloc)?;
-    let tree = two_tiles(alloc, design.frame().shape)?;
+    let (design, tree) = of_two(alloc)?;
     let blank = Blank::new(alloc, &design, passes)?;
     Ok((design, tree, blank))
 }

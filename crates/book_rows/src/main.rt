@@ -1,8 +1,9 @@
-//! Rows of the shared book, which it prints: a few calls by one thread, the same by two threads with
-//! a pass each, and many calls by four threads. Of threads it prints only what is so whatever the
-//! order in which their calls come.
+//! Rows of the book and the shared book, which it prints: calls of a book for one thread; a few calls
+//! of a shared one by one thread, the same by two threads with a pass each, and many by four threads.
+//! Of threads it prints only what is so whatever the order in which their calls come.
 #![tactic(auto)]
 
+mod alone;
 mod calls;
 mod closing;
 mod crowd;
@@ -16,6 +17,7 @@ use std::io;
 
 fn main(rt: HostRuntime) -> io::Result<()> {
     let alloc = rt.alloc();
+    alone::show(&rt, alloc)?;
     turns::show(&rt, alloc)?;
     pair::show(&rt, alloc)?;
     crowd::show(&rt, alloc)

@@ -17,7 +17,7 @@ use std::sync::Wait;
 use track_book::{Blank, BookName, ClosedBook, Pass, TrackBook};
 
 /// The edge between the two tiles.
-const EDGE: Edge = Edge {
+pub(crate) const EDGE: Edge = Edge {
     low: 0,
     way: Way::East,
 };

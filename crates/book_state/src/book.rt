@@ -2,13 +2,13 @@
 ghost use Rattle.std.specs.Prelude.{◌≡◌, ℕ, ◌+◌, ◌<◌, ◌≤◌, [], length, take, Some, IfOk, IfErr, OnOk, OnErr, IsTrue};
 ghost use Rattle.std.specs.Option.{option_copied};
 ghost use Rattle.grid_demand.specs.Tables.{capacity_of};
-ghost use Rattle.book_state.specs.Books.{nets_of, booked as booked_tree, demand, reply_to_free as free_reply, reply_to_claim, reply_to_release, reply_to_mark, booked_routes, IsClaim, IsRight, IsLegal, AreLoadsOf, victims as victims_of, is_victim as victim_net};
+ghost use Rattle.book_state.specs.Books.{nets_of, booked as booked_tree, demand, reply_to_free as free_reply, reply_to_claim, reply_to_release, reply_to_mark, booked_routes, IsClaim, IsRight, IsLegal, AreLoadsOf, victims as victims_of};
 ghost use Rattle.book_state.specs.Entries.{is_claim_call};
 ghost use Rattle.book_state.specs.Marks.{least_mark as least_mark_of};
 ghost use Rattle.book_state.specs.Replicas.{StandsFor};
 ghost use Rattle.book_state.specs.Views.{with_entry, with_call};
 
-use crate::edges::{is_crowded, reply_to_free};
+use crate::edges::reply_to_free;
 use crate::entry::{Call, Claim, Entry, Reply};
 use crate::history::History;
 use crate::least::least_mark;
@@ -189,23 +189,7 @@ impl BookState {
     pub fn victims(&self) -> Result<Cells, AllocError>
         ensures { IfOk result (λ nets. nets ≡ victims_of self.now.capacity self.now.history) }
     {
-        let mut victims = Cells::new(self.history.alloc());
-        for net in 0..self.replica.nets() {
-            if self.is_victim(net) {
-                victims.push(net)?;
-            }
-        }
-        Ok(victims)
-    }
-
-    fn is_victim(&self, net: u32) -> bool
-        ensures victim { result ≡ victim_net self.now.capacity self.now.history net }
-        ensures legal { IsLegal self.now.capacity self.now.history }
-    {
-        match self.booked(net) {
-            Some(tree) => is_crowded(&self.capacity, self.replica.loads(), tree),
-            None => false,
-        }
+        self.replica.victims_in(&self.capacity, &self.history)
     }
 
     /// The length of the shortest first part of the history that ends with a mark of least

@@ -10,6 +10,7 @@ mod laws;
 mod least;
 mod past;
 mod replica;
+mod victims;
 
 pub use book::{BookState, ClaimRefused};
 pub use entry::{Call, Claim, Entry, PlanKind, Reply};

@@ -38,7 +38,7 @@ const BOTH_WAYS: Layer = Layer {
 };
 
 /// A frame of this shape with square tiles.
-pub(crate) fn framed(shape: Shape, layers: [Layer; 16]) -> Frame
+fn framed(shape: Shape, layers: [Layer; 16]) -> Frame
     requires layers { All IsLayer layers }
     requires horizontal { 1 < shape.columns → Any (λ (layer : LayerView). 0 < layer.horizontal) (take shape.layers layers) }
     requires vertical { 1 < shape.rows → Any (λ (layer : LayerView). 0 < layer.vertical) (take shape.layers layers) }

@@ -1,9 +1,7 @@
-//! Worked rows of planners' calls, as tests alone: the grid, costs, loads, the book, topologies, flat
-//! walks, layers, mazes and the plans of whole nets.
+//! Worked rows of planners' calls, as tests alone: the grid, costs, loads, topologies, flat walks,
+//! layers, mazes and the plans of whole nets.
 #![tactic(auto)]
 
-#[cfg(test)]
-mod book;
 #[cfg(test)]
 mod costs;
 #[cfg(test)]

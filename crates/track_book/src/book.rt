@@ -1,9 +1,9 @@
 //! The shared book.
 ghost use Rattle.std.specs.Prelude.{◌≡◌, ◌<◌, ◌≤◌, length, take, IfOk, IfErr, OnOk, OnErr};
 ghost use Rattle.book_front.specs.Seats.{word_of};
-ghost use Rattle.book_state.specs.Books.{nets_of, IsClaim};
+ghost use Rattle.book_state.specs.Books.{nets_of, IsClaim, victims as victims_of};
 ghost use Rattle.book_state.specs.Replicas.{StandsFor};
-ghost use Rattle.track_book.specs.Passes.{IsAnswered, HasLearnt, AreAll, IsClosed};
+ghost use Rattle.track_book.specs.Passes.{IsPass, IsAnswered, HasLearnt, AreAll, IsClosed};
 
 use crate::closed::{ClosedBook, close};
 use crate::locked::Locked;
@@ -11,6 +11,7 @@ use crate::name::BookName;
 use crate::pass::Pass;
 use book_front::Front;
 use book_state::{Call, Claim, ClaimRefused, Replica, Reply};
+use gr_base::Cells;
 use grid_demand::Capacity;
 use std::alloc::AllocError;
 use std::sync::{Mutex, Wait};
@@ -87,6 +88,7 @@ impl<N: BookName> TrackBook<N> {
         requires { StandsFor N.capacity (take replica.old.front pass.old.seen) replica.old }
         ensures learnt { OnOk result (HasLearnt N.capacity pass.old pass.new) }
         ensures stands { OnOk result (StandsFor N.capacity pass.new.seen replica.new) }
+        ensures held { OnOk result (pass.new.held ≡ length pass.new.seen) }
         ensures err { OnErr result (pass.new ≡ pass.old) }
         ensures replica_err { OnErr result (replica.new ≡ replica.old) }
     {
@@ -95,11 +97,24 @@ impl<N: BookName> TrackBook<N> {
         Ok(())
     }
 
+    /// The booked nets whose tree has a wire edge with more demand than capacity, in the order of
+    /// the design, after what the pass has seen. The replica stands for that, and the pass holds
+    /// all of it, as `sync` leaves them. The only error is want of memory. It waits for nobody.
+    pub fn victims(&self, pass: &Pass<N>, replica: &Replica) -> Result<Cells, AllocError>
+        requires held { pass.now.held ≡ length pass.now.seen }
+        requires stands { StandsFor N.capacity pass.now.seen replica.now }
+        ensures { IfOk result (λ nets. nets ≡ victims_of N.capacity pass.now.seen) }
+    {
+        replica.victims(&self.capacity, pass.past())
+    }
+
     /// Both passes come to have seen one history, which begins with what each had seen.
     pub fn meet<R: Wait>(&self, rt: &R, one: &mut Pass<N>, other: &mut Pass<N>)
         ensures one { HasLearnt N.capacity one.old one.new }
         ensures other { HasLearnt N.capacity other.old other.new }
         ensures same { one.new.seen ≡ other.new.seen }
+        ensures knew { (IsPass N.capacity one.old) × (IsPass N.capacity other.old) }
+        ensures know { (IsPass N.capacity one.new) × (IsPass N.capacity other.new) }
     {
         self.lock.lock(rt).meet(&self.front, one, other);
     }

@@ -3,7 +3,7 @@ ghost use Rattle.std.specs.Prelude.{◌≡◌, ◌<◌, [], ◌++◌, length, dr
 ghost use mathlib.Core.List.{IsPrefix};
 ghost use Rattle.book_front.specs.Seats.{word_of, knows, IsKeeper};
 ghost use Rattle.book_state.specs.Books.{nets_of, IsClaim, IsLegal};
-ghost use Rattle.track_book.specs.Passes.{IsAnswered, HasLearnt, with_answer};
+ghost use Rattle.track_book.specs.Passes.{IsPass, IsAnswered, HasLearnt, with_answer};
 ghost use Rattle.track_book.specs.SeatOptions.{view_in, HasKeeper, HasNext};
 
 use crate::name::BookName;
@@ -128,6 +128,8 @@ impl<N: BookName> Locked<N> {
         ensures other { HasLearnt N.capacity other.old other.new }
         ensures one_seen { one.new.seen ≡ self.old }
         ensures other_seen { other.new.seen ≡ self.old }
+        ensures knew { (IsPass N.capacity one.old) × (IsPass N.capacity other.old) }
+        ensures know { (IsPass N.capacity one.new) × (IsPass N.capacity other.new) }
     {
         self.show(front, one);
         self.show(front, other);
@@ -139,6 +141,8 @@ impl<N: BookName> Locked<N> {
         ensures same { self.new ≡ self.old }
         ensures learnt { HasLearnt N.capacity pass.old pass.new }
         ensures seen { pass.new.seen ≡ self.old }
+        ensures knew { IsPass N.capacity pass.old }
+        ensures know { IsPass N.capacity pass.new }
     {
         learn(front, &mut self.keeper, &mut pass.seat);
         pass.known = self.state.history().len();

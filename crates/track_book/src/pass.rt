@@ -66,7 +66,8 @@ impl<N: BookName> Pass<N> {
 
     /// What the pass holds itself of what it has seen.
     pub(crate) fn past(&self) -> &Past
-        ensures { result.now ≡ take self.now.held self.now.seen }
+        ensures past { result.now ≡ take self.now.held self.now.seen }
+        ensures pass { IsPass N.capacity self.now }
     {
         &self.past
     }

@@ -1,0 +1,16 @@
+use Rattle.std.proofs.Common.{ℕ, Bool, sym, ◌∙◌}
+use Rattle.book_state.specs.Books.{is_victim}
+use Rattle.book_state.proofs.RangeSums.{filter-passes, filter-fails}
+use Rattle.book_state.proofs.replica.Replica.victims_in.Goals as goal
+use Rattle.book_state.proofs.replica.Replica.victims_in.Goals.{then-is_victim+in_ok-push, else-is_victim}
+
+pub loop-net-preserved : goal.loop-net-preserved
+loop-net-preserved c =
+    let p : ℕ → Bool = is_victim c.args.capacity.now c.args.history.now in
+    elim c.if-is_victim.branch [
+      | then-is_victim+in_ok-push w ↦
+          filter-passes p c.loop-net.net c.loop-net.victims c.if-is_victim.victims c.loop-net.invariant
+          (sym c.is_victim.ensures ∙ w.if-is_victim.true) (w.victims-is ∙ w.in_ok-push.ensures.ok)
+      | else-is_victim w ↦
+          w.victims-is ∙ filter-fails p c.loop-net.net c.loop-net.victims c.loop-net.invariant (sym c.is_victim.ensures ∙ w.if-is_victim.false)
+    ]

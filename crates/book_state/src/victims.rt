@@ -1,0 +1,55 @@
+//! The booked nets on edges over their capacity.
+ghost use Rattle.std.specs.Prelude.{◌≡◌, IfOk};
+ghost use Rattle.book_state.specs.Books.{IsLegal, victims as victims_of, is_victim as victim_net};
+ghost use Rattle.book_state.specs.Replicas.{StandsFor};
+
+use crate::edges::is_crowded;
+use crate::history::History;
+use crate::past::Past;
+use crate::replica::Replica;
+use gr_base::Cells;
+use grid_demand::Capacity;
+use std::alloc::AllocError;
+
+impl Replica {
+    /// The booked nets whose tree has a wire edge with more demand than capacity, in the order of
+    /// the design, after a legal past for which the replica stands. The only error is want of
+    /// memory.
+    pub fn victims(&self, capacity: &Capacity, past: &Past) -> Result<Cells, AllocError>
+        requires legal { IsLegal capacity.now past.now }
+        requires stands { StandsFor capacity.now past.now self.now }
+        ensures { IfOk result (λ nets. nets ≡ victims_of capacity.now past.now) }
+    {
+        self.victims_in(capacity, past.entries())
+    }
+
+    /// The same after a history.
+    pub(crate) fn victims_in(
+        &self,
+        capacity: &Capacity,
+        history: &History,
+    ) -> Result<Cells, AllocError>
+        requires legal { IsLegal capacity.now history.now }
+        requires stands { StandsFor capacity.now history.now self.now }
+        ensures { IfOk result (λ nets. nets ≡ victims_of capacity.now history.now) }
+    {
+        let mut victims = Cells::new(history.alloc());
+        for net in 0..self.nets() {
+            if self.is_victim(capacity, history, net) {
+                victims.push(net)?;
+            }
+        }
+        Ok(victims)
+    }
+
+    fn is_victim(&self, capacity: &Capacity, history: &History, net: u32) -> bool
+        requires legal { IsLegal capacity.now history.now }
+        requires stands { StandsFor capacity.now history.now self.now }
+        ensures { result ≡ victim_net capacity.now history.now net }
+    {
+        match self.tree(history, net) {
+            Some(tree) => is_crowded(capacity, self.loads(), tree),
+            None => false,
+        }
+    }
+}
