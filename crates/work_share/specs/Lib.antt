@@ -1,0 +1,9 @@
+pub mod Accounts
+pub mod Dealt
+pub mod Views
+pub mod HandStore
+pub mod ShareStore
+pub mod HandSteps
+pub mod EndStore
+pub mod Owners
+pub mod Endings
