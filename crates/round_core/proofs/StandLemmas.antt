@@ -282,7 +282,7 @@ free-unmarked : (c : CapacityView) (demands : Edge → ℕ) (claim : Claim) (sla
 free-unmarked c demands claim None n is = cc
 free-unmarked c demands claim (Some slack) n is = full-unmarked demands _ n is
 
-marked-mark : (c : CapacityView) (h : List Entry) (call : Call) (n : ℕ) → reply_to c h call ≡ Marked n → call ≡ Mark
+pub marked-mark : (c : CapacityView) (h : List Entry) (call : Call) (n : ℕ) → reply_to c h call ≡ Marked n → call ≡ Mark
 marked-mark c h (Claims claim) n is = absurd (by (is_some (booked h claim.net)) is)
   where
     by : (b : Bool) → (if b then Taken else reply_to_free c (demand c h) claim claim.slack) ≡ Marked n → ⊥
@@ -295,7 +295,7 @@ marked-mark c h (Release net) n is = absurd (by (is_some (booked h net)) is)
     by false said = cc
 marked-mark c h Mark n is = refl
 
-reply-marked : (reply : Reply) (n : ℕ) → overflow_in reply ≡ Some n → reply ≡ Marked n
+pub reply-marked : (reply : Reply) (n : ℕ) → overflow_in reply ≡ Some n → reply ≡ Marked n
 reply-marked Claimed n is = absurd (none-some n is)
 reply-marked Taken n is = absurd (none-some n is)
 reply-marked (Full e m) n is = absurd (none-some n is)
@@ -304,7 +304,7 @@ reply-marked NotBooked n is = absurd (none-some n is)
 reply-marked (Marked m) n is = ap (λ (k : ℕ). Marked k) (same_Some m n is)
 
 -- an entry that is a mark of least overflow is a mark
-least-call : (c : CapacityView) (h before : List Entry) (e : Entry) → IsRight c before e → is_least_mark h e ≡ true → e.call ≡ Mark
+pub least-call : (c : CapacityView) (h before : List Entry) (e : Entry) → IsRight c before e → is_least_mark h e ≡ true → e.call ≡ Mark
 least-call c h before e right least = by (overflow_of e) refl
   where
     by : (o : Option ℕ) → overflow_of e ≡ o → e.call ≡ Mark
@@ -312,7 +312,7 @@ least-call c h before e right least = by (overflow_of e) refl
     by (Some n) is = marked-mark c before e.call n (sym right.reply ∙ reply-marked e.reply n is)
 
 -- the least mark is an entry of the history
-least-place : (h : List Entry) (front : ℕ) → least_mark h ≡ Some front →
+pub least-place : (h : List Entry) (front : ℕ) → least_mark h ≡ Some front →
     (place : ℕ) × (e : Entry) × (front ≡ place + 1) × (slice_get h place ≡ Some e) × (is_least_mark h e ≡ true)
 least-place [] front is = absurd (none-some front is)
 least-place (x ∷ xs) front is = by (position (is_least_mark (x ∷ xs)) (x ∷ xs)) refl is
@@ -341,7 +341,7 @@ mark-within h front is =
     omega (arith, at.2, slice_get_within h at.0 at.1 at.3)
 
 -- the rounds end with a mark
-last-mark : (c : CapacityView) (h : List Entry) (e : Entry) → IsLegal c (h ++ e ∷ []) → e.call ≡ Mark →
+pub last-mark : (c : CapacityView) (h : List Entry) (e : Entry) → IsLegal c (h ++ e ∷ []) → e.call ≡ Mark →
     (overflow : ℕ) × IsMarkAt (h ++ e ∷ []) (length h) overflow
 last-mark c h e legal call =
     let there = slice_get-right h (e ∷ []) (length h) 0 (omega arith) in
@@ -384,12 +384,17 @@ least-upto h (suc n) most =
         let new : _ = record { overflow = overflow; length = n + 1 } in
         (Some (lesser old new), subst (λ (k : ℕ). IsLeast (take k h) (Some (lesser old new))) more (next-mark h n e old new there is refl least))
 
--- some mark has the least overflow
-pub some-mark : (d : DesignView) (formula : Formula) (r : ℕ) (h : List Entry) → IsLegal (capacity_of d) h → AreRounds d formula r h → IsSome (least_mark h)
-some-mark d formula r h legal rounds =
+-- where there is a mark, some mark has the least overflow
+pub some-least : (h : List Entry) (place overflow : ℕ) → IsMarkAt h place overflow → IsSome (least_mark h)
+some-least h place overflow there =
     let found = least-upto h (length h) (omega arith) in
     by found.0 (least-whole h (length h) found.0 found.0 (omega arith) refl found.1)
   where
     by : (o : Option _) → IsLeast h o → IsSome (least_mark h)
-    by None none = let last = ends-marked d formula (capacity_of d) rounds legal in absurd (none last.0 last.1 last.2)
+    by None none = absurd (none place overflow there)
     by (Some mark) least = sym (ap (λ (o : Option ℕ). is_some o) (least-found h mark least))
+
+pub some-mark : (d : DesignView) (formula : Formula) (r : ℕ) (h : List Entry) → IsLegal (capacity_of d) h → AreRounds d formula r h → IsSome (least_mark h)
+some-mark d formula r h legal rounds =
+    let last = ends-marked d formula (capacity_of d) rounds legal in
+    some-least h last.0 last.1 last.2

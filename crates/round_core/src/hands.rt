@@ -65,11 +65,7 @@ pub struct HandLog {
 }
 
 /// The logs of the callers whose numbers are below this. The only error is want of memory.
-pub(crate) fn hands_of(
-    alloc: Global,
-    history: &History,
-    callers: u32,
-) -> Result<Vec<HandLog>, AllocError>
+pub fn hands_of(alloc: Global, history: &History, callers: u32) -> Result<Vec<HandLog>, AllocError>
     ensures { IfOk result (λ hands. hands.items ≡ map (log_of history.now) (range_with_len 0 callers)) }
 {
     let mut hands = Vec::new(alloc);

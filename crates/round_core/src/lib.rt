@@ -12,8 +12,9 @@ mod steps;
 mod turns;
 mod world;
 
-pub use hands::{HandLog, MOST_WORKERS, Places};
+pub use hands::{HandLog, MOST_WORKERS, Places, hands_of};
 pub use laws::{attempts_are_turns, one_hand_is_one_worker};
+pub use machine::routed_nets;
 pub use rounds::{Rounds, route_rounds};
 pub use steps::{Phase, Step, StepRefused};
 pub use world::World;

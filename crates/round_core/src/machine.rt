@@ -148,8 +148,8 @@ impl<'a> World<'a> {
     }
 }
 
-/// The routed nets of a design, in its order.
-fn routed_nets(alloc: Global, design: &Design) -> Result<Vec<u32>, AllocError>
+/// The routed nets of a design, in its order. The only error is want of memory.
+pub fn routed_nets(alloc: Global, design: &Design) -> Result<Vec<u32>, AllocError>
     ensures nets { IfOk result (λ nets. nets.items ≡ nets_routed design.now) }
     ensures few { length design.now.nets ≤ most_nets }
 {

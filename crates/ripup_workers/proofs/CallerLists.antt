@@ -1,0 +1,63 @@
+-- The callers' passes, as lists.
+use Rattle.std.proofs.Common.{◌≡◌, ℕ, suc, zero, ◌+◌, List, [], ◌∷◌, ◌++◌, map, get_or, All, Some, slice_get, refl, sym, ap, subst, ◌∙◌, arith}
+use Rattle.std.proofs.lemmas.List.{append-nil}
+use Rattle.std.proofs.lemmas.Option.{same_Some, slice_get-get_or}
+use Rattle.round_core.specs.RunHistories.{Setting}
+use Rattle.track_book.specs.Passes.{PassView, IsNew, AreBegun, AreAll}
+use Rattle.ripup_workers.specs.Closing.{AreNew}
+use Rattle.ripup_workers.specs.Rounding.{HaveRun}
+
+-- passes of a book that has just begun have seen nothing
+pub first-seen : (count : ℕ) (all : List PassView) (first : PassView) (rest : List PassView) → AreBegun count all → first ∷ rest ≡ all → first.seen ≡ []
+first-seen count all first rest begun is = (begun.each 0 first (ap (λ (l : List PassView). slice_get l 0) (sym is))).seen
+
+pub rest-seen : (count : ℕ) (all : List PassView) (first : PassView) (rest : List PassView) → AreBegun count all → first ∷ rest ≡ all → All (λ (p : PassView). p.seen ≡ []) rest
+rest-seen count all first rest begun is = λ i d within.
+    (begun.each (suc i) (get_or rest i d) (ap (λ (l : List PassView). slice_get l (suc i)) (sym is) ∙ slice_get-get_or rest i d within)).seen
+
+-- the callers as they are made of the passes, one by one
+pub callers-first : {W : Type 0} (seen : W → PassView) (ws : List W) (p first : PassView) (rest all : List PassView) → ws ≡ [] → p ≡ first → first ∷ rest ≡ all → p ∷ (map seen ws ++ rest) ≡ all
+callers-first seen ws p first rest all none is whole =
+    ap (λ (k : PassView). k ∷ (map seen ws ++ rest)) is ∙ ap (λ (us : List _). first ∷ (map seen us ++ rest)) none ∙ whole
+
+map-push : {W : Type 0} (seen : W → PassView) (ws : List W) (w : W) (rest : List PassView) → map seen (ws ++ w ∷ []) ++ rest ≡ map seen ws ++ seen w ∷ rest
+map-push seen [] w rest = refl
+map-push seen (x ∷ ws) w rest = ap (λ (l : List PassView). seen x ∷ l) (map-push seen ws w rest)
+
+pub callers-next : {W : Type 0} (seen : W → PassView) (ws new : List W) (w : W) (p q : PassView) (rest before all : List PassView) → p ∷ (map seen ws ++ before) ≡ all → before ≡ q ∷ rest →
+    new ≡ ws ++ w ∷ [] → seen w ≡ q → p ∷ (map seen new ++ rest) ≡ all
+callers-next seen ws new w p q rest before all whole first more is =
+    ap (λ (us : List _). p ∷ (map seen us ++ rest)) more ∙ ap (λ (l : List PassView). p ∷ l) (map-push seen ws w rest)
+    ∙ ap (λ (k : PassView). p ∷ (map seen ws ++ k ∷ rest)) is ∙ ap (λ (l : List PassView). p ∷ (map seen ws ++ l)) (sym first) ∙ whole
+
+pub callers-last : (p : PassView) (xs rest all : List PassView) → p ∷ (xs ++ rest) ≡ all → rest ≡ [] → p ∷ xs ≡ all
+callers-last p xs rest all whole none =
+    ap (λ (l : List PassView). p ∷ l) (sym (append-nil xs) ∙ ap (λ (l : List PassView). xs ++ l) (sym none)) ∙ whole
+
+-- and taken apart again
+pub passes-last : {W : Type 0} (seen : W → PassView) (xs : List PassView) (rest : List W) (all : List PassView) → xs ++ map seen rest ≡ all → rest ≡ [] → xs ≡ all
+passes-last seen xs rest all whole none =
+    sym (append-nil xs) ∙ ap (λ (us : List _). xs ++ map seen us) (sym none) ∙ whole
+
+next-place : (at : ℕ) → suc at ≡ at + 1
+next-place at = omega arith
+
+pub are-new : (t : Setting) (count : ℕ) (p : PassView) (ws all : List PassView) → AreBegun count all → p ∷ ws ≡ all → count ≡ t.workers + 1 → AreNew t p ws
+are-new t count p ws all begun is count_is =
+    let own : AreBegun count (p ∷ ws) = subst (AreBegun count) (sym is) begun in
+    let long = own.count in
+    record {
+      count = omega (arith, long, count_is);
+      first = own.each 0 p refl;
+      each = λ at q there. subst (λ (n : ℕ). IsNew n q) (next-place at) (own.each (suc at) q there);
+    }
+
+pub are-all : (t : Setting) (count : ℕ) (p : PassView) (ws : List PassView) → HaveRun t p ws → count ≡ t.workers + 1 → AreAll count (p ∷ ws)
+are-all t count p ws run is = record {
+  count = (let long = run.at.count in omega (arith, long, is));
+  each = λ at q there. by at q there;
+}
+  where
+    by : (at : ℕ) (q : PassView) → slice_get (p ∷ ws) at ≡ Some q → q.number ≡ at
+    by zero q there = ap (λ (k : PassView). k.number) (sym (same_Some p q there)) ∙ run.at.number
+    by (suc at) q there = (run.at.each at q there).number_is ∙ sym (next-place at)

@@ -1,0 +1,134 @@
+-- Entries that workers add between two marks.
+use Rattle.std.proofs.Common.{◌≡◌, ℕ, suc, zero, ◌<◌, ◌≤◌, inl, inr, Bool, true, false, List, [], ◌∷◌, ◌++◌, All, Option, Some, None, IsTrue, if◌then◌else◌, refl, sym, ap, subst, ◌∙◌, arith, append_assoc}
+use Rattle.std.specs.List.{fold}
+use Rattle.std.proofs.lemmas.Bool.{cases_eq, cases_Bool, both_ways}
+use Rattle.std.proofs.lemmas.List.{append-nil}
+use Rattle.std.proofs.lemmas.List.Elements.{All-nil, All-cons, All-head, All-tail}
+use Rattle.std.proofs.lemmas.List.Sums.{fold-append}
+use Rattle.grid_demand.specs.Tables.{CapacityView}
+use Rattle.book_state.proofs.LegalHistories.{each-push}
+use Rattle.book_state.specs.Books.{IsRight, IsLegal}
+use Rattle.book_state.specs.Cuts.{Cut, uncut, cut_after, cut, AtMarks}
+use Rattle.book_state.specs.Entries.{AtEach, is_mark, is_mark_call, calls_of}
+use Rattle.book_state.specs.declared.entry.Call.{Call}
+use Rattle.book_state.specs.declared.entry.Call.TheVariants.{Claim as Claims, Release, Mark}
+use Rattle.book_state.specs.declared.entry.Entry.{Entry}
+use Rattle.book_state.specs.declared.entry.Reply.{Reply}
+use Rattle.book_state.specs.Marks.{overflow_of}
+use Rattle.round_core.specs.Attempts.{Stage, Rests, Claiming, Broken, kind_of, first_stage, later_stage, stage_after, stage_of}
+use Rattle.round_core.proofs.CutSteps.{with_segment, grown, closed, each-next}
+use Rattle.round_core.proofs.StandLemmas.{marked-mark, reply-marked}
+use Rattle.round_core.proofs.WorldFields.{overflows-push}
+use Rattle.round_core.specs.RunHistories.{IsNumbered, overflows_after, overflows_of}
+use Rattle.round_core.proofs.StageSteps.{broken-stays, rests-broken}
+use Rattle.ripup_workers.proofs.JoiningLists.{calls-first, calls-after}
+
+-- a mark is no part of an attempt
+mark-breaks : (round : ℕ) (stage : Stage) (e : Entry) → is_mark e ≡ true → stage_after round stage e ≡ Broken
+mark-breaks zero stage e mark = by stage e.call mark
+  where
+    by : (stage : Stage) (call : Call) → is_mark_call call ≡ true → first_stage stage call ≡ Broken
+    by Rests (Claims claim) is = absurd (both_ways false refl is)
+    by Rests (Release net) is = refl
+    by Rests Mark is = refl
+    by (Claiming net slacks) call is = refl
+    by Broken call is = refl
+mark-breaks (suc r) stage e mark = by stage e.call e.reply mark
+  where
+    by : (stage : Stage) (call : Call) (reply : Reply) → is_mark_call call ≡ true → later_stage (kind_of (suc r)) stage call reply ≡ Broken
+    by Rests (Claims claim) reply is = absurd (both_ways false refl is)
+    by Rests (Release net) reply is = absurd (both_ways false refl is)
+    by Rests Mark reply is = refl
+    by (Claiming net (slack ∷ slacks)) (Claims claim) reply is = absurd (both_ways false refl is)
+    by (Claiming net (slack ∷ slacks)) (Release other) reply is = refl
+    by (Claiming net (slack ∷ slacks)) Mark reply is = refl
+    by (Claiming net []) call reply is = refl
+    by Broken call reply is = refl
+
+-- whole attempts hold no mark
+no-mark : (round : ℕ) (stage : Stage) (es : List Entry) → fold (stage_after round) stage es ≡ Rests → All (λ (e : Entry). is_mark e ≡ false) es
+no-mark round stage [] whole = All-nil (λ (e : Entry). is_mark e ≡ false)
+no-mark round stage (e ∷ es) whole = elim (cases_Bool (is_mark e)) [
+  | inl mark ↦
+      absurd (rests-broken (sym whole ∙ ap (λ (s : Stage). fold (stage_after round) s es) (mark-breaks round stage e mark) ∙ broken-stays round es))
+  | inr other ↦ All-cons (λ (e : Entry). is_mark e ≡ false) e es other (no-mark round (stage_after round stage e) es whole)
+]
+
+pub whole-unmarked : (round : ℕ) (es : List Entry) → stage_of round es ≡ Rests → All (λ (e : Entry). is_mark e ≡ false) es
+whole-unmarked round es whole = no-mark round Rests es whole
+
+-- what holds of each number's entries holds of all
+pub calls-all : (P : Entry → Type 0) (most : ℕ) (es : List Entry) → All (λ (e : Entry). e.number ≤ most) es → ((number : ℕ) → number ≤ most → All P (calls_of number es)) → All P es
+calls-all P most [] numbers each = All-nil P
+calls-all P most (e ∷ es) numbers each =
+    let few = All-head (λ (x : Entry). x.number ≤ most) e es numbers in
+    All-cons P e es (All-head P e (calls_of e.number es) (subst (All P) (calls-first e.number e es refl) (each e.number few)))
+    (calls-all P most es (All-tail (λ (x : Entry). x.number ≤ most) e es numbers) (λ number less. elim (cases_eq e.number number) [
+      | inl same ↦ All-tail P e (calls_of number es) (subst (All P) (calls-first number e es same) (each number less))
+      | inr apart ↦ subst (All P) (calls-after number e es apart) (each number less)
+    ]))
+
+-- a number with entries among these is one of them
+pub calls-none : (most number : ℕ) (es : List Entry) → All (λ (e : Entry). e.number ≤ most) es → most < number → calls_of number es ≡ []
+calls-none most number [] numbers past = refl
+calls-none most number (e ∷ es) numbers past =
+    let few = All-head (λ (x : Entry). x.number ≤ most) e es numbers in
+    calls-after number e es (λ is. absurd (omega (arith, few, past, is)))
+    ∙ calls-none most number es (All-tail (λ (x : Entry). x.number ≤ most) e es numbers) past
+
+-- what holds of each entry of a history and of any entry of a kind holds after more of this kind
+pub each-more : (P : List Entry → Entry → Type 0) (Q : Entry → Type 0) (h es : List Entry) → AtEach P h → ((before : List Entry) (e : Entry) → Q e → P before e) → All Q es → AtEach P (h ++ es)
+each-more P Q h [] each of all = subst (AtEach P) (sym (append-nil h)) each
+each-more P Q h (e ∷ es) each of all =
+    subst (AtEach P) (append_assoc h (e ∷ []) es)
+    (each-more P Q (h ++ e ∷ []) es (each-push P h e each (of h e (All-head Q e es all))) of (All-tail Q e es all))
+
+pub marks-more : (P : Cut → Type 0) (h es : List Entry) → AtMarks P h → All (λ (e : Entry). is_mark e ≡ false) es → AtMarks P (h ++ es)
+marks-more P h es each all =
+    each-more (λ before e. IsTrue (is_mark e) → P (cut before)) (λ (e : Entry). is_mark e ≡ false) h es each
+    (λ before e other mark. absurd (both_ways (is_mark e) other mark)) all
+
+-- entries that are no marks stand in the last segment
+grown-fold : (s : Cut) (es : List Entry) → All (λ (e : Entry). is_mark e ≡ false) es → fold cut_after s es ≡ grown s es
+grown-fold s [] all = ap (λ (segment : List Entry). with_segment s segment) (sym (append-nil s.segment))
+grown-fold s (e ∷ es) all =
+    let other = All-head (λ (e : Entry). is_mark e ≡ false) e es all in
+    let step : cut_after s e ≡ grown s (e ∷ []) = ap (λ (b : Bool). if b then closed s e else grown s (e ∷ [])) other in
+    ap (λ (k : Cut). fold cut_after k es) step
+    ∙ grown-fold (grown s (e ∷ [])) es (All-tail (λ (e : Entry). is_mark e ≡ false) e es all)
+    ∙ ap (λ (segment : List Entry). with_segment s segment) (append_assoc s.segment (e ∷ []) es)
+
+pub cut-more : (h es : List Entry) → All (λ (e : Entry). is_mark e ≡ false) es → cut (h ++ es) ≡ grown (cut h) es
+unfolding cut
+cut-more h es all = fold-append cut_after uncut h es ∙ grown-fold (cut h) es all
+
+pub mark-call : (call : Call) → is_mark_call call ≡ true → call ≡ Mark
+mark-call (Claims claim) is = absurd (both_ways false refl is)
+mark-call (Release net) is = absurd (both_ways false refl is)
+mark-call Mark is = refl
+
+-- a call that is no mark is a worker's
+pub numbered : (workers : ℕ) (call : Call) (number : ℕ) → is_mark_call call ≡ false → 0 < number → number ≤ workers → IsNumbered workers call number
+numbered workers (Claims claim) number other some few = (some, few)
+numbered workers (Release net) number other some few = (some, few)
+numbered workers Mark number other some few = absurd (both_ways true other refl)
+
+-- only marks tell an overflow
+no-overflow : (c : CapacityView) (before : List Entry) (e : Entry) → IsRight c before e → is_mark e ≡ false → overflow_of e ≡ None
+no-overflow c before e right other = by (overflow_of e) refl
+  where
+    by : (o : Option ℕ) → overflow_of e ≡ o → o ≡ None
+    by None is = refl
+    by (Some n) is =
+        let call : e.call ≡ Mark = marked-mark c before e.call n (sym right.reply ∙ reply-marked e.reply n is) in
+        absurd (both_ways (is_mark e) other (ap is_mark_call call))
+
+pub overflows-more : (c : CapacityView) (h es more : List Entry) → IsLegal c (h ++ (es ++ more)) → All (λ (e : Entry). is_mark e ≡ false) es → overflows_of (h ++ es) ≡ overflows_of h
+overflows-more c h [] more legal all = ap overflows_of (append-nil h)
+overflows-more c h (e ∷ es) more legal all =
+    let right = each-next (IsRight c) h (es ++ more) e legal.right in
+    let other = All-head (λ (x : Entry). is_mark x ≡ false) e es all in
+    let rest = overflows-more c (h ++ e ∷ []) es more (subst (IsLegal c) (sym (append_assoc h (e ∷ []) (es ++ more))) legal)
+    (All-tail (λ (x : Entry). is_mark x ≡ false) e es all) in
+    ap overflows_of (sym (append_assoc h (e ∷ []) es)) ∙ rest ∙ overflows-push h e
+    ∙ ap (λ (o : Option ℕ). overflows_after (overflows_of h) o) (no-overflow c h e right other)

@@ -1,0 +1,12 @@
+pub mod TurningStages
+pub mod TurningPasses
+pub mod TurningPlans
+pub mod TurningShares
+pub mod JoiningLists
+pub mod JoiningSegments
+pub mod JoiningPasses
+pub mod JoiningRounds
+pub mod JoiningAttempts
+pub mod JoiningEnds
+pub mod CallerLists
+pub mod MeetingSteps

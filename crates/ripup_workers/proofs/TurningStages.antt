@@ -1,0 +1,346 @@
+-- Where a worker's entries of a round lead.
+use Rattle.std.proofs.Common.{◌≡◌, ℕ, suc, zero, ◌*◌, ◌<◌, Bool, true, cond, ◌&&◌, ◌==◌, List, [], ◌∷◌, ◌++◌, length, take, Option, Some, None, slice_get, Result, Ok, Err, IfOk, OnOk, if◌then◌else◌, refl, sym, ap, subst, ◌∙◌, arith, append_assoc}
+use Rattle.std.specs.List.{fold}
+use Rattle.std.proofs.lemmas.Bool.Decides.{nat_tests}
+use Rattle.std.proofs.lemmas.List.{append-nil, take_at}
+use Rattle.std.proofs.lemmas.List.Sums.{fold-append, sum_by-append}
+use Rattle.gr_base.proofs.General.{eqb-swap}
+use Rattle.gr_base.specs.Designs.{DesignView, pins_at}
+use Rattle.gr_base.specs.Plans.{IsRouteOf}
+use Rattle.gr_base.specs.Trees.{TreeView}
+use Rattle.gr_base.specs.declared.frame.Net.{Net}
+use Rattle.cost_rules.specs.declared.site.Formula.{Formula}
+use Rattle.grid_demand.specs.LoadSums.{LoadsView}
+use Rattle.grid_demand.specs.Tables.{CapacityView, capacity_of}
+use Rattle.net_plan.specs.Mazes.{IsMaze}
+use Rattle.net_plan.specs.Patterns.{IsPattern}
+use Rattle.book_front.proofs.Prefixes.{prefix-all, prefix-then}
+use Rattle.book_state.proofs.BookingLaws.{unbounded}
+use Rattle.book_state.proofs.HistoryLists.{slice_get-right}
+use Rattle.book_state.specs.Books.{IsLegal, reply_to_claim, AreLoadsOf}
+use Rattle.book_state.specs.Views.{entry_of}
+use Rattle.book_state.specs.declared.entry.Call.{Call}
+use Rattle.book_state.specs.declared.entry.Call.TheVariants.{Claim as Claims, Release}
+use Rattle.book_state.specs.declared.entry.Claim.{Claim}
+use Rattle.book_state.specs.declared.entry.Entry.{Entry}
+use Rattle.book_state.specs.declared.entry.PlanKind.{PlanKind}
+use Rattle.book_state.specs.declared.entry.PlanKind.TheVariants.{Pattern, Maze}
+use Rattle.book_state.specs.declared.entry.Reply.{Reply}
+use Rattle.book_state.specs.declared.entry.Reply.TheVariants.{Claimed, Taken, Full, Released, NotBooked, Marked}
+use Rattle.round_core.specs.Attempts.{Stage, Rests, Claiming, Broken, kind_of, is_kind, is_slack, is_claim_for, stage_replied, stage_after, begins, attempts_at}
+use Rattle.round_core.specs.Rounds.{IsFull, claim_of, slacks_of_turn, IsPlanAfter, IsRouteOfNet}
+use Rattle.round_core.specs.RunHistories.{Setting, IsPlanOver, IsPlanned}
+use Rattle.round_core.proofs.StageSteps.{attempts-push}
+use Rattle.round_core.proofs.RoundSteps.{pattern-after}
+use Rattle.round_core.proofs.TurnLemmas.{maze-after}
+use Rattle.track_book.specs.Passes.{PassView, IsPass, IsAnswered, HasLearnt}
+use Rattle.ripup_workers.specs.Turning.{IsOver, HasFollowed, HasLed, IsPlanFor, HasTried}
+use Rattle.work_share.specs.Views.{times}
+use Rattle.ripup_workers.specs.Working.{ArePlanned, HasAttempted}
+use Rattle.ripup_workers.proofs.TurningPasses.{own-learnt, own-answered, answered-others, own-place}
+
+-- a pass that did nothing
+pub led-nothing : (t : Setting) (r : ℕ) (stage : Stage) (p : PassView) → IsLegal (capacity_of t.design) p.seen → HasLed t r stage stage [] p p
+led-nothing t r stage p legal = record {
+  number = refl;
+  begins = prefix-all p.seen;
+  legal = legal;
+  added = [];
+  mine = sym (append-nil p.mine);
+  led = refl;
+  each = λ net. refl;
+  planned = λ planned. planned;
+}
+
+-- one step after another
+pub led-then : (t : Setting) (r : ℕ) (a b c : Stage) (nets more : List ℕ) (p q s : PassView) → HasLed t r a b nets p q → HasLed t r b c more q s → HasLed t r a c (nets ++ more) p s
+led-then t r a b c nets more p q s first second = record {
+  number = second.number ∙ first.number;
+  begins = prefix-then p.seen q.seen s.seen first.begins second.begins;
+  legal = second.legal;
+  added = first.added ++ second.added;
+  mine = second.mine ∙ ap (λ (mine : List Entry). mine ++ second.added) first.mine ∙ append_assoc p.mine first.added second.added;
+  led = fold-append (stage_after r) a first.added second.added
+      ∙ ap (λ (stage : Stage). fold (stage_after r) stage second.added) first.led ∙ second.led;
+  each = λ net.
+      let begun = sum_by-append (λ (e : Entry). cond {A = ℕ} (begins r net e) 1 0) first.added second.added in
+      let stand = sum_by-append (λ (other : ℕ). cond {A = ℕ} (other == net) 1 0) nets more in
+      let one = first.each net in
+      let two = second.each net in
+      omega (arith, begun, stand, one, two);
+  planned = λ planned. second.planned (first.planned planned);
+}
+
+-- steps that lead from rest to rest are whole attempts
+pub attempted : (t : Setting) (r : ℕ) (nets : List ℕ) (p q : PassView) → HasLed t r Rests Rests nets p q → HasAttempted t r nets p q
+attempted t r nets p q led = record {
+  number = led.number;
+  begins = led.begins;
+  legal = led.legal;
+  added = led.added;
+  mine = led.mine;
+  whole = led.led;
+  each = led.each;
+  planned = led.planned;
+}
+
+pub attempts-led : (t : Setting) (r : ℕ) (nets : List ℕ) (p q : PassView) → HasAttempted t r nets p q → HasLed t r Rests Rests nets p q
+attempts-led t r nets p q done = record {
+  number = done.number;
+  begins = done.begins;
+  legal = done.legal;
+  added = done.added;
+  mine = done.mine;
+  led = done.whole;
+  each = done.each;
+  planned = done.planned;
+}
+
+-- one entry leads from a stage to another
+pub led-by : (t : Setting) (r : ℕ) (from to : Stage) (nets : List ℕ) (p q : PassView) (call : Call) (reply : Reply) → IsAnswered (capacity_of t.design) p q call reply →
+    stage_after r from (entry_of p.number call reply) ≡ to → ((net : ℕ) → cond {A = ℕ} (begins r net (entry_of p.number call reply)) 1 0 ≡ times net nets) →
+    (ArePlanned t p → ArePlanned t q) → HasLed t r from to nets p q
+led-by t r from to nets p q call reply answered leads begun planned =
+    let e : Entry = entry_of p.number call reply in
+    let one : (net : ℕ) → attempts_at r net (e ∷ []) ≡ cond {A = ℕ} (begins r net e) 1 0 = λ net.
+    (let push = attempts-push r net [] e in omega (arith, push)) in
+    record {
+      number = answered.number;
+      begins = prefix-then p.seen answered.before q.seen answered.begins (e ∷ [], sym answered.seen);
+      legal = answered.legal;
+      added = e ∷ [];
+      mine = answered.mine;
+      led = leads;
+      each = λ net. one net ∙ begun net;
+      planned = planned;
+    }
+
+-- what is planned stays so, as a pass learns more
+pub planned-learnt : (t : Setting) (p q : PassView) → HasLearnt (capacity_of t.design) p q → IsPass (capacity_of t.design) p → IsPass (capacity_of t.design) q → ArePlanned t p → ArePlanned t q
+planned-learnt t p q learnt one two =
+    own-learnt (λ before e. (claim : Claim) → e.call ≡ Claims claim → IsPlanned t before e.number claim) (capacity_of t.design) p q learnt one two
+
+pub planned-answered : (t : Setting) (p q : PassView) (call : Call) (reply : Reply) (answered : IsAnswered (capacity_of t.design) p q call reply) →
+    IsPass (capacity_of t.design) p → IsPass (capacity_of t.design) q → ((claim : Claim) → call ≡ Claims claim → IsPlanned t answered.before p.number claim) →
+    ArePlanned t p → ArePlanned t q
+planned-answered t p q call reply answered one two said =
+    own-answered (λ before e. (claim : Claim) → e.call ≡ Claims claim → IsPlanned t before e.number claim) (capacity_of t.design) p q call reply answered one two said
+
+-- a claim for a plan over all that the pass had seen is planned
+pub claim-planned : (t : Setting) (p q : PassView) (claim : Claim) (reply : Reply) (answered : IsAnswered (capacity_of t.design) p q (Claims claim) reply) →
+    IsPass (capacity_of t.design) p → IsPass (capacity_of t.design) q → claim.front ≡ length p.seen → IsPlanOver t p.seen claim → IsPlanned t answered.before p.number claim
+claim-planned t p q claim reply answered one two front tree =
+    let rest = answered.begins.0 in
+    let whole = answered.begins.1 in
+    let others = answered-others (capacity_of t.design) p q (Claims claim) reply answered one two in
+    record {
+      front = λ place own there is.
+          let within = own-place p.number p.seen rest place own others (ap (λ (h : List Entry). slice_get h place) whole ∙ there) is in
+          omega (arith, within, front);
+      tree = subst (λ (h : List Entry). IsPlanOver t h claim)
+          (sym (take_at p.seen rest claim.front (sym front)) ∙ ap (λ (h : List Entry). take claim.front h) whole) tree;
+    }
+
+-- a claim passes the test for its own net, kind and slack
+kind-itself : (kind : PlanKind) → is_kind kind kind ≡ true
+kind-itself Pattern = refl
+kind-itself (Maze margin) = grind (arith, nat_tests)
+
+slack-itself : (slack : Option ℕ) → is_slack slack slack ≡ true
+slack-itself None = refl
+slack-itself (Some slack) = grind (arith, nat_tests)
+
+claim-itself : (claim : Claim) → is_claim_for claim.net claim.kind claim.slack claim ≡ true
+claim-itself claim =
+    let net : (claim.net == claim.net) ≡ true = grind (arith, nat_tests) in
+    ap (λ (b : Bool). b && (is_kind claim.kind claim.kind && is_slack claim.slack claim.slack)) net
+    ∙ ap (λ (b : Bool). b && is_slack claim.slack claim.slack) (kind-itself claim.kind)
+    ∙ slack-itself claim.slack
+
+pub tried-for : (t : Setting) (net : ℕ) (kind : PlanKind) (slack : Option ℕ) (reply : Reply) (p q : PassView) (tried : HasTried t net kind slack reply p q) → is_claim_for net kind slack tried.claim ≡ true
+tried-for t net kind slack reply p q tried =
+    let x : ℕ × PlanKind × Option ℕ = (net, kind, slack) in
+    ap (λ (n : ℕ). is_claim_for n kind slack tried.claim) (sym tried.net_is)
+    ∙ ap (λ (k : PlanKind). is_claim_for tried.claim.net k slack tried.claim) (sym tried.kind_is)
+    ∙ ap (λ (o : Option ℕ). is_claim_for tried.claim.net tried.claim.kind o tried.claim) (sym tried.slack_is)
+    ∙ claim-itself tried.claim
+
+one-net : (net other : ℕ) → cond {A = ℕ} (other == net) 1 0 ≡ times other (net ∷ [])
+one-net net other =
+    let same = ap (λ (b : Bool). cond {A = ℕ} b 1 0) (eqb-swap other net) in
+    omega (arith, same)
+
+-- in round 0 one claim is an attempt
+pub first-led : (t : Setting) (net : ℕ) (reply : Reply) (p q : PassView) → HasTried t net Pattern None reply p q → HasLed t 0 Rests Rests (net ∷ []) p q
+first-led t net reply p q tried =
+    led-by t 0 Rests Rests (net ∷ []) p q (Claims tried.claim) reply tried.answered
+    (ap (λ (b : Bool). if b then Rests else Broken)
+    (ap (λ (n : ℕ). is_claim_for n Pattern None tried.claim) tried.net_is ∙ tried-for t net Pattern None reply p q tried))
+    (λ other. ap (λ (n : ℕ). cond {A = ℕ} (other == n) 1 0) tried.net_is ∙ one-net net other)
+    tried.planned
+
+-- later a release begins one
+pub freed-led : (t : Setting) (r net : ℕ) (reply : Reply) (p q : PassView) → 0 < r → IsAnswered (capacity_of t.design) p q (Release net) reply →
+    IsPass (capacity_of t.design) p → IsPass (capacity_of t.design) q → HasLed t r Rests (Claiming net slacks_of_turn) (net ∷ []) p q
+freed-led t zero net reply p q later answered one two = absurd (omega (arith, later))
+freed-led t (suc r) net reply p q later answered one two =
+    led-by t (suc r) Rests (Claiming net slacks_of_turn) (net ∷ []) p q (Release net) reply answered refl (one-net net)
+    (planned-answered t p q (Release net) reply answered one two (λ claim is. absurd (cc)))
+
+-- and claims go on with it
+pub tried-led : (t : Setting) (r net : ℕ) (slack : Option ℕ) (slacks : List (Option ℕ)) (reply : Reply) (p q : PassView) → 0 < r → HasTried t net (kind_of r) slack reply p q →
+    HasLed t r (Claiming net (slack ∷ slacks)) (stage_replied net slacks reply) [] p q
+tried-led t zero net slack slacks reply p q later tried = absurd (omega (arith, later))
+tried-led t (suc r) net slack slacks reply p q later tried =
+    led-by t (suc r) (Claiming net (slack ∷ slacks)) (stage_replied net slacks reply) [] p q (Claims tried.claim) reply tried.answered
+    (ap (λ (b : Bool). if b then stage_replied net slacks reply else Broken) (tried-for t net (kind_of (suc r)) slack reply p q tried))
+    (λ other. refl)
+    tried.planned
+
+-- a claim that isn't answered Full is the last
+replied-rests : (net : ℕ) (slacks : List (Option ℕ)) (reply : Reply) → (IsFull reply → ⊥) → stage_replied net slacks reply ≡ Rests
+replied-rests net slacks Claimed got = refl
+replied-rests net slacks Taken got = refl
+replied-rests net slacks (Full edge demand) got = absurd (got tt)
+replied-rests net slacks Released got = refl
+replied-rests net slacks NotBooked got = refl
+replied-rests net slacks (Marked overflow) got = refl
+
+pub got-led : (t : Setting) (r net : ℕ) (slack : Option ℕ) (slacks : List (Option ℕ)) (reply : Reply) (p q : PassView) → 0 < r → HasTried t net (kind_of r) slack reply p q →
+    (IsFull reply → ⊥) → HasLed t r (Claiming net (slack ∷ slacks)) Rests [] p q
+got-led t r net slack slacks reply p q later tried got =
+    subst (λ (stage : Stage). HasLed t r (Claiming net (slack ∷ slacks)) stage [] p q) (replied-rests net slacks reply got)
+    (tried-led t r net slack slacks reply p q later tried)
+
+replied-goes_on : (net : ℕ) (slacks : List (Option ℕ)) (reply : Reply) → IsFull reply → stage_replied net slacks reply ≡ Claiming net slacks
+replied-goes_on net slacks Claimed full = absurd full
+replied-goes_on net slacks Taken full = absurd full
+replied-goes_on net slacks (Full edge demand) full = refl
+replied-goes_on net slacks Released full = absurd full
+replied-goes_on net slacks NotBooked full = absurd full
+replied-goes_on net slacks (Marked overflow) full = absurd full
+
+pub full-led : (t : Setting) (r net : ℕ) (slack : Option ℕ) (slacks : List (Option ℕ)) (reply : Reply) (p q : PassView) → 0 < r → HasTried t net (kind_of r) slack reply p q →
+    IsFull reply → HasLed t r (Claiming net (slack ∷ slacks)) (Claiming net slacks) [] p q
+full-led t r net slack slacks reply p q later tried full =
+    subst (λ (stage : Stage). HasLed t r (Claiming net (slack ∷ slacks)) stage [] p q) (replied-goes_on net slacks reply full)
+    (tried-led t r net slack slacks reply p q later tried)
+
+-- a claim at any demand is never answered Full
+full-none : (reply : Reply) → IsFull reply → ((e : _) (n : ℕ) → reply ≡ Full e n → ⊥) → ⊥
+full-none Claimed full never = full
+full-none Taken full never = full
+full-none (Full edge demand) full never = never edge demand refl
+full-none Released full never = full
+full-none NotBooked full never = full
+full-none (Marked overflow) full never = full
+
+pub last-got : (t : Setting) (net : ℕ) (kind : PlanKind) (reply : Reply) (p q : PassView) → HasTried t net kind None reply p q → IsFull reply → ⊥
+last-got t net kind reply p q tried full =
+    let e : Entry = entry_of p.number (Claims tried.claim) reply in
+    let before = tried.answered.before in
+    let there = ap (λ (h : List Entry). slice_get h (length before)) tried.answered.seen
+    ∙ slice_get-right before (e ∷ []) (length before) 0 (omega arith) in
+    let right = tried.answered.legal.right (length before) e there in
+    let whole = ap (λ (h : List Entry). take (length before) h) tried.answered.seen ∙ take_at before (e ∷ []) (length before) refl in
+    let reply_is : reply ≡ reply_to_claim (capacity_of t.design) before tried.claim =
+    right.reply ∙ ap (λ (h : List Entry). reply_to_claim (capacity_of t.design) h tried.claim) whole in
+    full-none reply full (λ edge n is. unbounded (capacity_of t.design) before tried.claim tried.slack_is edge n (sym reply_is ∙ is))
+
+-- facts of a design are those of a setting over it
+pub over-capacity : (t : Setting) (d : DesignView) (formula : Formula) (c : CapacityView) → IsOver d formula t → c ≡ capacity_of d → c ≡ capacity_of t.design
+over-capacity t d formula c over same = same ∙ ap capacity_of (sym over.design)
+
+-- a pass that has learnt more
+pub followed : (t : Setting) (d : DesignView) (formula : Formula) (c : CapacityView) (p q : PassView) → IsOver d formula t → c ≡ capacity_of d → HasLearnt c p q → IsPass c p → IsPass c q →
+    HasFollowed t p q
+followed t d formula c p q over same learnt one two =
+    let is = over-capacity t d formula c over same in
+    let learnt_so = subst (λ (x : CapacityView). HasLearnt x p q) is learnt in
+    record {
+      learnt = learnt_so;
+      planned = planned-learnt t p q learnt_so (subst (λ (x : CapacityView). IsPass x p) is one) (subst (λ (x : CapacityView). IsPass x q) is two);
+    }
+
+pub followed-led : (t : Setting) (r : ℕ) (stage : Stage) (p q : PassView) → HasFollowed t p q → HasLed t r stage stage [] p q
+followed-led t r stage p q follows = record {
+  number = follows.learnt.number;
+  begins = follows.learnt.begins;
+  legal = follows.learnt.legal;
+  added = [];
+  mine = follows.learnt.mine ∙ sym (append-nil p.mine);
+  led = refl;
+  each = λ net. refl;
+  planned = follows.planned;
+}
+
+-- a claim for a plan over all that the pass had seen
+pub tried-so : (t : Setting) (d : DesignView) (formula : Formula) (c : CapacityView) (net : ℕ) (kind : PlanKind) (slack : Option ℕ) (tree : TreeView) (reply : Reply) (p q : PassView) →
+    IsOver d formula t → c ≡ capacity_of d → IsPass c p → IsPass c q → IsPlanFor d formula p.seen net kind tree →
+    IsAnswered c p q (Claims (claim_of net tree slack (length p.seen) kind)) reply → HasTried t net kind slack reply p q
+tried-so t d formula c net kind slack tree reply p q over same one two plan answered =
+    let is = over-capacity t d formula c over same in
+    let claim : Claim = claim_of net tree slack (length p.seen) kind in
+    let said = subst (λ (x : CapacityView). IsAnswered x p q (Claims claim) reply) is answered in
+    let first = subst (λ (x : CapacityView). IsPass x p) is one in
+    let second = subst (λ (x : CapacityView). IsPass x q) is two in
+    let over_it : IsPlanOver t p.seen claim = record {
+      plan = subst (λ (x : DesignView × Formula). IsPlanAfter x.0 x.1 p.seen net kind tree) (λ i. (sym over.design i, sym over.formula_is i)) plan.plan;
+      routes = subst (λ (x : DesignView). IsRouteOfNet x net tree) (sym over.design) plan.routes;
+    } in
+    record {
+      claim = claim;
+      net_is = refl;
+      kind_is = refl;
+      slack_is = refl;
+      answered = said;
+      planned = planned-answered t p q (Claims claim) reply said first second
+          (λ other same_call.
+          let other_is : claim ≡ other = cc in
+          subst (λ (k : Claim). IsPlanned t said.before p.number k) other_is (claim-planned t p q claim reply said first second refl over_it));
+    }
+
+-- a release of a net begins its attempt in a later round
+pub freed-so : (t : Setting) (d : DesignView) (formula : Formula) (c : CapacityView) (r net : ℕ) (reply : Reply) (p q : PassView) → IsOver d formula t → c ≡ capacity_of d → 0 < r →
+    IsPass c p → IsPass c q → IsAnswered c p q (Release net) reply → HasLed t r Rests (Claiming net slacks_of_turn) (net ∷ []) p q
+freed-so t d formula c r net reply p q over same later one two answered =
+    let is = over-capacity t d formula c over same in
+    freed-led t r net reply p q later (subst (λ (x : CapacityView). IsAnswered x p q (Release net) reply) is answered)
+    (subst (λ (x : CapacityView). IsPass x p) is one) (subst (λ (x : CapacityView). IsPass x q) is two)
+
+-- the kind of plans in a later round
+pub kind-later : (r margin : ℕ) → 0 < r → margin ≡ 4 * r → Maze margin ≡ kind_of r
+kind-later zero margin later is = absurd (omega (arith, later))
+kind-later (suc r) margin later is = ap Maze is
+
+pub kind-first : (r : ℕ) → r ≡ 0 → Pattern ≡ kind_of r
+kind-first zero is = refl
+kind-first (suc r) is = absurd (omega (arith, is))
+
+-- plans over loads are plans over what the loads are of
+pub plan-pattern : (d : DesignView) (formula : Formula) (v : CapacityView) (h : List Entry) (l : LoadsView) (net : ℕ) (kind : PlanKind) (t : TreeView) → v ≡ capacity_of d → AreLoadsOf (capacity_of d) h l →
+    kind ≡ Pattern → IsPattern v l formula net (pins_at d net) t → IsRouteOfNet d net t → IsPlanFor d formula h net kind t
+plan-pattern d formula v h l net kind t same of is plan routes =
+    subst (λ (k : PlanKind). IsPlanFor d formula h net k t) (sym is)
+    (record { plan = pattern-after d formula (capacity_of d) v h l net t refl same of plan; routes = routes })
+
+pub plan-maze : (d : DesignView) (formula : Formula) (v : CapacityView) (h : List Entry) (l : LoadsView) (net : ℕ) (kind : PlanKind) (margin : ℕ) (t : TreeView) → v ≡ capacity_of d → AreLoadsOf (capacity_of d) h l →
+    kind ≡ Maze margin → IsMaze v l formula net (pins_at d net) margin t → IsRouteOfNet d net t → IsPlanFor d formula h net kind t
+plan-maze d formula v h l net kind margin t same of is plan routes =
+    subst (λ (k : PlanKind). IsPlanFor d formula h net k t) (sym is)
+    (record { plan = maze-after d formula (capacity_of d) v h l net margin t refl same of plan; routes = routes })
+
+pub routes-net : {E : Type 0} (d : DesignView) (net : ℕ) (r : Result TreeView E) →
+    ((wanted : Net) → slice_get d.nets net ≡ Some wanted → IfOk r (IsRouteOf d.frame.shape wanted)) → IfOk r (IsRouteOfNet d net)
+routes-net d net (Ok t) routes = λ wanted is. routes wanted is
+routes-net d net (Err e) routes = tt
+
+-- a fact that doesn't hang on the result
+pub ok-all : {A E P : Type 0} (r : Result A E) → P → OnOk r P
+ok-all (Ok x) fact = fact
+ok-all (Err e) fact = tt
+
+-- a round that isn't round 0 is a later one
+pub later : (r : ℕ) → (r ≡ 0 → ⊥) → 0 < r
+later zero other = absurd (other refl)
+later (suc r) other = omega arith

@@ -1,0 +1,92 @@
+-- The steps of a net's turn in a round, as a worker adds them.
+use Rattle.std.specs.Prelude.{◌≡◌, ℕ, List, [], ◌∷◌, ◌++◌, length, Option, Some, None}
+use Rattle.std.specs.List.{fold}
+use mathlib.Core.List.{IsPrefix}
+use Rattle.cost_rules.specs.declared.site.Formula.{Formula}
+use Rattle.gr_base.specs.Designs.{DesignView, IsDesign}
+use Rattle.gr_base.specs.Trees.{TreeView}
+use Rattle.grid_demand.specs.Tables.{CapacityView, capacity_of}
+use Rattle.book_state.specs.Books.{IsLegal}
+use Rattle.book_state.specs.declared.entry.Call.TheVariants.{Claim as Claims}
+use Rattle.book_state.specs.declared.entry.Claim.{Claim}
+use Rattle.book_state.specs.declared.entry.Entry.{Entry}
+use Rattle.book_state.specs.declared.entry.PlanKind.{PlanKind}
+use Rattle.book_state.specs.declared.entry.Reply.{Reply}
+use Rattle.book_state.specs.declared.entry.Reply.TheVariants.{Claimed}
+use Rattle.round_core.specs.Attempts.{Stage, Rests, Claiming, stage_after, attempts_at}
+use Rattle.round_core.specs.Rounds.{IsPlanAfter, IsRouteOfNet}
+use Rattle.round_core.specs.RunHistories.{Setting}
+use Rattle.track_book.specs.Passes.{PassView, IsAnswered, HasLearnt}
+use Rattle.work_share.specs.Views.{times}
+use Rattle.ripup_workers.specs.Working.{ArePlanned, HasAttempted}
+
+-- a design, and its capacity
+pub record HasCapacity (d : DesignView) (c : CapacityView) : Type 0 where
+  pub design : IsDesign d
+  pub capacity_is : c ≡ capacity_of d
+
+-- what is asked for over this design by this formula
+pub record IsOver (d : DesignView) (formula : Formula) (t : Setting) : Type 0 where
+  pub design : t.design ≡ d
+  pub formula_is : t.formula ≡ formula
+
+-- a pass has added entries of a round that lead from one stage to another, and begun as many attempts at each net as it
+-- stands among these; its claims are planned
+pub record HasLed (t : Setting) (round : ℕ) (from to : Stage) (nets : List ℕ) (old new : PassView) : Type 0 where
+  pub number : new.number ≡ old.number
+  pub begins : IsPrefix old.seen new.seen
+  pub legal : IsLegal (capacity_of t.design) new.seen
+  pub added : List Entry
+  pub mine : new.mine ≡ old.mine ++ added
+  pub led : fold (stage_after round) from added ≡ to
+  pub each : (net : ℕ) → attempts_at round net added ≡ times net nets
+  pub planned : ArePlanned t old → ArePlanned t new
+
+-- after a claim with room within capacity alone: where there is a next plan, the claims go on at the slacks that are
+-- left, and else the net's attempt is whole
+abbrev pub HasLedOn : Setting → ℕ → ℕ → List (Option ℕ) → PassView → PassView → Option TreeView → Type 0
+HasLedOn t round net slacks old new None = HasLed t round (Claiming net (Some 0 ∷ slacks)) Rests [] old new
+HasLedOn t round net slacks old new (Some next) =
+    HasLed t round (Claiming net (Some 0 ∷ slacks)) (Claiming net slacks) [] old new
+
+-- a pass has seen more, and added nothing; its claims are planned
+pub record HasFollowed (t : Setting) (old new : PassView) : Type 0 where
+  pub learnt : HasLearnt (capacity_of t.design) old new
+  pub planned : ArePlanned t old → ArePlanned t new
+
+-- a tree is a net's plan of a kind over a history, and routes the net
+pub record IsPlanFor (d : DesignView) (formula : Formula) (h : List Entry) (net : ℕ) (kind : PlanKind) (tree : TreeView)
+    : Type 0 where
+  pub plan : IsPlanAfter d formula h net kind tree
+  pub routes : IsRouteOfNet d net tree
+
+-- the last entry that was seen is a claim that wasn't got, and the tree was a net's plan over a first part of the
+-- entries before it, of this length
+pub record WasRefused (d : DesignView) (formula : Formula) (net : ℕ) (kind : PlanKind) (tree : TreeView) (front : ℕ)
+    (seen : List Entry) : Type 0 where
+  pub first : List Entry
+  pub plan : IsPlanFor d formula first net kind tree
+  pub front_is : front ≡ length first
+  pub before : List Entry
+  pub begins : IsPrefix first before
+  pub last : Entry
+  pub seen_is : seen ≡ before ++ last ∷ []
+  pub claim : Claim
+  pub call : last.call ≡ Claims claim
+  pub refused : last.reply ≡ Claimed → ⊥
+
+-- a pass has claimed a net at a slack for a plan of a kind, and got this reply; its claims are planned
+pub record HasTried (t : Setting) (net : ℕ) (kind : PlanKind) (slack : Option ℕ) (reply : Reply) (old new : PassView)
+    : Type 0 where
+  pub claim : Claim
+  pub net_is : claim.net ≡ net
+  pub kind_is : claim.kind ≡ kind
+  pub slack_is : claim.slack ≡ slack
+  pub answered : IsAnswered (capacity_of t.design) old new (Claims claim) reply
+  pub planned : ArePlanned t old → ArePlanned t new
+
+-- a worker has taken some nets, and attempted just these
+pub record HasWorked (t : Setting) (round : ℕ) (taken_before taken : List ℕ) (old new : PassView) : Type 0 where
+  pub nets : List ℕ
+  pub taken_is : taken ≡ taken_before ++ nets
+  pub attempted : HasAttempted t round nets old new

@@ -1,0 +1,22 @@
+//! What is asked for.
+ghost use Rattle.std.specs.Prelude.{◌≤◌};
+ghost use Rattle.gr_base.specs.Limits.{most_rounds};
+ghost use Rattle.round_core.specs.Worlds.{most_workers};
+
+use cost_rules::{CostRule, Watcher};
+use gr_base::Design;
+
+/// Rounds that are asked for: by so many workers, and after round 0 at most so many more, which the
+/// watcher may end earlier by the goal.
+#[derive(Clone, Copy)]
+pub(crate) struct Asked<'a> {
+    pub(crate) design: &'a Design,
+    pub(crate) rule: &'a CostRule,
+    pub(crate) workers: u32,
+    pub(crate) rounds: u32,
+    pub(crate) watcher: &'a Watcher,
+    pub(crate) goal: u128,
+    ghost some: { 1 ≤ workers },
+    ghost few: { workers ≤ most_workers },
+    ghost most: { rounds ≤ most_rounds },
+}

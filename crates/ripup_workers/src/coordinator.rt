@@ -1,0 +1,79 @@
+//! The coordinator, who ends the rounds.
+ghost use Rattle.std.specs.Prelude.{◌≡◌, ◌<◌, ◌++◌, [], length, map, take, IfOk};
+ghost use Rattle.grid_demand.specs.Tables.{capacity_of};
+ghost use Rattle.book_state.specs.Replicas.{StandsFor};
+ghost use Rattle.ripup_workers.specs.Meetings.{Learns, HaveMet};
+ghost use Rattle.ripup_workers.specs.Marking.{IsMarked, AreMarked};
+
+use crate::team::{Coordinator, Marked};
+use crate::worker::Worker;
+use book_state::{Replica, Reply};
+use gr_base::Design;
+use std::alloc::{AllocError, Global};
+use std::sync::Wait;
+use track_book::{BookName, Pass, TrackBook};
+
+impl<N: BookName> Coordinator<N> {
+    /// The coordinator with a pass that has seen nothing.
+    pub(crate) fn new(
+        alloc: Global,
+        design: &Design,
+        pass: Pass<N>,
+    ) -> Result<Coordinator<N>, AllocError>
+        requires capacity { N.capacity ≡ capacity_of design.now }
+        requires nothing { pass.seen ≡ [] }
+        ensures { IfOk result (λ coordinator. coordinator.pass ≡ pass) }
+    {
+        let replica = Replica::new(alloc, design)?;
+        Ok(Coordinator { pass, replica })
+    }
+
+    /// Ends a round: once what all workers did is seen, it is marked, and the workers see the mark.
+    pub(crate) fn end_round<R: Wait>(
+        &mut self,
+        rt: &R,
+        book: &TrackBook<N>,
+        workers: &mut Vec<Worker<N>>,
+    ) -> Result<Marked, AllocError>
+        requires { 0 < length workers.old.items }
+        ensures { IfOk result (λ marked. AreMarked N.capacity self.old.pass self.new.pass
+            (map (λ w. w.pass) workers.old.items) (map (λ w. w.pass) workers.new.items) marked) }
+    {
+        self.meet_all(rt, book, workers);
+        let marked = self.mark(rt, book)?;
+        self.meet_all(rt, book, workers);
+        Ok(marked)
+    }
+
+    /// Meets each worker.
+    fn meet_all<R: Wait>(&mut self, rt: &R, book: &TrackBook<N>, workers: &mut Vec<Worker<N>>)
+        requires { 0 < length workers.old.items }
+        ensures { HaveMet N.capacity self.old.pass self.new.pass (map (λ w. w.pass) workers.old.items)
+            (map (λ w. w.pass) workers.new.items) }
+    {
+        for at in 0..workers.len() {
+            self.meet(rt, book, &mut workers[at]);
+        }
+    }
+
+    /// Meets a worker: both come to have seen the same.
+    fn meet<R: Wait>(&mut self, rt: &R, book: &TrackBook<N>, worker: &mut Worker<N>)
+        ensures own { Learns N.capacity self.old.pass self.new.pass }
+        ensures other { Learns N.capacity worker.old.pass worker.new.pass }
+        ensures same { self.new.pass.seen ≡ worker.new.pass.seen }
+    {
+        book.meet(rt, &mut self.pass, &mut worker.pass);
+    }
+
+    /// Marks the edges over their capacity, and finds the nets on such edges.
+    fn mark<R: Wait>(&mut self, rt: &R, book: &TrackBook<N>) -> Result<Marked, AllocError>
+        ensures { IfOk result (IsMarked N.capacity self.old.pass self.new.pass) }
+    {
+        let Reply::Marked { overflow } = book.mark(rt, &mut self.pass)? else {
+            unreachable!()
+        };
+        book.sync(rt, &mut self.pass, &mut self.replica)?;
+        let victims = book.victims(&self.pass, &self.replica)?;
+        Ok(Marked { overflow, victims })
+    }
+}

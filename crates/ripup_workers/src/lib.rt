@@ -1,0 +1,17 @@
+//! The rounds of rip-up and reroute by several threads over one shared book.
+#![tactic(auto)]
+
+mod asked;
+mod coordinator;
+mod gate;
+mod members;
+mod round;
+mod rounds;
+mod run;
+mod team;
+mod turn;
+mod work;
+mod worker;
+
+pub use gate::{Gate, OpenGate, Stop};
+pub use rounds::{Rounds, route_rounds};

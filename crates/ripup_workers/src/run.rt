@@ -1,0 +1,151 @@
+//! The rounds over one book, from its begin to its end.
+ghost use Rattle.std.specs.Prelude.{◌≡◌, ◌+◌, ◌<◌, ◌≤◌, [], ◌∷◌, map, length, All, IfOk, IsTrue};
+ghost use Rattle.std.specs.List.{filter};
+ghost use Rattle.gr_base.specs.Designs.{is_routed};
+ghost use Rattle.grid_demand.specs.Tables.{capacity_of};
+ghost use Rattle.track_book.specs.Passes.{AreBegun, AreAll, IsClosed};
+ghost use Rattle.ripup_workers.specs.Closing.{AreNew, IsMadeBook};
+ghost use Rattle.ripup_workers.specs.Rounding.{setting_of, is_stop_at, HaveRun};
+
+use crate::asked::Asked;
+use crate::gate::Gate;
+use crate::round::attempt_nets;
+use crate::team::Coordinator;
+use crate::worker::Worker;
+use book_state::Replica;
+use cost_rules::{Going, Sight};
+use gr_base::Design;
+use round_core::routed_nets;
+use std::alloc::{AllocError, Global};
+use std::sync::Wait;
+use std::thread::Threads;
+use track_book::{Blank, BookName, ClosedBook, Pass, TrackBook};
+
+/// The book of the rounds, closed. The only error is want of memory.
+pub(crate) fn book_of_rounds<N: BookName + Send + Sync, R: Threads + Wait + Sync, G: Gate + Sync>(
+    rt: &R,
+    alloc: Global,
+    asked: &Asked,
+    gate: &G,
+    blank: Blank,
+) -> Result<ClosedBook, AllocError>
+    requires word { blank.word ≡ N.word }
+    requires capacity { blank.capacity ≡ N.capacity }
+    requires passes { blank.passes ≡ N.passes }
+    requires design { N.capacity ≡ capacity_of asked.now.design.now }
+    requires count { N.passes ≡ asked.now.workers + 1 }
+    ensures { IfOk result (λ closed. IsMadeBook (setting_of asked.now) closed.state) }
+{
+    let (book, passes) = blank.begin::<N>(alloc)?;
+    let (mut coordinator, workers) = callers(alloc, asked.design, passes)?;
+    let workers = run_rounds(rt, alloc, asked, &book, gate, &mut coordinator, workers)?;
+    let made = closed(alloc, book, coordinator, workers)?;
+    Ok(made)
+}
+
+/// Who takes part: the coordinator with the first pass, and a worker with each other one.
+fn callers<N: BookName>(
+    alloc: Global,
+    design: &Design,
+    passes: Vec<Pass<N>>,
+) -> Result<(Coordinator<N>, Vec<Worker<N>>), AllocError>
+    requires capacity { N.capacity ≡ capacity_of design.now }
+    requires some { 1 ≤ length passes.items }
+    requires begun { AreBegun (length passes.items) passes.items }
+    ensures { IfOk result (λ callers. (callers.0.pass ∷ map (λ w. w.pass) callers.1.items) ≡ passes.items) }
+{
+    let mut workers = Vec::with_capacity(alloc, passes.len())?;
+    let mut rest = passes.into_iter();
+    let Some(first) = rest.next() else {
+        unreachable!()
+    };
+    let coordinator = Coordinator::new(alloc, design, first)?;
+    while let Some(pass) = rest.next() {
+        let replica = Replica::new(alloc, design)?;
+        workers.push_reserved(Worker { pass, replica });
+    }
+    Ok((coordinator, workers))
+}
+
+/// The rounds, each up to and with its mark.
+fn run_rounds<N: BookName + Send + Sync, R: Threads + Wait + Sync, G: Gate + Sync>(
+    rt: &R,
+    alloc: Global,
+    asked: &Asked,
+    book: &TrackBook<N>,
+    gate: &G,
+    coordinator: &mut Coordinator<N>,
+    workers: Vec<Worker<N>>,
+) -> Result<Vec<Worker<N>>, AllocError>
+    requires capacity { N.capacity ≡ capacity_of asked.now.design.now }
+    requires new { AreNew (setting_of asked.now) coordinator.old.pass (map (λ w. w.pass) workers.items) }
+    ensures { IfOk result (λ after. HaveRun (setting_of asked.now) coordinator.new.pass
+        (map (λ w. w.pass) after.items)) }
+{
+    let mut workers = workers;
+    let mut nets = routed_nets(alloc, asked.design)?;
+    let mut before = None;
+    for round in 0..asked.rounds + 1 {
+        workers = attempt_nets(rt, alloc, asked, round, &nets, book, gate, workers)?;
+        let marked = coordinator.end_round(rt, book, &mut workers)?;
+        nets = routed_of(alloc, asked.design, marked.victims.as_slice())?;
+        if nets.is_empty() {
+            return Ok(workers);
+        }
+        if is_stopped(asked, marked.overflow, before) {
+            return Ok(workers);
+        }
+        before = Some(marked.overflow);
+    }
+    Ok(workers)
+}
+
+/// Whether the watcher says Stop at this overflow, after that one.
+fn is_stopped(asked: &Asked, overflow: u128, before: Option<u128>) -> bool
+    ensures { result ≡ is_stop_at (setting_of asked.now) overflow before }
+{
+    let sight = Sight {
+        overflow,
+        before,
+        goal: asked.goal,
+    };
+    asked.watcher.look(sight) == Going::Stop
+}
+
+/// Those of these nets that are routed: all of them, where each entry of the book is a caller's.
+fn routed_of(alloc: Global, design: &Design, nets: &[u32]) -> Result<Vec<u32>, AllocError>
+    requires { All (λ net. net < length design.now.nets) nets.now }
+    ensures { IfOk result (λ kept. kept.items ≡ filter (is_routed design.now) nets.now) }
+{
+    let mut kept = Vec::new(alloc);
+    for &net in nets {
+        if design.routed(net) {
+            kept.push(net)?;
+        }
+    }
+    Ok(kept)
+}
+
+/// Ends the book. The only error is want of memory.
+fn closed<N: BookName>(
+    alloc: Global,
+    book: TrackBook<N>,
+    coordinator: Coordinator<N>,
+    workers: Vec<Worker<N>>,
+) -> Result<ClosedBook, AllocError>
+    requires { AreAll N.passes (coordinator.pass ∷ map (λ w. w.pass) workers.items) }
+    ensures closed { IfOk result (λ closed. IsClosed N.capacity (coordinator.pass ∷ map (λ w. w.pass) workers.items)
+        closed.state.history) }
+    ensures capacity { IfOk result (λ closed. closed.state.capacity ≡ N.capacity) }
+{
+    let mut passes = Vec::with_capacity(alloc, workers.len() + 1)?;
+    passes.push_reserved(coordinator.pass);
+    let mut rest = workers.into_iter();
+    while let Some(worker) = rest.next() {
+        passes.push_reserved(worker.pass);
+    }
+    match book.close(passes) {
+        Ok(closed) => Ok(closed),
+        Err(_) => Err(AllocError),
+    }
+}

@@ -1,0 +1,268 @@
+//! A worker's attempt at a net.
+ghost use Rattle.std.specs.Prelude.{◌≡◌, ◌↔◌, ◌<◌, ◌≤◌, ◌∷◌, [], ℕ, List, Option, IfOk, IfSome, OnOk, IsTrue};
+ghost use Rattle.book_state.specs.Books.{AreLoadsOf};
+ghost use Rattle.book_state.specs.Replicas.{StandsFor};
+ghost use Rattle.book_state.specs.declared.entry.Entry.{Entry};
+ghost use Rattle.gr_base.specs.Designs.{is_routed};
+ghost use Rattle.gr_base.specs.Limits.{most_rounds};
+ghost use Rattle.grid_demand.specs.Tables.{capacity_of};
+ghost use Rattle.net_plan.specs.Prices.{HasBoundedDemand};
+ghost use Rattle.round_core.specs.Attempts.{kind_of, Rests, Claiming};
+ghost use Rattle.round_core.specs.Rounds.{slacks_of_turn, IsFull};
+ghost use Rattle.round_core.specs.RunHistories.{Setting};
+ghost use Rattle.ripup_workers.specs.Turning.{HasCapacity, IsOver, HasFollowed, HasTried, HasLed, HasLedOn, IsPlanFor, WasRefused};
+ghost use Rattle.ripup_workers.specs.Working.{HasAttempted};
+
+use crate::gate::{Gate, Stop};
+use crate::worker::Worker;
+use book_state::{PlanKind, Reply};
+use cost_rules::CostRule;
+use gr_base::{Design, RouteTree};
+use grid_demand::{Capacity, Loads};
+use net_plan::{maze_plan, pattern_plan};
+use std::alloc::{AllocError, Global};
+use std::sync::Wait;
+use std::thread::Threads;
+use track_book::{BookName, TrackBook};
+
+/// By how many tiles the window of a net's pins grows on each side with each round.
+const MARGIN: u32 = 4;
+
+/// A net that is to be planned, and what its plans are made with.
+#[derive(Drop)]
+struct Wish<'a> {
+    alloc: Global,
+    design: &'a Design,
+    rule: &'a CostRule,
+    net: u32,
+    kind: PlanKind,
+    ghost routed: { IsTrue (is_routed design.now net) },
+}
+
+/// What the workers share as they attempt nets.
+#[derive(Drop)]
+struct Ground<'a, N: BookName, R, G> {
+    rt: &'a R,
+    book: &'a TrackBook<N>,
+    gate: &'a G,
+}
+
+/// Attempts a net in a round, of which round 0 is the first. In round 0 it claims the net for its
+/// pattern plan at any demand. Later it releases the net, and claims it for its maze plan until a
+/// claim isn't answered `Full`: twice with room within capacity alone, and then at any demand. The
+/// only error is want of memory.
+pub(crate) fn attempt<N: BookName, R: Threads + Wait + Sync, G: Gate>(
+    rt: &R,
+    alloc: Global,
+    design: &Design,
+    rule: &CostRule,
+    round: u32,
+    book: &TrackBook<N>,
+    gate: &G,
+    net: u32,
+    worker: &mut Worker<N>,
+) -> Result<(), AllocError>
+    requires capacity { N.capacity ≡ capacity_of design.now }
+    requires round { round ≤ most_rounds }
+    requires net { IsTrue (is_routed design.now net) }
+    ensures { (t : Setting) → IsOver design.now rule.now.formula t →
+        OnOk result (HasAttempted t round (net ∷ []) worker.old.pass worker.new.pass) }
+{
+    let within = net < design.nets();
+    prove!(within);
+    let wish = Wish {
+        alloc,
+        design,
+        rule,
+        net,
+        kind: kind_of(round),
+    };
+    let ground = Ground { rt, book, gate };
+    if round == 0 {
+        return ground.claim_first(&wish, worker);
+    }
+    worker.release(rt, book, net)?;
+    ground.claim_until_got(&wish, worker)
+}
+
+/// How plans are made in a round.
+fn kind_of(round: u32) -> PlanKind
+    requires { round ≤ most_rounds }
+    ensures { result ≡ kind_of round }
+{
+    match round {
+        0 => PlanKind::Pattern,
+        _ => PlanKind::Maze {
+            margin: MARGIN * round,
+        },
+    }
+}
+
+impl Wish<'_> {
+    /// The net's plan over loads.
+    fn plan(&self, capacity: &Capacity, loads: &Loads) -> Result<RouteTree, AllocError>
+        requires capacity { capacity.now ≡ capacity_of self.now.design.now }
+        requires loads { loads.now.shape ≡ self.now.design.now.frame.shape }
+        requires demand { HasBoundedDemand loads.now }
+        ensures { (h : List Entry) → AreLoadsOf (capacity_of self.now.design.now) h loads.now →
+            IfOk result (IsPlanFor self.now.design.now self.now.rule.now.formula h self.now.net self.now.kind) }
+    {
+        match self.kind {
+            PlanKind::Pattern => pattern_plan(
+                self.alloc,
+                self.design,
+                capacity,
+                loads,
+                self.net,
+                self.rule,
+            ),
+            PlanKind::Maze { margin } => maze_plan(
+                self.alloc,
+                self.design,
+                capacity,
+                loads,
+                self.net,
+                margin,
+                self.rule,
+            ),
+        }
+    }
+}
+
+impl<N: BookName, R: Threads + Wait + Sync, G: Gate> Ground<'_, N, R, G> {
+    /// Claims the net for its plan at any demand.
+    fn claim_first(&self, wish: &Wish<'_>, worker: &mut Worker<N>) -> Result<(), AllocError>
+        requires design { HasCapacity wish.now.design.now N.capacity }
+        requires kind { wish.now.kind ≡ PlanKind.Pattern }
+        ensures { (t : Setting) → IsOver wish.now.design.now wish.now.rule.now.formula t →
+            OnOk result (HasLed t 0 Rests Rests (wish.now.net ∷ []) worker.old.pass worker.new.pass) }
+    {
+        let tree = self.search(wish, worker)?;
+        self.claim(wish, tree, None, worker)?;
+        Ok(())
+    }
+
+    /// Claims the net until a claim isn't answered `Full`.
+    fn claim_until_got(&self, wish: &Wish<'_>, worker: &mut Worker<N>) -> Result<(), AllocError>
+        requires { HasCapacity wish.now.design.now N.capacity }
+        ensures { (t : Setting) (round : ℕ) → IsOver wish.now.design.now wish.now.rule.now.formula t →
+            0 < round → wish.now.kind ≡ kind_of round →
+            OnOk result (HasLed t round (Claiming wish.now.net slacks_of_turn) Rests []
+            worker.old.pass worker.new.pass) }
+    {
+        let tree = self.search(wish, worker)?;
+        let Some(tree) = self.claim_within(wish, tree, worker)? else {
+            return Ok(());
+        };
+        let Some(tree) = self.claim_within(wish, tree, worker)? else {
+            return Ok(());
+        };
+        self.claim(wish, tree, None, worker)?;
+        Ok(())
+    }
+
+    /// Claims the net for its plan with room within capacity alone. The result is its next plan where
+    /// the claim was answered `Full`, and else None.
+    fn claim_within(
+        &self,
+        wish: &Wish<'_>,
+        tree: RouteTree,
+        worker: &mut Worker<N>,
+    ) -> Result<Option<RouteTree>, AllocError>
+        requires design { HasCapacity wish.now.design.now N.capacity }
+        requires plan { IsPlanFor wish.now.design.now wish.now.rule.now.formula
+            worker.old.pass.seen wish.now.net wish.now.kind tree }
+        ensures led { (t : Setting) (round : ℕ) (slacks : List (Option ℕ)) →
+            IsOver wish.now.design.now wish.now.rule.now.formula t → 0 < round → wish.now.kind ≡ kind_of round →
+            IfOk result (HasLedOn t round wish.now.net slacks worker.old.pass worker.new.pass) }
+        ensures plan { IfOk result (λ next. IfSome next (IsPlanFor wish.now.design.now wish.now.rule.now.formula
+            worker.new.pass.seen wish.now.net wish.now.kind)) }
+    {
+        let front = worker.pass.known();
+        let same = tree.copy(wish.alloc)?;
+        let reply = self.claim(wish, tree, Some(0), worker)?;
+        if !is_full(reply) {
+            return Ok(None);
+        }
+        let next = self.search_again(wish, same, front, worker)?;
+        Ok(Some(next))
+    }
+
+    /// Claims the net for its plan over all that the worker knows.
+    fn claim(
+        &self,
+        wish: &Wish<'_>,
+        tree: RouteTree,
+        slack: Option<u32>,
+        worker: &mut Worker<N>,
+    ) -> Result<Reply, AllocError>
+        requires design { HasCapacity wish.now.design.now N.capacity }
+        requires plan { IsPlanFor wish.now.design.now wish.now.rule.now.formula
+            worker.old.pass.seen wish.now.net wish.now.kind tree }
+        ensures { (t : Setting) → IsOver wish.now.design.now wish.now.rule.now.formula t →
+            IfOk result (λ reply. HasTried t wish.now.net wish.now.kind slack reply
+            worker.old.pass worker.new.pass) }
+    {
+        let number = worker.pass.number();
+        self.gate
+            .pass(self.rt, number, Stop::Claim { net: wish.net });
+        worker.claim(self.rt, self.book, wish.net, tree, slack, wish.kind)
+    }
+
+    /// The net's plan over what the book holds now, all of which the worker comes to know.
+    fn search(&self, wish: &Wish<'_>, worker: &mut Worker<N>) -> Result<RouteTree, AllocError>
+        requires { HasCapacity wish.now.design.now N.capacity }
+        ensures learnt { (t : Setting) → IsOver wish.now.design.now wish.now.rule.now.formula t →
+            OnOk result (HasFollowed t worker.old.pass worker.new.pass) }
+        ensures plan { IfOk result (IsPlanFor wish.now.design.now wish.now.rule.now.formula
+            worker.new.pass.seen wish.now.net wish.now.kind) }
+    {
+        worker.sync(self.rt, self.book)?;
+        self.plan(wish, worker)
+    }
+
+    /// The same, after a claim for a tree that was planned from `front` entries was answered `Full`.
+    /// Where that is all that was added since, it is the same tree.
+    fn search_again(
+        &self,
+        wish: &Wish<'_>,
+        tree: RouteTree,
+        front: u64,
+        worker: &mut Worker<N>,
+    ) -> Result<RouteTree, AllocError>
+        requires design { HasCapacity wish.now.design.now N.capacity }
+        requires refused { WasRefused wish.now.design.now wish.now.rule.now.formula wish.now.net wish.now.kind
+            tree front worker.old.pass.seen }
+        ensures learnt { (t : Setting) → IsOver wish.now.design.now wish.now.rule.now.formula t →
+            OnOk result (HasFollowed t worker.old.pass worker.new.pass) }
+        ensures plan { IfOk result (IsPlanFor wish.now.design.now wish.now.rule.now.formula
+            worker.new.pass.seen wish.now.net wish.now.kind) }
+    {
+        worker.sync(self.rt, self.book)?;
+        let added = worker.pass.known() - front;
+        if added == 1 {
+            return Ok(tree);
+        }
+        self.plan(wish, worker)
+    }
+
+    /// The net's plan over all that the worker knows, for which its replica stands.
+    fn plan(&self, wish: &Wish<'_>, worker: &Worker<N>) -> Result<RouteTree, AllocError>
+        requires design { HasCapacity wish.now.design.now N.capacity }
+        requires stands { StandsFor N.capacity worker.now.pass.seen worker.now.replica }
+        ensures { IfOk result (IsPlanFor wish.now.design.now wish.now.rule.now.formula
+            worker.now.pass.seen wish.now.net wish.now.kind) }
+    {
+        let number = worker.pass.number();
+        self.gate
+            .pass(self.rt, number, Stop::Search { net: wish.net });
+        wish.plan(self.book.capacity(), worker.replica.loads())
+    }
+}
+
+/// Whether a claim found no room.
+fn is_full(reply: Reply) -> bool
+    ensures { IsTrue result ↔ IsFull reply }
+{
+    matches!(reply, Reply::Full { .. })
+}

@@ -1,0 +1,54 @@
+//! A worker's part of a round.
+ghost use Rattle.std.specs.Prelude.{◌≡◌, ◌≤◌, All, OnOk, IsTrue};
+ghost use Rattle.gr_base.specs.Designs.{is_routed};
+ghost use Rattle.gr_base.specs.Limits.{most_rounds};
+ghost use Rattle.grid_demand.specs.Tables.{capacity_of};
+ghost use Rattle.round_core.specs.RunHistories.{Setting};
+ghost use Rattle.work_share.specs.Views.{IsHandOf};
+ghost use Rattle.ripup_workers.specs.Turning.{IsOver, HasWorked};
+
+use crate::gate::Gate;
+use crate::turn::attempt;
+use crate::worker::Worker;
+use cost_rules::CostRule;
+use gr_base::Design;
+use std::alloc::{AllocError, Global};
+use std::sync::Wait;
+use std::thread::Threads;
+use track_book::{BookName, TrackBook};
+use work_share::{Hand, Share};
+
+/// A worker's part of a round: it takes nets from the share until it gets none, and attempts each.
+/// The only error is want of memory, and leaves the other nets in the share.
+pub(crate) fn work<N: BookName, R: Threads + Wait + Sync, G: Gate>(
+    rt: &R,
+    alloc: Global,
+    design: &Design,
+    rule: &CostRule,
+    round: u32,
+    book: &TrackBook<N>,
+    share: &Share,
+    gate: &G,
+    hand: &mut Hand,
+    worker: &mut Worker<N>,
+) -> Result<(), AllocError>
+    requires capacity { N.capacity ≡ capacity_of design.now }
+    requires round { round ≤ most_rounds }
+    requires nets { All (λ net. IsTrue (is_routed design.now net)) share.now.nets }
+    requires hand { IsHandOf share.now hand.old }
+    ensures hand { IsHandOf share.now hand.new }
+    ensures number { hand.new.number ≡ hand.old.number }
+    ensures worked { (t : Setting) → IsOver design.now rule.now.formula t →
+        OnOk result (HasWorked t round hand.old.taken hand.new.taken worker.old.pass worker.new.pass) }
+{
+    let known = worker.pass.known();
+    for _ in rt.forever() {
+        let Some(net) = share.take(hand) else {
+            break;
+        };
+        attempt(rt, alloc, design, rule, round, book, gate, net, worker)?;
+    }
+    let grown = known <= worker.pass.known();
+    prove!(grown);
+    Ok(())
+}

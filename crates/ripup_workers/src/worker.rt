@@ -1,0 +1,89 @@
+//! The workers of the rounds.
+ghost use Rattle.std.specs.Prelude.{◌≡◌, ◌<◌, length, take, IfOk, OnOk};
+ghost use Rattle.book_state.specs.Books.{nets_of};
+ghost use Rattle.book_state.specs.Replicas.{StandsFor};
+ghost use Rattle.round_core.specs.Rounds.{claim_of};
+ghost use Rattle.track_book.specs.Passes.{IsPass, IsAnswered, HasLearnt};
+
+use book_state::{Call, Claim, PlanKind, Replica, Reply};
+use gr_base::RouteTree;
+use std::alloc::AllocError;
+use std::sync::Wait;
+use track_book::{BookName, Pass, TrackBook};
+
+/// One worker: its pass, and a replica that stands for a first part of what the pass has seen.
+#[derive(Drop)]
+pub(crate) struct Worker<N: BookName> {
+    pub(crate) pass: Pass<N>,
+    pub(crate) replica: Replica,
+    ghost stands: { StandsFor N.capacity (take replica.front pass.seen) replica },
+}
+
+impl<N: BookName> Worker<N> {
+    /// The worker comes to know the whole history.
+    pub(crate) fn sync<R: Wait>(&mut self, rt: &R, book: &TrackBook<N>) -> Result<(), AllocError>
+        ensures before { IsPass N.capacity self.old.pass }
+        ensures learnt { OnOk result (HasLearnt N.capacity self.old.pass self.new.pass) }
+        ensures pass { OnOk result (IsPass N.capacity self.new.pass) }
+        ensures stands { OnOk result (StandsFor N.capacity self.new.pass.seen self.new.replica) }
+    {
+        let known = self.pass.known();
+        book.sync(rt, &mut self.pass, &mut self.replica)?;
+        let longer = known <= self.pass.known();
+        prove!(longer);
+        Ok(())
+    }
+
+    /// Frees a net.
+    pub(crate) fn release<R: Wait>(
+        &mut self,
+        rt: &R,
+        book: &TrackBook<N>,
+        net: u32,
+    ) -> Result<Reply, AllocError>
+        requires { net < nets_of N.capacity }
+        ensures before { IsPass N.capacity self.old.pass }
+        ensures reply { IfOk result
+            (λ reply. IsAnswered N.capacity self.old.pass self.new.pass (Call.Release net) reply) }
+        ensures pass { OnOk result (IsPass N.capacity self.new.pass) }
+    {
+        let known = self.pass.known();
+        let reply = book.release(rt, &mut self.pass, net)?;
+        let longer = known < self.pass.known();
+        prove!(longer);
+        Ok(reply)
+    }
+
+    /// Claims a net for a tree that was planned from all that the worker knows.
+    pub(crate) fn claim<R: Wait>(
+        &mut self,
+        rt: &R,
+        book: &TrackBook<N>,
+        net: u32,
+        tree: RouteTree,
+        slack: Option<u32>,
+        kind: PlanKind,
+    ) -> Result<Reply, AllocError>
+        requires net { net < nets_of N.capacity }
+        requires shape { tree.shape ≡ N.capacity.shape }
+        ensures before { IsPass N.capacity self.old.pass }
+        ensures reply { let claim = claim_of net tree slack (length self.old.pass.seen) kind in
+            IfOk result (λ reply. IsAnswered N.capacity self.old.pass self.new.pass (Call.Claim claim) reply) }
+        ensures pass { OnOk result (IsPass N.capacity self.new.pass) }
+    {
+        let front = self.pass.known();
+        let claim = Claim {
+            net,
+            tree,
+            slack,
+            front,
+            kind,
+        };
+        let Ok(reply) = book.claim(rt, &mut self.pass, claim) else {
+            return Err(AllocError);
+        };
+        let longer = front < self.pass.known();
+        prove!(longer);
+        Ok(reply)
+    }
+}
