@@ -77,7 +77,7 @@ pub record Stands (old written gathered text : List ℕ) : Type 0 where
 pub stands-first : (old gathered text : List ℕ) → gathered ≡ [] → text ≡ [] → Stands old old gathered text
 stands-first old gathered text none empty = record { done = []; is = sym (append-nil old); whole = none ∙ sym empty }
 
-stands-put : {old written gathered text : List ℕ} (added next more : List ℕ) → next ≡ gathered ++ added → more ≡ text ++ added →
+pub stands-put : {old written gathered text : List ℕ} (added next more : List ℕ) → next ≡ gathered ++ added → more ≡ text ++ added →
     Stands old written gathered text → Stands old written next more
 stands-put {gathered = gathered} added next more put longer s = record {
   done = s.done;

@@ -1,0 +1,13 @@
+pub mod RangeLemmas
+pub mod DrawLemmas
+pub mod TextLemmas
+pub mod PinLemmas
+pub mod GatherLemmas
+pub mod HeadLemmas
+pub mod NetLemmas
+pub mod WordLemmas
+pub mod ReadLemmas
+pub mod GrammarLemmas
+pub mod LengthLemmas
+pub mod MadeLineLemmas
+pub mod AcceptLemmas

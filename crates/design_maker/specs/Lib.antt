@@ -1,0 +1,5 @@
+pub mod Ranges
+pub mod Draws
+pub mod Nets
+pub mod Texts
+pub mod Designs
