@@ -5,6 +5,7 @@ use cost_rules::{
     CostRule, Formula, Rules, Watch, Watcher, first_cost, flat_cost, goal, never, steep_cost, still,
 };
 use gr_io::{HostShelf, HostSink, write_whole};
+use ripup_workers::OpenGate;
 use router_top::run;
 use std::env::Env;
 use std::io::ErrorKind;
@@ -52,6 +53,7 @@ fn main(rt: HostRuntime) -> ExitCode {
         &mut shelf,
         &mut out,
         &mut err,
+        &OpenGate,
         &rules,
     );
     ExitCode::from(ended.status)

@@ -6,4 +6,5 @@ mod lines;
 mod texts;
 
 pub use buffer_text::buffers;
+pub use lines::put_number_line;
 pub use texts::{report, unjoined};

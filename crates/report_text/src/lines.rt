@@ -7,7 +7,7 @@ use gr_text::Text;
 use std::alloc::AllocError;
 
 /// Puts the line of a word and a number at the end of the text.
-pub(crate) fn put_number_line(text: &mut Text, word: &[u8], n: u128) -> Result<(), AllocError>
+pub fn put_number_line(text: &mut Text, word: &[u8], n: u128) -> Result<(), AllocError>
     ensures { OnOk result (text.new ≡ text.old ++ number_line word.now n) }
 {
     text.put(word)?;

@@ -2,8 +2,11 @@
 use crate::devices::Devices;
 use cost_rules::Rules;
 use gr_io::{MemoryShelf, MemorySink};
+use ripup_workers::Gate;
 use router_top::{Ended, run};
 use std::alloc::{AllocError, Global};
+use std::sync::Wait;
+use std::thread::Threads;
 
 /// A text under a name.
 #[derive(Debug, Drop)]
@@ -62,9 +65,10 @@ impl Bench {
     }
 
     /// Runs these words over the texts, of which one may be cut to its first bytes.
-    pub(crate) fn run<R: AllocGlobal>(
+    pub(crate) fn run<R: AllocGlobal + Threads + Wait + Sync, G: Gate + Sync>(
         &self,
         rt: &R,
+        gate: &G,
         rules: &Rules,
         devices: Devices,
         cut: Option<(&str, usize)>,
@@ -74,7 +78,7 @@ impl Bench {
         let mut shelf = self.shelf(alloc, devices, cut)?;
         let mut out = sink_of(alloc, devices, devices.out)?;
         let mut err = sink_of(alloc, devices, devices.err)?;
-        let ended = end_of(rt, words, &mut shelf, &mut out, &mut err, rules);
+        let ended = end_of(rt, words, &mut shelf, &mut out, &mut err, gate, rules);
         Ok(Left { ended, out, err })
     }
 
@@ -107,15 +111,16 @@ fn sink_of(alloc: Global, devices: Devices, call: u64) -> Result<MemorySink, All
 }
 
 /// How the command ends. What is proved of it is not needed here.
-fn end_of<R: AllocGlobal>(
+fn end_of<R: AllocGlobal + Threads + Wait + Sync, G: Gate + Sync>(
     rt: &R,
     words: &[String],
     shelf: &mut MemoryShelf,
     out: &mut MemorySink,
     err: &mut MemorySink,
+    gate: &G,
     rules: &Rules,
 ) -> Ended {
-    run(rt, rt.alloc(), words, shelf, out, err, rules)
+    run(rt, rt.alloc(), words, shelf, out, err, gate, rules)
 }
 
 /// The first bytes of a text, at most so many.

@@ -1,14 +1,18 @@
 //! The lines of standard input, and what each asks for.
 use crate::bench::Bench;
 use crate::devices::Devices;
+use crate::gates::HoldingGate;
 use crate::told;
 use cost_rules::Rules;
 use gr_text::Text;
+use ripup_workers::OpenGate;
 use std::alloc::{AllocError, Global};
 use std::ops::Range;
+use std::sync::Wait;
+use std::thread::Threads;
 
 /// Does what a line asks for, and gives what is to be printed of it.
-pub(crate) fn carry_out<R: AllocGlobal>(
+pub(crate) fn carry_out<R: AllocGlobal + Threads + Wait + Sync>(
     rt: &R,
     bench: &mut Bench,
     rules: &Rules,
@@ -30,7 +34,9 @@ pub(crate) fn carry_out<R: AllocGlobal>(
         "times" => add_times(bench, rest)?,
         "set" => bench.devices = changed(bench.devices, rest),
         "ample" => bench.devices = Devices::ample(),
-        "run" | "each" | "cut" => return told_of(rt, bench, rules, line, command, rest),
+        "run" | "brief" | "hold" | "each" | "cut" => return told_of(
+            rt, bench, rules, line, command, rest,
+        ),
         _ => return echoed(alloc, line),
     }
     Ok(Text::new(alloc))
@@ -79,7 +85,7 @@ fn changed(devices: Devices, rest: &str) -> Devices {
 }
 
 /// The line itself, and what is told of the runs that it asks for.
-fn told_of<R: AllocGlobal>(
+fn told_of<R: AllocGlobal + Threads + Wait + Sync>(
     rt: &R,
     bench: &Bench,
     rules: &Rules,
@@ -103,14 +109,41 @@ fn told_of<R: AllocGlobal>(
             let steps = 0..bench.size_of(name).saturating_add(1);
             swept(rt, bench, rules, &words, Sweep::Cut(name), steps)?
         }
+        "hold" => {
+            let (worker, rest) = number_in(rest);
+            let (claims, rest) = number_in(rest);
+            held(rt, bench, rules, worker as u32, claims as u32, rest)?
+        }
+        "brief" => {
+            let words = words_of(alloc, rest)?;
+            let left = bench.run(rt, &OpenGate, rules, bench.devices, None, &words)?;
+            told::brief(alloc, &left)?
+        }
         _ => {
             let words = words_of(alloc, rest)?;
-            let left = bench.run(rt, rules, bench.devices, None, &words)?;
+            let left = bench.run(rt, &OpenGate, rules, bench.devices, None, &words)?;
             told::whole(alloc, &left)?
         }
     };
     text.put(told.bytes())?;
     Ok(text)
+}
+
+/// What is told of a run in which a worker, 0 for the first that comes, waits at its first search for
+/// so many claims of the others.
+fn held<R: AllocGlobal + Threads + Wait + Sync>(
+    rt: &R,
+    bench: &Bench,
+    rules: &Rules,
+    worker: u32,
+    claims: u32,
+    rest: &str,
+) -> Result<Text, AllocError> {
+    let alloc = rt.alloc();
+    let words = words_of(alloc, rest)?;
+    let gate = HoldingGate::new(if worker == 0 { None } else { Some(worker) }, claims);
+    let left = bench.run(rt, &gate, rules, bench.devices, None, &words)?;
+    told::meeting(alloc, &left, gate.into_seen())
 }
 
 /// What changes from run to run: the call of a device that fails, or how much is left of a text.
@@ -133,7 +166,7 @@ fn setting<'a>(
 }
 
 /// A line for each step of a sweep, beside what the words leave without it.
-fn swept<R: AllocGlobal>(
+fn swept<R: AllocGlobal + Threads + Wait + Sync>(
     rt: &R,
     bench: &Bench,
     rules: &Rules,
@@ -141,11 +174,11 @@ fn swept<R: AllocGlobal>(
     sweep: Sweep<'_>,
     steps: Range<usize>,
 ) -> Result<Text, AllocError> {
-    let done = bench.run(rt, rules, bench.devices, None, words)?;
+    let done = bench.run(rt, &OpenGate, rules, bench.devices, None, words)?;
     let mut told = Text::new(rt.alloc());
     for step in steps {
         let (devices, cut) = setting(bench.devices, sweep, step);
-        let left = bench.run(rt, rules, devices, cut, words)?;
+        let left = bench.run(rt, &OpenGate, rules, devices, cut, words)?;
         told.put(told::line(rt.alloc(), step, &left, &done)?.bytes())?;
     }
     Ok(told)

@@ -1,5 +1,6 @@
 //! What is told of a run.
 use crate::bench::Left;
+use crate::gates::Seen;
 use book_state::{BookState, Call, Reply};
 use gr_text::Text;
 use round_core::HandLog;
@@ -7,6 +8,9 @@ use std::alloc::{AllocError, Global};
 
 /// The most bytes of a text that is printed whole.
 const MOST_PRINTED: usize = 2_000;
+
+/// How many numbers a report begins with.
+const NUMBERS: usize = 5;
 
 /// The whole of what a run left.
 pub(crate) fn whole(alloc: Global, left: &Left) -> Result<Text, AllocError> {
@@ -17,11 +21,43 @@ pub(crate) fn whole(alloc: Global, left: &Left) -> Result<Text, AllocError> {
     put_text(&mut told, b"out", left.out.bytes())?;
     put_text(&mut told, b"err", left.err.bytes())?;
     if let Some(book) = &left.ended.book {
-        put_book(&mut told, book)?;
+        put_book(&mut told, book.state())?;
     }
     for log in &left.ended.hands {
         put_hand(&mut told, log)?;
     }
+    Ok(told)
+}
+
+/// How a run ended, and the five numbers of its report.
+pub(crate) fn brief(alloc: Global, left: &Left) -> Result<Text, AllocError> {
+    let mut told = Text::new(alloc);
+    told.put(b"status ")?;
+    told.put_number(left.ended.status)?;
+    told.put(b"\n")?;
+    for line in left.err.bytes().split(|&byte| byte == b'\n').take(NUMBERS) {
+        told.put(b"| ")?;
+        told.put(line)?;
+        told.put(b"\n")?;
+    }
+    Ok(told)
+}
+
+/// The same, and whether a worker was held and met the others.
+pub(crate) fn meeting(alloc: Global, left: &Left, seen: Seen) -> Result<Text, AllocError> {
+    let mut told = brief(alloc, left)?;
+    let held: &[u8] = if seen.held.is_some() {
+        b"a worker was held"
+    } else {
+        b"no worker was held"
+    };
+    let met: &[u8] = if seen.met {
+        b", and met the others\n"
+    } else {
+        b", and met nobody\n"
+    };
+    told.put(held)?;
+    told.put(met)?;
     Ok(told)
 }
 

@@ -1,5 +1,6 @@
 -- The laws of the commands: what the texts that one writes say of its files.
-use Rattle.std.proofs.Common.{◌≡◌, ℕ, List, Option, Some, None, Result, Ok, IsTrue, ap, ◌∙◌}
+use Rattle.std.proofs.Common.{◌≡◌, ℕ, List, Option, Some, None, Result, Ok, IsTrue, refl, ap, ◌∙◌}
+use Rattle.design_maker.specs.declared.made.Made.{Made}
 use Rattle.gr_base.specs.Designs.{DesignView}
 use Rattle.gr_io.specs.Devices.{Reading}
 use Rattle.ispd_reader.specs.declared.fault.DesignFault.{DesignFault as DesignFaultKind}
@@ -8,12 +9,13 @@ use Rattle.solution_text.specs.declared.fault.SolutionFault.{SolutionFault as So
 use Rattle.router_top.specs.Buffering.{AreAccepted, buffering}
 use Rattle.router_top.specs.Commands.{HandedBack, Command, checked}
 use Rattle.router_top.specs.Judging.{judging}
+use Rattle.router_top.specs.Making.{making, trying}
 use Rattle.router_top.specs.Orders.{command_of}
 use Rattle.router_top.specs.Routing.{routing}
 use Rattle.rc_library.specs.Libraries.{LibraryView}
 use Rattle.rc_library.specs.declared.fault.LibraryFault.{LibraryFault as LibraryFaultKind}
 use Rattle.router_top.specs.Said.{library_said, solution_said}
-use Rattle.word_reader.specs.Orders.{Order, Route, Evaluate, Buffer}
+use Rattle.word_reader.specs.Orders.{Order, Route, Evaluate, Buffer, Make, Trial}
 use Rattle.router_top.specs.declared.stop.Outcome.{Outcome}
 use Rattle.router_top.specs.declared.stop.Outcome.TheVariants.{Whole, Open}
 use Rattle.router_top.specs.declared.stop.Stop.{Stop}
@@ -85,7 +87,27 @@ buffering-lawful design library solution = record {
   unkept = λ shelf kept text report says. says.1;
 }
 
+making-lawful : (made : Made) → IsLawful (making made)
+making-lawful made = record {
+  refuses = λ shelf stop refused. absurd refused;
+  accepts = λ shelf kept outcome text report says tells. refl;
+  opens = λ shelf kept text report says tells. absurd (routes-whole says.0);
+  closes = λ shelf kept text report says tells left. left;
+  unkept = λ shelf kept text report says. says.1;
+}
+
+trying-lawful : (made : Made) (rounds workers : ℕ) → IsLawful (trying made rounds workers)
+trying-lawful made rounds workers = record {
+  refuses = λ shelf stop refused. absurd refused;
+  accepts = λ shelf kept outcome text report says tells. refl;
+  opens = λ shelf kept text report says tells. absurd (routes-whole says.0);
+  closes = λ shelf kept text report says tells left. left;
+  unkept = λ shelf kept text report says. absurd (routes-whole says.0);
+}
+
 pub lawful : (order : Order) → IsLawful (command_of order)
 lawful (Route design library options) = routing-lawful design library options
 lawful (Evaluate design solution via_cost) = judging-lawful design solution via_cost
 lawful (Buffer design library solution) = buffering-lawful design library solution
+lawful (Make made) = making-lawful made
+lawful (Trial made rounds workers) = trying-lawful made rounds workers

@@ -1,7 +1,7 @@
 -- What is left where texts are written.
 use Rattle.std.proofs.Common.{◌≡◌, ℕ, inl, inr, List, [], Option, Some, None, Result, Ok, Err, IsTrue, sym, subst, append-nil, ◌∙◌}
 use Rattle.gr_io.specs.Devices.{Device, Reading, IsUntouched, Gains}
-use Rattle.round_core.specs.declared.rounds.Rounds.{Rounds}
+use Rattle.ripup_workers.specs.declared.rounds.Rounds.{Rounds}
 use Rattle.router_top.specs.Commands.{HandedBack, Command, rounds_back}
 use Rattle.router_top.specs.Ends.{LeavesFor}
 use Rattle.router_top.specs.Leaving.{IsDone, FailsToWrite, Leaves, LeavesOut, SomeIsCut, IsWritten}

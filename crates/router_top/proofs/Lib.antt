@@ -6,5 +6,6 @@ pub mod RouteLemmas
 pub mod RoutingLemmas
 pub mod JudgingLemmas
 pub mod LeavingLemmas
+pub mod MakingLemmas
 pub mod CommandLaws
 pub mod EndLemmas

@@ -1,5 +1,5 @@
 -- The plans of routed nets are plans for their trees.
-use Rattle.std.proofs.Common.{◌≡◌, ℕ, List, Option, Some, None, IsTrue}
+use Rattle.std.proofs.Common.{List, Option, Some, None}
 use Rattle.std.specs.Option.{IsSomeAnd}
 use Rattle.std.proofs.lemmas.Option.{slice_get_within}
 use Rattle.gr_base.specs.Designs.{DesignView}

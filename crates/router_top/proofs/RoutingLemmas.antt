@@ -54,7 +54,7 @@ text-same d trees design are none net e =
     ]
 
 -- the sets of the trees are those of the bookings
-booked-same : (d : DesignView) (h : List Entry) (trees : List (Option TreeView)) → ((net : ℕ) → tree_at trees net ≡ booked h net) →
+pub booked-same : (d : DesignView) (h : List Entry) (trees : List (Option TreeView)) → ((net : ℕ) → tree_at trees net ≡ booked h net) →
     (net : ℕ) (e : Edge) → route_edges trees net e ≡ booked_edges h net e
 booked-same d h trees same net e = ap (λ (o : Option TreeView). edges_or_none o e) (same net)
 
@@ -75,7 +75,7 @@ joined-same d sets others same joined = subst (λ (s : ℕ → Edges). AllJoined
 pub is-routing : (shelf : Reading) (design_name library_name : List ℕ) (d : DesignView) (lib : LibraryView) (options : Options) (r : RoutedDesign) →
     (IsTrue shelf.tells → design_said shelf.held design_name ≡ Some (Ok d)) → (IsTrue shelf.tells → library_said shelf.held library_name d ≡ Some (Ok lib)) →
     IsDesign d → IsRoutedDesign d lib options r →
-    IsRouting shelf design_name library_name options r.rounds.book r.rounds.hands.items (written_text d (route_edges r.routes)) r.report
+    IsRouting shelf design_name library_name options r.rounds.book.state r.rounds.hands.items (written_text d (route_edges r.routes)) r.report
 is-routing shelf design_name library_name d lib options r said read design is = record {
   design = d;
   said = said;
@@ -86,7 +86,7 @@ is-routing shelf design_name library_name d lib options r said read design is = 
   least = is.routes.least;
   says = ap (written_text d) (fun_ext (λ net. fun_ext (λ e. booked-same d h r.routes is.routes.booked net e)));
   joined = joined-same d (route_edges r.routes) (cover d (written_text d (route_edges r.routes))) same is.routes.joined;
-  demand = λ e edge wire. demand-same d r.rounds.book.capacity h r.routes design is.made.capacity is.trees is.routes.booked is.routes.free e;
+  demand = λ e edge wire. demand-same d r.rounds.book.state.capacity h r.routes design is.made.capacity is.trees is.routes.booked is.routes.free e;
   verdict = is.verdict;
   judged = verdict-same d options.via_cost (route_edges r.routes) (cover d (written_text d (route_edges r.routes))) is.verdict same is.judged;
   trees = r.routes;
@@ -97,7 +97,7 @@ is-routing shelf design_name library_name d lib options r said read design is = 
 }
   where
     h : List Entry
-    h = take r.rounds.chosen r.rounds.book.history
+    h = take r.rounds.chosen r.rounds.book.state.history
 
     same : (net : ℕ) (e : Edge) → route_edges r.routes net e ≡ cover d (written_text d (route_edges r.routes)) net e
     same = text-same d r.routes design is.trees is.routes.free

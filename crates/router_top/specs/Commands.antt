@@ -4,7 +4,8 @@ use Rattle.std.specs.Option.{option_map}
 use Rattle.book_state.specs.Views.{BookView}
 use Rattle.gr_io.specs.Devices.{Reading}
 use Rattle.round_core.specs.declared.hands.HandLog.{HandLog}
-use Rattle.round_core.specs.declared.rounds.Rounds.{Rounds}
+use Rattle.ripup_workers.specs.declared.rounds.Rounds.{Rounds}
+use Rattle.track_book.specs.declared.closed.ClosedBook.{ClosedBook}
 use Rattle.router_top.specs.declared.stop.Outcome.{Outcome}
 use Rattle.router_top.specs.declared.stop.Stop.{Stop}
 
@@ -13,11 +14,11 @@ pub record HandedBack : Type 0 where
   pub book : BookView
   pub hands : List HandLog
 
-abbrev pub handed_back : Option BookView → List HandLog → Option HandedBack
-handed_back book hands = option_map (λ (b : BookView). record { book = b; hands = hands }) book
+abbrev pub handed_back : Option ClosedBook → List HandLog → Option HandedBack
+handed_back book hands = option_map (λ (b : ClosedBook). record { book = b.state; hands = hands }) book
 
 abbrev pub rounds_back : Option Rounds → Option HandedBack
-rounds_back rounds = option_map (λ (r : Rounds). record { book = r.book; hands = r.hands.items }) rounds
+rounds_back rounds = option_map (λ (r : Rounds). record { book = r.book.state; hands = r.hands.items }) rounds
 
 pub record Command : Type 1 where
   -- what its files say, in the order in which they are read: all is well, or the first fault; None where the file that

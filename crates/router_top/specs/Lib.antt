@@ -7,5 +7,6 @@ pub mod Leaving
 pub mod Buffering
 pub mod Routing
 pub mod Judging
+pub mod Making
 pub mod Ends
 pub mod Statuses

@@ -1,5 +1,6 @@
 -- The command `route`: the book of its rounds, the text of its routes, and their report.
 use Rattle.std.specs.Prelude.{◌≡◌, ℕ, true, false, List, ◌++◌, Option, Some, None, Ok, slice_get, take, IsTrue, IsSomeAnd}
+use Rattle.cost_rules.specs.declared.sight.Watch.TheVariants.{Never}
 use Rattle.gr_base.specs.Designs.{DesignView, is_routed, is_routed_net}
 use Rattle.gr_base.specs.EdgeSets.{Edges, IsJoined}
 use Rattle.gr_base.specs.Grid.{has_edge, is_wire}
@@ -20,14 +21,15 @@ use Rattle.solution_text.specs.Cover.{cover}
 use Rattle.solution_text.specs.WrittenText.{written_text}
 use Rattle.gr_io.specs.Devices.{Reading}
 use Rattle.round_core.specs.Hands.{ArePartedTo}
-use Rattle.round_core.specs.Rounds.{hand, AreRoundsUpTo}
+use Rattle.round_core.specs.RunHistories.{Setting, asked_for, IsRunHistory}
 use Rattle.router_top.specs.Commands.{Command, checked}
 use Rattle.elmore_delay.specs.declared.plans.Plan.{Plan}
 use Rattle.rc_library.specs.Libraries.{LibraryView}
 use Rattle.report_text.specs.BufferTexts.{buffers_text}
-use Rattle.buffer_plan.specs.Plans.{ArePlans}
+use Rattle.buffer_plan.specs.Plans.{AreRoutesOf, ArePlans}
 use Rattle.router_top.specs.Said.{design_said, library_said, report_of}
 use Rattle.round_core.specs.declared.hands.HandLog.{HandLog}
+use Rattle.router_top.specs.declared.routing.JudgedRoutes.{JudgedRoutes}
 use Rattle.router_top.specs.declared.routing.RoutedDesign.{RoutedDesign}
 use Rattle.router_top.specs.declared.stop.Outcome.TheVariants.{Whole}
 use Rattle.router_top.specs.declared.stop.Stop.TheVariants.{DesignFault, LibraryFault}
@@ -49,13 +51,17 @@ IsBookedDemand d book front sets =
     (e : Edge) → IsTrue (has_edge d.frame.shape e) → IsTrue (is_wire e) →
     demand_after book.capacity (take front book.history) e ≡ demand_by d sets e
 
--- the book of a design's rounds: each entry of its history has the reply that the rules give, the history is that of
--- the rounds, and the callers' logs part it
+-- the rounds that the options ask for, which no watch ends early
+abbrev pub setting_of : DesignView → Options → Setting
+setting_of d options = asked_for d options.formula options.workers options.rounds Never 0
+
+-- the book of a design's rounds: each entry of its history has the reply that the rules give, the history is a run
+-- history of the workers asked for, and the callers' logs part it
 pub record IsBookOf (d : DesignView) (options : Options) (book : BookView) (hands : List HandLog) : Type 0 where
   pub capacity : book.capacity ≡ capacity_of d
   pub legal : IsLegal book.capacity book.history
-  pub run : AreRoundsUpTo d options.formula options.rounds book.history
-  pub parted : ArePartedTo hand book.history hands
+  pub run : IsRunHistory (setting_of d options) book.history
+  pub parted : ArePartedTo options.workers book.history hands
 
 -- a design's routes: the trees booked at the first mark of least overflow; exactly the routed nets have one, and it
 -- joins their pins
@@ -75,10 +81,18 @@ AreTrees g trees = (net : ℕ) → (t : TreeView) → tree_at trees net ≡ Some
 abbrev pub routing_report : DesignView → LibraryView → Verdict → List (Option TreeView) → List (Option Plan) → List ℕ
 routing_report d lib v trees plans = report_of v ++ buffers_text d lib trees plans
 
+-- a design's routes and the verdict on them, with the rounds that they are from
+pub record AreJudgedRoutes (d : DesignView) (options : Options) (r : JudgedRoutes) : Type 0 where
+  pub made : IsBookOf d options r.rounds.book.state r.rounds.hands.items
+  pub routes : AreChosenRoutes d r.rounds.book.state r.rounds.chosen r.routes
+  pub trees : AreTrees d.frame.shape r.routes
+  pub held : AreRoutesOf d r.routes
+  pub judged : IsVerdict d options.via_cost (route_edges r.routes) r.verdict
+
 -- a design's routes and their report, with the rounds that they are from
 pub record IsRoutedDesign (d : DesignView) (lib : LibraryView) (options : Options) (r : RoutedDesign) : Type 0 where
-  pub made : IsBookOf d options r.rounds.book r.rounds.hands.items
-  pub routes : AreChosenRoutes d r.rounds.book r.rounds.chosen r.routes
+  pub made : IsBookOf d options r.rounds.book.state r.rounds.hands.items
+  pub routes : AreChosenRoutes d r.rounds.book.state r.rounds.chosen r.routes
   pub trees : AreTrees d.frame.shape r.routes
   pub verdict : Verdict
   pub judged : IsVerdict d options.via_cost (route_edges r.routes) verdict

@@ -2,7 +2,7 @@
 ghost use Rattle.std.specs.Prelude.{◌≡◌, None, Err};
 
 use crate::stop::{Outcome, Stop};
-use round_core::Rounds;
+use ripup_workers::Rounds;
 
 /// How a command ended, and the rounds of its routes, once it has made them.
 #[derive(Drop)]

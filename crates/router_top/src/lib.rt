@@ -4,9 +4,11 @@
 mod buffering;
 mod judging;
 mod left;
+mod making;
 mod opening;
 mod routing;
 mod stop;
 mod top;
+mod trial;
 
 pub use top::{Ended, run};

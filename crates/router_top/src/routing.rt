@@ -10,24 +10,34 @@ ghost use Rattle.router_top.specs.Commands.{rounds_back};
 ghost use Rattle.router_top.specs.Leaving.{IsWritten, Leaves};
 ghost use Rattle.word_reader.specs.Orders.{AreInRange};
 ghost use Rattle.report_text.specs.BufferTexts.{ArePlanned};
-ghost use Rattle.router_top.specs.Routing.{IsRoutedDesign, routing, routing_report};
+ghost use Rattle.router_top.specs.Routing.{AreJudgedRoutes, IsRoutedDesign, routing, routing_report};
 
 use crate::left::Left;
 use crate::opening::{open_design, open_library};
 use crate::stop::{Outcome, Stop};
 use buffer_plan::plan_all;
-use cost_rules::CostRule;
+use cost_rules::Rules;
 use elmore_delay::Plans;
 use gr_base::{Design, Routes};
 use gr_io::{Shelf, Sink, write_whole};
 use gr_text::Text;
 use rc_library::Library;
 use report_text::{buffers, report};
-use round_core::{Rounds, route_rounds};
+use ripup_workers::{Gate, Rounds, route_rounds};
 use route_evaluator::{Verdict, evaluate_routes};
 use route_writer::{WriteError, write_solution};
 use std::alloc::{AllocError, Global};
+use std::sync::Wait;
+use std::thread::Threads;
 use word_reader::Options;
+
+/// The routes of a design, and the verdict on them, with the rounds that they are from.
+#[derive(Drop)]
+pub(crate) struct JudgedRoutes {
+    pub rounds: Rounds,
+    pub routes: Routes,
+    pub verdict: Verdict,
+}
 
 /// The routes of a design, and the report of them and of their buffers, with the rounds that they
 /// are from.
@@ -40,7 +50,8 @@ struct RoutedDesign {
 
 /// Reads the design and the library of these names, routes the design, and writes the routes on out,
 /// and the report of them and of their buffers on err.
-pub(crate) fn route<S: Shelf, O: Sink, E: Sink>(
+pub(crate) fn route<R: Threads + Wait + Sync, S: Shelf, O: Sink, E: Sink, G: Gate + Sync>(
+    rt: &R,
     alloc: Global,
     shelf: &mut S,
     out: &mut O,
@@ -48,10 +59,10 @@ pub(crate) fn route<S: Shelf, O: Sink, E: Sink>(
     design: &str,
     library: &str,
     options: Options,
-    rule: &CostRule,
+    gate: &G,
+    rules: &Rules,
 ) -> Left
-    requires options { AreInRange options }
-    requires rule { rule.now.formula ≡ options.formula }
+    requires { AreInRange options }
     ensures { Leaves (routing design.now library.now options)
         (reading_of S.tells S.held S.faults S.misses shelf.old shelf.new)
         (device_of O.tells O.faults O.written out.old out.new)
@@ -66,7 +77,7 @@ pub(crate) fn route<S: Shelf, O: Sink, E: Sink>(
         Ok(library) => library,
         Err(stop) => return Left::without_rounds(Err(stop)),
     };
-    let Ok(routed) = route_design(alloc, &design, &library, options, rule) else {
+    let Ok(routed) = route_design(rt, alloc, &design, &library, options, gate, rules) else {
         return Left::without_rounds(Err(Stop::NoMemory));
     };
     let end = write_routes(alloc, out, err, &design, &routed);
@@ -76,30 +87,68 @@ pub(crate) fn route<S: Shelf, O: Sink, E: Sink>(
     }
 }
 
-/// Routes a design, and takes the trees that are booked at the first mark of least overflow. The
-/// only error is want of memory.
-fn route_design(
+/// Routes a design, and makes the report of the trees that are booked at the first mark of least
+/// overflow, and of their buffers. The only error is want of memory.
+fn route_design<R: Threads + Wait + Sync, G: Gate + Sync>(
+    rt: &R,
     alloc: Global,
     design: &Design,
     library: &Library,
     options: Options,
-    rule: &CostRule,
+    gate: &G,
+    rules: &Rules,
 ) -> Result<RoutedDesign, AllocError>
     requires design { IsDesign design.now }
     requires library { IsLibraryOf design.now library.now }
     requires options { AreInRange options }
-    requires rule { rule.now.formula ≡ options.formula }
     ensures { IfOk result (IsRoutedDesign design.now library.now options) }
 {
-    let rounds = route_rounds(alloc, design, options.rounds, rule)?;
-    let routes = rounds.book.routes_at(rounds.chosen)?;
-    let verdict = evaluate_routes(alloc, design, &routes, options.via_cost)?;
+    let judged = judged_routes(rt, alloc, design, options, gate, rules)?;
+    let JudgedRoutes {
+        rounds,
+        routes,
+        verdict,
+    } = judged;
     let plans = plan_all(alloc, design, library, &routes)?;
     let report = routing_report(alloc, design, library, &verdict, &routes, &plans)?;
     Ok(RoutedDesign {
         rounds,
         routes,
         report,
+    })
+}
+
+/// Routes a design, and judges the trees that are booked at the first mark of least overflow. The
+/// only error is want of memory.
+pub(crate) fn judged_routes<R: Threads + Wait + Sync, G: Gate + Sync>(
+    rt: &R,
+    alloc: Global,
+    design: &Design,
+    options: Options,
+    gate: &G,
+    rules: &Rules,
+) -> Result<JudgedRoutes, AllocError>
+    requires design { IsDesign design.now }
+    requires options { AreInRange options }
+    ensures { IfOk result (AreJudgedRoutes design.now options) }
+{
+    let rounds = route_rounds(
+        rt,
+        alloc,
+        design,
+        rules.of(options.formula),
+        options.workers,
+        options.rounds,
+        rules.never(),
+        0,
+        gate,
+    )?;
+    let routes = rounds.book.state().routes_at(rounds.chosen)?;
+    let verdict = evaluate_routes(alloc, design, &routes, options.via_cost)?;
+    Ok(JudgedRoutes {
+        rounds,
+        routes,
+        verdict,
     })
 }
 

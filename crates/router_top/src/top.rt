@@ -1,21 +1,27 @@
 //! The public call.
-ghost use Rattle.std.specs.Prelude.{◌≡◌, [], None, map, string_bytes};
+ghost use Rattle.std.specs.Prelude.{◌≡◌, [], None, map, string_bytes, IsTrue};
 ghost use Rattle.gr_io.specs.Devices.{device_of, reading_of};
 ghost use Rattle.router_top.specs.Commands.{handed_back, rounds_back};
 ghost use Rattle.router_top.specs.Ends.{LeavesFor, Ends};
+ghost use Rattle.router_top.specs.Making.{makes_design, IsApart, IsApartBy};
 ghost use Rattle.router_top.specs.Statuses.{IsByStatus};
 ghost use Rattle.word_reader.specs.Orders.{order_of};
 
 use crate::buffering::buffer;
 use crate::judging::judge;
 use crate::left::Left;
+use crate::making::make_design;
 use crate::routing::route;
 use crate::stop::{Stop, finish};
-use book_state::BookState;
+use crate::trial::trial;
 use cost_rules::Rules;
 use gr_io::{Shelf, Sink};
-use round_core::{HandLog, Rounds};
+use ripup_workers::{Gate, Rounds};
+use round_core::HandLog;
 use std::alloc::Global;
+use std::sync::Wait;
+use std::thread::Threads;
+use track_book::ClosedBook;
 use word_reader::{Order, read_words};
 
 /// How a run ended.
@@ -24,9 +30,9 @@ pub struct Ended {
     /// The status that the program ends with.
     pub status: u8,
     /// The book of the rounds of `route`, once its routes are made.
-    pub book: Option<BookState>,
+    pub book: Option<ClosedBook>,
     /// Which entries of the book's history are whose: the marks are those of number 0, the claims
-    /// and releases those of number 1. Empty without a book.
+    /// and releases those of the workers, from number 1. Empty without a book.
     pub hands: Vec<HandLog>,
 }
 
@@ -57,7 +63,9 @@ impl Ended {
 /// `route DESIGN LIBRARY ROUNDS` reads the design of that name and the library of its wires and
 /// buffers. It gives each routed net a pattern plan over the loads of the nets before it, by the
 /// rule of the first formula. Then, in up to ROUNDS rounds (0 to 64), each net on an edge over its
-/// capacity is released and rerouted by a maze plan; one hand does it, whatever `--workers` says.
+/// capacity is released and rerouted by a maze plan. As many threads as `--workers` says (1 to 16)
+/// do it, each over what it has seen of the others' routes; one alone goes in the design's order.
+/// Each passes the gate before it searches a plan, and before it claims a net.
 /// It writes the routes of the first round of least overflow on out, and on err their report of
 /// demand, overflow, wirelength and vias, and each routed net's buffers and required time.
 ///
@@ -69,17 +77,22 @@ impl Ended {
 /// on out each routed net's buffers and required time. In both texts of buffers no allowed placement
 /// gives a net's driver a greater required time; a library of version 3 gets none yet.
 ///
+/// `make SEED X Y L NETS` writes the text of a made design on out, and on err how many nets and pins
+/// it has. `trial SEED X Y L NETS ROUNDS` routes that design as `route` does, and writes the report
+/// of its routes on out. Both leave the shelf as it was.
+///
 /// Status 0: done. 1: done, and a net is left unjoined. 2: the words give no order. 3: the design's
 /// text is at fault. 4: the library's text is at fault. 5: the solution's text is at fault, or, for
 /// `buffer`, a routed net's edges aren't a tree. 6: a read failed, or a name is missing. 7: a write
 /// failed. 8: out of memory. At 2 to 6 and at 8 a line on err tells it.
-pub fn run<R, S: Shelf, O: Sink, E: Sink>(
-    _rt: &R,
+pub fn run<R: Threads + Wait + Sync, S: Shelf, O: Sink, E: Sink, G: Gate + Sync>(
+    rt: &R,
     alloc: Global,
     words: &[String],
     shelf: &mut S,
     out: &mut O,
     err: &mut E,
+    gate: &G,
     rules: &Rules,
 ) -> Ended
     ensures ends { Ends (order_of (map string_bytes words.now))
@@ -92,27 +105,33 @@ pub fn run<R, S: Shelf, O: Sink, E: Sink>(
         (device_of O.tells O.faults O.written out.old out.new)
         (device_of E.tells E.faults E.written err.old err.new)
         (handed_back result.book result.hands.items) result.status }
+    ensures makes { IsTrue (makes_design (order_of (map string_bytes words.now)))
+        → IsApartBy shelf.old shelf.new result.status }
     ensures hands { result.book ≡ None → result.hands.items ≡ [] }
 {
-    let left = carry_out(alloc, words, shelf, out, err, rules);
+    let left = carry_out(rt, alloc, words, shelf, out, err, gate, rules);
     let status = finish(alloc, err, left.end);
     Ended::of(alloc, status, left.rounds)
 }
 
 /// Carries out the command that the words give, and tells no stop.
-fn carry_out<S: Shelf, O: Sink, E: Sink>(
+fn carry_out<R: Threads + Wait + Sync, S: Shelf, O: Sink, E: Sink, G: Gate + Sync>(
+    rt: &R,
     alloc: Global,
     words: &[String],
     shelf: &mut S,
     out: &mut O,
     err: &mut E,
+    gate: &G,
     rules: &Rules,
 ) -> Left
-    ensures { LeavesFor (order_of (map string_bytes words.now))
+    ensures leaves { LeavesFor (order_of (map string_bytes words.now))
         (reading_of S.tells S.held S.faults S.misses shelf.old shelf.new)
         (device_of O.tells O.faults O.written out.old out.new)
         (device_of E.tells E.faults E.written err.old err.new)
         (rounds_back result.rounds) result.end }
+    ensures makes { IsTrue (makes_design (order_of (map string_bytes words.now)))
+        → IsApart shelf.old shelf.new result.end }
 {
     match read_words(words) {
         Ok(
@@ -121,10 +140,9 @@ fn carry_out<S: Shelf, O: Sink, E: Sink>(
                 library,
                 options,
             },
-        ) => {
-            let rule = rules.of(options.formula);
-            route(alloc, shelf, out, err, design, library, options, rule)
-        }
+        ) => route(
+            rt, alloc, shelf, out, err, design, library, options, gate, rules,
+        ),
         Ok(
             Order::Evaluate {
                 design,
@@ -139,6 +157,14 @@ fn carry_out<S: Shelf, O: Sink, E: Sink>(
                 solution,
             },
         ) => Left::without_rounds(buffer(alloc, shelf, out, design, library, solution)),
+        Ok(Order::Make { made }) => Left::without_rounds(make_design(alloc, out, err, made)),
+        Ok(
+            Order::Trial {
+                made,
+                rounds,
+                workers,
+            },
+        ) => trial(rt, alloc, out, made, rounds, workers, gate, rules),
         Err(_) => Left::without_rounds(Err(Stop::Usage)),
     }
 }

@@ -4,3 +4,4 @@ pub mod SortingLemmas
 pub mod MeaningLemmas
 pub mod RuleLemmas
 pub mod OrderLemmas
+pub mod SeedLemmas

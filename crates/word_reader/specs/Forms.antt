@@ -4,7 +4,7 @@ use Rattle.std.specs.List.{list_any}
 use Rattle.std.specs.Map.{lookup}
 use Rattle.std.specs.Str.{bytes_eq}
 use Rattle.word_reader.specs.declared.form.Command.{Command}
-use Rattle.word_reader.specs.declared.form.Command.TheVariants.{Route, Evaluate, Buffer}
+use Rattle.word_reader.specs.declared.form.Command.TheVariants.{Route, Evaluate, Buffer, Make, Trial}
 use Rattle.word_reader.specs.declared.form.OptionKind.{OptionKind}
 use Rattle.word_reader.specs.declared.form.OptionKind.TheVariants.{Workers, ViaCost}
 
@@ -20,6 +20,8 @@ forms =
     (codes "route", record { command = Route; positionals = 3; options = Workers ∷ ViaCost ∷ [] }) ∷
     (codes "evaluate", record { command = Evaluate; positionals = 2; options = ViaCost ∷ [] }) ∷
     (codes "buffer", record { command = Buffer; positionals = 3; options = [] }) ∷
+    (codes "make", record { command = Make; positionals = 5; options = [] }) ∷
+    (codes "trial", record { command = Trial; positionals = 6; options = Workers ∷ [] }) ∷
     []
 
 -- the options, each by its word

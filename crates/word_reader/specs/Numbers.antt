@@ -1,5 +1,5 @@
 -- The numbers in words.
-use Rattle.std.specs.Prelude.{ℕ, ◌≤◌, nat_le, List, [], ◌∷◌, Option, Some, None, if◌then◌else◌}
+use Rattle.std.specs.Prelude.{ℕ, ◌-◌, ◌^◌, ◌≤◌, nat_le, List, [], ◌∷◌, Option, Some, None, if◌then◌else◌}
 use Rattle.std.specs.Option.{option_and_then}
 use Rattle.gr_text.specs.Numbers.{natural_in}
 use Rattle.word_reader.specs.declared.numbers.Numbers.{Numbers}
@@ -15,6 +15,10 @@ most_via_cost = MOST_VIA_COST
 -- the most digits of a number in words
 abbrev pub most_digits : ℕ
 most_digits = MOST_DIGITS
+
+-- the greatest seed
+abbrev pub most_seed : ℕ
+most_seed = 2 ^ 64 - 1
 
 -- the numbers that an option takes, and the one where it isn't given
 abbrev pub worker_numbers : Numbers

@@ -3,15 +3,18 @@ use Rattle.std.specs.Prelude.{◌≡◌, ℕ, ◌≤◌, Bool, ◌&&◌, ◌==�
 use Rattle.std.specs.Option.{option_map, option_and_then}
 use Rattle.std.specs.List.{list_all}
 use Rattle.cost_rules.specs.declared.site.Formula.TheVariants.{First}
-use Rattle.gr_base.specs.Limits.{most_rounds}
+use Rattle.design_maker.specs.Ranges.{is_made, IsMade}
+use Rattle.design_maker.specs.declared.made.Made.{Made}
+use Rattle.design_maker.specs.declared.made.TheConstants.{MOST_MADE_NETS, MOST_SIDE}
+use Rattle.gr_base.specs.Limits.{most_layers, most_rounds}
 use Rattle.gr_text.specs.Numbers.{natural_in}
 use Rattle.word_reader.specs.Forms.{Form, form_of, has, every_option}
-use Rattle.word_reader.specs.Numbers.{number_of, most_digits, most_via_cost, most_workers, via_costs, worker_numbers}
+use Rattle.word_reader.specs.Numbers.{number_of, most_digits, most_seed, most_via_cost, most_workers, via_costs, worker_numbers}
 use Rattle.word_reader.specs.Sorting.{Sorted, sorted}
 use Rattle.word_reader.specs.declared.error.WordError.{WordError}
 use Rattle.word_reader.specs.declared.error.WordError.TheVariants.{Usage}
 use Rattle.word_reader.specs.declared.form.Command.{Command}
-use Rattle.word_reader.specs.declared.form.Command.TheVariants.{Route as Routes, Evaluate as Evaluates, Buffer as Buffers}
+use Rattle.word_reader.specs.declared.form.Command.TheVariants.{Route as Routes, Evaluate as Evaluates, Buffer as Buffers, Make as Makes, Trial as Tries}
 use Rattle.word_reader.specs.declared.form.OptionKind.{OptionKind}
 use Rattle.word_reader.specs.declared.form.OptionKind.TheVariants.{Workers, ViaCost}
 use Rattle.word_reader.specs.declared.order.Options.{Options}
@@ -23,6 +26,8 @@ pub data Order : Type 0 where
   Route : (design library : List ℕ) → Options → Order
   Evaluate : (design solution : List ℕ) → (via_cost : ℕ) → Order
   Buffer : (design library solution : List ℕ) → Order
+  Make : Made → Order
+  Trial : Made → (rounds workers : ℕ) → Order
 
 infixl 10 ◌>>=◌
 abbrev ◌>>=◌ : {A B : Type 0} → Option A → (A → Option B) → Option B
@@ -55,13 +60,37 @@ options_of sorted = do
   via_cost ← number_of via_costs (sorted.values ViaCost)
   Some (record { rounds = rounds; workers = workers; via_cost = via_cost; formula = First })
 
--- what each command asks for: `route DESIGN LIBRARY ROUNDS`, `evaluate DESIGN SOLUTION` and
--- `buffer DESIGN LIBRARY SOLUTION`
+-- the numbers, if a design can be made of them
+abbrev pub in_range : Made → Option Made
+in_range made = if is_made made then Some made else None
+
+-- what a design is made of: SEED X Y L NETS
+unfoldable pub made_of : Sorted → Option Made
+made_of sorted = do
+  seed ← natural_in most_digits most_seed (positional sorted 0)
+  columns ← natural_in most_digits MOST_SIDE (positional sorted 1)
+  rows ← natural_in most_digits MOST_SIDE (positional sorted 2)
+  layers ← natural_in most_digits most_layers (positional sorted 3)
+  nets ← natural_in most_digits MOST_MADE_NETS (positional sorted 4)
+  in_range (record { seed = seed; columns = columns; rows = rows; layers = layers; nets = nets })
+
+-- how a made design is routed
+unfoldable pub trial_of : Sorted → Option Order
+trial_of sorted = do
+  made ← made_of sorted
+  rounds ← natural_in most_digits most_rounds (positional sorted 5)
+  workers ← number_of worker_numbers (sorted.values Workers)
+  Some (Trial made rounds workers)
+
+-- what each command asks for: `route DESIGN LIBRARY ROUNDS`, `evaluate DESIGN SOLUTION`,
+-- `buffer DESIGN LIBRARY SOLUTION`, `make SEED X Y L NETS` and `trial SEED X Y L NETS ROUNDS`
 abbrev pub order_as : Command → Sorted → Option Order
 order_as Routes sorted = option_map (Route (positional sorted 0) (positional sorted 1)) (options_of sorted)
 order_as Evaluates sorted =
     option_map (Evaluate (positional sorted 0) (positional sorted 1)) (number_of via_costs (sorted.values ViaCost))
 order_as Buffers sorted = Some (Buffer (positional sorted 0) (positional sorted 1) (positional sorted 2))
+order_as Makes sorted = option_map Make (made_of sorted)
+order_as Tries sorted = trial_of sorted
 
 -- the order of a command by the words behind its own
 abbrev pub order_by : Form → Sorted → Option Order
@@ -80,6 +109,8 @@ abbrev pub named : Given → Order
 named (Given.Route design library options) = Route design.now library.now options
 named (Given.Evaluate design solution via_cost) = Evaluate design.now solution.now via_cost
 named (Given.Buffer design library solution) = Buffer design.now library.now solution.now
+named (Given.Make made) = Make made
+named (Given.Trial made rounds workers) = Trial made rounds workers
 
 -- the order of the words, or that they give none
 abbrev pub Answers : Option Order → Result Given WordError → Type 0
@@ -93,8 +124,17 @@ pub record AreInRange (options : Options) : Type 0 where
   pub workers : options.workers ≤ most_workers
   pub via_cost : options.via_cost ≤ most_via_cost
 
+-- the numbers of a trial are in range
+pub record IsTrial (made : Made) (rounds workers : ℕ) : Type 0 where
+  pub range : IsMade made
+  pub rounded : rounds ≤ most_rounds
+  pub worker : 1 ≤ workers
+  pub few_workers : workers ≤ most_workers
+
 -- and so are those of an order
 abbrev pub AsksInRange : Given → Type 0
 AsksInRange (Given.Route design library options) = AreInRange options
 AsksInRange (Given.Evaluate design solution via_cost) = via_cost ≤ most_via_cost
 AsksInRange (Given.Buffer design library solution) = Unit {0}
+AsksInRange (Given.Make made) = IsMade made
+AsksInRange (Given.Trial made rounds workers) = IsTrial made rounds workers

@@ -10,6 +10,8 @@ pub(crate) enum Command {
     Route,
     Evaluate,
     Buffer,
+    Make,
+    Trial,
 }
 
 /// The options.
@@ -29,7 +31,7 @@ pub(crate) struct Form {
 }
 
 /// The most positionals that a command has.
-pub(crate) const MOST_POSITIONALS: usize = 3;
+pub(crate) const MOST_POSITIONALS: usize = 6;
 
 /// The options, each once.
 pub(crate) const EVERY_OPTION: [OptionKind; 2] = [OptionKind::Workers, OptionKind::ViaCost];
@@ -53,6 +55,16 @@ pub(crate) fn form_of(word: &str) -> Option<Form>
             command: Command::Buffer,
             positionals: 3,
             options: &[],
+        }),
+        "make" => Some(Form {
+            command: Command::Make,
+            positionals: 5,
+            options: &[],
+        }),
+        "trial" => Some(Form {
+            command: Command::Trial,
+            positionals: 6,
+            options: &[OptionKind::Workers],
         }),
         _ => None,
     }

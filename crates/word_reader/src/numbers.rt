@@ -1,6 +1,7 @@
 //! The numbers in words.
 ghost use Rattle.std.specs.Prelude.{◌≡◌, ◌≤◌, IfSome};
-ghost use Rattle.word_reader.specs.Numbers.{number_of, IsPlain};
+ghost use Rattle.gr_text.specs.Numbers.{all_digits, natural_in};
+ghost use Rattle.word_reader.specs.Numbers.{number_of, IsPlain, most_digits, most_seed};
 ghost use Rattle.word_reader.specs.Kept.{values_seen};
 
 use gr_text::natural_of;
@@ -50,4 +51,23 @@ pub(crate) fn number_of(numbers: Numbers, given: Option<&str>) -> Option<u32>
     } else {
         Some(number)
     }
+}
+
+/// The seed that a word writes.
+pub(crate) fn seed_of(word: &str) -> Option<u64>
+    ensures { result ≡ natural_in most_digits most_seed word.now }
+{
+    if word.len() > MOST_DIGITS {
+        return None;
+    }
+    if !are_digits(word) {
+        return None;
+    }
+    word.parse().ok()
+}
+
+fn are_digits(word: &str) -> bool
+    ensures { result ≡ all_digits word.now }
+{
+    word.as_bytes().iter().all(|byte| byte.is_ascii_digit())
 }

@@ -1,5 +1,6 @@
 //! What words can ask for.
 use cost_rules::Formula;
+use design_maker::Made;
 
 /// How a design is routed.
 #[derive(Clone, Copy, Debug)]
@@ -34,5 +35,17 @@ pub enum Order<'w> {
         design: &'w str,
         library: &'w str,
         solution: &'w str,
+    },
+    /// Writes the text of a made design.
+    Make {
+        made: Made,
+    },
+    /// Routes a made design.
+    Trial {
+        made: Made,
+        /// The most rounds of rip-up and reroute, from 0 to 64.
+        rounds: u32,
+        /// How many hands route, from 1 to 16.
+        workers: u32,
     },
 }

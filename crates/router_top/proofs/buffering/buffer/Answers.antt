@@ -1,4 +1,4 @@
-use Rattle.std.proofs.Common.{◌≡◌, ℕ, List, [], ◌++◌, Option, IsTrue, sym, refl, ap, subst, inl, ◌∙◌}
+use Rattle.std.proofs.Common.{ℕ, List, [], ◌++◌, Option, IsTrue, sym, refl, ap, subst, inl, ◌∙◌}
 use Rattle.std.specs.Option.{option_map}
 use Rattle.gr_io.specs.Devices.{Reading, reading_of, device_of}
 use Rattle.gr_io.specs.declared.shelf.Slot.TheVariants.{Library, Solution}
@@ -9,7 +9,6 @@ use Rattle.router_top.specs.Buffering.{AreAccepted, buffering}
 use Rattle.router_top.specs.Leaving.{LeavesOut}
 use Rattle.router_top.specs.Opening.{IsCovered}
 use Rattle.router_top.specs.declared.stop.Outcome.TheVariants.{Whole}
-use Rattle.router_top.specs.declared.stop.Stop.{Stop}
 use Rattle.router_top.proofs.BufferingLemmas.{is-buffering, stopped, solution-fails}
 use Rattle.router_top.proofs.StopLemmas.{handed-on}
 use Rattle.router_top.proofs.LeavingLemmas.{gains-nothing}

@@ -1,0 +1,92 @@
+//! A gate that lets a worker wait for another.
+use ripup_workers::{Gate, Stop};
+use std::sync::{Mutex, Wait};
+use std::thread;
+use std::thread::Threads;
+
+/// For how many turns a worker waits at most.
+const MOST_TURNS: u32 = 5_000_000;
+
+/// What a gate has seen.
+#[derive(Clone, Copy, Drop)]
+pub(crate) struct Seen {
+    /// The worker that is held, or was.
+    pub held: Option<u32>,
+    /// How many claims the others have come to.
+    pub claims: u32,
+    /// Whether these became enough while it waited.
+    pub met: bool,
+}
+
+/// Holds a worker at its first search until the others have come to so many claims.
+#[derive(Drop)]
+pub(crate) struct HoldingGate {
+    /// Which worker is held: the first that comes, or the one of this number.
+    worker: Option<u32>,
+    claims: u32,
+    seen: Mutex<Seen>,
+}
+
+impl HoldingGate {
+    pub(crate) fn new(worker: Option<u32>, claims: u32) -> HoldingGate {
+        HoldingGate {
+            worker,
+            claims,
+            seen: Mutex::new(Seen {
+                held: None,
+                claims: 0,
+                met: false,
+            }),
+        }
+    }
+
+    /// What it has seen, once all workers are gone.
+    pub(crate) fn into_seen(self) -> Seen {
+        self.seen.into_inner()
+    }
+
+    /// Counts a claim of another worker than the one that is held.
+    fn count<R: Wait>(&self, rt: &R, worker: u32) {
+        let mut seen = self.seen.lock(rt);
+        if self.worker != Some(worker) && seen.held != Some(worker) {
+            seen.claims = seen.claims.saturating_add(1);
+        }
+    }
+
+    /// Whether the worker is to be held: it is the wanted one, at its first search.
+    fn holds<R: Wait>(&self, rt: &R, worker: u32) -> bool {
+        let mut seen = self.seen.lock(rt);
+        let wanted = self.worker.unwrap_or(worker) == worker;
+        if !wanted || seen.held.is_some() {
+            return false;
+        }
+        seen.held = Some(worker);
+        true
+    }
+
+    /// Whether the others have come to enough claims.
+    fn is_met<R: Wait>(&self, rt: &R) -> bool {
+        let mut seen = self.seen.lock(rt);
+        seen.met = seen.claims >= self.claims;
+        seen.met
+    }
+}
+
+impl Gate for HoldingGate {
+    fn pass<R: Threads + Wait + Sync>(&self, rt: &R, worker: u32, stop: Stop) {
+        match stop {
+            Stop::Claim { .. } => self.count(rt, worker),
+            Stop::Search { .. } => {
+                if !self.holds(rt, worker) {
+                    return;
+                }
+                for _ in 0..MOST_TURNS {
+                    if self.is_met(rt) {
+                        return;
+                    }
+                    thread::yield_now();
+                }
+            }
+        }
+    }
+}
