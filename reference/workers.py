@@ -1,0 +1,102 @@
+#!/usr/bin/env python3
+"""Routes designs by several workers, again and again: reference/workers.py [--times N] [DESIGN LIBRARY ROUNDS ...]
+
+Each design (made ones where none is named) is routed by 1, 2, 4, 8 and 16 workers, each N times (20 where nothing is
+said). What each run wrote is judged by `evaluate`: no net may be left unjoined, and the five numbers of its report must
+be those that the run told. The runs by one worker must give the same bytes each time. The least and the greatest
+overflow of each number of workers are printed.
+"""
+import argparse
+import os
+import subprocess
+import sys
+import tempfile
+
+HERE = os.path.dirname(os.path.abspath(__file__))
+ROUTER = os.path.join(HERE, "..", "crates", "groute", "out", "groute")
+WORKERS = (1, 2, 4, 8, 16)
+# The words of made designs, and the rounds of each: the first has room, the second is crowded.
+MADE = (("7 32 32 6 2000", 3), ("11 24 24 4 6000", 8))
+NUMBERS = 5
+
+
+def run(*words):
+    """Status, standard output and standard error of the router."""
+    done = subprocess.run([ROUTER, *words], capture_output=True, check=False)
+    return done.returncode, done.stdout, done.stderr
+
+
+def library(layers):
+    """A library of plain wires, with one kind of buffers."""
+    wires = "".join(f"wire {layer} 100 100\n" for layer in range(1, layers + 1))
+    return f"library 1\n{wires}via 10 10\ndriver 100\nsink 10 0\nkind mid 10 100 20000\nend\n"
+
+
+def made(folder):
+    """The made designs with their libraries and rounds."""
+    for words, rounds in MADE:
+        _, text, _ = run("make", *words.split())
+        design = os.path.join(folder, words.replace(" ", "_"))
+        with open(design, "wb") as file:
+            file.write(text)
+        with open(design + ".library", "w", encoding="ascii") as file:
+            file.write(library(int(words.split()[3])))
+        yield design, design + ".library", str(rounds)
+
+
+def fault(design, solution, route):
+    """What is wrong with a run's routes, or None; and its overflow."""
+    status, out, err = route
+    if status != 0:
+        return f"status {status}", None
+    with open(solution, "wb") as file:
+        file.write(out)
+    told = err.split(b"\n")[:NUMBERS]
+    status, judged, _ = run("evaluate", design, solution)
+    lines = judged.split(b"\n")
+    if status != 0 or lines[NUMBERS] != b"unjoined 0":
+        return "a net is left unjoined", None
+    if lines[:NUMBERS] != told:
+        return "the report isn't that of the routes", None
+    return None, int(told[1].split()[1])
+
+
+def tried(folder, design, paths, rounds, times):
+    """Routes a design by each number of workers, and prints what came of it. The answer is the count of faults."""
+    faults = 0
+    for workers in WORKERS:
+        first, overflows = None, []
+        for _ in range(times):
+            route = run("route", design, paths, rounds, "--workers", str(workers))
+            wrong, overflow = fault(design, os.path.join(folder, "solution"), route)
+            if wrong is None and workers == 1 and route != (first or route):
+                wrong = "one worker gave other bytes than before"
+            first = first or route
+            if wrong is None:
+                overflows.append(overflow)
+            else:
+                faults += 1
+                print(f"{design}, {workers} workers: {wrong}")
+        spread = f"overflow {min(overflows)} to {max(overflows)}" if overflows else "no routes"
+        print(f"{os.path.basename(design)}, {rounds} rounds, {workers} workers: {len(overflows)} runs, {spread}")
+    return faults
+
+
+def main():
+    parser = argparse.ArgumentParser(description=__doc__, formatter_class=argparse.RawDescriptionHelpFormatter)
+    parser.add_argument("--times", type=int, default=20)
+    parser.add_argument("names", nargs="*", help="DESIGN LIBRARY ROUNDS, again and again")
+    words = parser.parse_args()
+    if len(words.names) % 3:
+        parser.error("DESIGN LIBRARY ROUNDS stand together")
+    faults = 0
+    with tempfile.TemporaryDirectory() as folder:
+        named = [tuple(words.names[at : at + 3]) for at in range(0, len(words.names), 3)]
+        for design, paths, rounds in named or made(folder):
+            faults += tried(folder, design, paths, rounds, words.times)
+    print(f"{faults} faults")
+    return 1 if faults else 0
+
+
+if __name__ == "__main__":
+    sys.exit(main())
