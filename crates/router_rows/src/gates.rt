@@ -11,9 +11,9 @@ const MOST_TURNS: u32 = 5_000_000;
 #[derive(Clone, Copy, Drop)]
 pub(crate) struct Seen {
     /// The worker that is held, or was.
-    pub held: Option<u32>,
+    pub held: Option<u64>,
     /// How many claims the others have come to.
-    pub claims: u32,
+    pub claims: u64,
     /// Whether these became enough while it waited.
     pub met: bool,
 }
@@ -22,13 +22,13 @@ pub(crate) struct Seen {
 #[derive(Drop)]
 pub(crate) struct HoldingGate {
     /// Which worker is held: the first that comes, or the one of this number.
-    worker: Option<u32>,
-    claims: u32,
+    worker: Option<u64>,
+    claims: u64,
     seen: Mutex<Seen>,
 }
 
 impl HoldingGate {
-    pub(crate) fn new(worker: Option<u32>, claims: u32) -> HoldingGate {
+    pub(crate) fn new(worker: Option<u64>, claims: u64) -> HoldingGate {
         HoldingGate {
             worker,
             claims,
@@ -46,7 +46,7 @@ impl HoldingGate {
     }
 
     /// Counts a claim of another worker than the one that is held.
-    fn count<R: Wait>(&self, rt: &R, worker: u32) {
+    fn count<R: Wait>(&self, rt: &R, worker: u64) {
         let mut seen = self.seen.lock(rt);
         if self.worker != Some(worker) && seen.held != Some(worker) {
             seen.claims = seen.claims.saturating_add(1);
@@ -54,7 +54,7 @@ impl HoldingGate {
     }
 
     /// Whether the worker is to be held: it is the wanted one, at its first search.
-    fn holds<R: Wait>(&self, rt: &R, worker: u32) -> bool {
+    fn holds<R: Wait>(&self, rt: &R, worker: u64) -> bool {
         let mut seen = self.seen.lock(rt);
         let wanted = self.worker.unwrap_or(worker) == worker;
         if !wanted || seen.held.is_some() {
@@ -75,9 +75,9 @@ impl HoldingGate {
 impl Gate for HoldingGate {
     fn pass<R: Threads + Wait + Sync>(&self, rt: &R, worker: u32, stop: Stop) {
         match stop {
-            Stop::Claim { .. } => self.count(rt, worker),
+            Stop::Claim { .. } => self.count(rt, u64::from(worker)),
             Stop::Search { .. } => {
-                if !self.holds(rt, worker) {
+                if !self.holds(rt, u64::from(worker)) {
                     return;
                 }
                 for _ in 0..MOST_TURNS {

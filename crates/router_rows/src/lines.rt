@@ -112,7 +112,7 @@ fn told_of<R: AllocGlobal + Threads + Wait + Sync>(
         "hold" => {
             let (worker, rest) = number_in(rest);
             let (claims, rest) = number_in(rest);
-            held(rt, bench, rules, worker as u32, claims as u32, rest)?
+            held(rt, bench, rules, worker, claims, rest)?
         }
         "brief" => {
             let words = words_of(alloc, rest)?;
@@ -135,8 +135,8 @@ fn held<R: AllocGlobal + Threads + Wait + Sync>(
     rt: &R,
     bench: &Bench,
     rules: &Rules,
-    worker: u32,
-    claims: u32,
+    worker: u64,
+    claims: u64,
     rest: &str,
 ) -> Result<Text, AllocError> {
     let alloc = rt.alloc();
