@@ -9,13 +9,13 @@ const MOST_TURNS: u32 = 5_000_000;
 
 /// What a gate has seen.
 #[derive(Clone, Copy, Drop)]
-pub(crate) struct Seen {
+struct Seen {
     /// The worker that is held, or was.
-    pub held: Option<u64>,
+    held: Option<u64>,
     /// How many claims the others have come to.
-    pub claims: u64,
+    claims: u64,
     /// Whether these became enough while it waited.
-    pub met: bool,
+    met: bool,
 }
 
 /// Holds a worker at its first search until the others have come to so many claims.
@@ -40,9 +40,16 @@ impl HoldingGate {
         }
     }
 
-    /// What it has seen, once all workers are gone.
-    pub(crate) fn into_seen(self) -> Seen {
-        self.seen.into_inner()
+    /// Whether the others came to enough claims, and no worker waited for them in vain, once all
+    /// workers are gone.
+    pub(crate) fn is_passed(self) -> bool {
+        let claims = self.claims;
+        let seen = self.seen.into_inner();
+        if seen.held.is_some() {
+            seen.met
+        } else {
+            seen.claims >= claims
+        }
     }
 
     /// Counts a claim of another worker than the one that is held.

@@ -143,7 +143,7 @@ fn held<R: AllocGlobal + Threads + Wait + Sync>(
     let words = words_of(alloc, rest)?;
     let gate = HoldingGate::new(if worker == 0 { None } else { Some(worker) }, claims);
     let left = bench.run(rt, &gate, rules, bench.devices, None, &words)?;
-    told::meeting(alloc, &left, gate.into_seen())
+    told::meeting(alloc, &left, gate.is_passed())
 }
 
 /// What changes from run to run: the call of a device that fails, or how much is left of a text.

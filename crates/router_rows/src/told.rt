@@ -1,6 +1,5 @@
 //! What is told of a run.
 use crate::bench::Left;
-use crate::gates::Seen;
 use book_state::{BookState, Call, Reply};
 use gr_text::Text;
 use round_core::HandLog;
@@ -43,20 +42,14 @@ pub(crate) fn brief(alloc: Global, left: &Left) -> Result<Text, AllocError> {
     Ok(told)
 }
 
-/// The same, and whether a worker was held and met the others.
-pub(crate) fn meeting(alloc: Global, left: &Left, seen: Seen) -> Result<Text, AllocError> {
+/// The same, and whether the others came to the claims for which a worker waits.
+pub(crate) fn meeting(alloc: Global, left: &Left, passed: bool) -> Result<Text, AllocError> {
     let mut told = brief(alloc, left)?;
-    let held: &[u8] = if seen.held.is_some() {
-        b"a worker was held"
+    let met: &[u8] = if passed {
+        b"the others came to their claims\n"
     } else {
-        b"no worker was held"
+        b"the others didn't come to their claims\n"
     };
-    let met: &[u8] = if seen.met {
-        b", and met the others\n"
-    } else {
-        b", and met nobody\n"
-    };
-    told.put(held)?;
     told.put(met)?;
     Ok(told)
 }
