@@ -10,3 +10,4 @@ pub mod Replies
 pub mod LeastMarks
 pub mod RouteCopies
 pub mod BookingLaws
+pub mod StillSteps

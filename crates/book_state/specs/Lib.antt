@@ -8,3 +8,4 @@ pub mod ReplicaStore
 pub mod Views
 pub mod BookStore
 pub mod LeastSearch
+pub mod Still

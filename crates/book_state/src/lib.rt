@@ -10,6 +10,7 @@ mod laws;
 mod least;
 mod past;
 mod replica;
+mod still;
 mod victims;
 
 pub use book::{BookState, ClaimRefused};

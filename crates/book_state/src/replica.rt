@@ -121,7 +121,7 @@ impl Replica {
     }
 
     /// Reads one entry.
-    fn read_entry(&mut self, capacity: &Capacity, history: &History, place: u64)
+    pub(crate) fn read_entry(&mut self, capacity: &Capacity, history: &History, place: u64)
         requires legal { IsLegal capacity.now history.now }
         requires stands { StandsFor capacity.now (take place history.now) self.old }
         requires place { place < length history.now }

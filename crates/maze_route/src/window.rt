@@ -1,5 +1,5 @@
 ghost use Rattle.std.specs.Prelude.{◌≡◌};
-ghost use Rattle.maze_route.specs.Windows.{with_place};
+ghost use Rattle.maze_route.specs.Windows.{is_within, with_place};
 
 use gr_base::Cell;
 
@@ -23,5 +23,12 @@ impl Window {
             x1: self.x1.max(place.x),
             y1: self.y1.max(place.y),
         }
+    }
+
+    /// Whether a place lies in the window's columns and rows.
+    pub fn holds(self, place: Cell) -> bool
+        ensures { result ≡ is_within self place }
+    {
+        self.x0 <= place.x && place.x <= self.x1 && self.y0 <= place.y && place.y <= self.y1
     }
 }

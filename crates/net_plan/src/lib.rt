@@ -13,3 +13,4 @@ mod window;
 
 pub use maze::maze_plan;
 pub use pattern::pattern_plan;
+pub use window::maze_window;

@@ -1,9 +1,20 @@
-ghost use Rattle.std.specs.Prelude.{◌≡◌, ◌<◌, All, length};
+ghost use Rattle.std.specs.Prelude.{◌≡◌, ◌<◌, All, IsTrue, length};
+ghost use Rattle.gr_base.specs.Designs.{is_routed, pins_at};
 ghost use Rattle.gr_base.specs.Grid.{cells_of};
 ghost use Rattle.net_plan.specs.Mazes.{box_of, window_of};
 
-use gr_base::Shape;
+use gr_base::{Design, Shape};
 use maze_route::Window;
+
+/// The window in which a routed net's maze plan grows, in tiles: the least box that holds its pins,
+/// grown by `margin` columns and rows on each side and cut at the chip's border.
+pub fn maze_window(design: &Design, net: u32, margin: u32) -> Window
+    requires net { IsTrue (is_routed design.now net) }
+    ensures window { result ≡ window_of design.now.frame.shape (pins_at design.now net) margin }
+{
+    let pins = design.net(net).pins.as_slice();
+    window_of(design.frame().shape, pins, margin)
+}
 
 /// The least box of columns and rows that holds a net's pins, grown by a margin on each side and
 /// cut at the chip's border.

@@ -1,62 +1,157 @@
--- Plans that stay the same after a claim that wasn't got.
-use Rattle.std.proofs.Common.{◌≡◌, ℕ, ◌-◌, List, [], ◌∷◌, ◌++◌, length, Option, refl, sym, ap, subst, ◌∙◌, arith, length-append}
-use Rattle.std.proofs.lemmas.List.{append-nil}
+-- Plans that stay the same while nothing changes in their window.
+use Rattle.std.proofs.Common.{◌≡◌, ◌⊎◌, ℕ, ◌<◌, inl, inr, Bool, true, false, ◌&&◌, nat_lt, List, [], ◌∷◌, ◌++◌, take, length, Option, Some, None, if◌then◌else◌, IfSome, IsTrue, refl, sym, ap, subst, ◌∙◌, append_assoc, arith}
+use Rattle.std.proofs.lemmas.Bool.{and_parts}
+use Rattle.std.proofs.lemmas.Bool.Decides.{nat_tests}
+use Rattle.std.proofs.lemmas.List.{take-append-le, take_all}
+use Rattle.std.specs.Option.{option_and_then}
 use mathlib.Core.List.{IsPrefix}
+use Rattle.cost_rules.specs.Formulas.{cost_at, via_cost}
 use Rattle.cost_rules.specs.declared.site.Formula.{Formula}
-use Rattle.gr_base.specs.Designs.{DesignView}
-use Rattle.gr_base.specs.Trees.{TreeView}
+use Rattle.cost_rules.specs.declared.site.Site.{Site}
+use Rattle.gr_base.proofs.GridLemmas.{edge_of-joins}
+use Rattle.gr_base.specs.Designs.{DesignView, pins_at}
+use Rattle.gr_base.specs.Grid.{cells_of, place_at, edge_of, has_edge, is_wire, Joins}
+use Rattle.gr_base.specs.Trees.{TreeView, holds, attached}
+use Rattle.gr_base.specs.declared.grid.Edge.{Edge}
+use Rattle.gr_base.specs.declared.grid.Shape.{Shape}
+use Rattle.grid_demand.specs.LoadSums.{LoadsView, demand_at, marks_at}
+use Rattle.grid_demand.specs.Tables.{CapacityView, capacity_at, usable_at, need_at, capacity_of}
+use Rattle.maze_route.specs.Walks.{IsLeastWalk}
+use Rattle.maze_route.specs.Windows.{is_within, in_window, window_step}
+use Rattle.maze_route.specs.declared.window.Window.{Window}
+use Rattle.net_plan.specs.Mazes.{window_of, missing, GrowsTo, IsMaze}
+use Rattle.net_plan.specs.Mazes.GrowsTo.{Ends, Goes_on}
+use Rattle.net_plan.specs.Prices.{site_of, price_of}
+use Rattle.book_state.specs.Books.{AreLoadsOf}
+use Rattle.book_state.specs.Still.{IsStill}
 use Rattle.book_state.specs.Views.{entry_of}
-use Rattle.book_state.specs.declared.entry.Call.TheVariants.{Claim as Claims}
 use Rattle.book_state.specs.declared.entry.Entry.{Entry}
 use Rattle.book_state.specs.declared.entry.PlanKind.{PlanKind}
+use Rattle.book_state.specs.declared.entry.PlanKind.TheVariants.{Maze}
 use Rattle.book_state.specs.declared.entry.Reply.{Reply}
-use Rattle.book_state.specs.declared.entry.Reply.TheVariants.{Claimed}
-use Rattle.round_core.specs.Rounds.{IsFull}
+use Rattle.book_state.specs.declared.entry.Call.TheVariants.{Claim as Claims}
+use Rattle.round_core.specs.Rounds.{IsPlan, IsPlanAfter}
 use Rattle.round_core.specs.RunHistories.{Setting, one_worker}
-use Rattle.round_core.proofs.TurnLemmas.{refused-plan}
 use Rattle.track_book.specs.Passes.{PassView}
-use Rattle.ripup_workers.specs.Turning.{IsOver, HasTried, IsPlanFor, WasRefused}
+use Rattle.ripup_workers.specs.Turning.{IsOver, HasTried, IsPlanFor, IsWindowOf, WasPlanned}
 
-none-of : {A : Type 0} (xs : List A) → length xs ≡ 0 → xs ≡ []
-none-of [] none = refl
-none-of (x ∷ xs) none = absurd (omega (arith, none))
+-- steps inside a window cost the same by two prices
+abbrev CostTheSame : Shape → Window → (Edge → Option ℕ) → (Edge → Option ℕ) → Type 0
+CostTheSame g w p q = (u v : ℕ) → window_step g w p u v ≡ window_step g w q u v
 
--- where the claim is all that was added, the plan is the same
-pub same-plan : (d : DesignView) (formula : Formula) (net : ℕ) (kind : PlanKind) (tree : TreeView) (front : ℕ) (seen now : List Entry) → WasRefused d formula net kind tree front seen → IsPrefix seen now →
-    length now - front ≡ 1 → IsPlanFor d formula now net kind tree
-same-plan d formula net kind tree front seen now was more few =
-    let first = was.front_is in
-    let before = length-append was.first was.begins.0 in
-    let before_is = ap length was.begins.1 in
-    let whole = length-append was.before (was.last ∷ []) in
-    let whole_is = ap length was.seen_is in
-    let later = length-append seen more.0 in
-    let now_is = ap length more.1 in
-    let between : was.begins.0 ≡ [] = none-of was.begins.0 (omega (arith, first, before, before_is, whole, whole_is, later, now_is, few)) in
-    let behind : more.0 ≡ [] = none-of more.0 (omega (arith, first, before, before_is, whole, whole_is, later, now_is, few)) in
-    let before_same : was.before ≡ was.first = sym was.begins.1 ∙ ap (λ (l : List Entry). was.first ++ l) between ∙ append-nil was.first in
-    let seen_same : now ≡ was.first ++ was.last ∷ [] =
-    sym more.1 ∙ ap (λ (l : List Entry). seen ++ l) behind ∙ append-nil seen ∙ was.seen_is ∙ ap (λ (l : List Entry). l ++ was.last ∷ []) before_same in
-    subst (λ (l : List Entry). IsPlanFor d formula l net kind tree) (sym seen_same)
-    (record { plan = refused-plan d formula was.first was.last was.claim net kind tree was.call was.refused was.plan.plan; routes = was.plan.routes })
+-- a tree then grows in the window by the one as by the other
+grows-same : (w : Window) (p q : Edge → Option ℕ) (pins : List ℕ) (t u : TreeView) → CostTheSame t.shape w p q → GrowsTo w p pins t u → GrowsTo w q pins t u
+grows-same w p q pins t u same (Ends none) = Ends none
+grows-same w p q pins t u same (Goes_on walk least grows) =
+    Goes_on walk
+    (subst (λ (step : ℕ → ℕ → Option ℕ). IsLeastWalk (record { source = holds t; step = step }) (missing t pins) walk) (λ i m n. same m n i) least)
+    (grows-same w p q pins (attached t walk) u same grows)
 
--- a claim that was answered Full wasn't got
-full-refused : (reply : Reply) → IsFull reply → reply ≡ Claimed → ⊥
-full-refused reply full is = subst IsFull is full
+-- an edge of a grid that begins in a window
+record IsIn (g : Shape) (w : Window) (e : Edge) : Type 0 where
+  edge : IsTrue (has_edge g e)
+  begins : IsTrue (in_window g w e.low)
 
-pub was-refused : (d : DesignView) (formula : Formula) (net : ℕ) (kind : PlanKind) (slack : Option ℕ) (tree copy : TreeView) (front : ℕ) (reply : Reply) (p q : PassView) → copy ≡ tree → front ≡ length p.seen →
-    IsPlanFor d formula p.seen net kind tree → ((t : Setting) → IsOver d formula t → HasTried t net kind slack reply p q) → IsFull reply → WasRefused d formula net kind copy front q.seen
-was-refused d formula net kind slack tree copy front reply p q same long plan tried full =
+-- an edge between two cells of the window begins there
+joins-in : (g : Shape) (w : Window) (u v : ℕ) (e : Edge) → IsTrue (in_window g w u) → IsTrue (in_window g w v) → edge_of g u v ≡ Some e → IsIn g w e
+joins-in g w u v e u_in v_in is =
+    let u_below : u < cells_of g = (let test = (and_parts (nat_lt u (cells_of g)) (is_within w (place_at g u)) u_in).0 in grind (arith, nat_tests)) in
+    let v_below : v < cells_of g = (let test = (and_parts (nat_lt v (cells_of g)) (is_within w (place_at g v)) v_in).0 in grind (arith, nat_tests)) in
+    let joins : Joins g e u v = subst (λ (o : Option Edge). IfSome o (λ x. Joins g x u v)) is (edge_of-joins g u v u_below v_below) in
+    record {
+      edge = joins.edge;
+      begins = elim joins.ends [
+        | inl first ↦ subst (λ (n : ℕ). IsTrue (in_window g w n)) (sym first.0) u_in
+        | inr second ↦ subst (λ (n : ℕ). IsTrue (in_window g w n)) (sym second.0) v_in
+      ];
+    }
+
+-- prices of such edges that are the same make the steps cost the same
+steps-same : (g : Shape) (w : Window) (p q : Edge → Option ℕ) → ((e : Edge) → IsIn g w e → p e ≡ q e) → CostTheSame g w p q
+steps-same g w p q same u v = by_test (in_window g w u) (in_window g w v) refl refl
+  where
+    by_edge : (o : Option Edge) → IsTrue (in_window g w u) → IsTrue (in_window g w v) → edge_of g u v ≡ o → option_and_then p o ≡ option_and_then q o
+    by_edge None u_in v_in is = refl
+    by_edge (Some e) u_in v_in is = same e (joins-in g w u v e u_in v_in is)
+
+    by_test : (a b : Bool) → in_window g w u ≡ a → in_window g w v ≡ b →
+        (if a && b then option_and_then p (edge_of g u v) else None) ≡ (if a && b then option_and_then q (edge_of g u v) else None)
+    by_test false b u_is v_is = refl
+    by_test true false u_is v_is = refl
+    by_test true true u_is v_is = by_edge (edge_of g u v) u_is v_is refl
+
+-- what an edge costs a net is told by its demand and marks alone
+price-same : (c : CapacityView) (l m : LoadsView) (formula : Formula) (net : ℕ) (e : Edge) →
+    (IsTrue (is_wire e) → (demand_at l e ≡ demand_at m e) × (marks_at l e ≡ marks_at m e)) → price_of c l formula net e ≡ price_of c m formula net e
+price-same c l m formula net e same = ap (λ (n : ℕ). if usable_at c e then Some n else None) (by_way (is_wire e) refl)
+  where
+    by_way : (b : Bool) → is_wire e ≡ b → (if b then cost_at formula (site_of c l net e) else via_cost) ≡ (if b then cost_at formula (site_of c m net e) else via_cost)
+    by_way false is = refl
+    by_way true is =
+        let two = same is in
+        let site : site_of c l net e ≡ site_of c m net e =
+        ap (λ (n : ℕ). record { demand = n; capacity = capacity_at c e; need = need_at c net e; marks = marks_at l e }) two.0
+        ∙ ap (λ (n : ℕ). record { demand = demand_at m e; capacity = capacity_at c e; need = need_at c net e; marks = n }) two.1 in
+        ap (cost_at formula) site
+
+-- a maze plan over a history is one over a later history that changed nothing in its window
+still-maze : (c : CapacityView) (l m : LoadsView) (formula : Formula) (net : ℕ) (pins : List ℕ) (margin : ℕ) (t : TreeView) (first now : List Entry) →
+    AreLoadsOf c first l → AreLoadsOf c now m → IsStill c (window_of c.shape pins margin) first now → IsMaze c l formula net pins margin t → IsMaze c m formula net pins margin t
+still-maze c l m formula net pins margin t first now of_first of_now still plan =
+    let w = window_of c.shape pins margin in
+    grows-same w (price_of c l formula net) (price_of c m formula net) pins _ t
+    (steps-same c.shape w (price_of c l formula net) (price_of c m formula net) (λ e is_in.
+    price-same c l m formula net e (λ wire.
+      (of_first.demand e is_in.edge wire ∙ sym (still.demand e is_in.begins) ∙ sym (of_now.demand e is_in.edge wire),
+      of_first.marks e is_in.edge wire ∙ sym (still.marks e is_in.begins) ∙ sym (of_now.marks e is_in.edge wire)))))
+    plan
+
+-- a first part of a list is what that many elements of it are
+take-first : (first now : List Entry) (front : ℕ) → IsPrefix first now → front ≡ length first → take front now ≡ first
+take-first first now front begins long =
+    ap (λ (h : List Entry). take front h) (sym begins.1)
+    ∙ take-append-le front first begins.0 (omega (arith, long))
+    ∙ take_all front first (omega (arith, long))
+
+-- where nothing changed in its window, the plan is the same
+pub same-plan : (d : DesignView) (formula : Formula) (net : ℕ) (kind : PlanKind) (tree : TreeView) (front : ℕ) (w : Window) (seen now : List Entry) (loads : LoadsView) →
+    WasPlanned d formula net kind tree front seen → IsPrefix seen now → IsWindowOf d net kind w → AreLoadsOf (capacity_of d) now loads →
+    IsStill (capacity_of d) w (take front now) now → IsPlanFor d formula now net kind tree
+same-plan d formula net kind tree front w seen now loads was more of_net of still =
+    let c = capacity_of d in
+    let begins : IsPrefix was.first now = (was.begins.0 ++ more.0, whole) in
+    let first_is = take-first was.first now front begins was.front_is in
+    let there : IsStill c (window_of c.shape (pins_at d net) of_net.margin) was.first now =
+    subst (λ (v : Window). IsStill c v was.first now) of_net.window_is (subst (λ (h : List Entry). IsStill c w h now) first_is still) in
+    let plan : IsMaze c was.plan.plan.loads formula net (pins_at d net) of_net.margin tree =
+    subst (λ (k : PlanKind). IsPlan c was.plan.plan.loads formula net (pins_at d net) k tree) of_net.kind_is was.plan.plan.plan in
+    let after : IsPlan c loads formula net (pins_at d net) (Maze of_net.margin) tree =
+    still-maze c was.plan.plan.loads loads formula net (pins_at d net) of_net.margin tree was.first now was.plan.plan.there of there plan in
+    record {
+      plan = record {
+        loads = loads;
+        there = of;
+        plan = subst (λ (k : PlanKind). IsPlan c loads formula net (pins_at d net) k tree) (sym of_net.kind_is) after;
+      };
+      routes = was.plan.routes;
+    }
+  where
+    whole : was.first ++ (was.begins.0 ++ more.0) ≡ now
+    whole = sym (append_assoc was.first was.begins.0 more.0) ∙ ap (λ (h : List Entry). h ++ more.0) was.begins.1 ∙ more.1
+
+-- after a claim the plan that was claimed is one over a first part of what was seen
+pub was-planned : (d : DesignView) (formula : Formula) (net : ℕ) (kind : PlanKind) (slack : Option ℕ) (tree copy : TreeView) (front : ℕ) (reply : Reply) (p q : PassView) → copy ≡ tree → front ≡ length p.seen →
+    IsPlanFor d formula p.seen net kind tree → ((t : Setting) → IsOver d formula t → HasTried t net kind slack reply p q) → WasPlanned d formula net kind copy front q.seen
+was-planned d formula net kind slack tree copy front reply p q same long plan tried =
     let one = tried (one_worker d formula 0) (record { design = refl; formula_is = refl }) in
     record {
       first = p.seen;
       plan = subst (λ (t : TreeView). IsPlanFor d formula p.seen net kind t) (sym same) plan;
       front_is = long;
-      before = one.answered.before;
-      begins = one.answered.begins;
-      last = entry_of p.number (Claims one.claim) reply;
-      seen_is = one.answered.seen;
-      claim = one.claim;
-      call = refl;
-      refused = full-refused reply full;
+      begins = (
+        one.answered.begins.0 ++ (entry_of p.number (Claims one.claim) reply ∷ []),
+        sym (append_assoc p.seen one.answered.begins.0 (entry_of p.number (Claims one.claim) reply ∷ []))
+          ∙ ap (λ (h : List Entry). h ++ (entry_of p.number (Claims one.claim) reply ∷ [])) one.answered.begins.1
+          ∙ sym one.answered.seen,
+      );
     }

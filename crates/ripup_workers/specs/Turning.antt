@@ -3,7 +3,7 @@ use Rattle.std.specs.Prelude.{◌≡◌, ℕ, List, [], ◌∷◌, ◌++◌, len
 use Rattle.std.specs.List.{fold}
 use mathlib.Core.List.{IsPrefix}
 use Rattle.cost_rules.specs.declared.site.Formula.{Formula}
-use Rattle.gr_base.specs.Designs.{DesignView, IsDesign}
+use Rattle.gr_base.specs.Designs.{DesignView, IsDesign, pins_at}
 use Rattle.gr_base.specs.Trees.{TreeView}
 use Rattle.grid_demand.specs.Tables.{CapacityView, capacity_of}
 use Rattle.book_state.specs.Books.{IsLegal}
@@ -11,8 +11,10 @@ use Rattle.book_state.specs.declared.entry.Call.TheVariants.{Claim as Claims}
 use Rattle.book_state.specs.declared.entry.Claim.{Claim}
 use Rattle.book_state.specs.declared.entry.Entry.{Entry}
 use Rattle.book_state.specs.declared.entry.PlanKind.{PlanKind}
+use Rattle.book_state.specs.declared.entry.PlanKind.TheVariants.{Maze}
 use Rattle.book_state.specs.declared.entry.Reply.{Reply}
-use Rattle.book_state.specs.declared.entry.Reply.TheVariants.{Claimed}
+use Rattle.maze_route.specs.declared.window.Window.{Window}
+use Rattle.net_plan.specs.Mazes.{window_of}
 use Rattle.round_core.specs.Attempts.{Stage, Rests, Claiming, stage_after, attempts_at}
 use Rattle.round_core.specs.Rounds.{IsPlanAfter, IsRouteOfNet}
 use Rattle.round_core.specs.RunHistories.{Setting}
@@ -60,20 +62,19 @@ pub record IsPlanFor (d : DesignView) (formula : Formula) (h : List Entry) (net 
   pub plan : IsPlanAfter d formula h net kind tree
   pub routes : IsRouteOfNet d net tree
 
--- the last entry that was seen is a claim that wasn't got, and the tree was a net's plan over a first part of the
--- entries before it, of this length
-pub record WasRefused (d : DesignView) (formula : Formula) (net : ℕ) (kind : PlanKind) (tree : TreeView) (front : ℕ)
+-- the window in which a net's plan of a kind grows
+pub record IsWindowOf (d : DesignView) (net : ℕ) (kind : PlanKind) (w : Window) : Type 0 where
+  pub margin : ℕ
+  pub kind_is : kind ≡ Maze margin
+  pub window_is : w ≡ window_of d.frame.shape (pins_at d net) margin
+
+-- a tree was a net's plan over a first part of what was seen, of this length
+pub record WasPlanned (d : DesignView) (formula : Formula) (net : ℕ) (kind : PlanKind) (tree : TreeView) (front : ℕ)
     (seen : List Entry) : Type 0 where
   pub first : List Entry
   pub plan : IsPlanFor d formula first net kind tree
   pub front_is : front ≡ length first
-  pub before : List Entry
-  pub begins : IsPrefix first before
-  pub last : Entry
-  pub seen_is : seen ≡ before ++ last ∷ []
-  pub claim : Claim
-  pub call : last.call ≡ Claims claim
-  pub refused : last.reply ≡ Claimed → ⊥
+  pub begins : IsPrefix first seen
 
 -- a pass has claimed a net at a slack for a plan of a kind, and got this reply; its claims are planned
 pub record HasTried (t : Setting) (net : ℕ) (kind : PlanKind) (slack : Option ℕ) (reply : Reply) (old new : PassView)

@@ -10,7 +10,7 @@ ghost use Rattle.net_plan.specs.Prices.{HasBoundedDemand};
 ghost use Rattle.round_core.specs.Attempts.{kind_of, Rests, Claiming};
 ghost use Rattle.round_core.specs.Rounds.{slacks_of_turn, IsFull};
 ghost use Rattle.round_core.specs.RunHistories.{Setting};
-ghost use Rattle.ripup_workers.specs.Turning.{HasCapacity, IsOver, HasFollowed, HasTried, HasLed, HasLedOn, IsPlanFor, WasRefused};
+ghost use Rattle.ripup_workers.specs.Turning.{HasCapacity, IsOver, HasFollowed, HasTried, HasLed, HasLedOn, IsPlanFor, IsWindowOf, WasPlanned};
 ghost use Rattle.ripup_workers.specs.Working.{HasAttempted};
 
 use crate::gate::{Gate, Stop};
@@ -19,7 +19,8 @@ use book_state::{PlanKind, Reply};
 use cost_rules::CostRule;
 use gr_base::{Design, RouteTree};
 use grid_demand::{Capacity, Loads};
-use net_plan::{maze_plan, pattern_plan};
+use maze_route::Window;
+use net_plan::{maze_plan, maze_window, pattern_plan};
 use std::alloc::{AllocError, Global};
 use std::sync::Wait;
 use std::thread::Threads;
@@ -127,6 +128,16 @@ impl Wish<'_> {
             ),
         }
     }
+
+    /// The window outside of which the net's plan asks for no demand and no marks, where there is one.
+    fn window(&self) -> Option<Window>
+        ensures { IfSome result (IsWindowOf self.now.design.now self.now.net self.now.kind) }
+    {
+        match self.kind {
+            PlanKind::Pattern => None,
+            PlanKind::Maze { margin } => Some(maze_window(self.design, self.net, margin)),
+        }
+    }
 }
 
 impl<N: BookName, R: Threads + Wait + Sync, G: Gate> Ground<'_, N, R, G> {
@@ -221,8 +232,8 @@ impl<N: BookName, R: Threads + Wait + Sync, G: Gate> Ground<'_, N, R, G> {
         self.plan(wish, worker)
     }
 
-    /// The same, after a claim for a tree that was planned from `front` entries was answered `Full`.
-    /// Where that is all that was added since, it is the same tree.
+    /// The same, where `tree` is the net's plan over the first `front` entries. Where nothing was added
+    /// since that changes demand or marks in the window of the plan, it is the same tree.
     fn search_again(
         &self,
         wish: &Wish<'_>,
@@ -231,16 +242,19 @@ impl<N: BookName, R: Threads + Wait + Sync, G: Gate> Ground<'_, N, R, G> {
         worker: &mut Worker<N>,
     ) -> Result<RouteTree, AllocError>
         requires design { HasCapacity wish.now.design.now N.capacity }
-        requires refused { WasRefused wish.now.design.now wish.now.rule.now.formula wish.now.net wish.now.kind
+        requires planned { WasPlanned wish.now.design.now wish.now.rule.now.formula wish.now.net wish.now.kind
             tree front worker.old.pass.seen }
         ensures learnt { (t : Setting) → IsOver wish.now.design.now wish.now.rule.now.formula t →
             OnOk result (HasFollowed t worker.old.pass worker.new.pass) }
         ensures plan { IfOk result (IsPlanFor wish.now.design.now wish.now.rule.now.formula
             worker.new.pass.seen wish.now.net wish.now.kind) }
     {
-        worker.sync(self.rt, self.book)?;
-        let added = worker.pass.known() - front;
-        if added == 1 {
+        let Some(window) = wish.window() else {
+            return self.search(wish, worker);
+        };
+        let read = worker.replica.front();
+        let still = worker.sync_beside(self.rt, self.book, window)?;
+        if still && read == front {
             return Ok(tree);
         }
         self.plan(wish, worker)

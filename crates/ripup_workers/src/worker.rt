@@ -1,12 +1,14 @@
 //! The workers of the rounds.
-ghost use Rattle.std.specs.Prelude.{◌≡◌, ◌<◌, length, take, IfOk, OnOk};
+ghost use Rattle.std.specs.Prelude.{◌≡◌, ◌<◌, length, take, IfOk, OnOk, IsTrue};
 ghost use Rattle.book_state.specs.Books.{nets_of};
 ghost use Rattle.book_state.specs.Replicas.{StandsFor};
+ghost use Rattle.book_state.specs.Still.{IsStill};
 ghost use Rattle.round_core.specs.Rounds.{claim_of};
 ghost use Rattle.track_book.specs.Passes.{IsPass, IsAnswered, HasLearnt};
 
 use book_state::{Call, Claim, PlanKind, Replica, Reply};
 use gr_base::RouteTree;
+use maze_route::Window;
 use std::alloc::AllocError;
 use std::sync::Wait;
 use track_book::{BookName, Pass, TrackBook};
@@ -32,6 +34,28 @@ impl<N: BookName> Worker<N> {
         let longer = known <= self.pass.known();
         prove!(longer);
         Ok(())
+    }
+
+    /// The same. The result is true only where the entries that the replica read change neither
+    /// demand nor marks of an edge that begins in the window.
+    pub(crate) fn sync_beside<R: Wait>(
+        &mut self,
+        rt: &R,
+        book: &TrackBook<N>,
+        window: Window,
+    ) -> Result<bool, AllocError>
+        ensures before { IsPass N.capacity self.old.pass }
+        ensures learnt { OnOk result (HasLearnt N.capacity self.old.pass self.new.pass) }
+        ensures pass { OnOk result (IsPass N.capacity self.new.pass) }
+        ensures stands { OnOk result (StandsFor N.capacity self.new.pass.seen self.new.replica) }
+        ensures still { IfOk result (λ still. IsTrue still →
+            IsStill N.capacity window (take self.old.replica.front self.new.pass.seen) self.new.pass.seen) }
+    {
+        let known = self.pass.known();
+        let still = book.sync_beside(rt, &mut self.pass, &mut self.replica, window)?;
+        let longer = known <= self.pass.known();
+        prove!(longer);
+        Ok(still)
     }
 
     /// Frees a net.

@@ -1,8 +1,9 @@
 //! The shared book.
-ghost use Rattle.std.specs.Prelude.{◌≡◌, ◌<◌, ◌≤◌, length, take, IfOk, IfErr, OnOk, OnErr};
+ghost use Rattle.std.specs.Prelude.{◌≡◌, ◌<◌, ◌≤◌, length, take, IfOk, IfErr, OnOk, OnErr, IsTrue};
 ghost use Rattle.book_front.specs.Seats.{word_of};
 ghost use Rattle.book_state.specs.Books.{nets_of, IsClaim, victims as victims_of};
 ghost use Rattle.book_state.specs.Replicas.{StandsFor};
+ghost use Rattle.book_state.specs.Still.{IsStill};
 ghost use Rattle.track_book.specs.Passes.{IsPass, IsAnswered, HasLearnt, AreAll, IsClosed};
 
 use crate::closed::{ClosedBook, close};
@@ -13,6 +14,7 @@ use book_front::Front;
 use book_state::{Call, Claim, ClaimRefused, Replica, Reply};
 use gr_base::Cells;
 use grid_demand::Capacity;
+use maze_route::Window;
 use std::alloc::AllocError;
 use std::sync::{Mutex, Wait};
 
@@ -95,6 +97,29 @@ impl<N: BookName> TrackBook<N> {
         self.lock.lock(rt).sync(&self.front, pass)?;
         replica.catch_up(&self.capacity, pass.past());
         Ok(())
+    }
+
+    /// The same. The result is true only where the entries that the replica read change neither
+    /// demand nor marks of an edge that begins in the window.
+    pub fn sync_beside<R: Wait>(
+        &self,
+        rt: &R,
+        pass: &mut Pass<N>,
+        replica: &mut Replica,
+        window: Window,
+    ) -> Result<bool, AllocError>
+        requires { StandsFor N.capacity (take replica.old.front pass.old.seen) replica.old }
+        ensures learnt { OnOk result (HasLearnt N.capacity pass.old pass.new) }
+        ensures stands { OnOk result (StandsFor N.capacity pass.new.seen replica.new) }
+        ensures held { OnOk result (pass.new.held ≡ length pass.new.seen) }
+        ensures still { IfOk result (λ still. IsTrue still →
+            IsStill N.capacity window (take replica.old.front pass.new.seen) pass.new.seen) }
+        ensures err { OnErr result (pass.new ≡ pass.old) }
+        ensures replica_err { OnErr result (replica.new ≡ replica.old) }
+    {
+        self.lock.lock(rt).sync(&self.front, pass)?;
+        let still = replica.catch_up_beside(&self.capacity, pass.past(), window);
+        Ok(still)
     }
 
     /// The booked nets whose tree has a wire edge with more demand than capacity, in the order of

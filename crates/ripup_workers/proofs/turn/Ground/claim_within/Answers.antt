@@ -4,7 +4,7 @@ use Rattle.book_state.specs.declared.entry.PlanKind.{PlanKind}
 use Rattle.round_core.specs.Attempts.{Claiming}
 use Rattle.ripup_workers.specs.Turning.{HasTried}
 use Rattle.ripup_workers.proofs.TurningStages.{led-then, followed-led, got-led, full-led}
-use Rattle.ripup_workers.proofs.TurningPlans.{was-refused}
+use Rattle.ripup_workers.proofs.TurningPlans.{was-planned}
 use Rattle.ripup_workers.proofs.turn.Ground.claim_within.Goals as goal
 
 pub returns-then-not-is_full-clause-led : goal.returns-then-not-is_full-clause-led
@@ -28,7 +28,7 @@ returns-clause-led g c = λ t round slacks over later kind.
     (c.if-not-is_full.ensures.0 refl))
     (followed-led t round (Claiming net slacks) q s (c.in_ok-next.ensures.learnt t over))
 
-pub search_again-requires-clause-refused : goal.search_again-requires-clause-refused
-search_again-requires-clause-refused g c κs within =
-    was-refused c.args.wish.now.design.now c.args.wish.now.rule.now.formula c.args.wish.now.net c.args.wish.now.kind (Some 0) c.args.tree c.in_ok-same.same c.known-front.result c.in_ok-reply.reply
-    c.args.worker.now.pass c.claim.new.worker.pass c.in_ok-same.ensures.same c.known-front.ensures.known c.requires.plan c.in_ok-reply.ensures (c.if-not-is_full.ensures.0 refl)
+pub search_again-requires-clause-planned : goal.search_again-requires-clause-planned
+search_again-requires-clause-planned g c κs within =
+    was-planned c.args.wish.now.design.now c.args.wish.now.rule.now.formula c.args.wish.now.net c.args.wish.now.kind (Some 0) c.args.tree c.in_ok-same.same c.known-front.result c.in_ok-reply.reply
+    c.args.worker.now.pass c.claim.new.worker.pass c.in_ok-same.ensures.same c.known-front.ensures.known c.requires.plan c.in_ok-reply.ensures
