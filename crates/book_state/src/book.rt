@@ -189,7 +189,7 @@ impl BookState {
     pub fn victims(&self) -> Result<Cells, AllocError>
         ensures { IfOk result (λ nets. nets ≡ victims_of self.now.capacity self.now.history) }
     {
-        self.replica.victims_in(&self.capacity, &self.history)
+        self.replica.victims(&self.capacity, &self.history)
     }
 
     /// The length of the shortest first part of the history that ends with a mark of least

@@ -5,7 +5,6 @@ ghost use Rattle.book_state.specs.Replicas.{StandsFor};
 
 use crate::edges::is_crowded;
 use crate::history::History;
-use crate::past::Past;
 use crate::replica::Replica;
 use gr_base::Cells;
 use grid_demand::Capacity;
@@ -13,18 +12,8 @@ use std::alloc::AllocError;
 
 impl Replica {
     /// The booked nets whose tree has a wire edge with more demand than capacity, in the order of
-    /// the design, after a legal past for which the replica stands. The only error is want of
-    /// memory.
-    pub fn victims(&self, capacity: &Capacity, past: &Past) -> Result<Cells, AllocError>
-        requires legal { IsLegal capacity.now past.now }
-        requires stands { StandsFor capacity.now past.now self.now }
-        ensures { IfOk result (λ nets. nets ≡ victims_of capacity.now past.now) }
-    {
-        self.victims_in(capacity, past.entries())
-    }
-
-    /// The same after a history.
-    pub(crate) fn victims_in(
+    /// the design, after a history for which the replica stands. The only error is want of memory.
+    pub(crate) fn victims(
         &self,
         capacity: &Capacity,
         history: &History,

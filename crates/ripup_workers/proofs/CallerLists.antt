@@ -8,9 +8,6 @@ use Rattle.ripup_workers.specs.Closing.{AreNew}
 use Rattle.ripup_workers.specs.Rounding.{HaveRun}
 
 -- passes of a book that has just begun have seen nothing
-pub first-seen : (count : ℕ) (all : List PassView) (first : PassView) (rest : List PassView) → AreBegun count all → first ∷ rest ≡ all → first.seen ≡ []
-first-seen count all first rest begun is = (begun.each 0 first (ap (λ (l : List PassView). slice_get l 0) (sym is))).seen
-
 pub rest-seen : (count : ℕ) (all : List PassView) (first : PassView) (rest : List PassView) → AreBegun count all → first ∷ rest ≡ all → All (λ (p : PassView). p.seen ≡ []) rest
 rest-seen count all first rest begun is = λ i d within.
     (begun.each (suc i) (get_or rest i d) (ap (λ (l : List PassView). slice_get l (suc i)) (sym is) ∙ slice_get-get_or rest i d within)).seen

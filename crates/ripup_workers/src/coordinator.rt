@@ -1,33 +1,16 @@
 //! The coordinator, who ends the rounds.
-ghost use Rattle.std.specs.Prelude.{◌≡◌, ◌<◌, ◌++◌, [], length, map, take, IfOk};
-ghost use Rattle.grid_demand.specs.Tables.{capacity_of};
-ghost use Rattle.book_state.specs.Replicas.{StandsFor};
+ghost use Rattle.std.specs.Prelude.{◌≡◌, ◌<◌, ◌++◌, length, map, IfOk};
 ghost use Rattle.ripup_workers.specs.Meetings.{Learns, HaveMet};
 ghost use Rattle.ripup_workers.specs.Marking.{IsMarked, AreMarked};
 
 use crate::team::{Coordinator, Marked};
 use crate::worker::Worker;
-use book_state::{Replica, Reply};
-use gr_base::Design;
-use std::alloc::{AllocError, Global};
+use book_state::Reply;
+use std::alloc::AllocError;
 use std::sync::Wait;
-use track_book::{BookName, Pass, TrackBook};
+use track_book::{BookName, TrackBook};
 
 impl<N: BookName> Coordinator<N> {
-    /// The coordinator with a pass that has seen nothing.
-    pub(crate) fn new(
-        alloc: Global,
-        design: &Design,
-        pass: Pass<N>,
-    ) -> Result<Coordinator<N>, AllocError>
-        requires capacity { N.capacity ≡ capacity_of design.now }
-        requires nothing { pass.seen ≡ [] }
-        ensures { IfOk result (λ coordinator. coordinator.pass ≡ pass) }
-    {
-        let replica = Replica::new(alloc, design)?;
-        Ok(Coordinator { pass, replica })
-    }
-
     /// Ends a round: once what all workers did is seen, it is marked, and the workers see the mark.
     pub(crate) fn end_round<R: Wait>(
         &mut self,
@@ -72,8 +55,7 @@ impl<N: BookName> Coordinator<N> {
         let Reply::Marked { overflow } = book.mark(rt, &mut self.pass)? else {
             unreachable!()
         };
-        book.sync(rt, &mut self.pass, &mut self.replica)?;
-        let victims = book.victims(&self.pass, &self.replica)?;
+        let victims = book.victims(rt, &mut self.pass)?;
         Ok(Marked { overflow, victims })
     }
 }

@@ -59,7 +59,7 @@ fn callers<N: BookName>(
     let Some(first) = rest.next() else {
         unreachable!()
     };
-    let coordinator = Coordinator::new(alloc, design, first)?;
+    let coordinator = Coordinator { pass: first };
     while let Some(pass) = rest.next() {
         let replica = Replica::new(alloc, design)?;
         workers.push_reserved(Worker { pass, replica });

@@ -1,21 +1,14 @@
 //! Who takes part in rounds, and what a mark shows.
-ghost use Rattle.std.specs.Prelude.{take};
-ghost use Rattle.book_state.specs.Replicas.{StandsFor};
-
 use crate::worker::Worker;
-use book_state::Replica;
 use gr_base::Cells;
 use std::alloc::AllocError;
 use track_book::{BookName, Pass};
 use work_share::Hand;
 
-/// The caller that ends the rounds: its pass, and its replica, which stands for a first part of what
-/// the pass has seen.
+/// The caller that ends the rounds.
 #[derive(Drop)]
 pub(crate) struct Coordinator<N: BookName> {
     pub(crate) pass: Pass<N>,
-    pub(crate) replica: Replica,
-    ghost stands: { StandsFor N.capacity (take replica.front pass.seen) replica },
 }
 
 /// What the mark at the end of a round shows: the total overflow, and the booked nets on edges over

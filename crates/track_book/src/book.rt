@@ -19,8 +19,8 @@ use std::alloc::AllocError;
 use std::sync::{Mutex, Wait};
 
 /// The book N, which threads share. Each call is one entry of one history, and its reply is the one
-/// that a book for one thread gives there. `claim`, `release`, `mark`, `sync` and `meet` take the
-/// lock and may wait for it; no other call does.
+/// that a book for one thread gives there. `claim`, `release`, `mark`, `sync`, `victims` and `meet`
+/// take the lock and may wait for it; no other call does.
 #[derive(Drop)]
 pub struct TrackBook<N: BookName> {
     pub(crate) front: Front,
@@ -122,15 +122,15 @@ impl<N: BookName> TrackBook<N> {
         Ok(still)
     }
 
-    /// The booked nets whose tree has a wire edge with more demand than capacity, in the order of
-    /// the design, after what the pass has seen. The replica stands for that, and the pass holds
-    /// all of it, as `sync` leaves them. The only error is want of memory. It waits for nobody.
-    pub fn victims(&self, pass: &Pass<N>, replica: &Replica) -> Result<Cells, AllocError>
-        requires held { pass.now.held ≡ length pass.now.seen }
-        requires stands { StandsFor N.capacity pass.now.seen replica.now }
-        ensures { IfOk result (λ nets. nets ≡ victims_of N.capacity pass.now.seen) }
+    /// The pass sees the whole history. The result are the booked nets whose tree then has a wire edge
+    /// with more demand than capacity, in the order of the design. The only error is want of memory,
+    /// and leaves the pass as it was.
+    pub fn victims<R: Wait>(&self, rt: &R, pass: &mut Pass<N>) -> Result<Cells, AllocError>
+        ensures learnt { OnOk result (HasLearnt N.capacity pass.old pass.new) }
+        ensures victims { IfOk result (λ nets. nets ≡ victims_of N.capacity pass.new.seen) }
+        ensures err { OnErr result (pass.new ≡ pass.old) }
     {
-        replica.victims(&self.capacity, pass.past())
+        self.lock.lock(rt).victims(&self.front, pass)
     }
 
     /// Both passes come to have seen one history, which begins with what each had seen.

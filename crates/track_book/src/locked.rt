@@ -2,7 +2,7 @@
 ghost use Rattle.std.specs.Prelude.{◌≡◌, ◌<◌, [], ◌++◌, length, drop, IfOk, IfErr, OnOk, OnErr};
 ghost use mathlib.Core.List.{IsPrefix};
 ghost use Rattle.book_front.specs.Seats.{word_of, knows, IsKeeper};
-ghost use Rattle.book_state.specs.Books.{nets_of, IsClaim, IsLegal};
+ghost use Rattle.book_state.specs.Books.{nets_of, IsClaim, IsLegal, victims as victims_of};
 ghost use Rattle.track_book.specs.Passes.{IsPass, IsAnswered, HasLearnt, with_answer};
 ghost use Rattle.track_book.specs.SeatOptions.{view_in, HasKeeper, HasNext};
 
@@ -11,6 +11,7 @@ use crate::pass::Pass;
 use crate::seats::{append, learn};
 use book_front::{Front, PassSeat};
 use book_state::{BookState, Call, Claim, ClaimRefused, History, Reply};
+use gr_base::Cells;
 use std::alloc::AllocError;
 use std::marker::{Model, PhantomData};
 
@@ -118,6 +119,21 @@ impl<N: BookName> Locked<N> {
         self.state.history().extend(&mut pass.past)?;
         pass.known = self.state.history().len();
         Ok(())
+    }
+
+    /// The pass sees the whole history, and gets the victims after it. An error leaves the pass as it
+    /// was.
+    pub(crate) fn victims(&mut self, front: &Front, pass: &mut Pass<N>) -> Result<Cells, AllocError>
+        requires front { word_of front.now ≡ N.word }
+        ensures same { self.new ≡ self.old }
+        ensures learnt { OnOk result (HasLearnt N.capacity pass.old pass.new) }
+        ensures seen { OnOk result (pass.new.seen ≡ self.old) }
+        ensures victims { IfOk result (λ nets. nets ≡ victims_of N.capacity self.old) }
+        ensures err { OnErr result (pass.new ≡ pass.old) }
+    {
+        let victims = self.state.victims()?;
+        self.show(front, pass);
+        Ok(victims)
     }
 
     /// Both passes see the whole history.

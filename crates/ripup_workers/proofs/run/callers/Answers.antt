@@ -3,12 +3,8 @@ use Rattle.std.specs.Vec.Iter.{into_iter_items}
 use Rattle.std.proofs.lemmas.List.{nil_from_length}
 use Rattle.std.proofs.lemmas.List.Elements.{All-rest}
 use Rattle.track_book.specs.Passes.{PassView}
-use Rattle.ripup_workers.proofs.CallerLists.{first-seen, rest-seen, callers-first, callers-next, callers-last}
+use Rattle.ripup_workers.proofs.CallerLists.{rest-seen, callers-first, callers-next, callers-last}
 use Rattle.ripup_workers.proofs.run.callers.Goals as goal
-
-pub new-requires-clause-nothing : goal.new-requires-clause-nothing
-new-requires-clause-nothing g c =
-    first-seen _ c.args.passes.items c.in-Some.first (into_iter_items c.next.new.self) c.requires.begun (sym c.in-Some.ensures.items ∙ c.into_iter-rest.ensures.rest)
 
 pub loop-pass-init : goal.loop-pass-init
 loop-pass-init g c =
@@ -19,8 +15,8 @@ loop-pass-init g c =
     let none = c.in_ok-workers.ensures.len in
     let room = c.in_ok-workers.ensures.capacity in
     record {
-      callers = callers-first (λ w. w.pass) c.in_ok-workers.workers.items c.in_ok-coordinator.coordinator.pass c.in-Some.first (into_iter_items c.next.new.self) c.args.passes.items
-          c.in_ok-workers.ensures.items c.in_ok-coordinator.ensures whole;
+      callers = callers-first (λ w. w.pass) c.in_ok-workers.workers.items c.in-Some.first c.in-Some.first (into_iter_items c.next.new.self) c.args.passes.items
+          c.in_ok-workers.ensures.items refl whole;
       nothing = rest-seen _ c.args.passes.items c.in-Some.first (into_iter_items c.next.new.self) c.requires.begun whole;
       room = omega (arith, left, iter_len, len, none, room);
     }
@@ -33,7 +29,7 @@ loop-pass-preserved g c =
     let longer = c.push_reserved.ensures.len in
     let same = c.push_reserved.ensures.capacity in
     record {
-      callers = callers-next (λ w. w.pass) c.loop-pass.workers.items c.push_reserved.new.self.items _ c.in_ok-coordinator.coordinator.pass c.in-Some-next.pass
+      callers = callers-next (λ w. w.pass) c.loop-pass.workers.items c.push_reserved.new.self.items _ c.in-Some.first c.in-Some-next.pass
           (into_iter_items c.next-in-loop-pass.new.self) (into_iter_items c.loop-pass.rest) c.args.passes.items c.loop-pass.invariant.callers before c.push_reserved.ensures.items refl;
       nothing = All-rest (λ (p : PassView). p.seen ≡ []) c.in-Some-next.pass (into_iter_items c.next-in-loop-pass.new.self) (into_iter_items c.loop-pass.rest) before c.loop-pass.invariant.nothing;
       room = omega (arith, left, room, longer, same);
@@ -44,4 +40,4 @@ returns g c =
     let count = c.loop-pass.rest.rest.ok.0 in
     let none = c.in_default-next.ensures.cases.0 in
     let empty : into_iter_items c.loop-pass.rest ≡ [] = nil_from_length (into_iter_items c.loop-pass.rest) (omega (arith, count, none)) in
-    callers-last c.in_ok-coordinator.coordinator.pass _ (into_iter_items c.loop-pass.rest) c.args.passes.items c.loop-pass.invariant.callers empty
+    callers-last c.in-Some.first _ (into_iter_items c.loop-pass.rest) c.args.passes.items c.loop-pass.invariant.callers empty

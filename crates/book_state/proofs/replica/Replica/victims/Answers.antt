@@ -1,8 +1,8 @@
 use Rattle.std.proofs.Common.{ℕ, Bool, sym, ◌∙◌}
 use Rattle.book_state.specs.Books.{is_victim}
 use Rattle.book_state.proofs.RangeSums.{filter-passes, filter-fails}
-use Rattle.book_state.proofs.replica.Replica.victims_in.Goals as goal
-use Rattle.book_state.proofs.replica.Replica.victims_in.Goals.{then-is_victim+in_ok-push, else-is_victim}
+use Rattle.book_state.proofs.replica.Replica.victims.Goals as goal
+use Rattle.book_state.proofs.replica.Replica.victims.Goals.{then-is_victim+in_ok-push, else-is_victim}
 
 pub loop-net-preserved : goal.loop-net-preserved
 loop-net-preserved c =
