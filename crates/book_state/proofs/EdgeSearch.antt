@@ -1,5 +1,5 @@
 -- The search for an edge along the nodes of a tree.
-use Rattle.std.proofs.Common.{◌≡◌, ℕ, suc, zero, ◌+◌, ◌<◌, ◌≤◌, Bool, true, false, ◌||◌, List, [], ◌∷◌, length, drop, Option, Some, None, slice_get, cond, if◌then◌else◌, IsTrue, refl, sym, ap, subst, ◌∙◌, arith}
+use Rattle.std.proofs.Common.{◌≡◌, ℕ, suc, zero, ◌+◌, ◌<◌, ◌≤◌, Bool, true, false, ◌||◌, List, [], ◌∷◌, length, drop, Option, Some, None, slice_get, slice_index_or, cond, if◌then◌else◌, IsTrue, refl, sym, ap, subst, ◌∙◌, arith}
 use Rattle.std.proofs.lemmas.Option.{none-some}
 use Rattle.std.specs.List.{filter_map, cons_option, find, list_any}
 use Rattle.std.specs.Option.{option_and_then}
@@ -11,7 +11,9 @@ use Rattle.gr_base.specs.declared.tree.Node.{Node}
 use Rattle.grid_demand.proofs.LoadSteps.{node-at, next-wire}
 use Rattle.grid_demand.specs.Tables.{CapacityView}
 use Rattle.gr_base.specs.ParentEdges.{wire_only, wire_to_parent}
-use Rattle.book_state.specs.Books.{is_full, is_over}
+use Rattle.gr_base.specs.Sums.{wire_number}
+use Rattle.book_state.specs.Books.{is_full}
+use Rattle.book_state.specs.Crowds.{is_overfull}
 
 -- the edges to their parents of a tree's nodes from one on
 abbrev pub edges_from : TreeView → ℕ → List Edge
@@ -63,8 +65,12 @@ PassWires p = (e : Edge) → is_wire e ≡ false → p e ≡ false
 pub full-wires : (c : CapacityView) (demands : Edge → ℕ) (net slack : ℕ) → PassWires (is_full c demands net slack)
 full-wires c demands net slack e via = rw via refl
 
-pub over-wires : (c : CapacityView) (demands : Edge → ℕ) → PassWires (is_over c demands)
-over-wires c demands e via = rw via refl
+pub table-wires : (over : List Bool) → PassWires (is_overfull over)
+table-wires over e via = rw via refl
+
+-- of a wire edge the table says what stands in it
+pub table-says : (over : List Bool) (e : Edge) (said : Bool) → IsTrue (is_wire e) → slice_index_or over (wire_number e) false ≡ said → is_overfull over e ≡ said
+table-says over e said wire there = rw wire there
 
 not-wire : (b : Bool) (e : Edge) → None ≡ (if b then Some e else None) → b ≡ false
 not-wire true e none = absurd (none-some e none)

@@ -5,15 +5,18 @@ use Rattle.std.proofs.lemmas.Bool.{cases_Bool, and_parts}
 use Rattle.std.proofs.lemmas.List.Elements.{All-head, All-tail}
 use Rattle.gr_base.proofs.TreeEdges.{tree-grid_edges}
 use Rattle.gr_base.specs.Grid.{has_edge, is_wire}
-use Rattle.gr_base.specs.Sums.{total_overflow}
+use Rattle.gr_base.specs.Sums.{wire_number, total_overflow}
 use Rattle.gr_base.specs.Trees.{TreeView, IsTree, tree_edges}
 use Rattle.gr_base.specs.declared.grid.Edge.{Edge}
 use Rattle.gr_base.specs.declared.grid.Shape.{Shape}
 use Rattle.grid_demand.proofs.LoadLemmas.{total_overflow-same}
+use Rattle.grid_demand.proofs.WireLemmas.{number-below}
 use Rattle.grid_demand.specs.LoadSums.{LoadsView, demand_at}
+use Rattle.grid_demand.specs.Overfull.{AreOverfull}
 use Rattle.grid_demand.specs.Tables.{CapacityView, capacity_at, need_at}
 use Rattle.book_state.proofs.StandSteps.{tree-shape}
 use Rattle.book_state.specs.Books.{booked, demand, is_full, is_over, is_crowded, reply_by_full, reply_to_free, overflow_after, IsLegal, AreLoadsOf}
+use Rattle.book_state.specs.Crowds.{is_overfull}
 use Rattle.book_state.specs.Replicas.{ReplicaView, place_of, StandsFor}
 use Rattle.book_state.specs.declared.entry.Claim.{Claim}
 use Rattle.book_state.specs.declared.entry.Entry.{Entry}
@@ -75,6 +78,18 @@ pub crowded-same : (c : CapacityView) (h : List Entry) (l : LoadsView) (t : Tree
 crowded-same c h l t of tree same =
     any-same (is_over c (demand_at l)) (is_over c (demand c h)) (tree_edges t)
     (λ k d below. over-same c h l _ of (grid-edges c t tree same k d below))
+
+-- a table of overfull edges says of a tree what the loads say
+pub crowded-table : (c : CapacityView) (l : LoadsView) (over : List Bool) (t : TreeView) → AreOverfull c l over → l.shape ≡ c.shape → IsTree t → t.shape ≡ c.shape →
+    list_any (is_overfull over) (tree_edges t) ≡ is_crowded c (demand_at l) (Some t)
+crowded-table c l over t are shape tree same =
+    any-same (is_overfull over) (is_over c (demand_at l)) (tree_edges t)
+    (λ k d below. by_number _ (grid-edges c t tree same k d below))
+  where
+    by_number : (e : Edge) → IsTrue (has_edge c.shape e) → is_overfull over e ≡ is_over c (demand_at l) e
+    by_number e edge =
+        let inside = subst (λ (g : Shape). IsTrue (has_edge g e)) (sym shape) edge in
+        ap (λ (b : Bool). is_wire e && b) (are.each (wire_number e) (number-below l.shape e inside))
 
 -- the total overflow by the loads
 pub overflow-same : (c : CapacityView) (h : List Entry) (l : LoadsView) → AreLoadsOf c h l → total_overflow l.shape (demand_at l) (capacity_at c) ≡ overflow_after c h

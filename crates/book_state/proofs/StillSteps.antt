@@ -1,5 +1,5 @@
 -- Entries whose trees lie outside a window.
-use Rattle.std.proofs.Common.{◌≡◌, ℕ, suc, zero, ◌+◌, ◌<◌, inl, inr, Bool, true, false, ◌&&◌, ◌||◌, ◌==◌, nat_le, min, List, [], ◌∷◌, ◌++◌, length, take, Option, Some, None, slice_get, if◌then◌else◌, IsTrue, refl, sym, ap, subst, ◌∙◌, arith}
+use Rattle.std.proofs.Common.{◌≡◌, ℕ, suc, ◌+◌, ◌<◌, inl, inr, Bool, true, false, ◌==◌, nat_le, min, List, [], ◌∷◌, ◌++◌, length, take, Option, Some, None, slice_get, if◌then◌else◌, IsTrue, refl, sym, ap, subst, ◌∙◌, arith}
 use Rattle.std.proofs.lemmas.Bool.{cases_Bool, both_ways, and_left, or_from}
 use Rattle.std.proofs.lemmas.Bool.Decides.{nat_tests}
 use Rattle.std.proofs.lemmas.Option.{none-some, same_Some}
@@ -16,8 +16,8 @@ use Rattle.grid_demand.specs.Tables.{CapacityView}
 use Rattle.maze_route.specs.Windows.{in_window}
 use Rattle.maze_route.specs.declared.window.Window.{Window}
 use Rattle.book_state.proofs.BookSteps as steps
-use Rattle.book_state.proofs.ReplicaSteps.{take-entry, length-before, claimed-free, booked-claim, booked-claim_other, booked-release, booked-release_other, idle-by}
-use Rattle.book_state.specs.Books.{nets_of, booked, share_of, demand, marks, IsCall, IsLegal, IsIdle}
+use Rattle.book_state.proofs.ReplicaSteps.{take-entry, claimed-free, booked-claim, booked-claim_other, booked-release, booked-release_other, idle-by}
+use Rattle.book_state.specs.Books.{nets_of, booked, share_of, IsCall, IsLegal, IsIdle}
 use Rattle.book_state.specs.Entries.{is_mark, is_mark_call}
 use Rattle.book_state.specs.Replicas.{IsClaimed, IsReleased}
 use Rattle.book_state.specs.Still.{IsStill, LiesOutside}

@@ -9,3 +9,4 @@ pub mod Views
 pub mod BookStore
 pub mod LeastSearch
 pub mod Still
+pub mod Crowds

@@ -1,13 +1,15 @@
 //! The edges of trees, and which of them are full or over their capacity.
-ghost use Rattle.std.specs.Prelude.{◌≡◌, ℕ, ◌+◌, ◌<◌, Some, IfSome, IsSome, IsTrue};
-ghost use Rattle.gr_base.specs.Grid.{has_edge, is_wire};
-ghost use Rattle.gr_base.specs.Trees.{IsTree};
+ghost use Rattle.std.specs.Prelude.{◌≡◌, ℕ, ◌+◌, ◌*◌, ◌<◌, length, Some, IfSome, IsSome, IsTrue};
+ghost use Rattle.std.specs.List.{list_any};
+ghost use Rattle.gr_base.specs.Grid.{cells_of, has_edge, is_wire};
+ghost use Rattle.gr_base.specs.Trees.{IsTree, tree_edges};
 ghost use Rattle.grid_demand.specs.LoadSums.{demand_at};
-ghost use Rattle.book_state.specs.Books.{is_full as full_edge, is_over as over_edge, first_full as first_full_edge, is_crowded as crowded, reply_to_free as free_reply};
+ghost use Rattle.book_state.specs.Books.{is_full as full_edge, first_full as first_full_edge, reply_to_free as free_reply};
+ghost use Rattle.book_state.specs.Crowds.{is_overfull};
 
 use crate::entry::{Claim, Reply};
 use gr_base::{Edge, RouteTree};
-use grid_demand::{Capacity, Loads};
+use grid_demand::{Capacity, Loads, Overfull};
 
 /// The reply to a claim of a net that isn't booked.
 pub(crate) fn reply_to_free(capacity: &Capacity, loads: &Loads, claim: &Claim) -> Reply
@@ -50,18 +52,17 @@ fn first_full(capacity: &Capacity, loads: &Loads, claim: &Claim, slack: u32) -> 
     None
 }
 
-/// Whether a tree has an edge whose demand is above its capacity.
-pub(crate) fn is_crowded(capacity: &Capacity, loads: &Loads, tree: &RouteTree) -> bool
-    requires tree { tree.now.shape ≡ capacity.now.shape }
-    requires loads { loads.now.shape ≡ capacity.now.shape }
-    ensures crowded { result ≡ crowded capacity.now (demand_at loads.now) (Some tree.now) }
+/// Whether a tree has an edge with more demand than capacity.
+pub(crate) fn is_crowded(over: &Overfull, tree: &RouteTree) -> bool
+    requires long { length over.now ≡ 2 * cells_of tree.now.shape }
+    ensures crowded { result ≡ list_any (is_overfull over.now) (tree_edges tree.now) }
     ensures tree { IsTree tree.now }
 {
     for node in 0..tree.len() {
         let Some(edge) = tree.wire_to_parent(node) else {
             continue;
         };
-        if is_over(capacity, loads, edge) {
+        if over.has(edge) {
             return true;
         }
     }
@@ -77,14 +78,4 @@ fn is_full(capacity: &Capacity, loads: &Loads, net: u32, slack: u32, e: Edge) ->
 {
     let room = capacity.at(e) + u64::from(slack);
     loads.demand(e).saturating_add(capacity.need(net, e)) > room
-}
-
-/// Whether a wire edge has more demand than capacity.
-fn is_over(capacity: &Capacity, loads: &Loads, e: Edge) -> bool
-    requires edge { IsTrue (has_edge capacity.now.shape e) }
-    requires wire { IsTrue (is_wire e) }
-    requires loads { loads.now.shape ≡ capacity.now.shape }
-    ensures { result ≡ over_edge capacity.now (demand_at loads.now) e }
-{
-    loads.demand(e) > capacity.at(e)
 }

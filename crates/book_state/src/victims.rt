@@ -2,12 +2,13 @@
 ghost use Rattle.std.specs.Prelude.{◌≡◌, IfOk};
 ghost use Rattle.book_state.specs.Books.{IsLegal, victims as victims_of, is_victim as victim_net};
 ghost use Rattle.book_state.specs.Replicas.{StandsFor};
+ghost use Rattle.grid_demand.specs.Overfull.{AreOverfull};
 
 use crate::edges::is_crowded;
 use crate::history::History;
 use crate::replica::Replica;
 use gr_base::Cells;
-use grid_demand::Capacity;
+use grid_demand::{Capacity, Overfull};
 use std::alloc::AllocError;
 
 impl Replica {
@@ -22,22 +23,27 @@ impl Replica {
         requires stands { StandsFor capacity.now history.now self.now }
         ensures { IfOk result (λ nets. nets ≡ victims_of capacity.now history.now) }
     {
-        let mut victims = Cells::new(history.alloc());
+        let alloc = history.alloc();
+        let over = self.loads().overfull(alloc, capacity)?;
+        let mut victims = Cells::new(alloc);
         for net in 0..self.nets() {
-            if self.is_victim(capacity, history, net) {
+            if self.is_victim(capacity, history, &over, net) {
                 victims.push(net)?;
             }
         }
         Ok(victims)
     }
 
-    fn is_victim(&self, capacity: &Capacity, history: &History, net: u32) -> bool
+    /// Whether a net is booked with a tree that has an edge for which the table says that it has more
+    /// demand than capacity.
+    fn is_victim(&self, capacity: &Capacity, history: &History, over: &Overfull, net: u32) -> bool
         requires legal { IsLegal capacity.now history.now }
         requires stands { StandsFor capacity.now history.now self.now }
+        requires over { AreOverfull capacity.now self.now.loads over.now }
         ensures { result ≡ victim_net capacity.now history.now net }
     {
         match self.tree(history, net) {
-            Some(tree) => is_crowded(capacity, self.loads(), tree),
+            Some(tree) => is_crowded(over, tree),
             None => false,
         }
     }

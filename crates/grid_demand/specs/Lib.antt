@@ -3,3 +3,4 @@ pub mod CapacityStore
 pub mod LoadSums
 pub mod LoadsStore
 pub mod Operations
+pub mod Overfull

@@ -3,9 +3,11 @@
 
 mod capacity;
 mod loads;
+mod overfull;
 mod sums;
 mod wires;
 
 pub use capacity::Capacity;
 pub use loads::Loads;
+pub use overfull::Overfull;
 pub use sums::loads_are_sums;

@@ -106,6 +106,14 @@ impl Loads {
         mark_over(&mut self.marks, &self.demands, capacity.table());
     }
 
+    /// The demand for each wire edge, by number.
+    pub(crate) fn demands(&self) -> &[u64]
+        ensures demands { result.now ≡ self.now.demands }
+        ensures loads { AreLoads self.now }
+    {
+        &self.demands
+    }
+
     /// The sum of the overflow of all wire edges: of what demand is above capacity, or 0.
     pub fn over_total(&self, capacity: &Capacity) -> u128
         requires { capacity.now.shape ≡ self.now.shape }

@@ -1,5 +1,5 @@
 -- Plans that stay the same while nothing changes in their window.
-use Rattle.std.proofs.Common.{◌≡◌, ◌⊎◌, ℕ, ◌<◌, inl, inr, Bool, true, false, ◌&&◌, nat_lt, List, [], ◌∷◌, ◌++◌, take, length, Option, Some, None, if◌then◌else◌, IfSome, IsTrue, refl, sym, ap, subst, ◌∙◌, append_assoc, arith}
+use Rattle.std.proofs.Common.{◌≡◌, ℕ, ◌<◌, inl, inr, Bool, true, false, ◌&&◌, nat_lt, List, [], ◌∷◌, ◌++◌, take, length, Option, Some, None, if◌then◌else◌, IfSome, IsTrue, refl, sym, ap, subst, ◌∙◌, append_assoc, arith}
 use Rattle.std.proofs.lemmas.Bool.{and_parts}
 use Rattle.std.proofs.lemmas.Bool.Decides.{nat_tests}
 use Rattle.std.proofs.lemmas.List.{take-append-le, take_all}
@@ -7,7 +7,6 @@ use Rattle.std.specs.Option.{option_and_then}
 use mathlib.Core.List.{IsPrefix}
 use Rattle.cost_rules.specs.Formulas.{cost_at, via_cost}
 use Rattle.cost_rules.specs.declared.site.Formula.{Formula}
-use Rattle.cost_rules.specs.declared.site.Site.{Site}
 use Rattle.gr_base.proofs.GridLemmas.{edge_of-joins}
 use Rattle.gr_base.specs.Designs.{DesignView, pins_at}
 use Rattle.gr_base.specs.Grid.{cells_of, place_at, edge_of, has_edge, is_wire, Joins}
@@ -30,7 +29,7 @@ use Rattle.book_state.specs.declared.entry.PlanKind.{PlanKind}
 use Rattle.book_state.specs.declared.entry.PlanKind.TheVariants.{Maze}
 use Rattle.book_state.specs.declared.entry.Reply.{Reply}
 use Rattle.book_state.specs.declared.entry.Call.TheVariants.{Claim as Claims}
-use Rattle.round_core.specs.Rounds.{IsPlan, IsPlanAfter}
+use Rattle.round_core.specs.Rounds.{IsPlan}
 use Rattle.round_core.specs.RunHistories.{Setting, one_worker}
 use Rattle.track_book.specs.Passes.{PassView}
 use Rattle.ripup_workers.specs.Turning.{IsOver, HasTried, IsPlanFor, IsWindowOf, WasPlanned}

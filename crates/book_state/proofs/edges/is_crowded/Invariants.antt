@@ -1,10 +1,10 @@
-use Rattle.std.proofs.Common.{◌≡◌, Some}
+use Rattle.std.proofs.Common.{◌≡◌}
 use Rattle.std.specs.List.{list_any}
-use Rattle.grid_demand.specs.LoadSums.{demand_at}
-use Rattle.book_state.specs.Books.{is_over, is_crowded}
+use Rattle.gr_base.specs.Trees.{tree_edges}
+use Rattle.book_state.specs.Crowds.{is_overfull}
 use Rattle.book_state.proofs.EdgeSearch.{edges_from}
 use Rattle.book_state.proofs.edges.is_crowded.Given as goal
 
 abbrev pub invariant-loop-node : goal.invariant-loop-node
 invariant-loop-node l =
-    list_any (is_over l.capacity (demand_at l.loads)) (edges_from l.tree l.node) ≡ is_crowded l.capacity (demand_at l.loads) (Some l.tree)
+    list_any (is_overfull l.over) (edges_from l.tree l.node) ≡ list_any (is_overfull l.over) (tree_edges l.tree)

@@ -1,4 +1,4 @@
-use Rattle.std.proofs.Common.{◌≡◌, ◌-◌, ◌≤◌, length, refl, ◌∙◌, arith}
+use Rattle.std.proofs.Common.{refl, ◌∙◌, arith}
 use Rattle.book_state.proofs.PastLists.{grows-by_blocks, lacks-few, grows-by_entries}
 use Rattle.book_state.proofs.history.History.grow_to.Goals as goal
 
