@@ -1,0 +1,210 @@
+#!/usr/bin/env python3
+"""Tests of the tools, and of the samples in the documents: tools/test.py --program PATH [NAME ..]
+
+PATH is a built groute. The samples of README.md and of docs/*.md, lines that begin with `$`, are run as they are
+written, with that program as ./groute. NAMEs pick tests, as in unittest. Pictures are tested only where numpy and
+matplotlib are there.
+"""
+import argparse
+import importlib.util
+import os
+import random
+import re
+import subprocess
+import sys
+import tempfile
+import unittest
+
+HERE = os.path.dirname(os.path.abspath(__file__))
+ROOT = os.path.dirname(HERE)
+DOCUMENTS = ["README.md", *(f"docs/{name}" for name in sorted(os.listdir(f"{ROOT}/docs")) if name.endswith(".md"))]
+PICTURES = all(importlib.util.find_spec(name) for name in ("numpy", "matplotlib"))
+NAME = 32   # the token of examples/small.ispd that may be any: its net's name
+LIBRARY = "library 1\n%svia 10 10\ndriver 100\nsink 10 0\nend\n"
+program = None      # the path of groute
+
+
+def run(*words, folder=None, **options):
+    """Status, standard output and standard error."""
+    done = subprocess.run(words, capture_output=True, check=False, cwd=folder, **options)
+    return done.returncode, done.stdout.decode(), done.stderr.decode()
+
+
+def tool(name, *words):
+    """What a tool did."""
+    return run(sys.executable, os.path.join(HERE, name), *words)
+
+
+class InFolder(unittest.TestCase):
+    """Tests with a folder of their own."""
+
+    def setUp(self):
+        self.folder = tempfile.TemporaryDirectory()
+        self.addCleanup(self.folder.cleanup)
+
+    def put(self, name, text):
+        """The path of a file with this text."""
+        path = os.path.join(self.folder.name, name)
+        with open(path, "w", encoding="utf-8") as file:
+            file.write(text)
+        return path
+
+    def routed(self, design, layers, rounds=0):
+        """The path of the routes of a design."""
+        wires = "".join(f"wire {layer} 100 100\n" for layer in range(1, layers + 1))
+        library = self.put("library", LIBRARY % wires)
+        status, out, err = run(program, "route", design, library, str(rounds))
+        self.assertEqual((status, err[:7]), (0, "routed "))
+        return self.put("solution", out)
+
+
+class Samples(unittest.TestCase):
+    """What the documents show is what the commands write."""
+
+    def test_samples(self):
+        with tempfile.TemporaryDirectory() as folder:
+            os.symlink(os.path.abspath(program), f"{folder}/groute")
+            for name in ("examples", "tools", "docs"):
+                os.symlink(f"{ROOT}/{name}", f"{folder}/{name}")
+            for document in DOCUMENTS:
+                for command, wanted in samples(document):
+                    with self.subTest(document=document, command=command):
+                        done = subprocess.run(["sh", "-c", command], cwd=folder, check=False, text=True,
+                                              stdout=subprocess.PIPE, stderr=subprocess.STDOUT)
+                        self.assertEqual(done.stdout, wanted)
+
+
+def samples(document):
+    """The commands of a document, and what they should write."""
+    with open(f"{ROOT}/{document}", encoding="utf-8") as file:
+        lines = file.read().split("\n")
+    command, wanted = None, []
+    for line in [*lines, ""]:
+        if command is not None and (line[:6] == "    $ " or line[:4] != "    "):
+            yield command, "".join(f"{text}\n" for text in wanted)
+            command, wanted = None, []
+        if line[:6] == "    $ ":
+            command = line[6:]
+        elif command is not None:
+            wanted.append(line[4:])
+
+
+class Where(InFolder):
+    """where.py on the tokens that groute's faults name."""
+
+    def test_each_token_of_a_design(self):
+        with open(f"{ROOT}/examples/small.ispd", encoding="ascii") as file:
+            tokens = file.read().split()
+        rng = random.Random(1)
+        for number in range(1, len(tokens) + 1):
+            blanks = [rng.choice([" ", "\t", "\n", "\r\n", " \n\n "]) for _ in tokens]
+            changed = [*tokens[:number - 1], "?", *tokens[number:]]
+            text = "".join(blank + token for blank, token in zip(blanks, changed))
+            design = self.put("design", text)
+            status, _, err = run(program, "route", design, f"{ROOT}/examples/small.library", "0")
+            fault = re.fullmatch(r"groute: design fault [0-9]+ at token ([0-9]+)\n", err)
+            if fault is None:
+                self.assertEqual((status, number), (0, NAME))
+                continue
+            before = text[:text.index("?")]
+            place = f"{1 + before.count(chr(10))}:{1 + len(before) - (before.rfind(chr(10)) + 1)}"
+            self.assertEqual(tool("where.py", design, fault.group(1)), (0, f"{design}:{place}: ?\n", ""))
+
+    def test_ends(self):
+        text = self.put("text", "a bb\n c")
+        self.assertEqual(tool("where.py", text, "3"), (0, f"{text}:2:2: c\n", ""))
+        self.assertEqual(tool("where.py", text, "4"), (0, f"{text}:2:3: the text ends here\n", ""))
+        self.assertEqual(tool("where.py", text, "5"), (1, "", f"where: {text} has 3 tokens\n"))
+        empty = self.put("empty", "")
+        self.assertEqual(tool("where.py", empty, "1"), (0, f"{empty}:1:1: the text ends here\n", ""))
+        self.assertEqual(tool("where.py", text + ".none", "1")[0], 1)
+
+
+class Congestion(InFolder):
+    """congestion.py: its totals are those of groute's judge."""
+
+    def agrees(self, design, solution):
+        """With `evaluate`, in arrays and in plain Python."""
+        status, report, _ = run(program, "evaluate", design, solution)
+        self.assertIn(status, (0, 1))
+        wanted = "".join(report.splitlines(keepends=True)[:5])
+        self.assertEqual(tool("congestion.py", design, solution), (0, wanted, ""))
+        plain = ("import sys; sys.modules['edges_numpy'] = None; sys.argv[0] = 'congestion.py'; "
+                 f"sys.path.insert(0, {HERE!r}); import congestion; sys.exit(congestion.main())")
+        self.assertEqual(run(sys.executable, "-c", plain, design, solution), (0, wanted, ""))
+
+    def test_random_designs(self):
+        sys.path.insert(0, f"{ROOT}/reference")
+        compare = importlib.import_module("compare")
+        for seed in range(1, 21):
+            rng = random.Random(seed)
+            text = compare.design(rng).decode()
+            design = self.put("design", text)
+            solution = self.routed(design, int(text.split()[3]))
+            self.agrees(design, solution)
+
+    def test_edges_that_are_covered_twice(self):
+        solution = self.put("twice", "a 0 7\n(5,5,1)-(45,5,1)\n(25,5,1)-(5,5,1) (15,5,1)-(35,5,1) (5,5,1)-(5,5,1) !\n")
+        self.agrees(f"{ROOT}/examples/line.ispd", solution)
+
+    def test_open_and_crowded(self):
+        self.agrees(f"{ROOT}/examples/small.ispd", f"{ROOT}/examples/open.solution")
+        made = run(program, "make", "11", "24", "20", "4", "6000")[1]
+        design = self.put("design", made)
+        self.agrees(design, self.routed(design, 4, 2))
+
+    def test_a_net_of_too_many_pins(self):
+        with open(f"{ROOT}/examples/line.ispd", encoding="ascii") as file:
+            lines = file.read().replace("num net 1", "num net 2")
+        design = self.put("design", lines + "b 1 1001 1\n" + "5 5 1\n" * 1001)
+        self.agrees(design, self.put("solution", "a 0 (5,5,1)-(45,5,1) ! b 1 (5,5,1)-(25,5,1) !"))
+
+    def test_table(self):
+        crowd = f"{ROOT}/examples/crowd.ispd"
+        table = os.path.join(self.folder.name, "out.csv")
+        self.assertEqual(tool("congestion.py", crowd, self.routed(crowd, 1), "-o", table)[0], 0)
+        with open(table, encoding="ascii") as file:
+            self.assertEqual(file.read(), "layer,column,row,to_column,to_row,capacity,demand,overflow\n"
+                                          "1,0,1,1,1,2,4,2\n1,1,1,2,1,2,4,2\n")
+
+    @unittest.skipUnless(PICTURES, "numpy and matplotlib are not there")
+    def test_pictures(self):
+        small = f"{ROOT}/examples/small.ispd", f"{ROOT}/examples/small.solution"
+        for name, begin in (("out.png", b"\x89PNG"), ("out.svg", b"<?xml")):
+            path = os.path.join(self.folder.name, name)
+            self.assertEqual(tool("congestion.py", *small, "-o", path, "--layer", "2")[0], 0)
+            with open(path, "rb") as file:
+                self.assertEqual(file.read(len(begin)), begin)
+
+    def test_faults(self):
+        line = f"{ROOT}/examples/line.ispd"
+        for text, says in (
+            ("a 0 (5,5,1)-(45,5,1)", "ends after token 3"),
+            ("a 1 !", "id of a net"),
+            ("a 0 (5,5,1)-(45,,1) !", "form"),
+            ("a 0 (5,5,1)(45,5,1) !", "form"),
+            ("a 0 (5,5,1)-(55,5,1) !", "outside"),
+            ("a 0 (5,5,1)-(45,5,2) !", "outside"),
+        ):
+            status, out, err = tool("congestion.py", line, self.put("solution", text))
+            self.assertEqual((status, out), (1, ""))
+            self.assertIn(says, err)
+        slanted = self.put("solution", "a 0 (5,5,1)-(25,15,1) !")
+        self.assertIn("straight", tool("congestion.py", f"{ROOT}/examples/small.ispd", slanted)[2])
+        self.assertIn("layers 1 to 1", tool("congestion.py", line, slanted, "--layer", "2")[2])
+        self.assertEqual(tool("congestion.py", line, "missing")[0], 1)
+
+
+def main():
+    """Runs the tests. The answer is the status."""
+    global program
+    parser = argparse.ArgumentParser(description=__doc__, formatter_class=argparse.RawDescriptionHelpFormatter)
+    parser.add_argument("--program", required=True, metavar="PATH", help="a built groute")
+    parser.add_argument("names", nargs="*", metavar="NAME", help="of a test, as Where or Congestion.test_table")
+    asked = parser.parse_args()
+    program = os.path.abspath(asked.program)
+    unittest.main(argv=[sys.argv[0], *asked.names], verbosity=1)
+
+
+if __name__ == "__main__":
+    main()
