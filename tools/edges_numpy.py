@@ -7,7 +7,7 @@ BATCH = 1 << 20     # segments that are gone through at once
 
 
 class Edges:
-    """demand[way] and capacity[way] by the numbers of wire edges, and the numbers of wire edges and vias of all nets."""
+    """demand[way] and capacity[way] by the numbers of wire edges, and how many wire edges and vias all nets have."""
 
     def __init__(self, design, solution):
         self.design = design
