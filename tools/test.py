@@ -3,7 +3,7 @@
 
 PATH is a built groute. The samples of README.md and of docs/*.md, lines that begin with `$`, are run as they are
 written, with that program as ./groute. NAMEs pick tests, as in unittest. Pictures are tested only where numpy and
-matplotlib are there.
+matplotlib are there, and docs/FLOW.md only where Debian's qflow-tech-osu035 is.
 """
 import argparse
 import importlib.util
@@ -18,6 +18,8 @@ import unittest
 HERE = os.path.dirname(os.path.abspath(__file__))
 ROOT = os.path.dirname(HERE)
 DOCUMENTS = ["README.md", *(f"docs/{name}" for name in sorted(os.listdir(f"{ROOT}/docs")) if name.endswith(".md"))]
+if not os.path.exists("/usr/share/qflow/tech/osu035/osu035_stdcells.lef"):
+    DOCUMENTS.remove("docs/FLOW.md")    # its samples want this file of qflow-tech-osu035
 PICTURES = all(importlib.util.find_spec(name) for name in ("numpy", "matplotlib"))
 NAME = 32   # the token of examples/small.ispd that may be any: its net's name
 LIBRARY = "library 1\n%svia 10 10\ndriver 100\nsink 10 0\nend\n"
