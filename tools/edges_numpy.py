@@ -3,7 +3,7 @@ import numpy
 
 from texts import EAST, NORTH, UP, Fault, records
 
-BATCH = 1 << 20     # segments that are gone through at once
+BATCH = 1 << 19     # segments that are gone through at once
 
 
 class Edges:

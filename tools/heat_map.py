@@ -46,15 +46,15 @@ class Loads:
         """By row and column, demand over capacity of these layers together; 2 where one of them is over its capacity,
         and not a number where there are no wires."""
         demand, capacity = self.demand[way][layers].sum(axis=0), self.capacity[way][layers].sum(axis=0)
-        full = numpy.full(demand.shape, numpy.nan)
-        numpy.divide(demand, capacity, out=full, where=capacity > 0)
+        full = numpy.full(demand.shape, numpy.nan, numpy.float32)
+        numpy.divide(demand, capacity, out=full, where=capacity > 0, casting="unsafe")
         full[self.excess[way][layers].any(axis=0)] = 2
         return full
 
     def mosaic(self, layers):
         """The tiles with the wire edges between them: those along rows stand between two tiles of a row, and those
         along columns between two of a column."""
-        dots = numpy.full((2 * self.design.rows - 1, 2 * self.design.columns - 1), numpy.nan)
+        dots = numpy.full((2 * self.design.rows - 1, 2 * self.design.columns - 1), numpy.nan, numpy.float32)
         dots[::2, 1::2] = self.fullness(EAST, layers)[:, :-1]
         dots[1::2, ::2] = self.fullness(NORTH, layers)[:-1]
         return dots
@@ -115,7 +115,7 @@ def coarser(dots, most):
     if side == 1:
         return dots
     high, wide = (-(-size // side) * side for size in dots.shape)
-    padded = numpy.full((high, wide), -1.0)
+    padded = numpy.full((high, wide), -1, numpy.float32)
     padded[:dots.shape[0], :dots.shape[1]] = numpy.nan_to_num(dots, nan=-1)
     fullest = padded.reshape(high // side, side, wide // side, side).max(axis=(1, 3))
     return numpy.where(fullest < 0, numpy.nan, fullest)

@@ -281,9 +281,15 @@ class Congestion(InFolder):
 
     def test_open_and_crowded(self):
         self.agrees(f"{ROOT}/examples/small.ispd", f"{ROOT}/examples/open.solution")
-        made = run(program, "make", "11", "24", "20", "4", "6000")[1]
-        design = self.put("design", made)
-        self.agrees(design, self.routed(design, 4, 2))
+        for made in ("11 24 20 4 6000", "3 1500 2 4 3000"):
+            design = self.put("design", run(program, "make", *made.split())[1])
+            self.agrees(design, self.routed(design, 4, 2))
+
+    def test_coordinates_below_zero(self):
+        with open(f"{ROOT}/examples/small.ispd", encoding="ascii") as file:
+            text = file.read().replace("0 0 10 10", "-912345678 -50 10 10")
+        design = self.put("design", text.replace("5 5 1", "-912345673 -45 1").replace("25 15 1", "-912345653 -35 1"))
+        self.agrees(design, self.routed(design, 2))
 
     def test_a_net_of_too_many_pins(self):
         with open(f"{ROOT}/examples/line.ispd", encoding="ascii") as file:

@@ -8,6 +8,7 @@ A wire edge is (way, number): EAST is along a row, NORTH along a column. The num
 way first: (layer * rows + row) * columns + column for EAST, (layer * columns + column) * rows + row for NORTH. Layers,
 columns and rows count from 0.
 """
+import io
 import re
 
 EAST, NORTH, UP = range(3)
@@ -41,6 +42,9 @@ class Tokens:
     def fill(self):
         """Reads one more piece; false at the end of the file."""
         piece = self.file.read(PIECE)
+        if not piece:
+            self.file.close()
+            self.file = io.BytesIO()    # so that there is no more
         if not piece and not self.rest:
             return False
         data = self.rest + piece
