@@ -14,7 +14,7 @@ class Edges:
         self.cells = design.columns * design.rows * design.layers
         self.wires = self.vias = 0
         runs = [[], []]     # by way: first and last number and need of each run of a net
-        for widths, counts, segments in batches(records(design, solution)):
+        for widths, counts, segments in batches(design, solution):
             self.gather(runs, numpy.array(widths), numpy.array(counts), ends(segments))
         self.demand = [self.summed(some) for some in runs]
         self.capacity = [self.capacities(way) for way in (EAST, NORTH)]
@@ -92,11 +92,11 @@ class Edges:
         return sum(int(some.sum()) for some in over), max(int(some.max()) for some in over)
 
 
-def batches(nets):
+def batches(design, solution):
     """Widths, counts of segments, and the segments, of many nets at once."""
     widths, counts, segments = [], [], []
-    for width, some in nets:
-        widths.append(width)
+    for id_, some in records(design, solution):
+        widths.append(design.widths[id_])
         counts.append(len(some))
         segments += some
         if len(segments) >= BATCH:

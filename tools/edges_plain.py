@@ -1,5 +1,5 @@
 """The demand of a solution's wire edges, in plain Python: for where numpy is not installed."""
-from texts import EAST, NORTH, SEGMENT, UP, Fault, records
+from texts import EAST, NORTH, UP, records
 
 
 class Edges:
@@ -9,8 +9,8 @@ class Edges:
         self.design = design
         self.demand = {}    # (way, number) -> demand, where some net is
         self.wires = self.vias = 0
-        for width, segments in records(design, solution):
-            self.add(width, {edge for segment in segments for edge in self.covered(segment)})
+        for id_, segments in records(design, solution):
+            self.add(design.widths[id_], {edge for segment in segments for edge in self.covered(segment)})
 
     def add(self, width, edges):
         """The edges of one net."""
@@ -24,31 +24,14 @@ class Edges:
 
     def covered(self, segment):
         """The unit edges between the ends of a segment."""
-        form = SEGMENT.fullmatch(segment)
-        if form is None:
-            raise Fault(f"{segment.decode(errors='replace')} has not the form of a segment")
-        numbers = list(map(int, form.groups()))
-        ends = sorted([self.cell(*numbers[:3]), self.cell(*numbers[3:])])
-        low, high = ends
-        differ = [at for at in range(3) if low[at] != high[at]]
-        if len(differ) > 1:
-            raise Fault(f"{segment.decode()} is not straight")
-        for at in differ:
+        low, high = self.design.run(segment)
+        for at in (EAST, NORTH, UP):
             for step in range(low[at], high[at]):
                 yield at, self.number(at, (*low[:at], step, *low[at + 1:]))
 
     def number(self, way, cell):
         """The number of the edge that way from a cell."""
         return cell if way == UP else self.design.number(way, *cell)
-
-    def cell(self, x, y, layer):
-        """Column, row and layer of a point of the text."""
-        design = self.design
-        right, top = design.left + design.columns * design.tile_width, design.low + design.rows * design.tile_height
-        if not (design.left <= x <= right and design.low <= y <= top and 1 <= layer <= design.layers):
-            raise Fault(f"({x},{y},{layer}) lies outside the chip")
-        column = min((x - design.left) // design.tile_width, design.columns - 1)
-        return column, min((y - design.low) // design.tile_height, design.rows - 1), layer - 1
 
     def used(self):
         """Way, number, capacity and demand of each wire edge that is used."""

@@ -225,6 +225,32 @@ class Placed(InFolder):
         paths = (os.path.join(self.folder.name, name) for name in ("design", "library"))
         self.assertEqual(run(program, "route", *paths, "3")[0], 0)
 
+    def test_guides(self):
+        solution = self.put("solution", "in 0 (50,150,1)-(50,150,2) (50,150,2)-(50,50,2) (50,50,1)-(50,50,2) !\n"
+                                        "mid 1 (50,50,1)-(250,50,1) (250,50,1)-(250,50,2) (250,50,2)-(250,150,2)\n"
+                                        "(250,150,1)-(250,150,2) ! out 2 !")
+        guides = os.path.join(self.folder.name, "guides")
+        self.assertEqual(tool("guides.py", self.put("design", TINY), solution, self.put("lef", LEF), guides),
+                         (0, "", ""))
+        with open(guides, encoding="ascii") as file:
+            self.assertEqual(file.read(), """in
+(
+0 0 100 100 m1
+0 0 100 200 m2
+0 100 100 200 m1
+)
+mid
+(
+0 0 300 100 m1
+200 0 300 200 m2
+200 100 300 200 m1
+)
+out
+(
+200 100 300 200 m1
+)
+""")
+
     def test_what_is_refused(self):
         for old, new, says in (
             ("PLACED ( 0 0 ) N", "UNPLACED", "component one"),

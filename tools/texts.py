@@ -17,7 +17,6 @@ MOST_ROUTED = 1000      # a net of more pins is not routed
 TOKEN = re.compile(rb"[^ \t\r\n]+")
 POINT = rb"\((-?[0-9]+),(-?[0-9]+),(-?[0-9]+)\)"
 SEGMENT = re.compile(POINT + b"-" + POINT)
-NONE = object()         # stands for a net that there isn't
 
 
 class Fault(Exception):
@@ -106,6 +105,15 @@ class Tokens:
             raise self.fault("a whole number is due here or before") from None
 
 
+def ends(segment):
+    """The two ends of a segment's token, each x, y and layer."""
+    form = SEGMENT.fullmatch(segment)
+    if form is None:
+        raise Fault(f"{segment.decode(errors='replace')} has not the form of a segment")
+    numbers = list(map(int, form.groups()))
+    return numbers[:3], numbers[3:]
+
+
 class Design:
     """A grid of tiles, its capacities, and what is known of its nets.
 
@@ -125,7 +133,10 @@ class Design:
         self.left, self.low, self.tile_width, self.tile_height = tokens.numbers(4)
         if min(self.columns, self.rows, self.layers, self.tile_width, self.tile_height) < 1:
             raise tokens.fault("the grid and its tiles are at least 1 wide and high")
-        self.widths = dict(net_widths(tokens))
+        self.widths = {}
+        tokens.words(b"num", b"net")
+        for _ in range(tokens.numbers(1)[0]):
+            self.read_net(tokens)
         self.routed = sum(width is not None for width in self.widths.values())
         self.adjusted = {} if tokens.is_ended() else dict(self.adjustments(tokens))
 
@@ -133,6 +144,15 @@ class Design:
         """A line of the header: two words and a number for each layer."""
         tokens.words(*words)
         return tokens.numbers(self.layers)
+
+    def read_net(self, tokens):
+        """A net; the answer is its name, its id and the tokens of its pins."""
+        name, id_, pins, width = tokens.take(4)
+        if not (id_.isdigit() and pins.isdigit() and width.isdigit()):
+            raise tokens.fault("a net's id, number of pins and width are due")
+        id_, count = int(id_), int(pins)
+        self.widths[id_] = int(width) if count <= MOST_ROUTED else None
+        return name, id_, tokens.take(3 * count)
 
     def adjustments(self, tokens):
         """Wire edges with capacities of their own."""
@@ -155,33 +175,36 @@ class Design:
             return number % self.columns, number // self.columns % self.rows, number // (self.columns * self.rows)
         return number // self.rows % self.columns, number % self.rows, number // (self.columns * self.rows)
 
+    def cell(self, x, y, layer):
+        """Column, row and layer of a point of the text."""
+        right, top = self.left + self.columns * self.tile_width, self.low + self.rows * self.tile_height
+        if not (self.left <= x <= right and self.low <= y <= top and 1 <= layer <= self.layers):
+            raise Fault(f"({x},{y},{layer}) lies outside the chip")
+        column = min((x - self.left) // self.tile_width, self.columns - 1)
+        return column, min((y - self.low) // self.tile_height, self.rows - 1), layer - 1
+
+    def run(self, segment):
+        """The cells of a segment's ends, the lower one first."""
+        low, high = sorted(self.cell(*end) for end in ends(segment))
+        if sum(one != other for one, other in zip(low, high)) > 1:
+            raise Fault(f"{segment.decode()} is not straight")
+        return low, high
+
     def need(self, layer, width):
         """What a net of this width takes of a wire edge."""
         return max(width, self.width[layer]) + self.spacing[layer]
 
 
-def net_widths(tokens):
-    """Each net's id with its width, or None where it has too many pins to be routed."""
-    tokens.words(b"num", b"net")
-    for _ in range(tokens.numbers(1)[0]):
-        _, id_, pins, width = tokens.take(4)
-        if not (id_.isdigit() and pins.isdigit() and width.isdigit()):
-            raise tokens.fault("a net's id, number of pins and width are due")
-        count = int(pins)
-        tokens.take(3 * count)
-        yield int(id_), int(width) if count <= MOST_ROUTED else None
-
-
 def records(design, path):
-    """Of each record of a solution's text whose net is routed: its net's width and its segments' tokens."""
+    """Of each record of a solution's text whose net is routed: its net's id and its segments' tokens."""
     tokens = Tokens(path)
     while not tokens.is_ended():
         id_ = tokens.take(2)[1]
-        width = design.widths.get(int(id_), NONE) if id_.isdigit() else NONE
-        if width is NONE:
+        id_ = int(id_) if id_.isdigit() else None
+        if id_ not in design.widths:
             raise tokens.fault("the id of a net of the design is due")
         segments = tokens.until(b"!")
         if segments and not segments[0].startswith(b"("):
             del segments[0]     # a number that says nothing
-        if width is not None:
-            yield width, segments
+        if design.widths[id_] is not None:
+            yield id_, segments
