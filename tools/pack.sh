@@ -20,6 +20,7 @@ work=$(mktemp -d) || exit 1
 trap 'rm -rf "$work"' EXIT
 set -e
 
+echo "pack: where the program isn't built yet, it is proved and built first, which takes long" >&2
 # Without words groute ends with status 2, once it is built.
 status=0
 ./groute >/dev/null 2>&1 || status=$?

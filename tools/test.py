@@ -10,6 +10,7 @@ import importlib.util
 import os
 import random
 import re
+import shlex
 import subprocess
 import sys
 import tempfile
@@ -66,7 +67,9 @@ class Samples(unittest.TestCase):
     def test_samples(self):
         path = {**os.environ, "PATH": os.path.dirname(sys.executable) + os.pathsep + os.environ["PATH"]}
         with tempfile.TemporaryDirectory() as folder:
-            os.symlink(os.path.abspath(program), f"{folder}/groute")
+            with open(f"{folder}/groute", "w", encoding="utf-8") as file:
+                file.write(f'#!/bin/sh\nexec {shlex.quote(program)} "$@"\n')
+            os.chmod(f"{folder}/groute", 0o755)
             for name in ("examples", "tools", "docs"):
                 os.symlink(f"{ROOT}/{name}", f"{folder}/{name}")
             for document in DOCUMENTS:

@@ -5,7 +5,7 @@ here=$(cd "$(dirname "$0")/.." && pwd) || exit 1
 work=$(mktemp -d) || exit 1
 trap 'rm -rf "$work"' EXIT
 set -e
-"$here/tools/pack.sh" "$work" >/dev/null
+"$here/tools/pack.sh" "$work" >/dev/null 2>&1
 cd "$work"
 mkdir archive package
 tar -xf groute-*.tar.xz --strip-components=1 -C archive
