@@ -13,7 +13,7 @@ import csv
 import os
 import sys
 
-from texts import EAST, NORTH, Design, Fault, Tokens
+from texts import EAST, Design, Fault, Tokens
 
 try:
     from edges_numpy import Edges

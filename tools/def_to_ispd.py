@@ -82,7 +82,13 @@ class Chip:
         order = {"OUTPUT": 0, "CHIP": 1}
         driver = min(range(len(pins)), key=lambda at: order.get(pins[at][0], 2))
         for _, (layer, x1, y1, x2, y2) in [pins[driver], *pins[:driver], *pins[driver + 1:]]:
-            yield (x1 + x2) // 2, (y1 + y2) // 2, self.layers[layer] + 1
+            x, y = (x1 + x2) // 2, (y1 + y2) // 2
+            if not (self.left <= x <= self.left + self.columns * self.tile[0]
+                    and self.low <= y <= self.low + self.rows * self.tile[1]):
+                raise Fault(f"{self.placed.path}: a pin at ( {x} {y} ) lies outside the chip")
+            if layer not in self.layers:
+                raise Fault(f"{self.placed.path}: a pin lies on {layer}, which is no routing layer of the LEF")
+            yield x, y, self.layers[layer] + 1
 
     def capacities(self, layer):
         """Of the borders of tiles that a layer's tracks cross: by the number of the tiles' line (a row, or of a

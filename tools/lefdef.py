@@ -33,6 +33,14 @@ class Words:
         """The fault that something is outside of what is read."""
         return Fault(f"{self.path}: {what} is not read here")
 
+    def read_by(self, read, word):
+        """Calls read with a statement's first word."""
+        try:
+            read(word, self)
+        except (ValueError, IndexError, TypeError):
+            raise self.refuse(f"the form of a statement of {word}, before {' '.join(self.words[self.at:self.at + 3])},"
+                              ) from None
+
     def items(self, name):
         """The items of a section, each from behind its `-` to its `;`."""
         self.until(";")     # how many there are
@@ -80,7 +88,7 @@ class Lef:
             word = words.take()
             if word == "END":
                 break           # of the library
-            self.read(word, words)
+            words.read_by(self.read, word)
 
     def read(self, word, words):
         """One statement of the library."""
@@ -203,7 +211,9 @@ class Def:
         self.nets = []          # (name, [(component or PIN, pin)])
         words = Words(path)
         while (word := words.take()) != "END":
-            self.read(word, words)
+            words.read_by(self.read, word)
+        if self.area is None or self.units is None:
+            raise Fault(f"{path}: UNITS and DIEAREA are due")
 
     def read(self, word, words):
         """One statement or section."""

@@ -264,6 +264,10 @@ out
             ("( 150 150 ) ( * * )", "( 150 150 ) ( 160 160 )", "special wire"),
             ("+ RECT m1 ( -5", "+ POLYGON m1 ( -5", "RECTs"),
             ("END NETS\nEND DESIGN", "", "ends early"),
+            ("TRACKS Y 10 DO 10", "TRACKS Y ten DO 10", "form of a statement of TRACKS"),
+            ("DIEAREA ( 0 0 ) ( 300 200 ) ;", "", "DIEAREA are due"),
+            ("PLACED ( 50 200 ) N", "PLACED ( 50 300 ) N", "outside the chip"),
+            ("+ LAYER m2 ( -5 -5 ) ( 5 5 ) + PLACED", "+ LAYER poly ( -5 -5 ) ( 5 5 ) + PLACED", "poly"),
         ):
             self.assertIn(old, DEF)
             (status, _, err), _ = self.made(DEF.replace(old, new, 1), LEF)
