@@ -45,7 +45,7 @@ proved_with() {
 # The files of the package, under their names in the repository, in the folder $1.
 put_files() {
     git ls-files -z README.md CHANGELOG.md VERSION docs examples man tools | tar -c --null -T - | tar -x -C "$1"
-    rm "$1/tools/pack.sh" "$1/tools/test_pack.sh"
+    rm "$1/tools/pack.sh" "$1/tools/test_pack.sh" "$1/tools/test.py"
     proved_with >"$1/PROVED_WITH"
 }
 

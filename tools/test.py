@@ -97,6 +97,25 @@ def samples(document):
             wanted.append(line[4:])
 
 
+class Manual(unittest.TestCase):
+    """The man page says what docs/FORMATS.md says."""
+
+    def test_faults_and_words(self):
+        with open(f"{ROOT}/docs/FORMATS.md", encoding="utf-8") as file:
+            formats = file.read()
+        with open(f"{ROOT}/man/groute.1", encoding="utf-8") as file:
+            manual = re.sub(r"\\f[BIR]", "", file.read()).replace("\\-", "-")
+        faults = re.findall(r"^\| ([0-9]+) \| ([^|]+) \|$", formats, re.MULTILINE)
+        self.assertEqual(len(faults), 13 + 9 + 12)
+        for number, says in faults:
+            says = re.sub(r"`(\w+)`", r"\\(oq\1\\(cq" if number in "67" else r"\1", says)
+            self.assertIn(f"{number:>2}  {re.sub(r'(?<=[0-9]),(?=[0-9])', '', says)}\n", manual)
+        words = re.findall(r"^    (groute [a-z]+ [A-Z].*)$", formats, re.MULTILINE)
+        self.assertEqual(len(words), 5)
+        for line in words:
+            self.assertIn(f"{line}\n", manual)
+
+
 class Where(InFolder):
     """where.py on the tokens that groute's faults name."""
 
