@@ -1,6 +1,16 @@
 #!/bin/sh
-# Packs the program into an empty folder, unpacks the archive and the Debian package there, and routes the example with
-# each, with nothing of the toolchain on PATH. The last line is 'packed program: passed'.
+# Tests tools/pack.sh: see --help.
+usage="tools/test_pack.sh
+
+Packs the program into an empty folder, unpacks the archive and the Debian package there, and routes the example with
+each, with nothing of the toolchain on PATH. The last line is 'packed program: passed'."
+
+case ${1-} in
+-*)
+    echo "$usage"
+    exit 0
+    ;;
+esac
 here=$(cd "$(dirname "$0")/.." && pwd) || exit 1
 work=$(mktemp -d) || exit 1
 trap 'rm -rf "$work"' EXIT
