@@ -64,7 +64,8 @@ install -m 755 "$program" "$root/usr/bin/groute"
 gzip -9nc "$doc/man/groute.1" >"$root/usr/share/man/man1/groute.1.gz"
 rm -r "$doc/man"
 # The newest symbol of the C library that the program names.
-libc=$(grep -ao 'GLIBC_[0-9][0-9.]*' "$program" | sed 's/GLIBC_//' | sort -V | tail -n 1)
+needs="libc6 (>= $(grep -ao 'GLIBC_[0-9][0-9.]*' "$program" | sed 's/GLIBC_//' | sort -V | tail -n 1))"
+! ldd "$program" | grep -q libgcc_s || needs="$needs, libgcc-s1"
 cat >"$root/DEBIAN/control" <<END
 Package: groute
 Version: $version
@@ -72,7 +73,7 @@ Architecture: amd64
 Section: electronics
 Priority: optional
 Maintainer: $(git log -1 --format='%an <%ae>')
-Depends: libc6 (>= $libc), libgcc-s1
+Depends: $needs
 Recommends: python3-numpy, python3-matplotlib
 Description: proved global router for chip designs
  Routes designs in the form of the ISPD 2008 global routing contest by
