@@ -1,0 +1,130 @@
+"""The demand of a solution's wire edges, in arrays of numpy: the same as edges_plain, for large designs."""
+import numpy
+
+from texts import EAST, NORTH, UP, Fault, records
+
+BATCH = 1 << 19     # segments that are gone through at once
+
+
+class Edges:
+    """demand[way] and capacity[way] by the numbers of wire edges, and how many wire edges and vias all nets have."""
+
+    def __init__(self, design, solution):
+        self.design = design
+        self.cells = design.columns * design.rows * design.layers
+        self.wires = self.vias = 0
+        runs = [[], []]     # by way: first and last number and need of each run of a net
+        for widths, counts, segments in batches(design, solution):
+            self.gather(runs, numpy.array(widths), numpy.array(counts), ends(segments))
+        self.demand = [self.summed(some) for some in runs]
+        self.capacity = [self.capacities(way) for way in (EAST, NORTH)]
+
+    def gather(self, runs, widths, counts, points):
+        """Adds the runs of a batch of nets, each edge of a net once."""
+        low, high = self.cells_of(points[:, :3]), self.cells_of(points[:, 3:])
+        differ = low != high
+        if (differ.sum(axis=1) > 1).any():
+            raise Fault("a segment of the solution is not straight")
+        straight = differ.any(axis=1)
+        net = numpy.repeat(numpy.arange(len(counts)), counts)[straight]
+        way = differ.argmax(axis=1)[straight]
+        one, other = self.numbers(way, low[straight]), self.numbers(way, high[straight])
+        base = (net * 3 + way) * self.cells
+        first, last = merged(base + numpy.minimum(one, other), base + numpy.maximum(one, other))
+        length, way = last - first, first // self.cells % 3
+        self.vias += int(length[way == UP].sum())
+        self.wires += int(length[way != UP].sum())
+        for at in (EAST, NORTH):
+            mine = first[way == at]
+            number = mine % self.cells
+            layer = number // (self.design.columns * self.design.rows)
+            width = widths[mine // (3 * self.cells)]
+            need = numpy.maximum(width, numpy.array(self.design.width)[layer]) + numpy.array(self.design.spacing)[layer]
+            runs[at].append((number, number + length[way == at], need))
+
+    def cells_of(self, points):
+        """Column, row and layer of points of the text."""
+        design = self.design
+        size = numpy.array([design.columns, design.rows, design.layers])
+        tile = numpy.array([design.tile_width, design.tile_height, 1])
+        away = points - numpy.array([design.left, design.low, 1])
+        border = size * tile - numpy.array([0, 0, 1])
+        if ((away < 0) | (away > border)).any():
+            raise Fault("a segment of the solution ends outside the chip")
+        return numpy.minimum(away // tile, size - 1)
+
+    def numbers(self, way, cells):
+        """Of cells, going along each one's way first."""
+        column, row, layer = cells.T
+        design = self.design
+        east = (layer * design.rows + row) * design.columns + column
+        north = (layer * design.columns + column) * design.rows + row
+        up = (row * design.columns + column) * design.layers + layer
+        return numpy.choose(way, [east, north, up])
+
+    def summed(self, runs):
+        """Demand by number: each run adds its need from its first number to before its last."""
+        first, last, need = map(numpy.concatenate, zip(*runs)) if runs else [numpy.zeros(0, int)] * 3
+        change = numpy.bincount(first, need, self.cells) - numpy.bincount(last, need, self.cells)
+        return numpy.rint(change.cumsum()).astype(numpy.int64)
+
+    def capacities(self, way):
+        """Capacity by number; numbers at the border, where there is no edge, have none."""
+        design = self.design
+        line = design.columns if way == EAST else design.rows
+        stated = numpy.repeat(numpy.array(design.capacity[way]), design.columns * design.rows)
+        stated[line - 1::line] = 0
+        mine = {number: capacity for (at, number), capacity in design.adjusted.items() if at == way}
+        stated[list(mine)] = list(mine.values())
+        return stated
+
+    def used(self):
+        """Way, number, capacity and demand of each wire edge that is used."""
+        for way in (EAST, NORTH):
+            numbers = self.demand[way].nonzero()[0]
+            columns = numbers, self.capacity[way][numbers], self.demand[way][numbers]
+            for number, capacity, demand in zip(*(column.tolist() for column in columns)):
+                yield way, number, capacity, demand
+
+    def overflow(self):
+        """The sum and the greatest of what demand has above capacity."""
+        over = [numpy.maximum(self.demand[way] - self.capacity[way], 0) for way in (EAST, NORTH)]
+        return sum(int(some.sum()) for some in over), max(int(some.max()) for some in over)
+
+
+def batches(design, solution):
+    """Widths, counts of segments, and the segments, of many nets at once."""
+    widths, counts, segments = [], [], []
+    for id_, some in records(design, solution):
+        widths.append(design.widths[id_])
+        counts.append(len(some))
+        segments += some
+        if len(segments) >= BATCH:
+            yield widths, counts, segments
+            widths, counts, segments = [], [], []
+    if segments:
+        yield widths, counts, segments
+
+
+def ends(segments):
+    """The six numbers of each segment's token."""
+    count = len(segments)
+    text = b"\n" + b"\n".join(segments) + b"\n"
+    signs = text.translate(None, b"0123456789").replace(b"(-", b"(").replace(b",-", b",")
+    has_form = signs == b"\n" + b"(,,)-(,,)\n" * count and all(
+        text.count(mark) == count for mark in (b"\n(", b")-(", b")\n"))
+    # A number that is left out would make too few.
+    blanks = text.replace(b")-(", b" ").translate(bytes.maketrans(b"(),", b"   "))
+    numbers = numpy.fromstring(blanks, numpy.int64, sep=" ") if has_form else numpy.zeros(0, int)
+    if len(numbers) != 6 * count:
+        raise Fault("a segment of the solution has not the form (x,y,layer)-(x,y,layer)")
+    return numbers.reshape(count, 6)
+
+
+def merged(first, last):
+    """Runs from first to last, in order, where those that meet are one."""
+    order = first.argsort(kind="stable")
+    first, last = first[order], numpy.maximum.accumulate(last[order])
+    begins = numpy.ones(len(first), bool)
+    begins[1:] = first[1:] > last[:-1]
+    return first[begins], last[numpy.append(begins[1:], True)] if len(first) else last
