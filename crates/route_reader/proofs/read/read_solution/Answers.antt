@@ -1,3 +1,4 @@
+use Rattle.std.proofs.Common.{rules}
 use Rattle.gr_io.specs.declared.shelf.Slot.TheVariants as slot
 use Rattle.route_reader.proofs.ReadLemmas.{says-read}
 use Rattle.route_reader.proofs.CoverLemmas.{read-covers}
@@ -15,4 +16,6 @@ returns-clause-covers g c =
 
 pub returns-clause-rest_unread : goal.returns-clause-rest_unread
 returns-clause-rest_unread g c =
-    fault-unread g.S.Shelf.tells c.read.result c.in_ok-tokens.tokens _ (g.S.Shelf.left c.args.shelf.now) _ _ _ c.in_ok-tokens.ensures ? c.read.ensures.onward
+    let behind = fault-unread g.S.Shelf.tells c.read.result c.in_ok-tokens.tokens c.read.new.reader.tokens.now (g.S.Shelf.left c.args.shelf.now)
+    (g.S.Shelf.left c.read.new.reader.shelf.now) _ _ c.in_ok-tokens.ensures c.read.ensures.slot c.read.ensures.onward in
+    search rules
