@@ -176,4 +176,19 @@ mod tests {
         assert_eq!(rt; reader.calls, 2);
         Ok(())
     }
+
+    /// A reader that is out of order.
+    #[derive(Drop)]
+    struct Broken;
+
+    impl Read for Broken {
+        fn read(&mut self, _buf: &mut [u8]) -> io::Result<usize> {
+            Err(io::Error::from(ErrorKind::BrokenPipe))
+        }
+    }
+
+    #[test]
+    fn another_error_is_no_end(rt: HostRuntime) {
+        assert!(rt; read_some(&mut Broken, &mut [0; 4]).is_err());
+    }
 }

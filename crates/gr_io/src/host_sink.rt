@@ -82,3 +82,43 @@ fn write_some<W: Write>(stream: &mut W, bytes: &[u8]) -> io::Result<usize>
     }
     stream.write(bytes)
 }
+
+#[cfg(test)]
+mod tests {
+    use super::*;
+    use crate::whole::write_whole;
+
+    /// A writer that keeps what it takes, two bytes in a call, and fails at its third call.
+    #[derive(Drop)]
+    struct Keeping {
+        bytes: Vec<u8>,
+        calls: u32,
+    }
+
+    impl Write for Keeping {
+        fn write(&mut self, buf: &[u8]) -> io::Result<usize> {
+            self.calls = self.calls.saturating_add(1);
+            if self.calls == 3 {
+                return Err(io::Error::from(ErrorKind::BrokenPipe));
+            }
+            let count = buf.len().min(2);
+            self.bytes.extend_from_slice(&buf[..count])?;
+            Ok(count)
+        }
+
+        fn flush(&mut self) -> io::Result<()> {
+            Ok(())
+        }
+    }
+
+    #[test]
+    fn an_error_is_a_fault_behind_what_was_written(rt: HostRuntime) {
+        let mut stream = Keeping {
+            bytes: Vec::new(rt.alloc()),
+            calls: 0,
+        };
+        let written = write_whole(&mut HostSink::new(&mut stream), b"abcdef");
+        assert!(rt; written.is_err());
+        assert_eq!(rt; stream.bytes.as_slice(), b"abcd".as_slice());
+    }
+}
