@@ -136,7 +136,8 @@ def words(trial):
     a, b = trial.texts.put(A), trial.texts.put(B)
     for bad in (["route", a, b, "65"], ["route", a, b], ["route", a, b, "0", "--workers", "17"],
                 ["route", a, b, "0", "--workers", "1", "--workers", "1"], ["rout", a, b, "0"], ["--help"], [],
-                ["route", a, b, "0", "0"], ["route", a, b, "-1"], ["route", a, b, "0" * 21], ["make", "1", "1", "10", "2", "1"],
+                ["route", a, b, "0", "0"], ["route", a, b, "-1"], ["route", a, b, "0" * 21],
+                ["make", "1", "1", "10", "2", "1"],
                 ["make", "1", "2049", "10", "2", "1"], ["evaluate", a, b, "--workers", "1"], ["buffer", a, b],
                 ["evaluate", a, b, "--via-cost", "1001"], ["route", a, b, "0", "--workers"],
                 ["trial", "1", "10", "10", "2", "1000001", "0"], ["route", b"\xff\xfe", b, "0"],

@@ -2,12 +2,14 @@
 """Compares two routers on mutations of texts: reference/mutate.py PROGRAM --beside OTHER [--count N] [--seed S]
 
 A random small design, a library for it and routes of it are written, one of the texts is changed in up to four places,
-and a command is run on them by both programs. Ten cases share the texts that they change. Tokens are dropped, doubled, exchanged, moved, replaced and grown to the
-limits, bytes are flipped, blanks are put in or taken out, and a text is cut anywhere. Status, standard output and
-standard error are compared byte for byte. Texts on which the two differ are kept in --keep. A case is made from its
-number, so that it can be run again alone: --seed S --count 1. The last line is `N passed, M failed`.
+and a command is run on them by both programs. Ten cases share the texts that they change. Tokens are dropped, doubled,
+exchanged, copied, replaced and grown to the limits, bytes are flipped, put in and taken out, and texts are cut anywhere.
+Status, standard output and standard error are compared byte for byte. Texts on which the two differ are kept in the
+folder --keep. A case is made from its number, so that it can be run again alone: --seed NUMBER --count 1. The last line
+is `N passed, M failed`. A run that takes over 60 seconds is stopped, and its case fails.
 
-Of libraries of version 3 only the status is compared, as programs may differ in the buffers that they place with them.
+Of libraries of version 3 that are accepted only the status is compared, as the programs may differ in the buffers that
+they place with them.
 """
 import argparse
 import json
@@ -189,7 +191,7 @@ class Trial:
         return [os.path.join(self.folder, word) if word in texts else word for word in words]
 
     def whole_texts(self, group):
-        """The texts that the cases of a group change: a design, a library for it, and routes of it by the other program."""
+        """What the cases of a group change: a design, a library for it, and routes of it by the other program."""
         if group != self.group:
             rng = random.Random(group)
             text = design(rng)
