@@ -3,7 +3,7 @@
 
 A random small design, a library for it and routes of it are written, one of the texts is changed in up to four places,
 and a command is run on them by both programs. Ten cases share the texts that they change. Tokens are dropped, doubled,
-exchanged, copied, replaced and grown to the limits, bytes are flipped, put in and taken out, and texts are cut anywhere.
+exchanged, copied, replaced and grown to the limits, bytes are flipped, put in and taken out, texts are cut anywhere.
 Status, standard output and standard error are compared byte for byte. Texts on which the two differ are kept in the
 folder --keep. A case is made from its number, so that it can be run again alone: --seed NUMBER --count 1. The last line
 is `N passed, M failed`. A run that takes over 60 seconds is stopped, and its case fails.
