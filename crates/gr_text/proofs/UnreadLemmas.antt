@@ -1,8 +1,7 @@
 -- How far a text is read, from one token to the next.
-use Rattle.std.proofs.Common.{◌≡◌, ℕ, suc, ◌+◌, ◌-◌, ◌<◌, ◌≤◌, ◌⊎◌, inl, inr, Bool, true, false, if◌then◌else◌, List, [], ◌∷◌, ◌++◌, length, Result, Ok, Err, IfOk, IsTrue, refl, sym, ap, subst, ◌∙◌, arith, length-append, append_assoc, append-nil}
+use Rattle.std.proofs.Common.{◌≡◌, ℕ, suc, ◌+◌, ◌-◌, ◌≤◌, inl, inr, Bool, true, false, if◌then◌else◌, List, [], ◌∷◌, ◌++◌, length, Result, Ok, Err, IfOk, IsTrue, refl, sym, ap, subst, ◌∙◌, arith, length-append, append_assoc, append-nil}
 use Rattle.std.specs.List.{slice_split, onto_first, list_all}
 use Rattle.std.proofs.lemmas.Bool.{cases_Bool}
-use Rattle.std.proofs.lemmas.Bool.Decides.{nat_tests}
 use Rattle.std.proofs.lemmas.List.Folds.{list_all-append}
 use Rattle.std.proofs.lemmas.List.Splits.{slice_split-cons_yes, slice_split-cons_no}
 use Rattle.gr_base.specs.Names.{is_token}
@@ -54,8 +53,7 @@ count-blank byte rest blank =
 
 count-solid : (byte : ℕ) (rest : List ℕ) → is_blank byte ≡ false → (count (byte ∷ rest) ≡ suc (later rest)) × (later (byte ∷ rest) ≡ later rest)
 count-solid byte rest other =
-    let is = slice_split-cons_no is_blank byte rest other in
-    (
+    let is = slice_split-cons_no is_blank byte rest other in (
       ap (λ parts. length (some_runs parts)) is ∙ onto-count byte (slice_split is_blank rest),
       ap (λ parts. length (some_runs (tail parts))) is ∙ ap (λ parts. length (some_runs parts)) (onto-tail byte (slice_split is_blank rest)),
     )

@@ -1,8 +1,7 @@
 -- A whole solution's text and its tokens.
-use Rattle.std.proofs.Common.{◌≡◌, ℕ, zero, suc, ◌+◌, ◌-◌, ◌≤◌, Bool, true, false, List, [], ◌∷◌, take, Result, Ok, Err, if◌then◌else◌, sym, ap, subst, ◌∙◌, arith}
-use Rattle.gr_base.specs.Limits.{most_bytes}
+use Rattle.std.proofs.Common.{◌≡◌, ℕ, zero, suc, ◌+◌, ◌-◌, ◌≤◌, Bool, true, false, List, [], ◌∷◌, take, Ok, Err, if◌then◌else◌, sym, ap, subst, ◌∙◌, arith}
 use Rattle.gr_base.specs.Designs.{DesignView}
-use Rattle.gr_text.specs.Tokens.{tokens, AtEnd, place_in}
+use Rattle.gr_text.specs.Tokens.{tokens, AtEnd}
 use Rattle.solution_text.specs.Grammar.{Checked, Progress, start, step}
 use Rattle.solution_text.specs.declared.fault.SolutionFault.{SolutionFault}
 use Rattle.solution_text.specs.declared.fault.SolutionFault.TheVariants.{Ended}
