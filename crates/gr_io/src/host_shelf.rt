@@ -1,8 +1,9 @@
 ghost use Rattle.std.specs.Prelude.{◌≡◌, ℕ, ◌<◌, ◌≤◌, Bool, false, List, [], None, length, IsTrue, OnOk, OnErr, IfOk};
+ghost use Rattle.std.specs.Io.KnownBytes.{ReadConsumes};
 ghost use Rattle.gr_io.specs.Counts.{Rose, one_more};
 ghost use Rattle.gr_io.specs.Host.{no_files, with_file};
 ghost use Rattle.gr_io.specs.Shelves.{StaysOpen};
-ghost use Rattle.gr_io.specs.Slots.{at_slot};
+ghost use Rattle.gr_io.specs.Slots.{at_slot, set_slot};
 ghost use Rattle.gr_io.specs.declared.shelf.Slot.{Slot};
 
 use crate::shelf::{Failed, ReachError, Shelf, Slot};
@@ -26,7 +27,7 @@ pub struct HostShelf<R: Files> {
 }
 
 impl<R: Files> Model for HostShelf<R> {
-    ghost use Rattle.std.specs.Prelude.{is_some};
+    ghost use Rattle.std.specs.Prelude.{is_some, option_and_then};
     ghost use Rattle.gr_io.specs.Host.{HostFiles};
     ghost use Rattle.gr_io.specs.Slots.{map_slots};
 
@@ -34,6 +35,7 @@ impl<R: Files> Model for HostShelf<R> {
 
     ghost view = { λ s. record {
       opened = map_slots is_some s.files;
+      left = map_slots (option_and_then R.File.remaining) s.files;
       faults = s.faults;
       misses = s.misses;
     } };
@@ -83,8 +85,9 @@ impl<R: Files> Shelf for HostShelf<R> {
         // It never answers that a device failed, and what isn't Ok leaves the open files.
         ensures sure { result ≡ Err ReachError.Failed → ⊥ }
         ensures counted { result ≡ Err ReachError.Missing → self.new.misses ≡ one_more self.old.misses }
-        ensures file { OnOk result (self.new ≡ with_file self.old slot) }
+        ensures file { OnOk result (self.new ≡ with_file self.old slot (at_slot self.new.left slot)) }
         ensures kept { OnErr result (self.new.opened ≡ self.old.opened) }
+        ensures unread { OnErr result (self.new.left ≡ self.old.left) }
     {
         match fs::open(&self.rt, name) {
             Ok(file) => {
@@ -109,9 +112,14 @@ impl<R: Files> Shelf for HostShelf<R> {
         ensures misses { self.new.misses ≡ self.old.misses }
         ensures reached { StaysOpen (at_slot self.old.opened) (at_slot self.new.opened) }
 
+        // Where the file's bytes are known, what is given are its next ones, and 0 bytes only at
+        // their end: so an error of the file is a fault.
+        ensures bytes { ReadConsumes (at_slot self.old.left slot) (at_slot self.new.left slot) result buf.new }
+
         // A fault counts once, and the open files stay.
         ensures counted { OnErr result (self.new.faults ≡ one_more self.old.faults) }
         ensures kept { self.new.opened ≡ self.old.opened }
+        ensures others { self.new.left ≡ set_slot self.old.left slot (at_slot self.new.left slot) }
     {
         let mut file = self.files.take(slot).unwrap();
         let outcome = read_some(&mut file, buf);
@@ -129,6 +137,7 @@ impl<R: Files> Shelf for HostShelf<R> {
 /// Reads some bytes, and tries again where a signal interrupts it.
 fn read_some<F: Read>(file: &mut F, buf: &mut [u8]) -> io::Result<usize>
     ensures within { IfOk result (λ count. count ≤ length buf.old) }
+    ensures bytes { ReadConsumes (F.remaining file.old) (F.remaining file.new) result buf.new }
 {
     for _ in 1..TRIES {
         match file.read(buf) {
@@ -166,5 +175,20 @@ mod tests {
         assert_eq!(rt; read_some(&mut reader, &mut [0; 4])?, 1);
         assert_eq!(rt; reader.calls, 2);
         Ok(())
+    }
+
+    /// A reader that is out of order.
+    #[derive(Drop)]
+    struct Broken;
+
+    impl Read for Broken {
+        fn read(&mut self, _buf: &mut [u8]) -> io::Result<usize> {
+            Err(io::Error::from(ErrorKind::BrokenPipe))
+        }
+    }
+
+    #[test]
+    fn another_error_is_no_end(rt: HostRuntime) {
+        assert!(rt; read_some(&mut Broken, &mut [0; 4]).is_err());
     }
 }

@@ -1,5 +1,7 @@
 ghost use Rattle.std.specs.Prelude.{◌≡◌, ◌<◌, ◌≤◌, false, [], length, OnOk, OnErr, IfOk};
+ghost use Rattle.std.specs.Io.KnownBytes.{WriteAppends};
 ghost use Rattle.gr_io.specs.Counts.{Rose, one_more};
+ghost use Rattle.gr_io.specs.Host.{fresh_stream};
 
 use crate::shelf::Failed;
 use crate::sink::Sink;
@@ -18,17 +20,17 @@ pub struct HostSink<W: Write> {
 }
 
 impl<W: Write> Model for HostSink<W> {
-    ghost use Rattle.std.specs.Prelude.{ℕ};
+    ghost use Rattle.gr_io.specs.Host.{HostStream};
 
-    ghost Value = { ℕ };
+    ghost Value = { HostStream };
 
-    ghost view = { λ s. s.faults };
+    ghost view = { λ s. record { contents = W.contents s.stream; faults = s.faults } };
 }
 
 impl<W: Write> HostSink<W> {
     /// The count of faults is 0.
     pub fn new(stream: W) -> Self
-        ensures { result ≡ 0 }
+        ensures { result ≡ fresh_stream (W.contents stream) }
     {
         HostSink { stream, faults: 0 }
     }
@@ -37,7 +39,7 @@ impl<W: Write> HostSink<W> {
 impl<W: Write> Sink for HostSink<W> {
     ghost tells = { false };
 
-    ghost faults = { λ s. s };
+    ghost faults = { λ s. s.faults };
 
     ghost written = { λ _. [] };
 
@@ -46,12 +48,16 @@ impl<W: Write> Sink for HostSink<W> {
         requires { 0 < length bytes.now }
         ensures some { IfOk result (λ count. 1 ≤ count) }
         ensures within { IfOk result (λ count. count ≤ length bytes.now) }
-        ensures failed { OnErr result (Rose self.old self.new) }
-        ensures quiet { OnOk result (self.new ≡ self.old) }
-        ensures faults_kept { self.old ≤ self.new }
+        ensures failed { OnErr result (Rose self.old.faults self.new.faults) }
+        ensures quiet { OnOk result (self.new.faults ≡ self.old.faults) }
+        ensures faults_kept { self.old.faults ≤ self.new.faults }
+
+        // Where the stream's bytes are known, it gained the bytes that are said to be written: so an
+        // error of the stream is a fault.
+        ensures bytes { WriteAppends self.old.contents self.new.contents result bytes.now }
 
         // A fault counts once.
-        ensures counted { OnErr result (self.new ≡ one_more self.old) }
+        ensures counted { OnErr result (self.new.faults ≡ one_more self.old.faults) }
     {
         match write_some(&mut self.stream, bytes) {
             Ok(count) if count > 0 => Ok(count),
@@ -66,6 +72,7 @@ impl<W: Write> Sink for HostSink<W> {
 /// Writes some bytes, and tries again where a signal interrupts it.
 fn write_some<W: Write>(stream: &mut W, bytes: &[u8]) -> io::Result<usize>
     ensures within { IfOk result (λ count. count ≤ length bytes.now) }
+    ensures bytes { WriteAppends (W.contents stream.old) (W.contents stream.new) result bytes.now }
 {
     for _ in 1..TRIES {
         match stream.write(bytes) {
@@ -74,4 +81,44 @@ fn write_some<W: Write>(stream: &mut W, bytes: &[u8]) -> io::Result<usize>
         }
     }
     stream.write(bytes)
+}
+
+#[cfg(test)]
+mod tests {
+    use super::*;
+    use crate::whole::write_whole;
+
+    /// A writer that keeps what it takes, two bytes in a call, and fails at its third call.
+    #[derive(Drop)]
+    struct Keeping {
+        bytes: Vec<u8>,
+        calls: u32,
+    }
+
+    impl Write for Keeping {
+        fn write(&mut self, buf: &[u8]) -> io::Result<usize> {
+            self.calls = self.calls.saturating_add(1);
+            if self.calls == 3 {
+                return Err(io::Error::from(ErrorKind::BrokenPipe));
+            }
+            let count = buf.len().min(2);
+            self.bytes.extend_from_slice(&buf[..count])?;
+            Ok(count)
+        }
+
+        fn flush(&mut self) -> io::Result<()> {
+            Ok(())
+        }
+    }
+
+    #[test]
+    fn an_error_is_a_fault_behind_what_was_written(rt: HostRuntime) {
+        let mut stream = Keeping {
+            bytes: Vec::new(rt.alloc()),
+            calls: 0,
+        };
+        let written = write_whole(&mut HostSink::new(&mut stream), b"abcdef");
+        assert!(rt; written.is_err());
+        assert_eq!(rt; stream.bytes.as_slice(), b"abcd".as_slice());
+    }
 }

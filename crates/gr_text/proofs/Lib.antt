@@ -1,3 +1,4 @@
+pub mod UnreadLemmas
 pub mod ReadingLemmas
 pub mod PieceLemmas
 pub mod ScanLemmas

@@ -161,10 +161,12 @@ token-closed room number bytes before after left numbered part some closed few a
       subst P (sym room_is) (subst Q (sym text) (subst R (sym word) (subst S then_place next))),
       record {
         blanks = [];
-        ahead = before.pending;
-        is = are ∙ ap (λ w. w ++ (before.pending ++ left)) (sym word);
+        behind = closed.byte ∷ [];
+        is = text ∙ ap (λ w. w ++ (closed.byte ∷ (closed.rest ++ left))) (sym word) ∙
+            ap (λ xs. after.word ++ (closed.byte ∷ (xs ++ left))) (sym ahead);
         blank = refl;
-        little = few;
+        closed = rw closed.blank refl;
+        little = subst (λ (xs : List ℕ). length xs ≤ 65536) (closed.is ∙ ap (λ xs. closed.byte ∷ xs) (sym ahead)) few;
       },
     )
 
@@ -191,10 +193,12 @@ token-ended room number bytes before after left rest numbered part some none_ahe
       subst Q (sym text) (subst R (sym word) (subst S then_place next)),
       record {
         blanks = [];
-        ahead = [];
-        is = text ∙ sym word ∙ sym (append-nil after.word) ∙ ap (λ xs. after.word ++ xs) (sym none_after);
+        behind = [];
+        is = text ∙ sym word ∙ sym (append-nil after.word) ∙ ap (λ xs. after.word ++ xs) (sym none_after) ∙
+            ap (λ xs. after.word ++ (xs ++ rest)) (sym ahead);
         blank = refl;
-        little = omega arith;
+        closed = refl;
+        little = let size = ap length ahead in omega arith;
       },
     )
 
@@ -212,11 +216,22 @@ token-past room number bytes before left part some spent are =
 
 pub token-fails : (room number : ℕ) (bytes : List ℕ) (before after : Stream) (left rest : List ℕ) (error : TokenError) →
     IsPart room before → (0 < length before.pending → before.room ≡ 0) → bytes ≡ before.word ++ (before.pending ++ left) →
-    Refills before (Err error) after → TakesToken room number bytes (Err error) after rest
-token-fails room number bytes before after left rest Failed part spent are refilled = tt
-token-fails room number bytes before after left rest NoMemory part spent are refilled = tt
-token-fails room number bytes before after left rest (TooLong token) part spent are refilled =
-    token-past room number bytes before left part refilled.0 (spent refilled.0) are
+    length before.pending ≤ 65536 → Refills before (Err error) after → LeavesRest (Err error) after.pending left rest →
+    TakesToken room number bytes (Err error) after rest
+token-fails room number bytes before after left rest Failed part spent are few refilled leaves = tt
+token-fails room number bytes before after left rest NoMemory part spent are few refilled leaves = tt
+token-fails room number bytes before after left rest (TooLong token) part spent are few refilled leaves = (
+  token-past room number bytes before left part refilled.0 (spent refilled.0) are,
+  record {
+    blanks = [];
+    word = before.word;
+    ahead = before.pending;
+    is = are ∙ ap (λ xs. before.word ++ (before.pending ++ xs)) (sym leaves);
+    blank = refl;
+    solid = part.all_solid;
+    little = few;
+  },
+)
 
 -- ---- where more was read
 

@@ -64,7 +64,7 @@ but_last-more part parts p =
     let P : List (List ℕ) → Type 0 = λ ps. but_last (part ∷ ps) ≡ part ∷ but_last ps in
     subst P (sym p.is) refl
 
-some_runs-word : (word : List ℕ) (parts : List (List ℕ)) → 0 < length word → some_runs (word ∷ parts) ≡ word ∷ some_runs parts
+pub some_runs-word : (word : List ℕ) (parts : List (List ℕ)) → 0 < length word → some_runs (word ∷ parts) ≡ word ∷ some_runs parts
 some_runs-word word parts some =
     let test : nat_lt 0 (length word) ≡ true = grind (arith, nat_tests) in
     rw test refl

@@ -5,3 +5,4 @@ pub mod Steps
 pub mod Numbers
 pub mod Reading
 pub mod Reads
+pub mod Unread

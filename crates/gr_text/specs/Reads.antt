@@ -5,6 +5,9 @@ use Rattle.gr_text.specs.declared.source.ReadError.{ReadError}
 use Rattle.gr_text.specs.declared.source.ReadError.TheVariants.{Fault, Failed, NoMemory}
 use Rattle.gr_text.specs.Tokens.{Place}
 use Rattle.gr_text.specs.Reading.{Read, Reader}
+use Rattle.gr_text.specs.Streams.{Stream}
+use Rattle.gr_text.specs.Unread.{HasRead, IsReadTo}
+use Rattle.gr_io.specs.declared.shelf.Slot.{Slot}
 
 -- the result is what the grammar says, seen as the grammar's values, and the place is the one behind it;
 -- a failed read and want of memory say nothing of the text
@@ -44,3 +47,32 @@ OfPlace read view (Ok value) = (place : Place) × (read ≡ Ok (view value, plac
 OfPlace read view (Err (Fault fault token)) = read ≡ Err (fault, token)
 OfPlace read view (Err Failed) = Unit {0}
 OfPlace read view (Err NoMemory) = Unit {0}
+
+-- a source goes on from what it has read of a text: a value leaves it so that little more is read, and so does a fault
+-- behind the token that it names; a failed read and want of memory say nothing
+abbrev pub Reaches : {F V : Type 0} → Result V (ReadError F) → Type 0 → (ℕ → Type 0) → Type 0
+Reaches (Ok value) reaches stops = reaches
+Reaches (Err (Fault fault token)) reaches stops = stops token
+Reaches (Err Failed) reaches stops = Unit {0}
+Reaches (Err NoMemory) reaches stops = Unit {0}
+
+-- so it is of each text
+abbrev pub Onward : {S F V : Type 0} → (reaches : S → List ℕ → Type 0) → (stops : S → List ℕ → ℕ → Type 0) →
+    Result V (ReadError F) → (before after : S) → Type 0
+Onward reaches stops result before after =
+    (bytes : List ℕ) → reaches before bytes → Reaches result (reaches after bytes) (stops after bytes)
+
+-- the same of a stream over the unread bytes of each slot
+abbrev pub GoesThrough : {F V : Type 0} → (tells : Bool) → Result V (ReadError F) → (before : Stream) → (Slot → List ℕ) →
+    (after : Stream) → (Slot → List ℕ) → Type 0
+GoesThrough tells result before left after left_after = (bytes : List ℕ) →
+    (IsTrue tells → HasRead bytes before.number before.pending (left before.slot)) →
+    Reaches result (IsTrue tells → HasRead bytes after.number after.pending (left_after after.slot))
+    (λ token. IsTrue tells → IsReadTo bytes token (left_after after.slot))
+
+-- a fact of the token at which a text is at fault
+abbrev pub AtFault : {F V : Type 0} → Result V (ReadError F) → (ℕ → Type 0) → Type 0
+AtFault (Ok value) fact = Unit {0}
+AtFault (Err (Fault fault token)) fact = fact token
+AtFault (Err Failed) fact = Unit {0}
+AtFault (Err NoMemory) fact = Unit {0}

@@ -7,7 +7,7 @@ use Rattle.gr_text.specs.declared.tokens.TokenError.{TokenError}
 use Rattle.gr_text.specs.declared.tokens.TokenError.TheVariants.{Failed, TooLong, NoMemory}
 use Rattle.std.specs.List.{list_all, position_or_len}
 use Rattle.gr_text.specs.Tokens.{Place, Ending, AtEnd, PastLimit, is_blank, place_in}
-use Rattle.gr_text.specs.Streams.{Stream, Countable, usable, place_of, place_at, ReadsLittleAhead}
+use Rattle.gr_text.specs.Streams.{Stream, Countable, usable, place_of, place_at, ReadsLittleAhead, IsCut}
 
 -- the token was the next, and is behind the place now
 pub record IsNext (before : Place) (word : List ℕ) (after : Place) : Type 0 where
@@ -47,9 +47,17 @@ GivesNext before left result after left_after =
     GivesToken (place_at before left) result (place_of after (left_after before.slot))
 
 -- the word was read, and at most one piece behind it
-abbrev pub ReadsLittle : Stream → (Slot → List ℕ) → List ℕ → (Slot → List ℕ) → Type 0
-ReadsLittle before left word left_after =
-    ReadsLittleAhead (before.pending ++ left before.slot) word (left_after before.slot)
+abbrev pub ReadsLittle : Stream → (Slot → List ℕ) → List ℕ → Stream → (Slot → List ℕ) → Type 0
+ReadsLittle before left word after left_after =
+    ReadsLittleAhead (before.pending ++ left before.slot) word after.pending (left_after before.slot)
+
+-- what a step read of a text where it gave no token: blanks to its end, or up to its limit and at most one piece behind it
+abbrev pub ReadsOn : (bytes : List ℕ) → Result Bool TokenError → (pending left : List ℕ) → Type 0
+ReadsOn bytes (Ok true) pending left = Unit {0}
+ReadsOn bytes (Ok false) pending left = (list_all is_blank bytes ≡ true) × (pending ≡ []) × (left ≡ [])
+ReadsOn bytes (Err (TooLong token)) pending left = IsCut bytes left
+ReadsOn bytes (Err Failed) pending left = Unit {0}
+ReadsOn bytes (Err NoMemory) pending left = Unit {0}
 
 -- the count of faults rose where a read failed, and is as before where not
 abbrev pub Counted : {V : Type 0} → Result V TokenError → ℕ → ℕ → Type 0
@@ -128,7 +136,16 @@ TakesOne before (Err NoMemory) after = Unit {0}
 -- limit
 abbrev pub TakesToken : (room number : ℕ) → List ℕ → Result (Unit {0}) TokenError → Stream → List ℕ → Type 0
 TakesToken room number bytes (Ok done) after left =
-    IsNext (place_in room number bytes) after.word (place_of after left) × ReadsLittleAhead bytes after.word left
-TakesToken room number bytes (Err (TooLong token)) after left = IsLast (place_in room number bytes) PastLimit
+    IsNext (place_in room number bytes) after.word (place_of after left) ×
+    ReadsLittleAhead bytes after.word after.pending left
+TakesToken room number bytes (Err (TooLong token)) after left =
+    IsLast (place_in room number bytes) PastLimit × IsCut bytes left
 TakesToken room number bytes (Err Failed) after left = Unit {0}
 TakesToken room number bytes (Err NoMemory) after left = Unit {0}
+
+-- what a step leaves of a source that has read little more of a text than its tokens so far
+abbrev pub Steps : Result Bool TokenError → Type 0 → (ℕ → Type 0) → Type 0
+Steps (Ok more) reaches stops = reaches
+Steps (Err (TooLong token)) reaches stops = stops token
+Steps (Err Failed) reaches stops = Unit {0}
+Steps (Err NoMemory) reaches stops = Unit {0}

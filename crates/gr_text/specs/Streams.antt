@@ -65,10 +65,23 @@ pub record GrowsAhead (before : Stream) (closed : Bool) (after : Stream) : Type 
   pub is : after ≡ grown (position_or_len is_blank (usable before)) before
   pub found : closed ≡ nat_lt (position_or_len is_blank (usable before)) (length (usable before))
 
--- the bytes were blanks, the token and what was read behind its last byte, and this is at most one piece
-pub record ReadsLittleAhead (bytes word left : List ℕ) : Type 0 where
+-- the bytes were blanks, the token, blanks behind it, what was read and lies ahead, and what is left; what was read behind
+-- the token's last byte is at most one piece
+pub record ReadsLittleAhead (bytes word pending left : List ℕ) : Type 0 where
   pub blanks : List ℕ
+  pub behind : List ℕ
+  pub is : bytes ≡ blanks ++ (word ++ (behind ++ (pending ++ left)))
+  pub blank : list_all is_blank blanks ≡ true
+  pub closed : list_all is_blank behind ≡ true
+  pub little : length (behind ++ pending) ≤ 65536
+
+-- the bytes were blanks, the part of a token that lies within the limit, and what was read behind the limit, at most one
+-- piece
+pub record IsCut (bytes left : List ℕ) : Type 0 where
+  pub blanks : List ℕ
+  pub word : List ℕ
   pub ahead : List ℕ
   pub is : bytes ≡ blanks ++ (word ++ (ahead ++ left))
   pub blank : list_all is_blank blanks ≡ true
+  pub solid : list_all (λ byte. not (is_blank byte)) word ≡ true
   pub little : length ahead ≤ 65536

@@ -13,8 +13,9 @@ pub struct TokenReader<'t, 's, S: Shelf> {
 }
 
 impl<'t, 's, S: Shelf> TokenSource for TokenReader<'t, 's, S> {
-    ghost use Rattle.std.specs.Prelude.{◌≡◌, []};
+    ghost use Rattle.std.specs.Prelude.{◌≡◌, [], IsTrue};
     ghost use Rattle.gr_text.specs.Streams.{place_of};
+    ghost use Rattle.gr_text.specs.Unread.{HasRead, IsReadTo};
 
     ghost tells = { S.tells };
 
@@ -32,6 +33,12 @@ impl<'t, 's, S: Shelf> TokenSource for TokenReader<'t, 's, S> {
     } };
 
     ghost ended = { λ r. S.left r.shelf.now r.tokens.now.slot ≡ [] };
+
+    ghost reaches = { λ r bytes. IsTrue S.tells →
+        HasRead bytes r.tokens.now.number r.tokens.now.pending (S.left r.shelf.now r.tokens.now.slot) };
+
+    ghost stops = { λ r bytes token. IsTrue S.tells →
+        IsReadTo bytes token (S.left r.shelf.now r.tokens.now.slot) };
 
     fn advance(&mut self) -> Result<bool, TokenError> {
         self.tokens.advance(self.shelf)

@@ -1,7 +1,7 @@
 ghost use Rattle.std.specs.Prelude.{◌≡◌, ℕ, Some, None, false, Ok, IsTrue, IfOk, OnOk, ◌≤ℤ◌, if◌then◌else◌};
 ghost use Rattle.gr_base.specs.Names.{is_token};
 ghost use Rattle.gr_text.specs.Reading.{token, token_or_end, word, number, check};
-ghost use Rattle.gr_text.specs.Reads.{ReadsBy, Counts, word_if};
+ghost use Rattle.gr_text.specs.Reads.{ReadsBy, Counts, Onward, word_if};
 
 use crate::numbers::whole_of;
 use crate::source::{Ends, ReadError, TokenSource};
@@ -14,6 +14,7 @@ pub fn next_token<S: TokenSource, F: Copy>(
 ) -> Result<(), ReadError<F>>
     ensures reads { ReadsBy S.tells S.place (token ends) (λ _. S.word source.new) result source.old source.new }
     ensures faults { Counts result (S.faults source.old) (S.faults source.new) }
+    ensures onward { Onward S.reaches S.stops result source.old source.new }
     ensures origin { S.origin source.new ≡ S.origin source.old }
     ensures word { OnOk result (IsTrue (is_token (S.word source.new))) }
 {
@@ -40,6 +41,7 @@ pub fn next_token_or_end<S: TokenSource, F: Copy>(
     ensures reads { ReadsBy S.tells S.place (token_or_end ends) (word_if (S.word source.new)) result
         source.old source.new }
     ensures faults { Counts result (S.faults source.old) (S.faults source.new) }
+    ensures onward { Onward S.reaches S.stops result source.old source.new }
     ensures origin { S.origin source.new ≡ S.origin source.old }
     ensures word { IfOk result (λ more. IsTrue more → IsTrue (is_token (S.word source.new))) }
     ensures ended { result ≡ Ok false → IsTrue S.tells → S.ended source.new }
@@ -60,6 +62,7 @@ pub fn next_token_or_end<S: TokenSource, F: Copy>(
 pub fn check<S: TokenSource, F: Copy>(source: &S, holds: bool, fault: F) -> Result<(), ReadError<F>>
     ensures reads { ReadsBy S.tells S.place (check holds fault) (λ _. tt) result source.now source.now }
     ensures faults { (count : ℕ) → Counts result count count }
+    ensures onward { Onward S.reaches S.stops result source.now source.now }
     ensures holds { OnOk result (IsTrue holds) }
 {
     if holds {
@@ -82,6 +85,7 @@ pub fn word<S: TokenSource, F: Copy>(
 ) -> Result<(), ReadError<F>>
     ensures reads { ReadsBy S.tells S.place (word ends fault text.now) (λ _. tt) result source.old source.new }
     ensures faults { Counts result (S.faults source.old) (S.faults source.new) }
+    ensures onward { Onward S.reaches S.stops result source.old source.new }
     ensures origin { S.origin source.new ≡ S.origin source.old }
 {
     next_token(source, ends)?;
@@ -99,6 +103,7 @@ pub fn number<S: TokenSource, F: Copy>(
 ) -> Result<i64, ReadError<F>>
     ensures reads { ReadsBy S.tells S.place (number ends fault low high) (λ n. n) result source.old source.new }
     ensures faults { Counts result (S.faults source.old) (S.faults source.new) }
+    ensures onward { Onward S.reaches S.stops result source.old source.new }
     ensures origin { S.origin source.new ≡ S.origin source.old }
     ensures low { IfOk result (λ value. low ≤ℤ value) }
     ensures high { IfOk result (λ value. value ≤ℤ high) }

@@ -1,8 +1,8 @@
-ghost use Rattle.std.specs.Prelude.{◌≡◌, ℕ, ◌-◌, ◌^◌, ◌<◌, Bool, false, List, IsTrue, IfOk, Ok};
+ghost use Rattle.std.specs.Prelude.{◌≡◌, ℕ, ◌+◌, ◌-◌, ◌^◌, ◌<◌, Bool, false, List, IsTrue, IfOk, Ok};
 ghost use Rattle.gr_base.specs.Names.{is_token};
 ghost use Rattle.gr_text.specs.Origins.{Origin};
 ghost use Rattle.gr_text.specs.Tokens.{Place};
-ghost use Rattle.gr_text.specs.Steps.{Advances, Counted};
+ghost use Rattle.gr_text.specs.Steps.{Advances, Counted, Steps};
 
 use crate::tokens::TokenError;
 use std::alloc::AllocError;
@@ -60,13 +60,21 @@ pub trait TokenSource {
     /// The text was read to its end.
     ghost ended: { Self → Type 0 };
 
+    /// Of a text of these bytes little more is read than the tokens so far.
+    ghost reaches: { Self → List ℕ → Type 0 };
+
+    /// Of a text of these bytes little more is read than the tokens up to the one of this number.
+    ghost stops: { Self → List ℕ → ℕ → Type 0 };
+
     /// Takes the next token into the hand, and says whether there was one.
     fn advance(&mut self) -> Result<bool, TokenError>
         ensures token { IsTrue tells → Advances (place self.old) result (word self.new) (place self.new) }
         ensures faults { Counted result (faults self.old) (faults self.new) }
         ensures origin { origin self.new ≡ origin self.old }
         ensures word { IfOk result (λ more. IsTrue more → IsTrue (is_token (word self.new))) }
-        ensures ended { result ≡ Ok false → IsTrue tells → ended self.new };
+        ensures ended { result ≡ Ok false → IsTrue tells → ended self.new }
+        ensures onward { (bytes : List ℕ) → reaches self.old bytes →
+            Steps result (reaches self.new bytes) (stops self.new bytes) };
 
     /// The token in hand.
     fn word(&self) -> &[u8]
@@ -75,5 +83,9 @@ pub trait TokenSource {
     /// The number of the token in hand. Tokens count from 1.
     fn number(&self) -> u64
         ensures number { IsTrue tells → result ≡ (place self.now).number }
-        ensures room { result < 2 ^ 64 - 1 };
+        ensures room { result < 2 ^ 64 - 1 }
+
+        // A fault may name this token or the one that is due.
+        ensures here { (bytes : List ℕ) → reaches self.now bytes → stops self.now bytes result }
+        ensures due { (bytes : List ℕ) → reaches self.now bytes → stops self.now bytes (result + 1) };
 }

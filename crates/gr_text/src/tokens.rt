@@ -5,7 +5,7 @@ ghost use Rattle.gr_io.specs.Shelves.{KeepsShelf};
 ghost use Rattle.gr_io.specs.declared.shelf.Slot.{Slot};
 ghost use Rattle.gr_base.specs.Names.{is_token};
 ghost use Rattle.gr_text.specs.Tokens.{is_blank};
-ghost use Rattle.gr_text.specs.Steps.{GoesOn, GivesNext, ReadsLittle, Counted, Refills, LeavesRest, Seeks, SkipsTo, TakesOne, TakesToken};
+ghost use Rattle.gr_text.specs.Steps.{GoesOn, GivesNext, ReadsLittle, ReadsOn, Counted, Refills, LeavesRest, Seeks, SkipsTo, TakesOne, TakesToken};
 ghost use Rattle.gr_text.specs.Streams.{Stream, Countable, new_stream, passed, grown, usable, SkipsAhead, GrowsAhead};
 
 use crate::piece::{PIECE_BYTES, Piece};
@@ -169,6 +169,7 @@ impl Tokens {
         requires reached { IsTrue (S.reached shelf.old self.old.slot) }
         requires spent { 0 < length self.old.pending → self.old.room ≡ 0 }
         ensures refilled { Refills self.old result self.new }
+        ensures few { OnErr result (length self.new.pending ≤ 65536) }
         ensures slot { self.new.slot ≡ self.old.slot }
         ensures left { IsTrue S.tells →
             LeavesRest result self.new.pending (S.left shelf.old self.old.slot) (S.left shelf.new self.old.slot) }
@@ -196,6 +197,7 @@ impl Tokens {
     fn seek<S: Shelf>(&mut self, shelf: &mut S) -> Result<bool, TokenError>
         requires reached { IsTrue (S.reached shelf.old self.old.slot) }
         ensures sought { Seeks self.old result self.new }
+        ensures few { OnErr result (length self.new.pending ≤ 65536) }
         ensures slot { self.new.slot ≡ self.old.slot }
         ensures skipped { IsTrue S.tells → SkipsTo result
             self.old.room (self.old.pending ++ S.left shelf.old self.old.slot)
@@ -250,7 +252,9 @@ impl Tokens {
         requires reached { IsTrue (S.reached shelf.old self.old.slot) }
         ensures token { IsTrue S.tells → GoesOn self.old (S.left shelf.old) result self.new (S.left shelf.new) }
         ensures little { IsTrue S.tells → result ≡ Ok true →
-            ReadsLittle self.old (S.left shelf.old) self.new.word (S.left shelf.new) }
+            ReadsLittle self.old (S.left shelf.old) self.new.word self.new (S.left shelf.new) }
+        ensures on { IsTrue S.tells → ReadsOn (self.old.pending ++ S.left shelf.old self.old.slot) result
+            self.new.pending (S.left shelf.new self.old.slot) }
         ensures slot { self.new.slot ≡ self.old.slot }
         ensures faults { Counted result (S.faults shelf.old) (S.faults shelf.new) }
         ensures shelf { KeepsShelf S.misses S.reached S.held shelf.old shelf.new }
@@ -293,7 +297,9 @@ impl Tokens {
         requires reached { IsTrue (S.reached shelf.old self.old.slot) }
         ensures token { IsTrue S.tells → GoesOn self.old (S.left shelf.old) result self.new (S.left shelf.new) }
         ensures little { IsTrue S.tells → result ≡ Ok true →
-            ReadsLittle self.old (S.left shelf.old) self.new.word (S.left shelf.new) }
+            ReadsLittle self.old (S.left shelf.old) self.new.word self.new (S.left shelf.new) }
+        ensures on { IsTrue S.tells → ReadsOn (self.old.pending ++ S.left shelf.old self.old.slot) result
+            self.new.pending (S.left shelf.new self.old.slot) }
         ensures broken { self.new.broken ≡ is_err result }
         ensures slot { self.new.slot ≡ self.old.slot }
         ensures faults { Counted result (S.faults shelf.old) (S.faults shelf.new) }
@@ -315,7 +321,7 @@ impl Tokens {
         requires reached { IsTrue (S.reached shelf.old self.old.slot) }
         ensures token { IsTrue S.tells → GivesNext self.old (S.left shelf.old) result self.new (S.left shelf.new) }
         ensures little { IsTrue S.tells → IfOk result (λ given. IfSome given (λ token.
-            ReadsLittle self.old (S.left shelf.old) token.text (S.left shelf.new))) }
+            ReadsLittle self.old (S.left shelf.old) token.text self.new (S.left shelf.new))) }
         ensures broken { self.new.broken ≡ is_err result }
         ensures slot { self.new.slot ≡ self.old.slot }
         ensures faults { Counted result (S.faults shelf.old) (S.faults shelf.new) }

@@ -1,6 +1,6 @@
 //! The adjustments and the end of the text.
 ghost use Rattle.std.specs.Prelude.{◌≡◌, ℕ, ◌<◌, ◌≤◌, [], IsTrue, IfOk, IfSome, OnOk};
-ghost use Rattle.gr_text.specs.Reads.{ReadsBy, Counts};
+ghost use Rattle.gr_text.specs.Reads.{ReadsBy, Counts, Onward};
 ghost use Rattle.gr_text.specs.Reading.{several};
 ghost use Rattle.gr_base.specs.Limits.{most_adjustments};
 ghost use Rattle.gr_base.specs.Grid.{cells_of, has_edge, is_wire};
@@ -17,6 +17,7 @@ use gr_text::{ReadError, TokenSource, check, next_token_or_end, whole_of};
 fn tile<S: TokenSource>(source: &mut S, tiles: u32) -> Result<u32, ReadError<DesignFault>>
     ensures reads { ReadsBy S.tells S.place (tile tiles) (λ at. at) result source.old source.new }
     ensures faults { Counts result (S.faults source.old) (S.faults source.new) }
+    ensures onward { Onward S.reaches S.stops result source.old source.new }
     ensures origin { S.origin source.new ≡ S.origin source.old }
     ensures below { IfOk result (λ at. at < tiles) }
 {
@@ -30,6 +31,7 @@ fn tile<S: TokenSource>(source: &mut S, tiles: u32) -> Result<u32, ReadError<Des
 fn place<S: TokenSource>(source: &mut S, shape: Shape) -> Result<u32, ReadError<DesignFault>>
     ensures reads { ReadsBy S.tells S.place (place shape) (λ cell. cell) result source.old source.new }
     ensures faults { Counts result (S.faults source.old) (S.faults source.new) }
+    ensures onward { Onward S.reaches S.stops result source.old source.new }
     ensures origin { S.origin source.new ≡ S.origin source.old }
     ensures cell { IfOk result (λ cell. cell < cells_of shape) }
 {
@@ -62,6 +64,7 @@ fn adjustment<S: TokenSource>(
 ) -> Result<Adjustment, ReadError<DesignFault>>
     ensures reads { ReadsBy S.tells S.place (adjustment shape) (λ adjustment. adjustment) result source.old source.new }
     ensures faults { Counts result (S.faults source.old) (S.faults source.new) }
+    ensures onward { Onward S.reaches S.stops result source.old source.new }
     ensures origin { S.origin source.new ≡ S.origin source.old }
     ensures adjustment { IfOk result (IsAdjustment shape) }
 {
@@ -78,6 +81,7 @@ fn adjustment_count<S: TokenSource>(source: &S) -> Result<u32, ReadError<DesignF
     ensures reads { ReadsBy S.tells S.place (adjustment_count (S.word source.now))
         (λ count. count) result source.now source.now }
     ensures faults { (count : ℕ) → Counts result count count }
+    ensures onward { Onward S.reaches S.stops result source.now source.now }
     ensures most { IfOk result (λ count. count ≤ most_adjustments) }
 {
     let count = given(
@@ -99,6 +103,7 @@ fn several_adjustments<S: TokenSource>(
     ensures reads { ReadsBy S.tells S.place (several (λ _. adjustment design.old.frame.shape) count [])
         (λ _. design.new.adjustments) result source.old source.new }
     ensures faults { Counts result (S.faults source.old) (S.faults source.new) }
+    ensures onward { Onward S.reaches S.stops result source.old source.new }
     ensures origin { S.origin source.new ≡ S.origin source.old }
     ensures frame { design.new.frame ≡ design.old.frame }
     ensures nets { design.new.nets ≡ design.old.nets }
@@ -118,6 +123,7 @@ fn several_adjustments<S: TokenSource>(
 fn end<S: TokenSource>(source: &mut S) -> Result<(), ReadError<DesignFault>>
     ensures reads { ReadsBy S.tells S.place end (λ _. tt) result source.old source.new }
     ensures faults { Counts result (S.faults source.old) (S.faults source.new) }
+    ensures onward { Onward S.reaches S.stops result source.old source.new }
     ensures origin { S.origin source.new ≡ S.origin source.old }
     ensures ended { OnOk result (IsTrue S.tells → S.ended source.new) }
 {
@@ -135,6 +141,7 @@ fn counted_adjustments<S: TokenSource>(
     ensures reads { ReadsBy S.tells S.place (counted_adjustments design.old.frame.shape (S.word source.old))
         (λ _. design.new.adjustments) result source.old source.new }
     ensures faults { Counts result (S.faults source.old) (S.faults source.new) }
+    ensures onward { Onward S.reaches S.stops result source.old source.new }
     ensures origin { S.origin source.new ≡ S.origin source.old }
     ensures frame { design.new.frame ≡ design.old.frame }
     ensures nets { design.new.nets ≡ design.old.nets }
@@ -155,6 +162,7 @@ pub(crate) fn adjustments<S: TokenSource>(
     ensures reads { ReadsBy S.tells S.place (adjustments design.old.frame.shape)
         (λ _. design.new.adjustments) result source.old source.new }
     ensures faults { Counts result (S.faults source.old) (S.faults source.new) }
+    ensures onward { Onward S.reaches S.stops result source.old source.new }
     ensures origin { S.origin source.new ≡ S.origin source.old }
     ensures frame { design.new.frame ≡ design.old.frame }
     ensures nets { design.new.nets ≡ design.old.nets }

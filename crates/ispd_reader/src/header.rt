@@ -1,7 +1,7 @@
 //! What stands before the nets: the grid, the capacities, the widths and spacings, and the tiles.
 ghost use Rattle.std.specs.Prelude.{◌≡◌, ◌-◌, ◌*◌, ◌<◌, ◌≤◌, ℤ, All, Any, length, replicate, take, drop, nat_lt, negsuc, pos, ◌≤ℤ◌, IsTrue, IfOk};
 ghost use Rattle.std.specs.List.{list_any};
-ghost use Rattle.gr_text.specs.Reads.{ReadsBy, Counts};
+ghost use Rattle.gr_text.specs.Reads.{ReadsBy, Counts, Onward};
 ghost use Rattle.gr_base.specs.Limits.{most_lower, most_tile, most_width, most_capacity};
 ghost use Rattle.gr_base.specs.Designs.{IsFrame};
 ghost use Rattle.ispd_reader.specs.Header.{shape_of, grid, by_layer, stack_of, IsStack, capacities, measures, layers, corner, tile_size, frame};
@@ -32,6 +32,7 @@ fn shape_of(columns: u32, rows: u32, layers: u32) -> Option<Shape>
 fn grid<S: TokenSource>(source: &mut S) -> Result<Shape, ReadError<DesignFault>>
     ensures reads { ReadsBy S.tells S.place grid (λ shape. shape) result source.old source.new }
     ensures faults { Counts result (S.faults source.old) (S.faults source.new) }
+    ensures onward { Onward S.reaches S.stops result source.old source.new }
     ensures origin { S.origin source.new ≡ S.origin source.old }
 {
     word(source, ENDS, DesignFault::Word, b"grid")?;
@@ -50,6 +51,7 @@ fn by_layer<S: TokenSource>(
     requires { layers ≤ 16 }
     ensures reads { ReadsBy S.tells S.place (by_layer layers most) (λ numbers. numbers) result source.old source.new }
     ensures faults { Counts result (S.faults source.old) (S.faults source.new) }
+    ensures onward { Onward S.reaches S.stops result source.old source.new }
     ensures origin { S.origin source.new ≡ S.origin source.old }
     ensures count { IfOk result (λ numbers. length numbers ≡ 16) }
     ensures most { IfOk result (All (λ n. n ≤ most)) }
@@ -80,6 +82,7 @@ fn capacities<S: TokenSource>(
     ensures reads { ReadsBy S.tells S.place (capacities way.now tiles layers)
         (λ numbers. numbers) result source.old source.new }
     ensures faults { Counts result (S.faults source.old) (S.faults source.new) }
+    ensures onward { Onward S.reaches S.stops result source.old source.new }
     ensures origin { S.origin source.new ≡ S.origin source.old }
     ensures count { IfOk result (λ numbers. length numbers ≡ 16) }
     ensures most { IfOk result (All (λ n. n ≤ most_capacity)) }
@@ -107,6 +110,7 @@ fn measures<S: TokenSource>(
     ensures reads { ReadsBy S.tells S.place (measures first.now second.now layers)
         (λ numbers. numbers) result source.old source.new }
     ensures faults { Counts result (S.faults source.old) (S.faults source.new) }
+    ensures onward { Onward S.reaches S.stops result source.old source.new }
     ensures origin { S.origin source.new ≡ S.origin source.old }
     ensures count { IfOk result (λ numbers. length numbers ≡ 16) }
     ensures most { IfOk result (All (λ n. n ≤ most_width)) }
@@ -120,6 +124,7 @@ fn measures<S: TokenSource>(
 fn corner<S: TokenSource>(source: &mut S) -> Result<i64, ReadError<DesignFault>>
     ensures reads { ReadsBy S.tells S.place corner (λ n. n) result source.old source.new }
     ensures faults { Counts result (S.faults source.old) (S.faults source.new) }
+    ensures onward { Onward S.reaches S.stops result source.old source.new }
     ensures origin { S.origin source.new ≡ S.origin source.old }
     ensures low { IfOk result (λ n. negsuc (most_lower - 1) ≤ℤ n) }
     ensures high { IfOk result (λ n. n ≤ℤ pos most_lower) }
@@ -132,6 +137,7 @@ fn corner<S: TokenSource>(source: &mut S) -> Result<i64, ReadError<DesignFault>>
 fn tile_size<S: TokenSource>(source: &mut S) -> Result<u32, ReadError<DesignFault>>
     ensures reads { ReadsBy S.tells S.place tile_size (λ n. n) result source.old source.new }
     ensures faults { Counts result (S.faults source.old) (S.faults source.new) }
+    ensures onward { Onward S.reaches S.stops result source.old source.new }
     ensures origin { S.origin source.new ≡ S.origin source.old }
     ensures some { IfOk result (λ n. 0 < n) }
     ensures most { IfOk result (λ n. n ≤ most_tile) }
@@ -172,6 +178,7 @@ fn layers<S: TokenSource>(
 ) -> Result<[Layer; 16], ReadError<DesignFault>>
     ensures reads { ReadsBy S.tells S.place (layers shape) (λ layers. layers) result source.old source.new }
     ensures faults { Counts result (S.faults source.old) (S.faults source.new) }
+    ensures onward { Onward S.reaches S.stops result source.old source.new }
     ensures origin { S.origin source.new ≡ S.origin source.old }
     ensures stack { IfOk result (IsStack shape) }
 {
@@ -188,6 +195,7 @@ fn layers<S: TokenSource>(
 pub(crate) fn frame<S: TokenSource>(source: &mut S) -> Result<Frame, ReadError<DesignFault>>
     ensures reads { ReadsBy S.tells S.place frame (λ frame. frame) result source.old source.new }
     ensures faults { Counts result (S.faults source.old) (S.faults source.new) }
+    ensures onward { Onward S.reaches S.stops result source.old source.new }
     ensures origin { S.origin source.new ≡ S.origin source.old }
     ensures frame { IfOk result IsFrame }
 {

@@ -1,6 +1,6 @@
 //! The nets and their pins.
 ghost use Rattle.std.specs.Prelude.{◌≡◌, ℕ, ◌+◌, ◌*◌, ◌<◌, ◌≤◌, List, [], All, Some, None, length, IsTrue, IfOk};
-ghost use Rattle.gr_text.specs.Reads.{ReadsBy, Counts};
+ghost use Rattle.gr_text.specs.Reads.{ReadsBy, Counts, Onward};
 ghost use Rattle.gr_text.specs.Reading.{token, several};
 ghost use Rattle.gr_base.specs.Limits.{most_nets, most_pins, most_id, most_width};
 ghost use Rattle.gr_base.specs.Names.{is_token};
@@ -22,6 +22,7 @@ use std::alloc::Global;
 fn coordinate<S: TokenSource>(source: &mut S) -> Result<i64, ReadError<DesignFault>>
     ensures reads { ReadsBy S.tells S.place coordinate (λ at. at) result source.old source.new }
     ensures faults { Counts result (S.faults source.old) (S.faults source.new) }
+    ensures onward { Onward S.reaches S.stops result source.old source.new }
     ensures origin { S.origin source.new ≡ S.origin source.old }
 {
     number(
@@ -38,6 +39,7 @@ fn coordinate<S: TokenSource>(source: &mut S) -> Result<i64, ReadError<DesignFau
 fn pin<S: TokenSource>(source: &mut S, design: &Design) -> Result<u32, ReadError<DesignFault>>
     ensures reads { ReadsBy S.tells S.place (pin design.now.frame) (λ pin. pin) result source.old source.new }
     ensures faults { Counts result (S.faults source.old) (S.faults source.new) }
+    ensures onward { Onward S.reaches S.stops result source.old source.new }
     ensures origin { S.origin source.new ≡ S.origin source.old }
     ensures cell { IfOk result (λ pin. pin < cells_of design.now.frame.shape) }
 {
@@ -60,6 +62,7 @@ fn pins<S: TokenSource>(
     ensures reads { ReadsBy S.tells S.place (several (λ _. pin design.now.frame) count [])
         (λ pins. pins) result source.old source.new }
     ensures faults { Counts result (S.faults source.old) (S.faults source.new) }
+    ensures onward { Onward S.reaches S.stops result source.old source.new }
     ensures origin { S.origin source.new ≡ S.origin source.old }
     ensures count { IfOk result (λ pins. length pins ≡ count) }
     ensures cells { IfOk result (All (λ pin. pin < cells_of design.now.frame.shape)) }
@@ -78,6 +81,7 @@ fn pins<S: TokenSource>(
 fn name<S: TokenSource>(alloc: Global, source: &mut S) -> Result<Name, ReadError<DesignFault>>
     ensures reads { ReadsBy S.tells S.place (token ends) (λ name. name) result source.old source.new }
     ensures faults { Counts result (S.faults source.old) (S.faults source.new) }
+    ensures onward { Onward S.reaches S.stops result source.old source.new }
     ensures origin { S.origin source.new ≡ S.origin source.old }
     ensures token { IfOk result (λ name. IsTrue (is_token name)) }
 {
@@ -93,6 +97,7 @@ fn name<S: TokenSource>(alloc: Global, source: &mut S) -> Result<Name, ReadError
 fn net_id<S: TokenSource>(source: &mut S, design: &Design) -> Result<u32, ReadError<DesignFault>>
     ensures reads { ReadsBy S.tells S.place (net_id design.now.nets) (λ id. id) result source.old source.new }
     ensures faults { Counts result (S.faults source.old) (S.faults source.new) }
+    ensures onward { Onward S.reaches S.stops result source.old source.new }
     ensures origin { S.origin source.new ≡ S.origin source.old }
     ensures most { IfOk result (λ id. id ≤ most_id) }
     ensures fresh { IfOk result (λ id. net_with_id design.now id ≡ None) }
@@ -112,6 +117,7 @@ fn pin_count<S: TokenSource>(source: &mut S, before: u32) -> Result<u32, ReadErr
     requires { before ≤ most_pins }
     ensures reads { ReadsBy S.tells S.place (pin_count before) (λ count. count) result source.old source.new }
     ensures faults { Counts result (S.faults source.old) (S.faults source.new) }
+    ensures onward { Onward S.reaches S.stops result source.old source.new }
     ensures origin { S.origin source.new ≡ S.origin source.old }
     ensures some { IfOk result (λ count. 0 < count) }
     ensures most { IfOk result (λ count. before + count ≤ most_pins) }
@@ -138,6 +144,7 @@ fn net<S: TokenSource>(
     ensures reads { ReadsBy S.tells S.place (net design.now.frame design.now.nets)
         (λ net. net) result source.old source.new }
     ensures faults { Counts result (S.faults source.old) (S.faults source.new) }
+    ensures onward { Onward S.reaches S.stops result source.old source.new }
     ensures origin { S.origin source.new ≡ S.origin source.old }
     ensures net { IfOk result (IsNet design.now.frame.shape) }
     ensures fresh { IfOk result (λ net. net_with_id design.now net.id ≡ None) }
@@ -161,6 +168,7 @@ fn net<S: TokenSource>(
 fn net_count<S: TokenSource>(source: &mut S) -> Result<u32, ReadError<DesignFault>>
     ensures reads { ReadsBy S.tells S.place net_count (λ count. count) result source.old source.new }
     ensures faults { Counts result (S.faults source.old) (S.faults source.new) }
+    ensures onward { Onward S.reaches S.stops result source.old source.new }
     ensures origin { S.origin source.new ≡ S.origin source.old }
     ensures most { IfOk result (λ count. count ≤ most_nets) }
 {
@@ -180,6 +188,7 @@ fn counted_nets<S: TokenSource>(
     ensures reads { ReadsBy S.tells S.place (several (net design.old.frame) count [])
         (λ _. design.new.nets) result source.old source.new }
     ensures faults { Counts result (S.faults source.old) (S.faults source.new) }
+    ensures onward { Onward S.reaches S.stops result source.old source.new }
     ensures origin { S.origin source.new ≡ S.origin source.old }
     ensures frame { design.new.frame ≡ design.old.frame }
     ensures adjustments { design.new.adjustments ≡ design.old.adjustments }
@@ -206,6 +215,7 @@ pub(crate) fn nets<S: TokenSource>(
     ensures reads { ReadsBy S.tells S.place (nets design.old.frame)
         (λ _. design.new.nets) result source.old source.new }
     ensures faults { Counts result (S.faults source.old) (S.faults source.new) }
+    ensures onward { Onward S.reaches S.stops result source.old source.new }
     ensures origin { S.origin source.new ≡ S.origin source.old }
     ensures frame { design.new.frame ≡ design.old.frame }
     ensures adjustments { design.new.adjustments ≡ design.old.adjustments }

@@ -1,8 +1,9 @@
 ghost use Rattle.std.specs.Prelude.{◌≡◌, ℕ, ◌≤◌, List, [], IsTrue, OnOk};
 ghost use Rattle.gr_io.specs.Counts.{Rose};
 ghost use Rattle.gr_io.specs.declared.shelf.Slot.{Slot};
-ghost use Rattle.gr_text.specs.Reads.{ReadsBy, Counts, OfPlace, Says};
+ghost use Rattle.gr_text.specs.Reads.{ReadsBy, Counts, OfPlace, Says, Onward, AtFault, GoesThrough};
 ghost use Rattle.gr_text.specs.Streams.{place_at};
+ghost use Rattle.gr_text.specs.Unread.{IsReadTo};
 ghost use Rattle.ispd_reader.specs.DesignText.{design, design_of};
 
 use crate::adjustments::adjustments;
@@ -19,6 +20,7 @@ use std::alloc::Global;
 fn design<S: TokenSource>(alloc: Global, source: &mut S) -> Result<Design, ReadError<DesignFault>>
     ensures reads { ReadsBy S.tells S.place design (λ design. design) result source.old source.new }
     ensures faults { Counts result (S.faults source.old) (S.faults source.new) }
+    ensures onward { Onward S.reaches S.stops result source.old source.new }
     ensures origin { S.origin source.new ≡ S.origin source.old }
     ensures ended { OnOk result (IsTrue S.tells → S.ended source.new) }
 {
@@ -40,6 +42,8 @@ fn read<S: Shelf>(
         OfPlace (design (place_at reader.old.tokens.now (S.left reader.old.shelf.now))) (λ design. design) result }
     ensures ended { OnOk result (IsTrue S.tells → S.left reader.new.shelf.now reader.new.tokens.now.slot ≡ []) }
     ensures faults { Counts result (S.faults reader.old.shelf.now) (S.faults reader.new.shelf.now) }
+    ensures onward { GoesThrough S.tells result reader.old.tokens.now (S.left reader.old.shelf.now)
+        reader.new.tokens.now (S.left reader.new.shelf.now) }
     ensures same_reference { reader.new.shelf.ghost_name ≡ reader.old.shelf.ghost_name }
     ensures slot { reader.new.tokens.now.slot ≡ reader.old.tokens.now.slot }
     ensures misses { S.misses reader.new.shelf.now ≡ S.misses reader.old.shelf.now }
@@ -59,6 +63,10 @@ pub fn read_design<S: Shelf>(alloc: Global, shelf: &mut S) -> Result<Design, Des
     // Where the shelf tells the bytes, the answer is the design that they say, or their first fault.
     ensures says { IsTrue S.tells → Says (design_of (S.left shelf.old Slot.Design)) result }
     ensures whole_text { OnOk result (IsTrue S.tells → S.left shelf.new Slot.Design ≡ []) }
+
+    // At a fault little is read behind the token that it names.
+    ensures rest_unread { IsTrue S.tells → AtFault result (λ token.
+        IsReadTo (S.left shelf.old Slot.Design) token (S.left shelf.new Slot.Design)) }
 
     ensures failed { result ≡ Err ReadError.Failed → Rose (S.faults shelf.old) (S.faults shelf.new) }
     ensures quiet { (result ≡ Err ReadError.Failed → ⊥) → S.faults shelf.new ≡ S.faults shelf.old }

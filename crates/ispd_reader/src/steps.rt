@@ -1,6 +1,6 @@
 //! Steps that several parts of the text are read by.
 ghost use Rattle.std.specs.Prelude.{◌≡◌, ℕ, ◌-◌, ◌<◌, ◌≤◌, IsTrue, IfOk, Some};
-ghost use Rattle.gr_text.specs.Reads.{ReadsBy, Counts};
+ghost use Rattle.gr_text.specs.Reads.{ReadsBy, Counts, Onward};
 ghost use Rattle.gr_text.specs.Reading.{given};
 ghost use Rattle.ispd_reader.specs.Steps.{natural, words, layer_in};
 
@@ -21,6 +21,7 @@ pub(crate) fn given<S: TokenSource, T>(
 ) -> Result<T, ReadError<DesignFault>>
     ensures reads { ReadsBy S.tells S.place (given value fault) (λ v. v) result source.now source.now }
     ensures faults { (count : ℕ) → Counts result count count }
+    ensures onward { Onward S.reaches S.stops result source.now source.now }
     ensures value { IfOk result (λ v. value ≡ Some v) }
 {
     match value {
@@ -41,6 +42,7 @@ pub(crate) fn natural<S: TokenSource>(
 ) -> Result<u32, ReadError<DesignFault>>
     ensures reads { ReadsBy S.tells S.place (natural low high) (λ n. n) result source.old source.new }
     ensures faults { Counts result (S.faults source.old) (S.faults source.new) }
+    ensures onward { Onward S.reaches S.stops result source.old source.new }
     ensures origin { S.origin source.new ≡ S.origin source.old }
     ensures low { IfOk result (λ n. low ≤ n) }
     ensures high { IfOk result (λ n. n ≤ high) }
@@ -64,6 +66,7 @@ pub(crate) fn words<S: TokenSource>(
 ) -> Result<(), ReadError<DesignFault>>
     ensures reads { ReadsBy S.tells S.place (words first.now second.now) (λ _. tt) result source.old source.new }
     ensures faults { Counts result (S.faults source.old) (S.faults source.new) }
+    ensures onward { Onward S.reaches S.stops result source.old source.new }
     ensures origin { S.origin source.new ≡ S.origin source.old }
 {
     word(source, ENDS, DesignFault::Word, first)?;
@@ -80,6 +83,7 @@ pub(crate) fn layer_in<S: TokenSource>(
 ) -> Result<u32, ReadError<DesignFault>>
     ensures reads { ReadsBy S.tells S.place (layer_in shape fault) (λ n. n) result source.old source.new }
     ensures faults { Counts result (S.faults source.old) (S.faults source.new) }
+    ensures onward { Onward S.reaches S.stops result source.old source.new }
     ensures origin { S.origin source.new ≡ S.origin source.old }
     ensures layer { IfOk result (λ layer. layer < shape.layers) }
 {

@@ -1,7 +1,7 @@
 //! The items of a library text: each is taken behind its word.
 ghost use Rattle.std.specs.Prelude.{◌≡◌, ◌<◌, ◌≤◌, true, false, IfOk, OnOk, length};
 ghost use Rattle.gr_base.specs.Names.{is_token};
-ghost use Rattle.gr_text.specs.Reads.{ReadsBy, Counts};
+ghost use Rattle.gr_text.specs.Reads.{ReadsBy, Counts, Onward};
 ghost use Rattle.rc_library.specs.Gathered.{IsOf, IsLike};
 ghost use Rattle.rc_library.specs.Keywords.{since};
 ghost use Rattle.rc_library.specs.Items.{layer, wire_item, via_item, driver_item, sink_item, has_kind, kind_name, kind_item, block_item, drive_item, pin_item, flip_item, item};
@@ -26,6 +26,7 @@ fn layer<S: TokenSource>(
 ) -> Result<u32, ReadError<LibraryFault>>
     ensures reads { ReadsBy S.tells S.place (layer gathered.now.wires) (λ layer. layer) result source.old source.new }
     ensures faults { Counts result (S.faults source.old) (S.faults source.new) }
+    ensures onward { Onward S.reaches S.stops result source.old source.new }
     ensures origin { S.origin source.new ≡ S.origin source.old }
     ensures below { IfOk result (λ layer. layer < length gathered.now.wires) }
 {
@@ -43,6 +44,7 @@ fn wire_item<S: TokenSource>(
     ensures reads { ReadsBy S.tells S.place (wire_item gathered.old) (λ _. gathered.new) result
         source.old source.new }
     ensures faults { Counts result (S.faults source.old) (S.faults source.new) }
+    ensures onward { Onward S.reaches S.stops result source.old source.new }
     ensures origin { S.origin source.new ≡ S.origin source.old }
     ensures like { OnOk result (IsLike gathered.old gathered.new) }
 {
@@ -61,6 +63,7 @@ fn via_item<S: TokenSource>(
     ensures reads { ReadsBy S.tells S.place (via_item gathered.old) (λ _. gathered.new) result
         source.old source.new }
     ensures faults { Counts result (S.faults source.old) (S.faults source.new) }
+    ensures onward { Onward S.reaches S.stops result source.old source.new }
     ensures origin { S.origin source.new ≡ S.origin source.old }
     ensures like { OnOk result (IsLike gathered.old gathered.new) }
 {
@@ -79,6 +82,7 @@ fn driver_item<S: TokenSource>(
     ensures reads { ReadsBy S.tells S.place (driver_item gathered.old) (λ _. gathered.new) result
         source.old source.new }
     ensures faults { Counts result (S.faults source.old) (S.faults source.new) }
+    ensures onward { Onward S.reaches S.stops result source.old source.new }
     ensures origin { S.origin source.new ≡ S.origin source.old }
     ensures like { OnOk result (IsLike gathered.old gathered.new) }
 {
@@ -97,6 +101,7 @@ fn sink_item<S: TokenSource>(
     ensures reads { ReadsBy S.tells S.place (sink_item gathered.old) (λ _. gathered.new) result
         source.old source.new }
     ensures faults { Counts result (S.faults source.old) (S.faults source.new) }
+    ensures onward { Onward S.reaches S.stops result source.old source.new }
     ensures origin { S.origin source.new ≡ S.origin source.old }
     ensures like { OnOk result (IsLike gathered.old gathered.new) }
 {
@@ -115,6 +120,7 @@ fn kind_name<S: TokenSource>(
 ) -> Result<Name, ReadError<LibraryFault>>
     ensures reads { ReadsBy S.tells S.place (kind_name kinds.now) (λ name. name) result source.old source.new }
     ensures faults { Counts result (S.faults source.old) (S.faults source.new) }
+    ensures onward { Onward S.reaches S.stops result source.old source.new }
     ensures origin { S.origin source.new ≡ S.origin source.old }
     ensures fresh { IfOk result (λ name. has_kind kinds.now name ≡ false) }
     ensures token { IfOk result (λ name. is_token name ≡ true) }
@@ -140,6 +146,7 @@ fn kind_item<S: TokenSource>(
     ensures reads { ReadsBy S.tells S.place (kind_item inverts gathered.old) (λ _. gathered.new) result
         source.old source.new }
     ensures faults { Counts result (S.faults source.old) (S.faults source.new) }
+    ensures onward { Onward S.reaches S.stops result source.old source.new }
     ensures origin { S.origin source.new ≡ S.origin source.old }
     ensures like { OnOk result (IsLike gathered.old gathered.new) }
 {
@@ -170,6 +177,7 @@ fn block_item<S: TokenSource>(
     ensures reads { ReadsBy S.tells S.place (block_item design.now gathered.old) (λ _. gathered.new) result
         source.old source.new }
     ensures faults { Counts result (S.faults source.old) (S.faults source.new) }
+    ensures onward { Onward S.reaches S.stops result source.old source.new }
     ensures origin { S.origin source.new ≡ S.origin source.old }
     ensures like { OnOk result (IsLike gathered.old gathered.new) }
 {
@@ -195,6 +203,7 @@ fn drive_item<S: TokenSource>(
     ensures reads { ReadsBy S.tells S.place (drive_item design.now gathered.old) (λ _. gathered.new) result
         source.old source.new }
     ensures faults { Counts result (S.faults source.old) (S.faults source.new) }
+    ensures onward { Onward S.reaches S.stops result source.old source.new }
     ensures origin { S.origin source.new ≡ S.origin source.old }
     ensures like { OnOk result (IsLike gathered.old gathered.new) }
 {
@@ -219,6 +228,7 @@ fn pin_item<S: TokenSource>(
     ensures reads { ReadsBy S.tells S.place (pin_item design.now gathered.old) (λ _. gathered.new) result
         source.old source.new }
     ensures faults { Counts result (S.faults source.old) (S.faults source.new) }
+    ensures onward { Onward S.reaches S.stops result source.old source.new }
     ensures origin { S.origin source.new ≡ S.origin source.old }
     ensures like { OnOk result (IsLike gathered.old gathered.new) }
 {
@@ -244,6 +254,7 @@ fn flip_item<S: TokenSource>(
     ensures reads { ReadsBy S.tells S.place (flip_item design.now gathered.old) (λ _. gathered.new) result
         source.old source.new }
     ensures faults { Counts result (S.faults source.old) (S.faults source.new) }
+    ensures onward { Onward S.reaches S.stops result source.old source.new }
     ensures origin { S.origin source.new ≡ S.origin source.old }
     ensures like { OnOk result (IsLike gathered.old gathered.new) }
 {
@@ -268,6 +279,7 @@ pub(crate) fn item<S: TokenSource>(
     ensures reads { ReadsBy S.tells S.place (item design.now keyword gathered.old) (λ _. gathered.new) result
         source.old source.new }
     ensures faults { Counts result (S.faults source.old) (S.faults source.new) }
+    ensures onward { Onward S.reaches S.stops result source.old source.new }
     ensures origin { S.origin source.new ≡ S.origin source.old }
     ensures like { OnOk result (IsLike gathered.old gathered.new) }
 {

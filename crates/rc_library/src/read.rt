@@ -2,8 +2,9 @@
 ghost use Rattle.std.specs.Prelude.{◌≡◌, ℕ, ◌≤◌, List, [], IsTrue, IfOk, OnOk, Err};
 ghost use Rattle.gr_io.specs.Counts.{Rose};
 ghost use Rattle.gr_io.specs.declared.shelf.Slot.{Slot};
-ghost use Rattle.gr_text.specs.Reads.{Counts, OfPlace, Says};
+ghost use Rattle.gr_text.specs.Reads.{Counts, OfPlace, Says, AtFault, GoesThrough};
 ghost use Rattle.gr_text.specs.Streams.{place_at};
+ghost use Rattle.gr_text.specs.Unread.{IsReadTo};
 ghost use Rattle.rc_library.specs.Libraries.{IsLibraryOf};
 ghost use Rattle.rc_library.specs.LibraryText.{library, library_of};
 
@@ -27,6 +28,8 @@ fn read<S: Shelf>(
     ensures of { IfOk result (IsLibraryOf design.now) }
     ensures ended { OnOk result (IsTrue S.tells → S.left reader.new.shelf.now reader.new.tokens.now.slot ≡ []) }
     ensures faults { Counts result (S.faults reader.old.shelf.now) (S.faults reader.new.shelf.now) }
+    ensures onward { GoesThrough S.tells result reader.old.tokens.now (S.left reader.old.shelf.now)
+        reader.new.tokens.now (S.left reader.new.shelf.now) }
     ensures same_reference { reader.new.shelf.ghost_name ≡ reader.old.shelf.ghost_name }
     ensures slot { reader.new.tokens.now.slot ≡ reader.old.tokens.now.slot }
     ensures misses { S.misses reader.new.shelf.now ≡ S.misses reader.old.shelf.now }
@@ -51,6 +54,10 @@ pub fn read_library<S: Shelf>(
     // Where the shelf tells the bytes, the answer is the library that they say, or their first fault.
     ensures says { IsTrue S.tells → Says (library_of design.now (S.left shelf.old Slot.Library)) result }
     ensures whole_text { OnOk result (IsTrue S.tells → S.left shelf.new Slot.Library ≡ []) }
+
+    // At a fault little is read behind the token that it names.
+    ensures rest_unread { IsTrue S.tells → AtFault result (λ token.
+        IsReadTo (S.left shelf.old Slot.Library) token (S.left shelf.new Slot.Library)) }
 
     // Whatever the shelf tells, a library is one for the design.
     ensures of { IfOk result (IsLibraryOf design.now) }

@@ -1,7 +1,7 @@
 //! Steps that several items are read by.
 ghost use Rattle.std.specs.Prelude.{◌≡◌, ℕ, ◌<◌, ◌≤◌, Some, IfOk, length};
 ghost use Rattle.gr_base.specs.Designs.{pins_at};
-ghost use Rattle.gr_text.specs.Reads.{ReadsBy, Counts};
+ghost use Rattle.gr_text.specs.Reads.{ReadsBy, Counts, Onward};
 ghost use Rattle.gr_text.specs.Reading.{given};
 ghost use Rattle.rc_library.specs.Libraries.{IsWire, IsKind, IsSinking};
 ghost use Rattle.rc_library.specs.Items.{natural, wire, sinking, kind, tile, net, pin};
@@ -25,6 +25,7 @@ pub(crate) fn given<S: TokenSource, T>(
 ) -> Result<T, ReadError<LibraryFault>>
     ensures reads { ReadsBy S.tells S.place (given value fault) (λ v. v) result source.now source.now }
     ensures faults { (count : ℕ) → Counts result count count }
+    ensures onward { Onward S.reaches S.stops result source.now source.now }
     ensures value { IfOk result (λ v. value ≡ Some v) }
 {
     match value {
@@ -44,6 +45,7 @@ pub(crate) fn natural<S: TokenSource>(
 ) -> Result<u32, ReadError<LibraryFault>>
     ensures reads { ReadsBy S.tells S.place (natural most) (λ n. n) result source.old source.new }
     ensures faults { Counts result (S.faults source.old) (S.faults source.new) }
+    ensures onward { Onward S.reaches S.stops result source.old source.new }
     ensures origin { S.origin source.new ≡ S.origin source.old }
     ensures most { IfOk result (λ n. n ≤ most) }
 {
@@ -56,6 +58,7 @@ pub(crate) fn natural<S: TokenSource>(
 pub(crate) fn wire<S: TokenSource>(source: &mut S) -> Result<Wire, ReadError<LibraryFault>>
     ensures reads { ReadsBy S.tells S.place wire (λ wire. wire) result source.old source.new }
     ensures faults { Counts result (S.faults source.old) (S.faults source.new) }
+    ensures onward { Onward S.reaches S.stops result source.old source.new }
     ensures origin { S.origin source.new ≡ S.origin source.old }
     ensures fits { IfOk result IsWire }
 {
@@ -69,6 +72,7 @@ pub(crate) fn wire<S: TokenSource>(source: &mut S) -> Result<Wire, ReadError<Lib
 pub(crate) fn sinking<S: TokenSource>(source: &mut S) -> Result<Sinking, ReadError<LibraryFault>>
     ensures reads { ReadsBy S.tells S.place sinking (λ sink. sink) result source.old source.new }
     ensures faults { Counts result (S.faults source.old) (S.faults source.new) }
+    ensures onward { Onward S.reaches S.stops result source.old source.new }
     ensures origin { S.origin source.new ≡ S.origin source.old }
     ensures fits { IfOk result IsSinking }
 {
@@ -82,6 +86,7 @@ pub(crate) fn sinking<S: TokenSource>(source: &mut S) -> Result<Sinking, ReadErr
 pub(crate) fn kind<S: TokenSource>(source: &mut S) -> Result<Kind, ReadError<LibraryFault>>
     ensures reads { ReadsBy S.tells S.place kind (λ kind. kind) result source.old source.new }
     ensures faults { Counts result (S.faults source.old) (S.faults source.new) }
+    ensures onward { Onward S.reaches S.stops result source.old source.new }
     ensures origin { S.origin source.new ≡ S.origin source.old }
     ensures fits { IfOk result IsKind }
 {
@@ -99,6 +104,7 @@ pub(crate) fn tile<S: TokenSource>(
 ) -> Result<u32, ReadError<LibraryFault>>
     ensures reads { ReadsBy S.tells S.place (tile tiles) (λ at. at) result source.old source.new }
     ensures faults { Counts result (S.faults source.old) (S.faults source.new) }
+    ensures onward { Onward S.reaches S.stops result source.old source.new }
     ensures origin { S.origin source.new ≡ S.origin source.old }
     ensures below { IfOk result (λ at. at < tiles) }
 {
@@ -115,6 +121,7 @@ pub(crate) fn net<S: TokenSource>(
 ) -> Result<u32, ReadError<LibraryFault>>
     ensures reads { ReadsBy S.tells S.place (net design.now) (λ net. net) result source.old source.new }
     ensures faults { Counts result (S.faults source.old) (S.faults source.new) }
+    ensures onward { Onward S.reaches S.stops result source.old source.new }
     ensures origin { S.origin source.new ≡ S.origin source.old }
     ensures below { IfOk result (λ net. net < length design.now.nets) }
 {
@@ -132,6 +139,7 @@ pub(crate) fn pin<S: TokenSource>(
     requires { net < length design.now.nets }
     ensures reads { ReadsBy S.tells S.place (pin design.now net) (λ pin. pin) result source.old source.new }
     ensures faults { Counts result (S.faults source.old) (S.faults source.new) }
+    ensures onward { Onward S.reaches S.stops result source.old source.new }
     ensures origin { S.origin source.new ≡ S.origin source.old }
     ensures below { IfOk result (λ pin. pin < length (pins_at design.now net)) }
 {

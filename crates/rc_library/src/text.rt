@@ -1,7 +1,7 @@
 //! A whole library text.
 ghost use Rattle.std.specs.Prelude.{◌≡◌, ℕ, ◌≤◌, IsTrue, IfOk, IfSome, OnOk, Ok};
 ghost use Rattle.gr_base.specs.Limits.{most_bytes};
-ghost use Rattle.gr_text.specs.Reads.{ReadsBy, Counts};
+ghost use Rattle.gr_text.specs.Reads.{ReadsBy, Counts, Onward};
 ghost use Rattle.gr_text.specs.Reading.{given};
 ghost use Rattle.rc_library.specs.Libraries.{IsLibraryOf};
 ghost use Rattle.rc_library.specs.Gathered.{IsOf, IsLike, finished};
@@ -24,6 +24,7 @@ use std::alloc::Global;
 fn keyword<S: TokenSource>(source: &mut S, version: u32) -> Result<Keyword, ReadError<LibraryFault>>
     ensures reads { ReadsBy S.tells S.place (keyword version) (λ keyword. keyword) result source.old source.new }
     ensures faults { Counts result (S.faults source.old) (S.faults source.new) }
+    ensures onward { Onward S.reaches S.stops result source.old source.new }
     ensures origin { S.origin source.new ≡ S.origin source.old }
     ensures since { IfOk result (λ keyword. since keyword ≤ version) }
 {
@@ -47,6 +48,7 @@ fn items<S: TokenSource>(
     ensures reads { ReadsBy S.tells S.place (items most_bytes design.now gathered.old)
         (λ _. gathered.new) result source.old source.new }
     ensures faults { Counts result (S.faults source.old) (S.faults source.new) }
+    ensures onward { Onward S.reaches S.stops result source.old source.new }
     ensures origin { S.origin source.new ≡ S.origin source.old }
     ensures like { OnOk result (IsLike gathered.old gathered.new) }
 {
@@ -83,6 +85,7 @@ fn version_of(word: &[u8]) -> Option<u32>
 fn version<S: TokenSource>(source: &mut S) -> Result<u32, ReadError<LibraryFault>>
     ensures reads { ReadsBy S.tells S.place version (λ version. version) result source.old source.new }
     ensures faults { Counts result (S.faults source.old) (S.faults source.new) }
+    ensures onward { Onward S.reaches S.stops result source.old source.new }
     ensures origin { S.origin source.new ≡ S.origin source.old }
     ensures least { IfOk result (λ version. 1 ≤ version) }
     ensures greatest { IfOk result (λ version. version ≤ 3) }
@@ -98,6 +101,7 @@ fn version<S: TokenSource>(source: &mut S) -> Result<u32, ReadError<LibraryFault
 fn end<S: TokenSource>(source: &mut S) -> Result<(), ReadError<LibraryFault>>
     ensures reads { ReadsBy S.tells S.place end (λ _. tt) result source.old source.new }
     ensures faults { Counts result (S.faults source.old) (S.faults source.new) }
+    ensures onward { Onward S.reaches S.stops result source.old source.new }
     ensures origin { S.origin source.new ≡ S.origin source.old }
     ensures ended { OnOk result (IsTrue S.tells → S.ended source.new) }
 {
@@ -116,6 +120,7 @@ fn finish<S: TokenSource>(
     ensures reads { ReadsBy S.tells S.place (given (finished gathered) fault.Missing) (λ library. library) result
         source.now source.now }
     ensures faults { (count : ℕ) → Counts result count count }
+    ensures onward { Onward S.reaches S.stops result source.now source.now }
     ensures of { IfOk result (IsLibraryOf design.now) }
 {
     let Ok(library) = gathered.finish(alloc) else {
@@ -134,6 +139,7 @@ pub(crate) fn library<S: TokenSource>(
     ensures reads { ReadsBy S.tells S.place (library design.now) (λ library. library) result source.old source.new }
     ensures of { IfOk result (IsLibraryOf design.now) }
     ensures faults { Counts result (S.faults source.old) (S.faults source.new) }
+    ensures onward { Onward S.reaches S.stops result source.old source.new }
     ensures origin { S.origin source.new ≡ S.origin source.old }
     ensures ended { OnOk result (IsTrue S.tells → S.ended source.new) }
 {

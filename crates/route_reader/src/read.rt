@@ -3,8 +3,9 @@ ghost use Rattle.std.specs.Prelude.{◌≡◌, ℕ, ◌≤◌, true, false, List
 ghost use Rattle.gr_base.specs.declared.grid.Edge.{Edge};
 ghost use Rattle.gr_io.specs.Counts.{Rose};
 ghost use Rattle.gr_io.specs.declared.shelf.Slot.{Slot};
-ghost use Rattle.gr_text.specs.Reads.{Counts, Says};
+ghost use Rattle.gr_text.specs.Reads.{Counts, Says, Onward, AtFault, GoesThrough};
 ghost use Rattle.gr_text.specs.Streams.{place_at};
+ghost use Rattle.gr_text.specs.Unread.{IsReadTo};
 ghost use Rattle.solution_text.specs.Cover.{cover};
 ghost use Rattle.solution_text.specs.Grammar.{Progress, start};
 ghost use Rattle.route_reader.specs.Solutions.{IsOf, edges_by};
@@ -37,6 +38,7 @@ fn take_token<S: TokenSource>(
     ensures takes { (s : Progress) → Gathers design.now s gathering.old →
         Takes design.now s S.tells (S.place source.old) (S.place source.new) gathering.new result }
     ensures faults { Counts result (S.faults source.old) (S.faults source.new) }
+    ensures onward { Onward S.reaches S.stops result source.old source.new }
     ensures origin { S.origin source.new ≡ S.origin source.old }
     ensures ended { result ≡ Ok false → IsTrue S.tells → S.ended source.new }
 {
@@ -64,6 +66,7 @@ fn finish<S: TokenSource>(
         Says (rest_says design.now s false (S.place source.now)) result }
     ensures of { IfOk result (IsOf design.now) }
     ensures faults { (count : ℕ) → Counts result count count }
+    ensures onward { Onward S.reaches S.stops result source.now source.now }
 {
     let Position::Between = gathering.position else {
         return Err(ReadError::Fault {
@@ -84,6 +87,7 @@ fn solution<S: TokenSource>(
     ensures says { IsTrue S.tells → Says (solution_at design.now start (S.place source.old)) result }
     ensures of { IfOk result (IsOf design.now) }
     ensures faults { Counts result (S.faults source.old) (S.faults source.new) }
+    ensures onward { Onward S.reaches S.stops result source.old source.new }
     ensures origin { S.origin source.new ≡ S.origin source.old }
     ensures ended { OnOk result (IsTrue S.tells → S.ended source.new) }
 {
@@ -110,6 +114,8 @@ fn read<S: Shelf>(
     ensures of { IfOk result (IsOf design.now) }
     ensures ended { OnOk result (IsTrue S.tells → S.left reader.new.shelf.now reader.new.tokens.now.slot ≡ []) }
     ensures faults { Counts result (S.faults reader.old.shelf.now) (S.faults reader.new.shelf.now) }
+    ensures onward { GoesThrough S.tells result reader.old.tokens.now (S.left reader.old.shelf.now)
+        reader.new.tokens.now (S.left reader.new.shelf.now) }
     ensures same_reference { reader.new.shelf.ghost_name ≡ reader.old.shelf.ghost_name }
     ensures slot { reader.new.tokens.now.slot ≡ reader.old.tokens.now.slot }
     ensures misses { S.misses reader.new.shelf.now ≡ S.misses reader.old.shelf.now }
@@ -137,6 +143,10 @@ pub fn read_solution<S: Shelf>(
     ensures covers { IfOk result (λ solution. IsTrue S.tells → (net : ℕ) → (e : Edge) →
         edges_by solution net e ≡ cover design.now (S.left shelf.old Slot.Solution) net e) }
     ensures whole_text { OnOk result (IsTrue S.tells → S.left shelf.new Slot.Solution ≡ []) }
+
+    // At a fault little is read behind the token that it names.
+    ensures rest_unread { IsTrue S.tells → AtFault result (λ token.
+        IsReadTo (S.left shelf.old Slot.Solution) token (S.left shelf.new Slot.Solution)) }
 
     // Whatever the shelf tells, a solution is one for the design.
     ensures of { IfOk result (IsOf design.now) }

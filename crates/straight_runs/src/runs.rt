@@ -1,4 +1,4 @@
-ghost use Rattle.std.specs.Prelude.{◌≡◌, ℕ, ◌-◌, ◌<◌, ◌++◌, ◌&&◌, not, nat_le, IsTrue, All, OnOk};
+ghost use Rattle.std.specs.Prelude.{◌≡◌, ℕ, ◌-◌, ◌<◌, ◌++◌, ◌&&◌, not, nat_le, IsTrue, All, [], OnOk, OnErr};
 ghost use Rattle.std.specs.List.Sorted.{IsStrictlyIncreasing};
 ghost use Rattle.gr_base.specs.Grid.{cells_of, has_edge};
 ghost use Rattle.gr_base.specs.EdgeSets.{set_of};
@@ -65,11 +65,8 @@ fn push_way(
     Ok(())
 }
 
-/// Replaces the list by the maximal straight runs of these edges, each once: East runs first, then
-/// North, then Up, and within a way rising by their low ends. An edge may stand among the edges more
-/// than once. `lows` is room that is used anew. The only error is want of memory. The time is that of
-/// sorting the edges.
-pub fn gather_runs(
+/// Replaces the list by the maximal runs of the edges, way by way.
+fn gather_ways(
     runs: &mut Vec<Run>,
     lows: &mut Vec<u32>,
     shape: Shape,
@@ -84,4 +81,29 @@ pub fn gather_runs(
     push_way(runs, lows, shape, edges, Way::North)?;
     push_way(runs, lows, shape, edges, Way::Up)?;
     Ok(())
+}
+
+/// Replaces the list by the maximal straight runs of these edges, each once: East runs first, then
+/// North, then Up, and within a way rising by their low ends. An edge may stand among the edges more
+/// than once. `lows` is room that is used anew. The only error is want of memory, which leaves both
+/// lists empty. The time is that of sorting the edges.
+pub fn gather_runs(
+    runs: &mut Vec<Run>,
+    lows: &mut Vec<u32>,
+    shape: Shape,
+    edges: &[Edge],
+) -> Result<(), AllocError>
+    requires { All (λ e. IsTrue (has_edge shape e)) edges.now }
+    ensures runs { OnOk result (runs.new.items ≡ runs_of shape (set_of edges.now)) }
+    ensures inside { OnOk result (All (LiesInside shape) runs.new.items) }
+    ensures emptied { OnErr result ((runs.new.items ≡ []) × (lows.new.items ≡ [])) }
+{
+    match gather_ways(runs, lows, shape, edges) {
+        Ok(()) => Ok(()),
+        Err(error) => {
+            runs.clear();
+            lows.clear();
+            Err(error)
+        }
+    }
 }

@@ -5,9 +5,9 @@ use Rattle.gr_base.specs.Designs.{DesignView}
 use Rattle.gr_text.specs.Tokens.{place_in}
 use Rattle.gr_text.specs.Reading.{Read}
 use Rattle.ispd_reader.specs.DesignText.{design, design_of, value_of}
-use Rattle.text_laws.specs.EarlyFaults.{FaultsAreDecidedEarly, DesignOrFault}
+use Rattle.text_laws.specs.EarlyFaults.{FaultsAreDecidedEarly, TokensDecideDesigns}
 use Rattle.ispd_reader.specs.declared.fault.DesignFault.{DesignFault}
-use Rattle.text_laws.proofs.WholeLemmas.{whole, place_in-whole, Agree-whole}
+use Rattle.text_laws.proofs.WholeLemmas.{whole, place_in-whole, Agree-whole, same-whole}
 use Rattle.text_laws.proofs.GrammarLemmas.{IsEarly-design}
 
 value_of-err : (read : Read DesignFault DesignView) (fault : DesignFault × ℕ) → value_of read ≡ Err fault → read ≡ Err fault
@@ -21,5 +21,6 @@ early-faults text other fault token short other_short same is =
     ap design (sym (place_in-whole text short)) ∙ value_of-err (design (place_in most_bytes 0 text)) (fault, token) is in
     ap value_of (ap design (place_in-whole other other_short) ∙ IsEarly-design.early token (whole text) (whole other) fault (Agree-whole token text other same) read)
 
-pub design-or-fault : DesignOrFault
-design-or-fault text design fault token value is = cc
+pub tokens-decide : TokensDecideDesigns
+unfolding design_of
+tokens-decide text other short other_short same = ap (λ place. value_of (design place)) (same-whole text other short other_short same)

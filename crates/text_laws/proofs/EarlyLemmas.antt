@@ -156,7 +156,7 @@ IsCausal-given None fault = IsCausal-refuses fault
 
 -- the next token
 
-head-same : (a b : List ℕ) (rest other : List (List ℕ)) → a ∷ rest ≡ b ∷ other → (a ≡ b) × (rest ≡ other)
+pub head-same : (a b : List ℕ) (rest other : List (List ℕ)) → a ∷ rest ≡ b ∷ other → (a ≡ b) × (rest ≡ other)
 head-same a b rest other is = (cc, cc)
 
 next-late : {F : Type 0} (ends : Ends F) (number : ℕ) (rest : List (List ℕ)) (ending : Ending) (n : ℕ) (f : F) →

@@ -6,3 +6,4 @@ pub mod LibraryGrammarLemmas
 pub mod LibraryTextLemmas
 pub mod TakingLemmas
 pub mod LibraryItemLemmas
+mod SolutionTextLemmas

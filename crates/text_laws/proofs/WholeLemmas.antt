@@ -1,5 +1,5 @@
 -- The first place of a whole text.
-use Rattle.std.proofs.Common.{◌≡◌, ℕ, ◌-◌, ◌≤◌, nat_le, true, List, length, take, refl, arith}
+use Rattle.std.proofs.Common.{◌≡◌, ℕ, ◌-◌, ◌≤◌, nat_le, true, List, length, take, refl, sym, ap, ◌∙◌, arith}
 use Rattle.std.proofs.lemmas.Bool.Decides.{nat_tests}
 use Rattle.gr_base.specs.Limits.{most_bytes}
 use Rattle.gr_text.specs.Tokens.{tokens, Place, AtEnd, place_in}
@@ -22,3 +22,9 @@ Agree-whole token text other same =
       rest = rw all same;
       ending = refl;
     }
+
+-- two texts with the same tokens
+pub same-whole : (text other : List ℕ) → length text ≤ most_bytes → length other ≤ most_bytes → tokens text ≡ tokens other →
+    place_in most_bytes 0 text ≡ place_in most_bytes 0 other
+same-whole text other short other_short same =
+    place_in-whole text short ∙ ap (λ ts. record { number = 0; rest = ts; ending = AtEnd }) same ∙ sym (place_in-whole other other_short)

@@ -1,7 +1,6 @@
--- When the first fault of a design text is decided.
-use Rattle.std.specs.Prelude.{◌≡◌, ℕ, ◌≤◌, List, length, take, Ok, Err}
+-- What decides a design text.
+use Rattle.std.specs.Prelude.{◌≡◌, ℕ, ◌≤◌, List, length, take, Err}
 use Rattle.gr_base.specs.Limits.{most_bytes}
-use Rattle.gr_base.specs.Designs.{DesignView}
 use Rattle.gr_text.specs.Tokens.{tokens}
 use Rattle.ispd_reader.specs.DesignText.{design_of}
 use Rattle.ispd_reader.specs.declared.fault.DesignFault.{DesignFault}
@@ -15,7 +14,7 @@ FaultsAreDecidedEarly = (text other : List ℕ) (fault : DesignFault) (token : �
     length text ≤ most_bytes → length other ≤ most_bytes → take token (tokens text) ≡ take token (tokens other) →
     design_of text ≡ Err (fault, token) → design_of other ≡ Err (fault, token)
 
--- no text has both a design and a fault
-abbrev pub DesignOrFault : Type 0
-DesignOrFault = (text : List ℕ) (design : DesignView) (fault : DesignFault) (token : ℕ) →
-    design_of text ≡ Ok design → design_of text ≡ Err (fault, token) → ⊥
+-- What a text says is decided by its tokens: the bytes between them mean nothing.
+abbrev pub TokensDecideDesigns : Type 0
+TokensDecideDesigns = (text other : List ℕ) → length text ≤ most_bytes → length other ≤ most_bytes →
+    tokens text ≡ tokens other → design_of text ≡ design_of other

@@ -1,3 +1,4 @@
 pub mod EarlyFaults
 pub mod EarlyLibraryFaults
+pub mod EarlySolutionFaults
 pub mod LibraryItems

@@ -1,8 +1,8 @@
-ghost use Rattle.text_laws.specs.EarlyFaults.{FaultsAreDecidedEarly, DesignOrFault};
+ghost use Rattle.text_laws.specs.EarlyFaults.{FaultsAreDecidedEarly, TokensDecideDesigns};
 
 /// Does nothing. Its clauses are laws of a design text: its first fault and that fault's token are
-/// decided by the tokens up to it, and no text has both a design and a fault.
+/// decided by the tokens up to it, and what it says by all its tokens.
 pub fn first_faults_are_decided_early()
     ensures decided { FaultsAreDecidedEarly }
-    ensures one { DesignOrFault }
+    ensures tokens { TokensDecideDesigns }
 {}

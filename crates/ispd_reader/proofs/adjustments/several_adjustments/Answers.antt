@@ -39,6 +39,7 @@ loop-preserved g c =
           ∙ c.loop.invariant.reads tells;
       faults = c.in_ok-adjustment.ensures.faults ∙ c.loop.invariant.faults;
       origin = c.adjustment.ensures.origin ∙ c.loop.invariant.origin;
+      onward = λ bytes read. c.in_ok-adjustment.ensures.onward bytes (c.loop.invariant.onward bytes read);
       frame = ap (λ (d : DesignView). d.frame) pushed ∙ c.loop.invariant.frame;
       nets = ap (λ (d : DesignView). d.nets) pushed ∙ c.loop.invariant.nets;
       count = ap length adjustments ∙ length_push c.loop.design.adjustments c.in_ok-adjustment.adjustment ∙ ap (λ (n : ℕ). n + 1) c.loop.invariant.count;

@@ -1,4 +1,4 @@
-use Rattle.std.proofs.Common.{◌≡◌, ◌-◌, ◌≤◌, All, replicate, length, take, drop, [], IsTrue}
+use Rattle.std.proofs.Common.{◌≡◌, ◌-◌, ◌≤◌, All, replicate, length, take, drop, [], IsTrue, ℕ, List}
 use Rattle.gr_text.specs.Reading.{several}
 use Rattle.ispd_reader.specs.Steps.{natural}
 use Rattle.ispd_reader.proofs.header.by_layer.Given as goal
@@ -11,6 +11,7 @@ invariant-loop-layer g l = record {
       ≡ several (λ _. natural 0 l.most) l.layers [] (g.S.TokenSource.place l.fn.source);
   faults : g.S.TokenSource.faults l.source ≡ g.S.TokenSource.faults l.fn.source;
   origin : g.S.TokenSource.origin l.source ≡ g.S.TokenSource.origin l.fn.source;
+  onward : (bytes : List ℕ) → g.S.TokenSource.reaches l.fn.source bytes → g.S.TokenSource.reaches l.source bytes;
   most : All (λ n. n ≤ l.most) l.numbers;
   others : drop l.layer l.numbers ≡ replicate (16 - l.layer) 0;
 }

@@ -34,6 +34,7 @@ loop-preserved g c =
           ∙ c.loop.invariant.reads tells;
       faults = c.in_ok-net.ensures.faults ∙ c.loop.invariant.faults;
       origin = c.net.ensures.origin ∙ c.loop.invariant.origin;
+      onward = λ bytes read. c.in_ok-net.ensures.onward bytes (c.loop.invariant.onward bytes read);
       frame = ap (λ (d : DesignView). d.frame) pushed ∙ c.loop.invariant.frame;
       adjustments = ap (λ (d : DesignView). d.adjustments) pushed ∙ c.loop.invariant.adjustments;
       count = ap length nets ∙ length_push c.loop.design.nets c.in_ok-net.net ∙ ap (λ (n : ℕ). n + 1) c.loop.invariant.count;

@@ -1,4 +1,4 @@
-use Rattle.std.proofs.Common.{◌≡◌, ◌-◌, ◌≤◌, length, [], IsTrue}
+use Rattle.std.proofs.Common.{◌≡◌, ◌-◌, ◌≤◌, length, [], IsTrue, ℕ, List}
 use Rattle.gr_base.specs.Limits.{most_pins}
 use Rattle.gr_base.specs.Designs.{pins_of}
 use Rattle.gr_text.specs.Reading.{several}
@@ -12,6 +12,7 @@ invariant-loop g l = record {
       ≡ several (net l.fn.design.frame) l.count [] (g.S.TokenSource.place l.fn.source);
   faults : g.S.TokenSource.faults l.source ≡ g.S.TokenSource.faults l.fn.source;
   origin : g.S.TokenSource.origin l.source ≡ g.S.TokenSource.origin l.fn.source;
+  onward : (bytes : List ℕ) → g.S.TokenSource.reaches l.fn.source bytes → g.S.TokenSource.reaches l.source bytes;
   frame : l.design.frame ≡ l.fn.design.frame;
   adjustments : l.design.adjustments ≡ l.fn.design.adjustments;
   count : length l.design.nets ≡ l.counter;

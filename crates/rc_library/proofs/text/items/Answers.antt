@@ -50,5 +50,6 @@ loop-preserved g c =
           ∙ c.loop.invariant.reads tells;
       faults = c.in_ok-item.ensures.faults ∙ c.in_ok-keyword.ensures.faults ∙ c.loop.invariant.faults;
       origin = c.in_ok-item.ensures.origin ∙ c.in_ok-keyword.ensures.origin ∙ c.loop.invariant.origin;
+      onward = λ bytes read. c.in_ok-item.ensures.onward bytes (c.in_ok-keyword.ensures.onward bytes (c.loop.invariant.onward bytes read));
       like = IsLike-then c.args.gathered.now c.loop.gathered c.item.new.gathered c.loop.invariant.like c.in_ok-item.ensures.like;
     }

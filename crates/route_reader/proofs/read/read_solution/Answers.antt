@@ -1,6 +1,8 @@
+use Rattle.std.proofs.Common.{rules}
 use Rattle.gr_io.specs.declared.shelf.Slot.TheVariants as slot
 use Rattle.route_reader.proofs.ReadLemmas.{says-read}
 use Rattle.route_reader.proofs.CoverLemmas.{read-covers}
+use Rattle.gr_text.proofs.UnreadLemmas.{fault-unread}
 use Rattle.route_reader.proofs.read.read_solution.Goals as goal
 
 pub returns-clause-says : goal.returns-clause-says
@@ -11,3 +13,9 @@ pub returns-clause-covers : goal.returns-clause-covers
 returns-clause-covers g c =
     read-covers c.args.design.now g.S.Shelf.tells (g.S.Shelf.left c.args.shelf.now slot.Solution) c.read.result (λ tells.
     says-read c.args.design.now c.in_ok-tokens.tokens (g.S.Shelf.left c.args.shelf.now) c.in_ok-tokens.ensures c.read.result (c.read.ensures.says tells))
+
+pub returns-clause-rest_unread : goal.returns-clause-rest_unread
+returns-clause-rest_unread g c =
+    let behind = fault-unread g.S.Shelf.tells c.read.result c.in_ok-tokens.tokens c.read.new.reader.tokens.now (g.S.Shelf.left c.args.shelf.now)
+    (g.S.Shelf.left c.read.new.reader.shelf.now) _ _ c.in_ok-tokens.ensures c.read.ensures.slot c.read.ensures.onward in
+    search rules

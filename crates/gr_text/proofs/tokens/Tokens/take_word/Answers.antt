@@ -11,12 +11,15 @@ returns-in_err-more-clause-token g c =
     let p = err_from_is_err_and c.from_residual-in_err-more.result c.from_residual-in_err-more.ensures.1 in
     let grew = c.in_ok-take_part.ensures.grown in
     let spent = rw c.if-not-branch.true at grew in
+    let slot = ap (λ (s : Stream). s.slot) grew.is ∙ ap (λ (s : Stream). s.slot) c.parts.invariant.is in
     rw (p.1, p.2)
     (token-fails _ _ _ c.take_part.new.self c.more.new.self (g.S.Shelf.left c.parts.shelf c.args.self.now.slot) _ c.in_err-more.field-0.0
     (part-more _ c.parts.self c.take_part.new.self _ c.parts.invariant.part grew)
     (grown-spent c.parts.self c.take_part.new.self spent)
     (c.parts.invariant.bytes told ∙ bytes-more c.parts.self c.take_part.new.self _ _ grew)
-    (rw c.in_err-more.was at c.more.ensures.refilled))
+    c.take_part.ensures.few
+    (rw c.in_err-more.was at c.more.ensures.refilled)
+    (rw (c.in_err-more.was, slot) at (c.more.ensures.left told)))
 
 pub returns-then-not-branch-2-clause-token : goal.returns-then-not-branch-2-clause-token
 returns-then-not-branch-2-clause-token g c =

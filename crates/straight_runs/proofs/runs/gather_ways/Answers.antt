@@ -4,7 +4,7 @@ use Rattle.gr_base.specs.declared.grid.Way.TheVariants.{East, North, Up}
 use Rattle.solution_text.specs.declared.run.Run.{Run}
 use Rattle.solution_text.specs.Runs.{runs_of_way, runs_of}
 use Rattle.straight_runs.proofs.EndLemmas.{all-inside}
-use Rattle.straight_runs.proofs.runs.gather_runs.Goals as goal
+use Rattle.straight_runs.proofs.runs.gather_ways.Goals as goal
 
 pub returns-clause-inside : goal.returns-clause-inside
 returns-clause-inside c =
