@@ -1,8 +1,8 @@
 -- The plans of routed nets, net by net.
-use Rattle.std.proofs.Common.{◌≡◌, ℕ, inl, inr, ◌<◌, ◌+◌, false, List, length, get_or, slice_set, Option, Some, None, IsTrue, sym, ap, subst, ◌∙◌, arith}
+use Rattle.std.proofs.Common.{◌≡◌, ℕ, inl, inr, ◌<◌, ◌+◌, List, length, get_or, slice_set, Option, Some, None, All, IsTrue, sym, ap, subst, arith}
 use Rattle.std.specs.Borrow.{Bor}
-use Rattle.std.specs.Option.{option_and_then, option_copied, IfSome, IsSomeAnd}
-use Rattle.std.proofs.lemmas.Bool.{cases_eq}
+use Rattle.std.specs.Option.{option_and_then, option_copied, IfSome, IsSome, IsSomeAnd}
+use Rattle.std.proofs.lemmas.Bool.{cases_eq, false≢true}
 use Rattle.std.proofs.lemmas.List.{get_or-set_same, get_or-set_other, length-set}
 use Rattle.std.proofs.lemmas.Option.{slice_get-get_or}
 use Rattle.gr_base.specs.Designs.{DesignView, is_routed}
@@ -14,7 +14,7 @@ use Rattle.elmore_delay.specs.PlanLists.{plan_at}
 use Rattle.elmore_delay.specs.declared.plans.Plan.{Plan}
 use Rattle.buffer_plan.specs.Best.{IsBest, time_with}
 use Rattle.buffer_plan.specs.Picked.{picked}
-use Rattle.buffer_plan.specs.Plans.{AreRoutesOf, loading_of, IsPlan, ArePlansBelow}
+use Rattle.buffer_plan.specs.Plans.{AreRoutesOf, loading_of, IsPlan, IsPlanOf, ArePlansFrom, ArePlans}
 use Rattle.buffer_plan.proofs.Members.{element-at}
 
 -- the tree of a routed net is one of the design's grid
@@ -25,49 +25,44 @@ tree-shape d trees net (Some tree) routed below routes is =
     let there = element-at d.nets net below in
     (and-some (IsTreeOf d net) (tree_at trees net) tree.now (sym is) (routes net routed) there.0 there.1).shape
 
-get-plan : (plans : List (Option Plan)) (net : ℕ) → net < length plans → plan_at plans net ≡ get_or plans net None
-get-plan plans net below = ap (option_and_then (λ (plan : Option Plan). plan)) (slice_get-get_or plans net None below)
-
--- the plan that was set, and the others
-has-set : (plans : List (Option Plan)) (net : ℕ) (plan : Plan) → net < length plans → plan_at (slice_set plans net (Some plan)) net ≡ Some plan
-has-set plans net plan below =
-    let same = length-set plans net (Some plan) in
-    get-plan (slice_set plans net (Some plan)) net (omega arith) ∙ get_or-set_same plans net (Some plan) None below
-
-has-other : (plans : List (Option Plan)) (net other : ℕ) (plan : Plan) → (other ≡ net → ⊥) → other < length plans →
-    plan_at (slice_set plans net (Some plan)) other ≡ plan_at plans other
-has-other plans net other plan apart within =
-    let same = length-set plans net (Some plan) in
-    get-plan (slice_set plans net (Some plan)) other (omega arith) ∙ get_or-set_other plans net other (Some plan) None apart
-    ∙ sym (get-plan plans other within)
-
--- one more net, which isn't routed
-pub planned-unrouted : (d : DesignView) (lib : LibraryView) (trees : List (Option TreeView)) (plans : List (Option Plan)) (net : ℕ) →
-    is_routed d net ≡ false → ArePlansBelow net d lib trees plans → ArePlansBelow (net + 1) d lib trees plans
-planned-unrouted d lib trees plans net unrouted planned other below routed =
-    elim (cases_eq other net) [
-      | inl is ↦ (let no_route : is_routed d net ≡ false = unrouted in cc)
-      | inr apart ↦ planned other (omega (arith, below, apart)) routed
-    ]
-
--- one more net, with its plan
-pub planned-next : (d : DesignView) (lib : LibraryView) (trees : List (Option TreeView)) (plans : List (Option Plan)) (net : ℕ) (t : TreeView) (plan : Plan) →
-    net < length plans → tree_at trees net ≡ Some t → IsPlan (loading_of d lib net t) plan → ArePlansBelow net d lib trees plans →
-    ArePlansBelow (net + 1) d lib trees (slice_set plans net (Some plan))
-planned-next d lib trees plans net t plan within has is planned other below routed =
-    elim (cases_eq other net) [
-      | inl same ↦
-          subst (λ (n : ℕ). IsSomeAnd (tree_at trees n) (λ t. IsSomeAnd (plan_at (slice_set plans net (Some plan)) n) (IsPlan (loading_of d lib n t)))) (sym same)
-          (subst (λ (o : Option TreeView). IsSomeAnd o (λ t. IsSomeAnd (plan_at (slice_set plans net (Some plan)) net) (IsPlan (loading_of d lib net t)))) (sym has)
-          (subst (λ (o : Option Plan). IsSomeAnd o (IsPlan (loading_of d lib net t))) (sym (has-set plans net plan within)) is))
-      | inr apart ↦
-          let earlier : other < net = omega (arith, below, apart) in
-          subst (λ (o : Option Plan). IsSomeAnd (tree_at trees other) (λ t. IsSomeAnd o (IsPlan (loading_of d lib other t))))
-          (sym (has-other plans net other plan apart (omega (arith, earlier, within)))) (planned other earlier routed)
-    ]
-
 -- the plan of a loading
 pub plan-is : (l other : LoadingView) (plan : Plan) → l ≡ other → plan.placement ≡ picked l → IsBest l plan.placement →
     plan.required ≡ time_with l plan.placement → IsPlan other plan
 plan-is l other plan same placement best required =
     subst (λ (x : LoadingView). IsPlan x plan) same (record { placement = placement; best = best; required = required })
+
+-- where no net has a plan
+pub plans-none : (first : ℕ) (d : DesignView) (lib : LibraryView) (trees : List (Option TreeView)) (plans : List (Option Plan)) →
+    All (λ (plan : Option Plan). plan ≡ None) plans → ArePlansFrom first d lib trees plans
+plans-none first d lib trees plans none k default inside = subst (IsPlanOf d lib trees (first + k)) (sym (none k default inside)) tt
+
+-- one net's plan more
+pub plans-set : (first : ℕ) (d : DesignView) (lib : LibraryView) (trees : List (Option TreeView)) (plans : List (Option Plan)) (at : ℕ) (plan : Option Plan) →
+    at < length plans → IsPlanOf d lib trees (first + at) plan → ArePlansFrom first d lib trees plans → ArePlansFrom first d lib trees (slice_set plans at plan)
+plans-set first d lib trees plans at plan within is are k default inside =
+    let long = length-set plans at plan in
+    elim (cases_eq k at) [
+      | inl same ↦
+          subst (λ (n : ℕ). IsPlanOf d lib trees (first + n) (get_or (slice_set plans at plan) n default)) (sym same)
+          (subst (IsPlanOf d lib trees (first + at)) (sym (get_or-set_same plans at plan default within)) is)
+      | inr apart ↦ subst (IsPlanOf d lib trees (first + k)) (sym (get_or-set_other plans at k plan default apart)) (are k default (omega arith))
+    ]
+
+-- a routed net's plan that is there
+plan-there : (d : DesignView) (lib : LibraryView) (trees : List (Option TreeView)) (net : ℕ) (plan : Option Plan) → IsSome plan → IsPlanOf d lib trees net plan →
+    IsSomeAnd (tree_at trees net) (λ t. IsSomeAnd plan (IsPlan (loading_of d lib net t)))
+plan-there d lib trees net None some is = absurd (false≢true some)
+plan-there d lib trees net (Some plan) some is = is
+
+get-plan : (plans : List (Option Plan)) (net : ℕ) → net < length plans → plan_at plans net ≡ get_or plans net None
+get-plan plans net below = ap (option_and_then (λ (plan : Option Plan). plan)) (slice_get-get_or plans net None below)
+
+-- all plans, where each routed net has one
+pub plans-all : (d : DesignView) (lib : LibraryView) (trees : List (Option TreeView)) (plans : List (Option Plan)) → length plans ≡ length d.nets →
+    ArePlansFrom 0 d lib trees plans → ((net : ℕ) → net < length d.nets → IsTrue (is_routed d net) → IsSome (plan_at plans net)) → ArePlans d lib trees plans
+plans-all d lib trees plans long are some net below routed =
+    let is = get-plan plans net (omega arith) in
+    let place : 0 + net ≡ net = omega arith in
+    let own : IsPlanOf d lib trees net (plan_at plans net) =
+    subst (IsPlanOf d lib trees net) (sym is) (subst (λ (n : ℕ). IsPlanOf d lib trees n (get_or plans net None)) place (are net None (omega arith))) in
+    plan-there d lib trees net (plan_at plans net) (some net below routed) own

@@ -10,7 +10,7 @@ ghost use Rattle.buffer_plan.specs.Gathered.{pairs_in, AreGathered, AreSmall, mo
 
 use crate::lists::{self, Lists};
 use elmore_delay::Loading;
-use ginneken_lists::{OptionList, Steps, Trail};
+use ginneken_lists::{ListPool, OptionList, Steps, Trail};
 use gr_base::RouteTree;
 use rc_library::Library;
 use std::alloc::{AllocError, Global};
@@ -24,6 +24,7 @@ pub(crate) fn hang_all<L: Ledger>(
     loading: &Loading,
     lists: &mut Lists,
     trail: &mut Trail,
+    pool: &mut ListPool,
     steps: &mut Steps<L>,
 ) -> Result<(), AllocError>
     requires tree { loading.now.tree ≡ tree.now }
@@ -35,7 +36,9 @@ pub(crate) fn hang_all<L: Ledger>(
         + most_steps (length library.now.kinds) (length tree.now.nodes) * (length tree.now.nodes - 1) }
 {
     for node in (1..tree.len()).rev() {
-        hang(alloc, tree, library, loading, node, lists, trail, steps)?;
+        hang(
+            alloc, tree, library, loading, node, lists, trail, pool, steps,
+        )?;
     }
     Ok(())
 }
@@ -49,6 +52,7 @@ fn hang<L: Ledger>(
     node: u32,
     lists: &mut Lists,
     trail: &mut Trail,
+    pool: &mut ListPool,
     steps: &mut Steps<L>,
 ) -> Result<(), AllocError>
     requires tree { loading.now.tree ≡ tree.now }
@@ -59,11 +63,11 @@ fn hang<L: Ledger>(
     ensures lists { OnOk result (AreGathered (sites_of loading.now) node trail.new lists.new.items) }
     ensures steps { steps.new ≤ steps.old + most_steps (length library.now.kinds) (length tree.now.nodes) }
 {
-    let below = lists::whole(alloc, lists::take(lists, node))?;
-    let upper = raised(alloc, library, loading, node, below, trail, steps)?;
+    let below = lists::whole(alloc, lists::take(lists, node), pool)?;
+    let upper = raised(library, loading, node, below, trail, pool, steps)?;
     let parent = tree.parent(node);
     let own = lists::take(lists, parent);
-    let joined = join(alloc, own, upper, trail, steps)?;
+    let joined = join(alloc, own, upper, trail, pool, steps)?;
     lists[parent as usize] = Some(joined);
     Ok(())
 }
@@ -71,12 +75,12 @@ fn hang<L: Ledger>(
 /// What a node's parent sees of it: with an offer of each kind where a buffer may stand, at the upper
 /// end of the edge.
 fn raised<L: Ledger>(
-    alloc: Global,
     library: &Library,
     loading: &Loading,
     node: u32,
     below: OptionList,
     trail: &mut Trail,
+    pool: &mut ListPool,
     steps: &mut Steps<L>,
 ) -> Result<OptionList, AllocError>
     requires library { loading.now.library ≡ library.now }
@@ -96,7 +100,7 @@ fn raised<L: Ledger>(
 {
     let mut upper = below;
     if may_place(library, loading, node) {
-        upper.offer(alloc, node, library, trail, steps)?;
+        upper.offer(node, library, trail, pool, steps)?;
     }
     upper.wire(loading.wire(node), steps);
     Ok(upper)
@@ -118,6 +122,7 @@ fn join<L: Ledger>(
     own: Option<OptionList>,
     upper: OptionList,
     trail: &mut Trail,
+    pool: &mut ListPool,
     steps: &mut Steps<L>,
 ) -> Result<OptionList, AllocError>
     requires list { IsList upper }
@@ -134,6 +139,6 @@ fn join<L: Ledger>(
 {
     match own {
         None => Ok(upper),
-        Some(own) => OptionList::merge(alloc, own, upper, trail, steps),
+        Some(own) => OptionList::merge(alloc, own, upper, trail, pool, steps),
     }
 }

@@ -6,7 +6,7 @@ ghost use Rattle.buffer_plan.specs.Picked.{sites_of};
 ghost use Rattle.buffer_plan.specs.Gathered.{pairs_in, pairs_at, AreGathered};
 
 use elmore_delay::Loading;
-use ginneken_lists::OptionList;
+use ginneken_lists::{ListPool, OptionList};
 use gr_base::RouteTree;
 use std::alloc::{AllocError, Global};
 
@@ -19,6 +19,7 @@ pub(crate) fn start(
     tree: &RouteTree,
     loading: &Loading,
     lists: &mut Lists,
+    pool: &mut ListPool,
 ) -> Result<(), AllocError>
     requires tree { loading.now.tree ≡ tree.now }
     requires loading { IsLoading loading.now }
@@ -26,13 +27,18 @@ pub(crate) fn start(
 {
     lists.clear();
     for node in 0..tree.len() {
-        lists.push(of_sinks(alloc, loading, node)?)?;
+        lists.push(of_sinks(alloc, loading, node, pool)?)?;
     }
     Ok(())
 }
 
 /// The list of the sinks at a node. None where there is no sink.
-fn of_sinks(alloc: Global, loading: &Loading, node: u32) -> Result<Option<OptionList>, AllocError>
+fn of_sinks(
+    alloc: Global,
+    loading: &Loading,
+    node: u32,
+    pool: &mut ListPool,
+) -> Result<Option<OptionList>, AllocError>
     requires { node < length loading.now.tree.nodes }
     ensures { IfOk result (λ list. pairs_in list ≡ record {
       load = sinks_load (rc_of loading.now) node;
@@ -43,8 +49,8 @@ fn of_sinks(alloc: Global, loading: &Loading, node: u32) -> Result<Option<Option
     let load = loading.load(node);
     match loading.time(node) {
         None if load == 0 => Ok(None),
-        None => Ok(Some(OptionList::leaf(alloc, load, None)?)),
-        Some(time) => Ok(Some(OptionList::leaf(alloc, load, Some(i128::from(time)))?)),
+        None => Ok(Some(OptionList::leaf(alloc, load, None, pool)?)),
+        Some(time) => Ok(Some(OptionList::leaf(alloc, load, Some(i128::from(time)), pool)?)),
     }
 }
 
@@ -58,11 +64,15 @@ pub(crate) fn take(lists: &mut Lists, node: u32) -> Option<OptionList>
 }
 
 /// A list, where none stands for a branch without sinks.
-pub(crate) fn whole(alloc: Global, list: Option<OptionList>) -> Result<OptionList, AllocError>
+pub(crate) fn whole(
+    alloc: Global,
+    list: Option<OptionList>,
+    pool: &mut ListPool,
+) -> Result<OptionList, AllocError>
     ensures { IfOk result (λ whole. whole ≡ pairs_in list) }
 {
     match list {
-        None => OptionList::leaf(alloc, 0, None),
+        None => OptionList::leaf(alloc, 0, None, pool),
         Some(list) => Ok(list),
     }
 }

@@ -9,7 +9,7 @@ use crate::hanging::hang_all;
 use crate::lists::{self, Lists};
 use crate::placing::place;
 use elmore_delay::{Loading, Placement, Plan};
-use ginneken_lists::{Pair, Steps, Trail};
+use ginneken_lists::{ListPool, Pair, Steps, Trail};
 use gr_base::RouteTree;
 use rc_library::Library;
 use std::alloc::{AllocError, Global};
@@ -20,6 +20,7 @@ use std::sync::ledger::Ledger;
 pub struct Planner {
     trail: Trail,
     lists: Lists,
+    pool: ListPool,
     marks: Vec<u64>,
 }
 
@@ -29,6 +30,7 @@ impl Planner {
         Planner {
             trail: Trail::new(alloc),
             lists: Vec::new(alloc),
+            pool: ListPool::new(alloc),
             marks: Vec::new(alloc),
         }
     }
@@ -79,7 +81,7 @@ impl Planner {
     {
         let driver = loading.driver();
         self.trail.clear();
-        lists::start(alloc, tree, loading, &mut self.lists)?;
+        lists::start(alloc, tree, loading, &mut self.lists, &mut self.pool)?;
         hang_all(
             alloc,
             tree,
@@ -87,10 +89,13 @@ impl Planner {
             loading,
             &mut self.lists,
             &mut self.trail,
+            &mut self.pool,
             steps,
         )?;
-        let pairs = lists::whole(alloc, lists::take(&mut self.lists, 0))?;
-        Ok(pairs.best_driven(driver, steps))
+        let pairs = lists::whole(alloc, lists::take(&mut self.lists, 0), &mut self.pool)?;
+        let best = pairs.best_driven(driver, steps);
+        pairs.give_up(&mut self.pool);
+        Ok(best)
     }
 
     /// The plan with what a pair's mark names. A net without sinks has no time, and gets no buffers.

@@ -42,6 +42,13 @@ impl Plans {
         Ok(Plans { plans })
     }
 
+    /// The plans of these nets, net by net.
+    pub fn of(plans: Vec<Option<Plan>>) -> Plans
+        ensures { result ≡ plans.items }
+    {
+        Plans { plans }
+    }
+
     /// Sets a net's plan. A plan that was set for it before is dropped.
     pub fn set(&mut self, net: u32, plan: Plan)
         requires { net < length self.old }

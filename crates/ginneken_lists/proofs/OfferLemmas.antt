@@ -1,7 +1,7 @@
 -- What the kinds of buffers offer, one after another.
 use Rattle.std.proofs.Common.{◌≡◌, ℕ, zero, suc, ◌+◌, ◌*◌, ◌<◌, ◌≤◌, List, [], ◌∷◌, ◌++◌, length, get_or, drop, All, Contains, Option, Some, refl, sym, ap, subst, ◌∙◌, arith}
 use Rattle.std.proofs.Math.Nat.{mul-le-mul}
-use Rattle.std.proofs.lemmas.List.{drop_more, length_push, get_or-append-add}
+use Rattle.std.proofs.lemmas.List.{drop_more, length_push}
 use Rattle.std.proofs.lemmas.List.Elements.{All-push, All-contains, filter_map-append}
 use Rattle.std.proofs.lemmas.List.Sums.{fold-append}
 use Rattle.std.specs.List.{cons_option, filter_map, range_with_len}
@@ -11,15 +11,17 @@ use Rattle.rc_library.specs.Libraries.{LibraryView, kind_of}
 use Rattle.rc_library.specs.declared.parts.Kind.{Kind}
 use Rattle.elmore_delay.specs.FromLeaves.{behind}
 use Rattle.elmore_delay.specs.declared.seen.Seen.{Seen}
-use Rattle.ginneken_lists.specs.Candidates.{Chosen, Nothing, Buffered, Candidate, with_one, thinned, best_driven, buffered, with_buffer, with_kind, offers, with_offers}
+use Rattle.ginneken_lists.specs.Candidates.{Chosen, Buffered, Candidate, with_one, thinned, best_driven, buffered, with_buffer, with_kind, offers, with_offers}
 use Rattle.ginneken_lists.specs.Thinning.{AreRising}
-use Rattle.ginneken_lists.specs.Trails.{chosen_of}
+use Rattle.ginneken_lists.specs.Trails.{chosen_of, trail_of, Keeps}
+use Rattle.ginneken_lists.specs.TrailStore.{AreChoices}
 use Rattle.ginneken_lists.specs.StoredPairs.{stored_candidate}
-use Rattle.ginneken_lists.specs.Offering.{with_all, buffers_over, offered}
+use Rattle.ginneken_lists.specs.Offering.{with_all, buffer_over, offered}
+use Rattle.ginneken_lists.specs.declared.choice.Choice.{Choice}
 use Rattle.ginneken_lists.specs.declared.stored.Stored.{Stored}
 use Rattle.ginneken_lists.proofs.ThinnedAgain.{thinned-stays}
-use Rattle.ginneken_lists.proofs.TrailLemmas.{Keeps-append}
-use Rattle.ginneken_lists.proofs.StoredLemmas.{all_of, sight, all_of-keeps}
+use Rattle.ginneken_lists.proofs.TrailLemmas.{Keeps-itself, Keeps-through}
+use Rattle.ginneken_lists.proofs.StoredLemmas.{all_of, sight}
 
 -- one more of those that are offered
 offered-push : (trail : List Chosen) (node from : ℕ) (found : List Stored) (s : Stored) →
@@ -65,68 +67,40 @@ found-more lib items found number kind best s are kind_is driven one seen named 
           (subst (λ (n : ℕ). n ≤ most) (sym named) (All-contains (λ (pair : Stored). pair.mark ≤ most) items best all one));
     }
 
--- what the marks of buffers over pairs name
-pub length-buffers : (trail : List Chosen) (node from : ℕ) (found : List Stored) → length (buffers_over trail node from found) ≡ length found
-length-buffers trail node from [] = refl
-length-buffers trail node from (s ∷ found) = ap suc (length-buffers trail node (from + 1) found)
+-- some of what was found is offered, over the marks of a trail from which the choices go on
+pub record AreOffered (found : List Stored) (node : ℕ) (trail : List Chosen) (old items : List Stored) (choices : List Choice) (number : ℕ) : Type 0 where
+  pub rest : with_all (all_of (trail_of choices) items) (offered trail node number (drop number found)) ≡ with_all (all_of trail old) (offered trail node 0 found)
+  pub named : AreChoices choices
+  pub keeps : Keeps trail (trail_of choices)
+  pub marks : All (λ (pair : Stored). pair.mark ≤ length choices) items
 
-buffers-at : (trail : List Chosen) (node from : ℕ) (found : List Stored) (k : ℕ) (d : Stored) → k < length found →
-    get_or (buffers_over trail node from found) k Nothing ≡ Buffered node (from + k) (chosen_of trail (get_or found k d).mark)
-buffers-at trail node from [] k d inside = absurd (omega arith)
-buffers-at trail node from (s ∷ found) zero d inside =
-    let place : from ≡ from + 0 = omega arith in
-    ap (λ (n : ℕ). Buffered node n (chosen_of trail s.mark)) place
-buffers-at trail node from (s ∷ found) (suc k) d inside =
-    let place : from + 1 + k ≡ from + suc k = omega arith in
-    buffers-at trail node (from + 1) found k d (omega arith) ∙ ap (λ (n : ℕ). Buffered node n (chosen_of trail (get_or found k d).mark)) place
-
--- some of what was found is offered
-pub record AreOffered (found old items : List Stored) (first number : ℕ) : Type 0 where
-  pub rest : (trail : List Chosen) (node : ℕ) → first ≡ length trail + 1 →
-      with_all (all_of (trail ++ buffers_over trail node 0 found) items) (offered trail node number (drop number found))
-      ≡ with_all (all_of trail old) (offered trail node 0 found)
-  pub marks : All (λ (pair : Stored). pair.mark < first + number) items
-
-pub offered-none : (found old : List Stored) (first : ℕ) → All (λ (pair : Stored). pair.mark < first) old → AreOffered found old old first 0
-offered-none found old first marks = record {
-  rest = λ trail node is.
-      ap (λ (os : List Candidate). with_all os (offered trail node 0 found))
-      (all_of-keeps trail (trail ++ buffers_over trail node 0 found) old (Keeps-append trail (buffers_over trail node 0 found))
-      (λ k d inside. let m = marks k d inside in omega arith));
-  marks = λ k d inside. let m = marks k d inside in omega arith;
+pub offered-none : (found : List Stored) (node : ℕ) (old : List Stored) (choices : List Choice) → AreChoices choices →
+    All (λ (pair : Stored). pair.mark ≤ length choices) old → AreOffered found node (trail_of choices) old old choices 0
+offered-none found node old choices named marks = record {
+  rest = refl;
+  named = named;
+  keeps = Keeps-itself (trail_of choices);
+  marks = marks;
 }
 
--- the candidate of the next one, with the mark of its buffer
-marked-is : (trail : List Chosen) (node first number : ℕ) (found : List Stored) (s pair : Stored) → first ≡ length trail + 1 → number < length found →
-    s ≡ get_or found number s → pair ≡ record { time = s.time; load = s.load; mark = first + number } →
-    stored_candidate (trail ++ buffers_over trail node 0 found) pair ≡ record { seen = sight s; chosen = Buffered node number (chosen_of trail s.mark) }
-marked-is trail node first number found s pair is inside read pair_is =
-    let all = trail ++ buffers_over trail node 0 found in
-    let mark : first + number ≡ suc (length trail + number) = omega arith in
-    let named : chosen_of all (suc (length trail + number)) ≡ Buffered node number (chosen_of trail s.mark) =
-    get_or-append-add trail (buffers_over trail node 0 found) number Nothing
-    ∙ buffers-at trail node 0 found number s inside
-    ∙ ap (λ (n : ℕ). Buffered node n (chosen_of trail (get_or found number s).mark)) (let e : 0 + number ≡ number = omega arith in e)
-    ∙ ap (λ (x : Stored). Buffered node number (chosen_of trail x.mark)) (sym read) in
-    ap (stored_candidate all) pair_is
-    ∙ ap (λ (m : ℕ). record { seen = sight s; chosen = chosen_of all m }) mark
-    ∙ ap (λ (c : Chosen). record { seen = sight s; chosen = c }) named
-
-pub offered-more : (found old items new : List Stored) (first number : ℕ) (s pair : Stored) → AreOffered found old items first number → number < length found →
-    s ≡ get_or found number s → pair ≡ record { time = s.time; load = s.load; mark = first + number } →
-    ((trail : List Chosen) → all_of trail new ≡ with_one (stored_candidate trail pair) (all_of trail items)) →
-    All (λ (other : Stored). other.mark ≤ first + number) new → AreOffered found old new first (number + 1)
-offered-more found old items new first number s pair are inside read pair_is one marks = record {
-  rest = λ trail node is.
-      let all = trail ++ buffers_over trail node 0 found in
-      let o : Candidate = record { seen = sight s; chosen = Buffered node number (chosen_of trail s.mark) } in
+pub offered-more : (found : List Stored) (node : ℕ) (trail : List Chosen) (old items new : List Stored) (choices more : List Choice) (number : ℕ) (s : Stored) →
+    AreOffered found node trail old items choices number → number < length found → s ≡ get_or found number s → s.mark ≤ length trail →
+    all_of (trail_of more) new ≡ with_one (buffer_over (trail_of choices) node number s) (all_of (trail_of choices) items) →
+    AreChoices more → Keeps (trail_of choices) (trail_of more) → All (λ (pair : Stored). pair.mark ≤ length more) new →
+    AreOffered found node trail old new more (number + 1)
+offered-more found node trail old items new choices more number s are inside read mark one named keeps marks = record {
+  rest =
+      let later = offered trail node (number + 1) (drop (number + 1) found) in
       let next : drop number found ≡ s ∷ drop (number + 1) found =
       drop_more found number s inside ∙ ap (λ (x : Stored). x ∷ drop (number + 1) found) (sym read) in
-      ap (λ (os : List Candidate). with_all os (offered trail node (number + 1) (drop (number + 1) found)))
-      (one all ∙ ap (λ (x : Candidate). with_one x (all_of all items)) (marked-is trail node first number found s pair is inside read pair_is))
-      ∙ ap (λ (xs : List Stored). with_all (all_of all items) (offered trail node number xs)) (sym next)
-      ∙ are.rest trail node is;
-  marks = λ k d within. let m = marks k d within in omega arith;
+      ap (λ (os : List Candidate). with_all os later) one
+      ∙ ap (λ (c : Chosen). with_all (with_one (record { seen = sight s; chosen = Buffered node number c }) (all_of (trail_of choices) items)) later)
+      (are.keeps.same s.mark mark)
+      ∙ ap (λ (xs : List Stored). with_all (all_of (trail_of choices) items) (offered trail node number xs)) (sym next)
+      ∙ are.rest;
+  named = named;
+  keeps = Keeps-through trail (trail_of choices) (trail_of more) are.keeps keeps;
+  marks = marks;
 }
 
 -- candidates that rise are thinned with what is offered over them

@@ -30,20 +30,20 @@ unserved-of stored trail (x ∷ items) = elim (cases_Bool (not (serves (sight st
       ∙ sym (filter-no (λ (other : Candidate). not (serves (sight stored) other.seen)) (stored_candidate trail x) (all_of trail items) is)
 ]
 
--- without a place, one more candidate is dropped
-pub place-none : (stored : Stored) (trail : List Chosen) (from : ℕ) (items : List Stored) → place_of (sight stored) from items ≡ None →
-    with_one (stored_candidate trail stored) (all_of trail items) ≡ all_of trail items
-place-none stored trail from [] none = cc
-place-none stored trail from (x ∷ items) none = elim (cases_Bool (serves (sight x) (sight stored))) [
-  | inl served ↦ with_one-served (stored_candidate trail stored) (stored_candidate trail x) (all_of trail items) served
+-- without a place, one more candidate is dropped, whatever is chosen with it
+pub place-none : (stored : Stored) (chosen : Chosen) (trail : List Chosen) (from : ℕ) (items : List Stored) → place_of (sight stored) from items ≡ None →
+    with_one (record { seen = sight stored; chosen = chosen }) (all_of trail items) ≡ all_of trail items
+place-none stored chosen trail from [] none = cc
+place-none stored chosen trail from (x ∷ items) none = elim (cases_Bool (serves (sight x) (sight stored))) [
+  | inl served ↦ with_one-served (record { seen = sight stored; chosen = chosen }) (stored_candidate trail x) (all_of trail items) served
   | inr no_serving ↦
       let next = cond-false (serves (sight x) (sight stored)) None (cond (ltb x.load stored.load) (place_of (sight stored) (from + 1) items) (Some from)) no_serving in
       elim (cases_Bool (ltb x.load stored.load)) [
         | inl less ↦
             let rest : place_of (sight stored) (from + 1) items ≡ None =
             sym (next ∙ cond-true (ltb x.load stored.load) (place_of (sight stored) (from + 1) items) (Some from) less) ∙ none in
-            with_one-behind (stored_candidate trail stored) (stored_candidate trail x) (all_of trail items) no_serving (ltb-true x.load stored.load less)
-            ∙ ap (λ (os : List Candidate). stored_candidate trail x ∷ os) (place-none stored trail (from + 1) items rest)
+            with_one-behind (record { seen = sight stored; chosen = chosen }) (stored_candidate trail x) (all_of trail items) no_serving (ltb-true x.load stored.load less)
+            ∙ ap (λ (os : List Candidate). stored_candidate trail x ∷ os) (place-none stored chosen trail (from + 1) items rest)
         | inr more ↦
             let here : Some from ≡ None = sym (next ∙ cond-false (ltb x.load stored.load) (place_of (sight stored) (from + 1) items) (Some from) more) ∙ none in
             cc

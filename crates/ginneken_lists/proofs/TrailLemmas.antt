@@ -1,14 +1,12 @@
 -- What the marks of a trail name.
-use Rattle.std.proofs.Common.{◌≡◌, ℕ, zero, suc, ◌+◌, ◌<◌, ◌≤◌, inl, inr, false, List, [], ◌∷◌, ◌++◌, length, get_or, drop, fold, refl, sym, ap, subst, ◌∙◌, append_assoc, arith}
+use Rattle.std.proofs.Common.{◌≡◌, ℕ, zero, suc, ◌+◌, ◌<◌, ◌≤◌, inl, inr, false, List, [], ◌∷◌, ◌++◌, length, get_or, fold, refl, sym, ap, subst, ◌∙◌, arith}
 use Rattle.std.proofs.lemmas.Bool.{cases_lt}
-use Rattle.std.proofs.lemmas.List.{get_or_default, get_or_append_left, get_or_push, length-append, length_push, drop_more}
+use Rattle.std.proofs.lemmas.List.{get_or_default, get_or_append_left, get_or_push, length-append, length_push}
 use Rattle.std.proofs.lemmas.List.Sums.{fold_push}
 use Rattle.ginneken_lists.specs.Candidates.{Chosen, Nothing, Buffered, Both, is_nothing, both}
 use Rattle.ginneken_lists.specs.Trails.{chosen_of, chosen_by, trail_of, IsBelow, IsTrail, Keeps}
 use Rattle.ginneken_lists.specs.TrailStore.{HasBuffer, IsChoiceAt, AreChoices}
-use Rattle.ginneken_lists.specs.Offering.{buffers_over}
 use Rattle.ginneken_lists.specs.declared.choice.Choice.{Choice}
-use Rattle.ginneken_lists.specs.declared.stored.Stored.{Stored}
 use Rattle.ginneken_lists.specs.declared.choice.Choice.TheVariants.{Empty, Buffer, Both as Branches}
 
 -- a longer trail keeps what the marks of a shorter one name
@@ -159,23 +157,20 @@ both-named choices new left right mark are new_is mark_is first second within in
     ∙ get_or_push trail named Nothing (length trail) refl
     ∙ sym (both-branches trail left right (trail-is choices are) first second within inside)
 
-pub both-keeps : (choices new : List Choice) (choice : Choice) → new ≡ choices ++ choice ∷ [] → Keeps (trail_of choices) (trail_of new)
-both-keeps choices new choice new_is =
+pub push-keeps : (choices new : List Choice) (choice : Choice) → new ≡ choices ++ choice ∷ [] → Keeps (trail_of choices) (trail_of new)
+push-keeps choices new choice new_is =
     subst (λ (t : List Chosen). Keeps (trail_of choices) t) (sym (ap trail_of new_is ∙ trail-push choices choice))
     (Keeps-append (trail_of choices) (chosen_by (trail_of choices) choice ∷ []))
 
--- one more buffer over a pair
-pub buffers-more : (old : List Chosen) (choices new : List Choice) (node kind : ℕ) (pairs : List Stored) (s : Stored) → Keeps old (trail_of choices) →
-    s ≡ get_or pairs kind s → kind < length pairs → s.mark ≤ length old → new ≡ choices ++ Buffer node kind s.mark ∷ [] →
-    trail_of new ++ buffers_over old node (kind + 1) (drop (kind + 1) pairs) ≡ trail_of choices ++ buffers_over old node kind (drop kind pairs)
-buffers-more old choices new node kind pairs s keeps is inside mark new_is =
-    let rest = buffers_over old node (kind + 1) (drop (kind + 1) pairs) in
+-- one more mark for a buffer over what another one names
+pub buffer-named : (choices new : List Choice) (node kind below mark : ℕ) → new ≡ choices ++ Buffer node kind below ∷ [] → mark ≡ length choices + 1 →
+    chosen_of (trail_of new) mark ≡ Buffered node kind (chosen_of (trail_of choices) below)
+buffer-named choices new node kind below mark new_is mark_is =
     let trail = trail_of choices in
-    let next : drop kind pairs ≡ s ∷ drop (kind + 1) pairs = drop_more pairs kind s inside ∙ ap (λ (x : Stored). x ∷ drop (kind + 1) pairs) (sym is) in
-    ap (λ (t : List Chosen). t ++ rest) (ap trail_of new_is ∙ trail-push choices (Buffer node kind s.mark))
-    ∙ append_assoc trail (Buffered node kind (chosen_of trail s.mark) ∷ []) rest
-    ∙ ap (λ (c : Chosen). trail ++ Buffered node kind c ∷ rest) (keeps.same s.mark mark)
-    ∙ ap (λ (xs : List Stored). trail ++ buffers_over old node kind xs) (sym next)
-
-pub buffers-keep : (old : List Chosen) (choices new : List Choice) (choice : Choice) → Keeps old (trail_of choices) → new ≡ choices ++ choice ∷ [] → Keeps old (trail_of new)
-buffers-keep old choices new choice keeps new_is = Keeps-through old (trail_of choices) (trail_of new) keeps (both-keeps choices new choice new_is)
+    let long = length-trail choices in
+    let named : Chosen = Buffered node kind (chosen_of trail below) in
+    let place : mark ≡ suc (length trail) = omega arith in
+    ap (λ (cs : List Choice). chosen_of (trail_of cs) mark) new_is
+    ∙ ap (λ (t : List Chosen). chosen_of t mark) (trail-push choices (Buffer node kind below))
+    ∙ ap (chosen_of (trail ++ named ∷ [])) place
+    ∙ get_or_push trail named Nothing (length trail) refl

@@ -16,18 +16,15 @@ with_all kept all = fold (λ before o. with_one o before) kept all
 abbrev pub unserved : Candidate → List Candidate → List Candidate
 unserved o all = filter (λ other. not (serves o.seen other.seen)) all
 
--- what is chosen with buffers at a node over what the marks of pairs name, of the kinds from a number on
-abbrev pub buffers_over : List Chosen → (node number : ℕ) → List Stored → List Chosen
-buffers_over trail node number [] = []
-buffers_over trail node number (stored ∷ rest) =
-    Buffered node number (chosen_of trail stored.mark) ∷ buffers_over trail node (number + 1) rest
+-- a buffer of a kind at a node, over what the mark of a pair names, with what is seen with the pair
+abbrev pub buffer_over : List Chosen → (node number : ℕ) → Stored → Candidate
+buffer_over trail node number stored =
+    record { seen = seen_of (pair_of stored); chosen = Buffered node number (chosen_of trail stored.mark) }
 
--- the candidates of pairs with these buffers
+-- the candidates of pairs with these buffers, of the kinds from a number on
 abbrev pub offered : List Chosen → (node number : ℕ) → List Stored → List Candidate
 offered trail node number [] = []
-offered trail node number (stored ∷ rest) =
-    record { seen = seen_of (pair_of stored); chosen = Buffered node number (chosen_of trail stored.mark) }
-    ∷ offered trail node (number + 1) rest
+offered trail node number (stored ∷ rest) = buffer_over trail node number stored ∷ offered trail node (number + 1) rest
 
 -- the place of something that is seen among pairs, behind those of smaller load, where none of these and the next serves as
 -- well; the places are counted from a number on

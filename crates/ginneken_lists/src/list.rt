@@ -6,6 +6,7 @@ ghost use Rattle.ginneken_lists.specs.Pairs.{candidate_of, candidates, AreMarked
 ghost use Rattle.ginneken_lists.specs.Trails.{IsTrail, Keeps};
 
 use crate::pair::Pair;
+use crate::pool::ListPool;
 use crate::steps::Steps;
 use crate::stored::{Stored, read};
 use crate::trail::Trail;
@@ -38,13 +39,23 @@ impl Model for OptionList {
 
 impl OptionList {
     /// The list of one pair without buffers. The only error is want of memory.
-    pub fn leaf(alloc: Global, load: u64, time: Option<i128>) -> Result<OptionList, AllocError>
+    pub fn leaf(
+        alloc: Global,
+        load: u64,
+        time: Option<i128>,
+        pool: &mut ListPool,
+    ) -> Result<OptionList, AllocError>
         requires { IfSome time IsTime }
         ensures { IfOk result (λ list. list ≡ record { load = load; time = time; mark = 0 } ∷ []) }
     {
-        let mut pairs = Vec::new(alloc);
+        let mut pairs = pool.empty(alloc, 1)?;
         pairs.push(Stored::new(load, time, 0))?;
         Ok(OptionList { pairs })
+    }
+
+    /// Gives the list up. The pool keeps its memory for others.
+    pub fn give_up(self, pool: &mut ListPool) {
+        pool.keep(self.pairs);
     }
 
     /// How many pairs it has.
@@ -96,10 +107,10 @@ impl OptionList {
     /// which is want of memory, the list and the trail stay as they are.
     pub fn offer<L: Ledger>(
         &mut self,
-        alloc: Global,
         node: u32,
         library: &Library,
         trail: &mut Trail,
+        pool: &mut ListPool,
         steps: &mut Steps<L>,
     ) -> Result<(), AllocError>
         requires range { All IsInRange self.old }
@@ -115,10 +126,9 @@ impl OptionList {
             + 3 * (length library.now.kinds * (length self.old + length library.now.kinds)) }
         ensures list { IsList self.new }
     {
-        let found = offering::offers(alloc, &self.pairs, library, steps)?;
-        self.pairs.reserve(found.len())?;
-        let first = trail.buffers(node, &found)?;
-        offering::offer_each(&mut self.pairs, &found, first, steps);
+        offering::find_offers(&mut pool.offers, &self.pairs, library, steps)?;
+        self.pairs.reserve(pool.offers.len())?;
+        trail.offer_each(node, &mut self.pairs, &pool.offers, steps)?;
         Ok(())
     }
 
@@ -129,6 +139,7 @@ impl OptionList {
         left: OptionList,
         right: OptionList,
         trail: &mut Trail,
+        pool: &mut ListPool,
         steps: &mut Steps<L>,
     ) -> Result<OptionList, AllocError>
         requires left_range { All IsInRange left }
@@ -142,7 +153,9 @@ impl OptionList {
         ensures kept { Keeps trail.old trail.new }
         ensures steps { steps.new ≤ steps.old + 2 * (length left + length right) }
     {
-        let pairs = merging::merge(alloc, &left.pairs, &right.pairs, trail, steps)?;
+        let pairs = merging::merge(alloc, &left.pairs, &right.pairs, trail, pool, steps)?;
+        left.give_up(pool);
+        right.give_up(pool);
         Ok(OptionList { pairs })
     }
 }

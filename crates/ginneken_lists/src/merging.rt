@@ -5,6 +5,7 @@ ghost use Rattle.ginneken_lists.specs.Pairs.{candidates, IsList};
 ghost use Rattle.ginneken_lists.specs.StoredPairs.{pairs_of};
 ghost use Rattle.ginneken_lists.specs.Trails.{Keeps};
 
+use crate::pool::ListPool;
 use crate::steps::Steps;
 use crate::stored::{Stored, read};
 use crate::trail::Trail;
@@ -19,6 +20,7 @@ pub(crate) fn merge<L: Ledger>(
     left: &[Stored],
     right: &[Stored],
     trail: &mut Trail,
+    pool: &mut ListPool,
     steps: &mut Steps<L>,
 ) -> Result<Vec<Stored>, AllocError>
     requires left { IsList (pairs_of left.now) }
@@ -35,7 +37,7 @@ pub(crate) fn merge<L: Ledger>(
     ensures kept { Keeps trail.old trail.new }
     ensures steps { steps.new ≤ steps.old + 2 * (length left.now + length right.now) }
 {
-    let mut merged = Vec::with_capacity(alloc, left.len() + right.len())?;
+    let mut merged = pool.empty(alloc, left.len() + right.len())?;
     let mut before = 0;
     let mut beside = 0;
     while before < left.len() {

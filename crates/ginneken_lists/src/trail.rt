@@ -1,13 +1,20 @@
 //! Trails: the choices that the marks of pairs name.
-ghost use Rattle.std.specs.Prelude.{◌≡◌, ◌+◌, ◌<◌, ◌≤◌, ◌^◌, [], ◌++◌, length, OnOk, OnErr, IfOk, All};
-ghost use Rattle.ginneken_lists.specs.Candidates.{both};
-ghost use Rattle.ginneken_lists.specs.Offering.{buffers_over};
-ghost use Rattle.ginneken_lists.specs.Trails.{chosen_of, chosen_by, IsBelow, Keeps};
+ghost use Rattle.std.specs.Prelude.{◌≡◌, ◌+◌, ◌*◌, ◌<◌, ◌≤◌, ◌^◌, [], length, OnOk, OnErr, IfOk, All};
+ghost use Rattle.std.specs.Vec.{vec_len, vec_capacity};
+ghost use Rattle.ginneken_lists.specs.Candidates.{Buffered, both};
+ghost use Rattle.ginneken_lists.specs.Pairs.{candidates, IsList};
+ghost use Rattle.ginneken_lists.specs.StoredPairs.{pairs_of};
+ghost use Rattle.ginneken_lists.specs.Offering.{offered, with_all};
+ghost use Rattle.ginneken_lists.specs.Trails.{chosen_of, chosen_by, trail_of, IsBelow, Keeps};
+ghost use Rattle.ginneken_lists.specs.TrailStore.{AreChoices};
 
 use crate::choice::Choice;
+use crate::offering::offer_each;
+use crate::steps::Steps;
 use crate::stored::Stored;
 use std::alloc::{AllocError, Global};
 use std::marker::Model;
+use std::sync::ledger::Ledger;
 
 /// The choices of buffers that marks name. Mark 0 names no buffer, and each other mark a choice
 /// whose marks are lower.
@@ -81,25 +88,51 @@ impl Trail {
         Ok(self.choices.len() as u64)
     }
 
-    /// Adds a choice for each of some pairs: a buffer at a node over what the pair's mark names, of
-    /// the kind of the pair's place. It gives the first of their marks. On an error, which is want of
-    /// memory, nothing is added.
-    pub(crate) fn buffers(&mut self, node: u32, pairs: &[Stored]) -> Result<u64, AllocError>
-        requires pairs { length pairs.now < 2 ^ 32 }
-        requires marks { All (λ pair. pair.mark ≤ length self.old) pairs.now }
-        ensures ok { OnOk result (self.new ≡ self.old ++ buffers_over self.old node 0 pairs.now) }
+    /// Offers what was found of each kind of buffers at a node to a list, in the order of the kinds,
+    /// with a mark for each buffer that is kept. On an error, which is want of memory, nothing changes.
+    pub(crate) fn offer_each<L: Ledger>(
+        &mut self,
+        node: u32,
+        pairs: &mut Vec<Stored>,
+        found: &[Stored],
+        steps: &mut Steps<L>,
+    ) -> Result<(), AllocError>
+        requires list { IsList (pairs_of pairs.old.items) }
+        requires room { vec_len pairs.old + length found.now ≤ vec_capacity pairs.old }
+        requires kinds { length found.now < 2 ^ 32 }
+        requires marks { All (λ pair. pair.mark ≤ length self.old) pairs.old.items }
+        requires found_marks { All (λ pair. pair.mark ≤ length self.old) found.now }
+        ensures pairs { OnOk result (candidates self.new (pairs_of pairs.new.items)
+            ≡ with_all (candidates self.old (pairs_of pairs.old.items)) (offered self.old node 0 found.now)) }
         ensures err { OnErr result (self.new ≡ self.old) }
-        ensures first { IfOk result (λ first. first ≡ length self.old + 1) }
-        ensures fits { IfOk result (λ first. first + length pairs.now < 2 ^ 64) }
+        ensures err_pairs { OnErr result (pairs.new.items ≡ pairs.old.items) }
         ensures kept { Keeps self.old self.new }
+        ensures marks { All (λ pair. pair.mark ≤ length self.new) pairs.new.items }
+        ensures list { IsList (pairs_of pairs.new.items) }
+        ensures short { length pairs.new.items ≤ length pairs.old.items + length found.now }
+        ensures steps { steps.new ≤ steps.old
+            + length found.now * (2 * (length pairs.old.items + length found.now)) }
     {
-        self.choices.reserve(pairs.len())?;
-        let first = self.choices.len() as u64 + 1;
-        for kind in 0..pairs.len() as u32 {
-            let below = pairs[kind as usize].mark;
-            self.choices
-                .push_reserved(Choice::Buffer { node, kind, below });
-        }
-        Ok(first)
+        self.choices.reserve(found.len())?;
+        offer_each(pairs, found, node, &mut self.choices, steps);
+        Ok(())
     }
+}
+
+/// One choice more, for which there is room: a buffer of a kind at a node over what a mark names. It
+/// gives the choice's mark.
+pub(crate) fn push_buffer(choices: &mut Vec<Choice>, node: u32, kind: u32, below: u64) -> u64
+    requires room { vec_len choices.old < vec_capacity choices.old }
+    requires choices { AreChoices choices.old.items }
+    requires below { below ≤ length choices.old.items }
+    ensures buffer { chosen_of (trail_of choices.new.items) result
+        ≡ Buffered node kind (chosen_of (trail_of choices.old.items) below) }
+    ensures mark { result ≡ length choices.new.items }
+    ensures choices { AreChoices choices.new.items }
+    ensures kept { Keeps (trail_of choices.old.items) (trail_of choices.new.items) }
+    ensures len { vec_len choices.new ≡ vec_len choices.old + 1 }
+    ensures capacity { vec_capacity choices.new ≡ vec_capacity choices.old }
+{
+    choices.push_reserved(Choice::Buffer { node, kind, below });
+    choices.len() as u64
 }

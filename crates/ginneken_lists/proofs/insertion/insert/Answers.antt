@@ -1,62 +1,48 @@
-use Rattle.std.proofs.Common.{◌≡◌, ◌+◌, true, List, [], ◌∷◌, ◌++◌, length, take, drop, sym, ap, ◌∙◌, arith}
-use Rattle.std.proofs.lemmas.List.{length-append, length-take-le}
-use Rattle.std.proofs.lemmas.Bool.{cond-true}
-use Rattle.std.specs.Result.{is_ok}
-use Rattle.std.specs.Vec.{vec_len}
-use Rattle.ginneken_lists.specs.Offering.{place_of, without_served}
+use Rattle.std.proofs.Common.{◌≤◌, ℕ, List, length, All, sym, ap, subst, ◌∙◌, arith}
+use Rattle.ginneken_lists.specs.Candidates.{Chosen, Buffered, Candidate, with_one}
+use Rattle.ginneken_lists.specs.StoredPairs.{stored_candidate}
+use Rattle.ginneken_lists.specs.Trails.{chosen_of, trail_of}
+use Rattle.ginneken_lists.specs.Offering.{place_of, buffer_over}
 use Rattle.ginneken_lists.specs.declared.stored.Stored.{Stored}
-use Rattle.ginneken_lists.proofs.StoredLemmas.{sight, stored-rising}
-use Rattle.ginneken_lists.proofs.Placing.{IsPlace, place-none, place-is, behind-place, placed, placed-list, placed-marks, placed-some}
+use Rattle.ginneken_lists.proofs.StoredLemmas.{sight, all_of, all_of-keeps}
+use Rattle.ginneken_lists.proofs.TrailLemmas.{length-trail, Keeps-itself}
+use Rattle.ginneken_lists.proofs.Placing.{place-none}
 use Rattle.ginneken_lists.proofs.insertion.insert.Goals as goal
 
 pub returns-in_default-clause-pairs : goal.returns-in_default-clause-pairs
-returns-in_default-clause-pairs g c = λ trail.
-    sym (place-none c.args.pair trail 0 c.args.pairs.now.items
+returns-in_default-clause-pairs g c =
+    let trail = trail_of c.args.choices.now.items in
+    sym (place-none c.args.pair (Buffered c.args.node c.args.kind (chosen_of trail c.args.pair.mark)) trail 0 c.args.pairs.now.items
     (ap (place_of (sight c.args.pair) 0) (sym c.deref.ensures.value) ∙ sym c.place.ensures.place ∙ c.in_default.is))
 
-pub remove_served-requires-clause-at : goal.remove_served-requires-clause-at
-remove_served-requires-clause-at g c =
-    (place-is c.args.pair c.args.pairs.now.items c.in-Some.at
-    (ap (place_of (sight c.args.pair) 0) (sym c.deref.ensures.value) ∙ sym c.place.ensures.place ∙ c.in-Some.is)).within
+pub returns-in_default-clause-kept : goal.returns-in_default-clause-kept
+returns-in_default-clause-kept g c = Keeps-itself (trail_of c.args.choices.now.items)
 
-pub remove_served-requires-clause-behind : goal.remove_served-requires-clause-behind
-remove_served-requires-clause-behind g c =
-    behind-place c.args.pair c.args.pairs.now.items c.in-Some.at (stored-rising c.args.pairs.now.items c.requires.list.rising)
-    (place-is c.args.pair c.args.pairs.now.items c.in-Some.at
-    (ap (place_of (sight c.args.pair) 0) (sym c.deref.ensures.value) ∙ sym c.place.ensures.place ∙ c.in-Some.is))
+pub put-requires-clause-place : goal.put-requires-clause-place
+put-requires-clause-place g c =
+    ap (λ (s : Stored). place_of (sight s) 0 c.args.pairs.now.items) c.marked.ensures
+    ∙ ap (place_of (sight c.args.pair) 0) (sym c.deref.ensures.value) ∙ sym c.place.ensures.place ∙ c.in-Some.is
 
-pub insert-put-requires : goal.insert-put-requires
-insert-put-requires g c =
-    let old = c.args.pairs.now.items in
-    let at = c.in-Some.at in
-    let is : IsPlace c.args.pair old at = place-is c.args.pair old at
-    (ap (place_of (sight c.args.pair) 0) (sym c.deref.ensures.value) ∙ sym c.place.ensures.place ∙ c.in-Some.is) in
-    let within = is.within in
-    let front = length-take-le at old within in
-    let long = length-append (take at old) (without_served c.args.pair (drop at old)) in
-    let size : length c.remove_served.new.pairs.items ≡ length (take at old ++ without_served c.args.pair (drop at old)) =
-    ap (λ (xs : List Stored). length xs) c.remove_served.ensures.pairs in
-    omega (arith, c.remove_served.new.pairs.ok.0)
-
-pub returns : goal.returns
-returns g c =
-    let old = c.args.pairs.now.items in
-    let cleared = c.remove_served.new.pairs.items in
-    let new = c.insert-put.new.self.items in
+pub returns-clause-pairs : goal.returns-clause-pairs
+returns-clause-pairs g c =
+    let items = c.args.pairs.now.items in
     let pair = c.args.pair in
-    let at = c.in-Some.at in
-    let is : IsPlace pair old at = place-is pair old at
-    (ap (place_of (sight pair) 0) (sym c.deref.ensures.value) ∙ sym c.place.ensures.place ∙ c.in-Some.is) in
-    let ok : is_ok c.insert-put.result ≡ true = sym c.is_ok.ensures.value ∙ c.if-prove.false in
-    let new_is : new ≡ take at cleared ++ pair ∷ drop at cleared =
-    c.insert-put.ensures.items ∙ cond-true (is_ok c.insert-put.result) (take at cleared ++ pair ∷ drop at cleared) cleared ok in
-    let len : vec_len c.insert-put.new.self ≡ vec_len c.remove_served.new.pairs + 1 =
-    c.insert-put.ensures.len ∙ cond-true (is_ok c.insert-put.result) (vec_len c.remove_served.new.pairs + 1) (vec_len c.remove_served.new.pairs) ok in
-    record {
-      pairs = λ trail. placed pair old cleared new at trail is c.remove_served.ensures.pairs new_is;
-      marks = λ most own marks. placed-marks pair old cleared new at most c.remove_served.ensures.pairs new_is own marks;
-      list = placed-list pair old new c.requires.list (placed-some pair cleared new at new_is) (placed pair old cleared new at [] is c.remove_served.ensures.pairs new_is);
-      len = omega (arith, c.remove_served.ensures.len);
-      room = omega (arith, c.insert-put.ensures.capacity, c.remove_served.ensures.room);
-      steps = omega (arith, c.remove_served.ensures.steps, c.place.ensures.steps, ap (λ (xs : List Stored). length xs) c.deref.ensures.value);
-    }
+    let trail = trail_of c.args.choices.now.items in
+    let more = trail_of c.push_buffer-mark.new.choices.items in
+    let long = length-trail c.args.choices.now.items in
+    let marks : All (λ (s : Stored). s.mark ≤ length trail) items = λ k d inside. let m = c.requires.marks k d inside in omega arith in
+    c.put.ensures.pairs more
+    ∙ ap (λ (s : Stored). with_one (stored_candidate more s) (all_of more items)) c.marked.ensures
+    ∙ ap (λ (chosen : Chosen). with_one (record { seen = sight pair; chosen = chosen }) (all_of more items)) c.push_buffer-mark.ensures.buffer
+    ∙ ap (λ (os : List Candidate). with_one (buffer_over trail c.args.node c.args.kind pair) os) (all_of-keeps trail more items c.push_buffer-mark.ensures.kept marks)
+
+pub returns-clause-marks : goal.returns-clause-marks
+returns-clause-marks g c =
+    let most : ℕ = length c.push_buffer-mark.new.choices.items in
+    let mark : c.push_buffer-mark.result ≤ most = omega (arith, c.push_buffer-mark.ensures.mark) in
+    c.put.ensures.marks most (subst (λ (s : Stored). s.mark ≤ most) (sym c.marked.ensures) mark)
+    (λ k d inside. let m = c.requires.marks k d inside in
+    omega (arith, c.push_buffer-mark.ensures.len, c.push_buffer-mark.new.choices.ok.0, c.args.choices.now.ok.0))
+
+pub returns-clause-steps : goal.returns-clause-steps
+returns-clause-steps g c = omega (arith, c.put.ensures.steps, c.place.ensures.steps, ap (λ (xs : List Stored). length xs) c.deref.ensures.value)

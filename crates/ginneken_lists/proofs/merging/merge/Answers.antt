@@ -11,7 +11,7 @@ use Rattle.ginneken_lists.proofs.merging.merge.Goals as goal
 pub loop-before-init : goal.loop-before-init
 loop-before-init g c =
     let trail = c.args.trail.now in
-    subst (λ (xs : List Stored). AreGoing trail trail c.args.left.now c.args.right.now xs 0 0 c.args.steps.now c.args.steps.now) (sym c.in_ok-merged.ensures.items)
+    subst (λ (xs : List Stored). AreGoing trail trail c.args.left.now c.args.right.now xs 0 0 c.args.steps.now c.args.steps.now) (sym c.in_ok-merged.ensures)
     (going-none trail c.args.left.now c.args.right.now c.args.steps.now c.requires.left c.requires.right)
 
 pub loop-before-preserved-then-is_later : goal.loop-before-preserved-then-is_later

@@ -28,23 +28,23 @@ returns-in_err-pairs-clause-steps g c =
     let some = c.driver-driver.ensures.loading.tree.rooted in
     plan-steps_part (length c.args.library.now.kinds) (length c.args.tree.now.nodes) c.args.steps.now c.hang_all.new.steps (omega arith) c.in_ok-hang_all.ensures.steps
 
-pub best_driven-requires : goal.best_driven-requires
-best_driven-requires g c =
+pub best_driven-best-requires : goal.best_driven-best-requires
+best_driven-best-requires g c =
     taken-range c.args.loading.now 1 0 c.hang_all.new.trail c.hang_all.new.lists.items c.in_ok-pairs.pairs c.driver-driver.ensures.loading c.in_ok-hang_all.ensures.lists
     (omega arith) (c.in_ok-pairs.ensures ∙ c.take.ensures.list)
 
 pub returns-clause-picked : goal.returns-clause-picked
 returns-clause-picked g c =
     let is = c.in_ok-pairs.ensures ∙ c.take.ensures.list in
-    pair-picked c.args.loading.now c.hang_all.new.trail c.hang_all.new.lists.items c.driver-driver.result c.best_driven.result c.in_ok-hang_all.ensures.lists
+    pair-picked c.args.loading.now c.hang_all.new.trail c.hang_all.new.lists.items c.driver-driver.result c.best_driven-best.result c.in_ok-hang_all.ensures.lists
     c.driver-driver.ensures.driver
-    (ap (λ (pairs : List Pair). best_driven c.driver-driver.result (candidates c.hang_all.new.trail pairs)) (sym is) ∙ c.best_driven.ensures.best c.hang_all.new.trail)
+    (ap (λ (pairs : List Pair). best_driven c.driver-driver.result (candidates c.hang_all.new.trail pairs)) (sym is) ∙ c.best_driven-best.ensures.best c.hang_all.new.trail)
 
 pub returns-clause-mark : goal.returns-clause-mark
 returns-clause-mark g c =
-    All-contains (λ (pair : Pair). pair.mark ≤ length c.hang_all.new.trail) c.in_ok-pairs.pairs c.best_driven.result
+    All-contains (λ (pair : Pair). pair.mark ≤ length c.hang_all.new.trail) c.in_ok-pairs.pairs c.best_driven-best.result
     (taken-marked c.args.loading.now 1 0 c.hang_all.new.trail c.hang_all.new.lists.items c.in_ok-pairs.pairs c.driver-driver.ensures.loading c.in_ok-hang_all.ensures.lists
-    (omega arith) (c.in_ok-pairs.ensures ∙ c.take.ensures.list)) c.best_driven.ensures.one
+    (omega arith) (c.in_ok-pairs.ensures ∙ c.take.ensures.list)) c.best_driven-best.ensures.one
 
 pub returns-clause-steps : goal.returns-clause-steps
 returns-clause-steps g c =
@@ -58,5 +58,5 @@ returns-clause-steps g c =
     let is = ap (λ (pairs : List Pair). length pairs) (c.in_ok-pairs.ensures ∙ c.take.ensures.list) in
     let most : length l.library.kinds * (length l.tree.nodes - 1) ≡ kinds * (nodes - 1) =
     ap (λ (n : ℕ). n * (length l.tree.nodes - 1)) same ∙ ap (λ (n : ℕ). kinds * (n - 1)) long in
-    plan-steps kinds nodes c.args.steps.now c.hang_all.new.steps c.best_driven.new.steps (length c.in_ok-pairs.pairs) (omega arith) c.in_ok-hang_all.ensures.steps
-    (omega arith) c.best_driven.ensures.steps
+    plan-steps kinds nodes c.args.steps.now c.hang_all.new.steps c.best_driven-best.new.steps (length c.in_ok-pairs.pairs) (omega arith) c.in_ok-hang_all.ensures.steps
+    (omega arith) c.best_driven-best.ensures.steps

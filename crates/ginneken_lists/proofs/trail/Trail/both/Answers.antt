@@ -5,7 +5,7 @@ use Rattle.ginneken_lists.specs.Trails.{chosen_of, trail_of, Keeps}
 use Rattle.ginneken_lists.specs.TrailStore.{AreChoices}
 use Rattle.ginneken_lists.specs.declared.choice.Choice.{Choice}
 use Rattle.ginneken_lists.specs.declared.choice.Choice.TheVariants.{Both as Branches}
-use Rattle.ginneken_lists.proofs.TrailLemmas.{length-trail, AreChoices-push, both-named, both-keeps}
+use Rattle.ginneken_lists.proofs.TrailLemmas.{length-trail, AreChoices-push, both-named, push-keeps}
 use Rattle.ginneken_lists.proofs.trail.Trail.both.Goals as goal
 
 pub invariant_of-self-2 : goal.invariant_of-self-2
@@ -32,5 +32,5 @@ returns c =
           (both-named items new left right c.len.result c.self.invariant c.in_ok-push.ensures.items (omega (arith, c.len.ensures, c.push.new.self.ok.0))
           (omega (arith, c.if-left-eq0.false)) (omega (arith, c.if-right-eq0.false)) (omega (arith, c.requires.left)) (omega (arith, c.requires.right)));
       mark = omega (arith, c.len.ensures, c.push.new.self.ok.0);
-      kept = subst (λ (t : List Chosen). Keeps t (trail_of new)) c.self.view_is (both-keeps items new (Branches left right) c.in_ok-push.ensures.items);
+      kept = subst (λ (t : List Chosen). Keeps t (trail_of new)) c.self.view_is (push-keeps items new (Branches left right) c.in_ok-push.ensures.items);
     }

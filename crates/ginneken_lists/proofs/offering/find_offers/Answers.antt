@@ -2,7 +2,7 @@ use Rattle.std.proofs.Common.{◌≡◌, ◌+◌, ◌*◌, List, length, sym, su
 use Rattle.ginneken_lists.specs.declared.stored.Stored.{Stored}
 use Rattle.ginneken_lists.proofs.StoredLemmas.{in-range}
 use Rattle.ginneken_lists.proofs.OfferLemmas.{AreFound, found-more}
-use Rattle.ginneken_lists.proofs.offering.offers.Goals as goal
+use Rattle.ginneken_lists.proofs.offering.find_offers.Goals as goal
 
 pub behind-requires-clause-range : goal.behind-requires-clause-range
 behind-requires-clause-range g c =

@@ -1,6 +1,6 @@
 use Rattle.std.specs.Prelude.{◌≤◌, ◌+◌, ◌*◌, length}
 use Rattle.ginneken_lists.proofs.OfferLemmas.{AreFound}
-use Rattle.ginneken_lists.proofs.offering.offers.Given as goal
+use Rattle.ginneken_lists.proofs.offering.find_offers.Given as goal
 
 abbrev pub invariant-loop-number : goal.invariant-loop-number
 invariant-loop-number g l = record {
