@@ -137,6 +137,23 @@ limb-cost g ways price t costs node base layer e prices flat up edge below =
     ≡ (if unwrap_or (option_map (goes_on g ways layer) o) false then Some (unwrap_or (option_and_then (λ f. price (on_layer g layer f)) o) 0 + x) else None) in
     subst P (sym up) (priced (price over) (ways layer e.way) (nat_lt layer g.layers) x test (subst W is some.0) (subst V is some.1))
 
+-- a limb has no cost on a layer that doesn't go its edge's way
+unpriced : (o : Option ℕ) (way : Bool) (x : ℕ) → (IsSome o → IsTrue way) → way ≡ false → None ≡ option_map (λ wire. wire + x) o
+unpriced None way x to none = refl
+unpriced (Some wire) way x to none = absurd (both_ways way none (to refl))
+
+pub limb-none : (g : Shape) (ways : ℕ → Way → Bool) (price : Edge → Option ℕ) (t : TreeView) (costs : List ℕ) (node : ℕ) (base : Option Span) (layer : ℕ) (e : Edge) →
+    ArePrices g ways price → IsFlat g t.shape → parent_edge t node ≡ Some e → IsTrue (has_edge t.shape e) → layer < g.layers → ways layer e.way ≡ false →
+    None ≡ limb_cost g price t costs node base layer
+limb-none g ways price t costs node base layer e prices flat up edge below none =
+    let over = on_layer g layer e in
+    let some = prices.some over (on_layer-edge g t.shape layer e flat edge below) in
+    let is = on_layer-layer g t.shape layer e flat edge below in
+    let W : ℕ → Type 0 = λ l. IsSome (price over) → IsTrue (ways l e.way) in
+    let x = entry g.layers costs node (widened base layer) in
+    let P : Option Edge → Type 0 = λ o. None ≡ option_map (λ wire. wire + x) (option_and_then (λ f. price (on_layer g layer f)) o) in
+    subst P (sym up) (unpriced (price over) (ways layer e.way) x (subst W is some.0) none)
+
 -- an offer from a limb's cost
 pub offer-limb : (g : Shape) (limbs : List (Option ℕ)) (costs : List ℕ) (up : ℕ) (s : Option Span) (layer : ℕ) (o : Option ℕ) (allowed : Bool) (limb : ℕ) (cost : ℕ) →
     slice_get limbs layer ≡ Some o → o ≡ (if allowed then Some limb else None) → limb + entry g.layers costs up (widened s layer) ≡ cost →

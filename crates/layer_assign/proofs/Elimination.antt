@@ -1,11 +1,11 @@
 -- Layers are eliminated node by node, from the last: what is left costs the least, and choices lead to the first.
-use Rattle.std.proofs.Common.{Option, Some, None, ◌≡◌, ◌≢◌, ℕ, suc, zero, ◌+◌, ◌*◌, ◌<◌, ◌≤◌, ◌⊎◌, inl, inr, min, max, Bool, true, false, ◌&&◌, ◌||◌, ◌==◌, nat_lt, if◌then◌else◌, IsTrue, refl, sym, ap, subst, ◌∙◌, arith}
-use Rattle.std.proofs.lemmas.Bool.{cases_eq, cases_lt, cases_Bool}
+use Rattle.std.proofs.Common.{Option, Some, None, ◌≡◌, ◌≢◌, ℕ, suc, zero, ◌+◌, ◌*◌, ◌<◌, ◌≤◌, ◌⊎◌, inl, inr, min, max, Bool, true, false, ◌&&◌, ◌||◌, ◌==◌, nat_lt, nat_le, if◌then◌else◌, IsTrue, refl, sym, ap, subst, ◌∙◌, arith}
+use Rattle.std.proofs.lemmas.Bool.{cases_eq, cases_lt, cases_Bool, both_ways}
 use Rattle.std.proofs.lemmas.Bool.Decides.{nat_tests}
 use Rattle.layer_assign.specs.declared.span.Span.{Span}
 use Rattle.layer_assign.specs.Spans.{widened, climb, IsWithin, span_by}
 use Rattle.layer_assign.specs.Choices.{IsBest}
-use Rattle.layer_assign.specs.Chosen.{is_near, may_precede}
+use Rattle.layer_assign.specs.Chosen.{is_near, holds_pins, may_precede}
 use Rattle.layer_assign.proofs.Sums.{sums, sums-same, sums-changed, sums-at}
 
 -- what assignments are judged by: the parents of nodes, what each node's edge costs on a layer,
@@ -155,11 +155,42 @@ near-first p a (suc u) sound inside =
     ap (λ (s : Option Span). widened s (a (suc u))) (span-base p a (suc u) (suc u) sound inside (omega arith)) in
     subst (λ (s : Option Span). is_near (suc u) (p.base (suc u)) s ≡ true) (sym is) (near-widened p.layers (suc u) (p.base (suc u)) (a (suc u)) (sound.within (suc u)))
 
+-- a span holds the layers of the pins that it began with
+holds-same : (f : Option Span) → holds_pins f f ≡ true
+holds-same None = refl
+holds-same (Some f) = grind (arith, nat_tests)
+
+holds-widened : (f s : Option Span) (l : ℕ) → holds_pins f s ≡ true → holds_pins f (widened s l) ≡ true
+holds-widened None s l holds = refl
+holds-widened (Some f) None l holds = absurd (both_ways false refl holds)
+holds-widened (Some f) (Some s) l holds =
+    let parts : (s.low ≤ f.low) × (f.high ≤ s.high) = grind (arith, nat_tests) in
+    let low = parts.0 in
+    let high = parts.1 in
+    let lower : min s.low l ≤ f.low = omega arith in
+    let higher : f.high ≤ max s.high l = omega arith in
+    both-hold (min s.low l) f.low f.high (max s.high l) lower higher
+  where
+    both-hold : (a b c d : ℕ) → a ≤ b → c ≤ d → (nat_le a b && nat_le c d) ≡ true
+    both-hold a b c d first second = grind (arith, nat_tests)
+
+holds-span : (p : Problem) (a : ℕ → ℕ) (u i : ℕ) → holds_pins (p.base u) (span p a u i) ≡ true
+holds-span p a u zero = holds-same (p.base u)
+holds-span p a u (suc i) =
+    elim (cases_Bool (ends p u i)) [
+      | inl is ↦
+          subst (λ (s : Option Span). holds_pins (p.base u) s ≡ true) (sym (span-more p a u i is))
+          (holds-widened (p.base u) (span p a u i) (a i) (holds-span p a u i))
+      | inr is ↦ subst (λ (s : Option Span). holds_pins (p.base u) s ≡ true) (sym (span-kept p a u i is)) (holds-span p a u i)
+    ]
+
 -- what may come before a node is what does
 pub precedes-may : (p : Problem) (v : ℕ) (s : Option Span) → IsSound p → 0 < v → v < p.nodes → Precedes p (p.parent v) v s →
     may_precede (p.parent v) v (p.base (p.parent v)) s ≡ true
 precedes-may p v s sound later inside precedes =
     let up = p.parent v in
+    let holds : holds_pins (p.base up) s ≡ true =
+    subst (λ (r : Option Span). holds_pins (p.base up) r ≡ true) precedes.is (holds-span p precedes.layers up v) in
     elim (cases_eq (up + 1) v) [
       | inl next ↦
           let test : (up + 1 == v) ≡ true = grind (arith, nat_tests) in
@@ -167,8 +198,8 @@ precedes-may p v s sound later inside precedes =
           let near : is_near up (p.base up) (span p precedes.layers up v) ≡ true =
           subst (λ (k : ℕ). is_near up (p.base up) (span p precedes.layers up k) ≡ true) at (near-first p precedes.layers up sound (omega arith)) in
           let here : is_near up (p.base up) s ≡ true = subst (λ (r : Option Span). is_near up (p.base up) r ≡ true) precedes.is near in
-          rw test (rw here refl)
-      | inr other ↦ let test : (up + 1 == v) ≡ false = grind (arith, nat_tests) in rw test refl
+          rw holds (rw test (rw here refl))
+      | inr other ↦ let test : (up + 1 == v) ≡ false = grind (arith, nat_tests) in rw holds (rw test refl)
     ]
 
 pub span-alike : (p : Problem) (a b : ℕ → ℕ) (u i : ℕ) → Alike a b i → span p a u i ≡ span p b u i

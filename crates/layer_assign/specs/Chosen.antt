@@ -1,5 +1,5 @@
 -- What the choice of one node's layers writes into the tables.
-use Rattle.std.specs.Prelude.{◌≡◌, ◌≢◌, ◌⊎◌, ℕ, ◌+◌, Bool, false, ◌||◌, ◌==◌, not, List, ◌*◌, ◌<◌, length, Option, Some, None, get_or, slice_set}
+use Rattle.std.specs.Prelude.{◌≡◌, ◌≢◌, ◌⊎◌, ℕ, ◌+◌, Bool, true, false, ◌&&◌, ◌||◌, ◌==◌, nat_le, not, List, ◌*◌, ◌<◌, length, Option, Some, None, get_or, slice_set}
 use Rattle.gr_base.specs.Trees.{TreeView}
 use Rattle.gr_base.specs.declared.grid.Edge.{Edge}
 use Rattle.gr_base.specs.declared.grid.Shape.{Shape}
@@ -24,10 +24,16 @@ is_near parent None (Some s) = s.low == s.high
 is_near parent (Some f) None = false
 is_near parent (Some f) (Some s) = (s.low == f.low) || (s.high == f.high)
 
--- a tile may have the span before the edge of a node: before that of the next node it has its pins and its own edge
--- alone
+-- a span holds the layers of a first one
+abbrev pub holds_pins : Option Span → Option Span → Bool
+holds_pins None s = true
+holds_pins (Some f) None = false
+holds_pins (Some f) (Some s) = nat_le s.low f.low && nat_le f.high s.high
+
+-- a tile may have the span before the edge of a node: it holds the pins' layers, and before the edge of the next node
+-- it is that of the pins and the tile's own edge alone
 abbrev pub may_precede : ℕ → ℕ → Option Span → Option Span → Bool
-may_precede parent node pins s = not (parent + 1 == node) || is_near parent pins s
+may_precede parent node pins s = holds_pins pins s && (not (parent + 1 == node) || is_near parent pins s)
 
 -- the tiles that have joined no edge yet cost the climbs of their spans
 abbrev pub AreUntouched : ℕ → List Bool → List ℕ → Type 0

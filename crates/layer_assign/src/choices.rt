@@ -8,7 +8,7 @@ ghost use Rattle.layer_assign.specs.Spans.{IsWithin, widened, climb, growing, sp
 ghost use Rattle.layer_assign.specs.Assignments.{IsFlat, parent_of, may_take};
 ghost use Rattle.layer_assign.specs.Choices.{entry};
 ghost use Rattle.layer_assign.specs.Tables.{HasRows, IsSmall, offer, best_below};
-ghost use Rattle.layer_assign.specs.Chosen.{is_near, may_precede, AreUntouched, Chooses, Writes};
+ghost use Rattle.layer_assign.specs.Chosen.{is_near, holds_pins, may_precede, AreUntouched, Chooses, Writes};
 
 use crate::runs::{choose_on_run, is_run};
 use crate::span::Span;
@@ -97,13 +97,24 @@ fn choose_by_span<C: Costs>(
     }
 }
 
-/// Whether a tile may have a span before the edge of a node. Before that of the next node it has
-/// its pins and its own edge alone.
+/// Whether a tile may have a span before the edge of a node: it holds the pins' layers, and before
+/// the edge of the next node it is that of the pins and the tile's own edge alone.
 fn may_precede(parent: u32, node: u32, pins: Option<Span>, span: Option<Span>) -> bool
     requires { parent < most_cells }
     ensures { result ≡ may_precede parent node pins span }
 {
-    parent + 1 != node || is_near(parent, pins, span)
+    holds_pins(pins, span) && (parent + 1 != node || is_near(parent, pins, span))
+}
+
+/// Whether a span holds the layers of a tile's pins.
+fn holds_pins(pins: Option<Span>, span: Option<Span>) -> bool
+    ensures { result ≡ holds_pins pins span }
+{
+    match (pins, span) {
+        (None, _) => true,
+        (Some(_), None) => false,
+        (Some(pins), Some(span)) => span.low <= pins.low && pins.high <= span.high,
+    }
 }
 
 /// Whether a span may be that of a tile's pins and its own edge, which node 0 doesn't have.

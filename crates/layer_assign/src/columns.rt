@@ -1,7 +1,7 @@
-ghost use Rattle.std.specs.Prelude.{◌≡◌, ◌≢◌, ◌∷◌, [], ℕ, ◌+◌, ◌*◌, ◌<◌, ◌≤◌, false, ◌&&◌, ◌||◌, ◌==◌, OnOk, IsTrue};
+ghost use Rattle.std.specs.Prelude.{◌≡◌, ◌≢◌, ◌∷◌, [], ℕ, ◌+◌, ◌*◌, ◌<◌, ◌≤◌, false, ◌&&◌, ◌||◌, ◌==◌, Some, OnOk, IsTrue};
 ghost use Rattle.gr_base.specs.Grid.{cells_of, AreNeighbours};
 ghost use Rattle.gr_base.specs.EdgeSets.{is_way, set_of};
-ghost use Rattle.gr_base.specs.Trees.{holds, walk_edges};
+ghost use Rattle.gr_base.specs.Trees.{cell_at, holds, walk_edges};
 ghost use Rattle.gr_base.specs.declared.grid.Way.TheVariants.{Up};
 ghost use Rattle.layer_assign.specs.Assignments.{tile_count, cell_on};
 ghost use Rattle.layer_assign.specs.Raised.{in_column, is_via_of, Grows};
@@ -19,7 +19,21 @@ pub(crate) fn hang(tree: &mut RouteTree, cell: u32, on: u32) -> Result<(), Alloc
     ensures { OnOk result (Grows tree.old tree.new (λ other. cell == other)
         (set_of (walk_edges tree.old.shape (cell ∷ on ∷ [])))) }
 {
-    tree.attach(&[cell, on])
+    let parent = last_node_at(tree, on);
+    tree.hang(parent, &[cell, on])
+}
+
+/// The node of one of a tree's cells. It looks at the nodes from the last one back, since a cell is
+/// mostly hung on one that was added just before.
+fn last_node_at(tree: &RouteTree, cell: u32) -> u32
+    requires { IsTrue (holds tree.now cell) }
+    ensures { cell_at tree.now.nodes result ≡ Some cell }
+{
+    let mut node = tree.len() - 1;
+    while tree.cell(node) != cell {
+        node -= 1;
+    }
+    node
 }
 
 /// The cell of a tile on a layer.

@@ -51,6 +51,9 @@ fn limb_on<C: Costs>(
     ensures cost { result ≡ limb_cost shape (C.price costs.now) flat.now least.now node base layer }
     ensures most { IfSome result (λ cost. cost ≤ 2 ^ 50 + most_cost) }
 {
+    if !costs.goes(layer, edge.way) {
+        return None;
+    }
     let wire = costs.cost(shape.edge_over(layer, edge))?;
     Some(wire + least[place_in(shape, node, widened(base, layer))])
 }

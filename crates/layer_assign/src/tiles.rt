@@ -72,6 +72,7 @@ pub(crate) fn follow(
         (λ node. slice_index layers.items node)) }
 {
     let mut layers = vec![in alloc; 0]?;
+    layers.reserve(flat.len() as usize)?;
     for node in 1..flat.len() {
         let span = spans[flat.parent(node) as usize];
         let layer = choices[place_in(shape, node, span)];

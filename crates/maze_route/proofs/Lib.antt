@@ -3,6 +3,7 @@ pub mod PaneLemmas
 pub mod StepLemmas
 pub mod SpotLemmas
 pub mod LabelLemmas
+pub mod LowLemmas
 pub mod SearchLemmas
 pub mod HandingLemmas
 pub mod TurnLemmas

@@ -1,16 +1,16 @@
-ghost use Rattle.std.specs.Prelude.{◌≡◌, ℕ, ◌+◌, ◌^◌, ◌<◌, ◌≤◌, true, length, Option, Some, IfSome, IfOk, OnOk, if◌then◌else◌};
+ghost use Rattle.std.specs.Prelude.{◌≡◌, ℕ, ◌+◌, ◌^◌, ◌<◌, ◌≤◌, true, length, Option, Some, IfSome, IfOk, OnOk, IsTrue, if◌then◌else◌};
 ghost use Rattle.cost_rules.specs.Formulas.{most_cost};
 ghost use Rattle.gr_base.specs.declared.grid.Edge.{Edge};
 ghost use Rattle.maze_route.specs.Labels.{label_at};
-ghost use Rattle.maze_route.specs.Steps.{size_of, rest_of, IsSpot, pane_graph};
+ghost use Rattle.maze_route.specs.Steps.{size_of, rest_of, IsSpot, pane_graph, ahead_of, behind_of, step_to};
 ghost use Rattle.maze_route.specs.Windows.{TreeLiesIn};
 ghost use Rattle.maze_route.specs.Search.{most_distance, is_above, HasSources, IsSearching, is_marked, CanReach, Finds};
-ghost use Rattle.maze_route.specs.Handing.{IsReach, HandsOn};
+ghost use Rattle.maze_route.specs.Handing.{IsLow, IsReach, HandsOn};
 
 use crate::front::{Front, Labels};
 use crate::pane::{Pane, Spot, Step};
 use crate::queue::BucketQueue;
-use crate::steps::{ahead, behind, distance_to};
+use crate::steps::{ahead, behind, distance_to, has_ahead, has_behind};
 use crate::window::Window;
 use cost_rules::Costs;
 use gr_base::{RouteTree, Way};
@@ -71,6 +71,103 @@ fn seeded(alloc: Global, pane: Pane, aim: Window, tree: &RouteTree) -> Result<Fr
     Ok(front)
 }
 
+/// Whether no step from a cell with a label lowers that of another cell. A step costs at least 1.
+fn is_low(labels: &Labels, cell: u32, from: u64) -> bool
+    requires cell { cell < length labels.now.costs.items }
+    requires from { from ≤ most_distance }
+    ensures { IsTrue result → IsLow labels.now.costs.items from cell }
+{
+    match labels.at(cell) {
+        Some(label) => label <= from + 1,
+        None => false,
+    }
+}
+
+/// Whether no step lowers the label of the next cell against the way. Where there is none the
+/// answer says nothing.
+fn is_low_behind(labels: &Labels, pane: Pane, spot: Spot, from: u64, way: Way) -> bool
+    requires spot { IsSpot pane spot }
+    requires from { from ≤ most_distance }
+    requires size { length labels.now.costs.items ≡ size_of pane }
+    ensures { IsTrue result → (to : ℕ) → behind_of pane.shape spot.local way ≡ Some to →
+        IsLow labels.now.costs.items from to }
+{
+    if !has_behind(spot.place, way) {
+        return false;
+    }
+    is_low(labels, spot.local - pane.shape.stride(way), from)
+}
+
+/// Whether no step lowers the label of the next cell along the way. Where there is none the answer
+/// says nothing.
+fn is_low_ahead(labels: &Labels, pane: Pane, spot: Spot, from: u64, way: Way) -> bool
+    requires spot { IsSpot pane spot }
+    requires from { from ≤ most_distance }
+    requires size { length labels.now.costs.items ≡ size_of pane }
+    ensures { IsTrue result → (to : ℕ) → ahead_of pane.shape spot.local way ≡ Some to →
+        IsLow labels.now.costs.items from to }
+{
+    if !has_ahead(pane.shape, spot.place, way) {
+        return false;
+    }
+    is_low(labels, spot.local + pane.shape.stride(way), from)
+}
+
+/// Hands a cell's label on to the next cell against the way. The edge's cost is asked for only where
+/// it can matter.
+fn hand_back<C: Costs>(
+    costs: &C,
+    pane: Pane,
+    aim: Window,
+    front: &mut Front,
+    spot: Spot,
+    from: u64,
+    way: Way,
+) -> Result<(), AllocError>
+    requires grid { C.grid costs.now ≡ pane.grid }
+    requires spot { IsSpot pane spot }
+    requires from { from ≤ most_distance }
+    requires size { length front.old.labels.costs.items ≡ size_of pane }
+    requires key { front.old.queue.last ≤ from + rest_of pane aim spot.local }
+    ensures done { OnOk result (IsReach from
+        (step_to pane (C.price costs.now) aim spot.local (behind_of pane.shape spot.local way)) front.old front.new) }
+    ensures size { length front.new.labels.costs.items ≡ length front.old.labels.costs.items }
+    ensures last { front.new.queue.last ≡ front.old.queue.last }
+{
+    if is_low_behind(&front.labels, pane, spot, from, way) {
+        return Ok(());
+    }
+    reach(front, from, behind(costs, pane, aim, spot, way))?;
+    Ok(())
+}
+
+/// Hands a cell's label on to the next cell along the way, likewise.
+fn hand_on<C: Costs>(
+    costs: &C,
+    pane: Pane,
+    aim: Window,
+    front: &mut Front,
+    spot: Spot,
+    from: u64,
+    way: Way,
+) -> Result<(), AllocError>
+    requires grid { C.grid costs.now ≡ pane.grid }
+    requires spot { IsSpot pane spot }
+    requires from { from ≤ most_distance }
+    requires size { length front.old.labels.costs.items ≡ size_of pane }
+    requires key { front.old.queue.last ≤ from + rest_of pane aim spot.local }
+    ensures done { OnOk result (IsReach from
+        (step_to pane (C.price costs.now) aim spot.local (ahead_of pane.shape spot.local way)) front.old front.new) }
+    ensures size { length front.new.labels.costs.items ≡ length front.old.labels.costs.items }
+    ensures last { front.new.queue.last ≡ front.old.queue.last }
+{
+    if is_low_ahead(&front.labels, pane, spot, from, way) {
+        return Ok(());
+    }
+    reach(front, from, ahead(costs, pane, aim, spot, way))?;
+    Ok(())
+}
+
 /// Hands a cell's label on to its neighbours.
 fn settle<C: Costs>(
     costs: &C,
@@ -87,12 +184,12 @@ fn settle<C: Costs>(
     requires key { front.old.queue.last ≤ from + rest_of pane aim spot.local }
     ensures { OnOk result (HandsOn pane (C.price costs.now) aim spot.local from front.old front.new) }
 {
-    reach(front, from, behind(costs, pane, aim, spot, Way::Up))?;
-    reach(front, from, behind(costs, pane, aim, spot, Way::North))?;
-    reach(front, from, behind(costs, pane, aim, spot, Way::East))?;
-    reach(front, from, ahead(costs, pane, aim, spot, Way::East))?;
-    reach(front, from, ahead(costs, pane, aim, spot, Way::North))?;
-    reach(front, from, ahead(costs, pane, aim, spot, Way::Up))?;
+    hand_back(costs, pane, aim, front, spot, from, Way::Up)?;
+    hand_back(costs, pane, aim, front, spot, from, Way::North)?;
+    hand_back(costs, pane, aim, front, spot, from, Way::East)?;
+    hand_on(costs, pane, aim, front, spot, from, Way::East)?;
+    hand_on(costs, pane, aim, front, spot, from, Way::North)?;
+    hand_on(costs, pane, aim, front, spot, from, Way::Up)?;
     Ok(())
 }
 

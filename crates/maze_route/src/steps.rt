@@ -10,7 +10,7 @@ use cost_rules::Costs;
 use gr_base::{Cell, Edge, Shape, Way};
 
 /// Whether the shape has a cell next to this one along the way.
-fn has_ahead(shape: Shape, place: Cell, way: Way) -> bool
+pub(crate) fn has_ahead(shape: Shape, place: Cell, way: Way) -> bool
     requires { IsInside shape place }
     ensures { result ≡ has_room shape place way }
 {
@@ -22,7 +22,7 @@ fn has_ahead(shape: Shape, place: Cell, way: Way) -> bool
 }
 
 /// Whether there is a cell next to this one against the way.
-fn has_behind(place: Cell, way: Way) -> bool
+pub(crate) fn has_behind(place: Cell, way: Way) -> bool
     ensures { result ≡ has_room_behind place way }
 {
     match way {

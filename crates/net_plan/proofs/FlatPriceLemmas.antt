@@ -1,7 +1,7 @@
 -- The least prices over all layers.
 use Rattle.std.proofs.Common.{◌≡◌, ℕ, zero, suc, ◌+◌, ◌<◌, ◌≤◌, ◌↔◌, inl, inr, Bool, true, false, ◌||◌, min, List, [], ◌∷◌, map, fold, All, Option, Some, None, is_some, if◌then◌else◌, IfSome, IsTrue, refl, sym, ap, subst, ◌∙◌, arith}
 use Rattle.std.specs.List.{range_with_len, list_any}
-use Rattle.std.proofs.lemmas.Bool.{cases_lt, cases_eq}
+use Rattle.std.proofs.lemmas.Bool.{cases_lt, cases_eq, both_ways}
 use Rattle.std.proofs.lemmas.Bool.Decides.{nat_tests}
 use Rattle.std.proofs.lemmas.List.Elements.{All-head, All-tail}
 use Rattle.std.proofs.lemmas.List.FromFn.{map-range_with_len_more}
@@ -120,6 +120,25 @@ least-more f n least new price so_far is made =
     made ∙ ap (lesser least) is ∙ ap (λ (o : Option ℕ). lesser o (f n)) so_far ∙
     sym (fold_push lesser None (map f (range_with_len 0 n)) (f n)) ∙
     ap (fold lesser None) (sym (map-range_with_len_more f 0 n n (omega arith)))
+
+-- a layer without a price changes nothing
+lesser-none : (a : Option ℕ) → a ≡ lesser a None
+lesser-none None = refl
+lesser-none (Some a) = refl
+
+pub least-passed : (f : ℕ → Option ℕ) (n : ℕ) (least : Option ℕ) → least ≡ fold lesser None (map f (range_with_len 0 n)) → None ≡ f n →
+    least ≡ fold lesser None (map f (range_with_len 0 (n + 1)))
+least-passed f n least so_far none = least-more f n least least None so_far none (lesser-none least)
+
+no-price : (o : Option ℕ) → is_some o ≡ false → None ≡ o
+no-price None is = refl
+no-price (Some n) is = absurd (both_ways true is refl)
+
+-- the edge over a flat edge has no price where its layer doesn't go its way
+pub none-over : (c : CapacityView) (l : LoadsView) (f : Formula) (net : ℕ) (flat : Shape) (e : Edge) (layer : ℕ) → IsFlattened c.shape flat →
+    IsTrue (has_edge flat e) → layer < c.shape.layers → ways_of c layer e.way ≡ false → None ≡ price_of c l f net (on_layer c.shape layer e)
+none-over c l f net flat e layer flattened edge below none =
+    no-price (price_of c l f net (on_layer c.shape layer e)) (some-over c l f net flat e layer flattened edge below ∙ none)
 
 -- a price of 1 is the least where none is below 1
 lesser-one : (a : Option ℕ) → IfSome a (λ n. 1 ≤ n) → lesser (Some 1) a ≡ Some 1

@@ -79,6 +79,9 @@ impl Costs for FlatCosts<'_> {
     fn cost(&self, e: Edge) -> Option<u64> {
         let mut least = None;
         for layer in 0..self.layers() {
+            if !self.costs.goes(layer, e.way) {
+                continue;
+            }
             let cost = self.costs.cost(self.over(e, layer));
             if is_least(cost) {
                 return cost;

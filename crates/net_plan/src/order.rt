@@ -14,7 +14,7 @@ pub(crate) fn order_of(alloc: Global, topology: &Topology) -> Result<Vec<u32>, A
 {
     let mut handled = vec![in alloc; false; topology.len() as usize]?;
     handled[0] = true;
-    let mut order = Vec::new(alloc);
+    let mut order = Vec::with_capacity(alloc, handled.len())?;
     while let Some(point) = next_due(topology, &handled) {
         handled[point as usize] = true;
         order.push(point)?;

@@ -19,7 +19,7 @@ pub(crate) fn distinct_tiles(
     ensures inside { IfOk result (λ tiles. All (IsTileIn shape) tiles.items) }
     ensures few { IfOk result (λ tiles. length tiles.items ≤ length cells.now) }
 {
-    let mut tiles = Vec::new(alloc);
+    let mut tiles = Vec::with_capacity(alloc, cells.len())?;
     for &cell in cells {
         let place = shape.place_of(cell);
         let tile = (place.x, place.y);

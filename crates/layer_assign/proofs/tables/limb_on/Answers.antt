@@ -4,6 +4,8 @@ use Rattle.gr_base.specs.declared.grid.Edge.{Edge}
 use Rattle.gr_base.specs.declared.grid.Shape.{Shape}
 use Rattle.layer_assign.specs.declared.span.Span.{Span}
 use Rattle.layer_assign.specs.Spans.{widened, span_number, spans_of}
+use Rattle.layer_assign.proofs.ChoiceLemmas.{limb-none}
+use Rattle.layer_assign.proofs.Choosing.{prices-at}
 use Rattle.layer_assign.proofs.Elimination.{widened-within}
 use Rattle.layer_assign.proofs.FlatLemmas.{on_layer-edge, few, few_layers}
 use Rattle.layer_assign.proofs.TableLemmas.{place-within, place-small}
@@ -14,6 +16,14 @@ cost-requires g c =
     let P : Shape → Type 0 = λ s. IsTrue (has_edge s c.edge_over.result) in
     let Q : Edge → Type 0 = λ e. IsTrue (has_edge c.args.shape e) in
     subst P (sym c.requires.grid) (subst Q (sym c.edge_over.ensures) (on_layer-edge c.args.shape c.args.flat.now.shape c.args.layer c.args.edge c.requires.flat c.requires.inside c.requires.layer))
+
+pub returns-then-not-goes-clause-cost : goal.returns-then-not-goes-clause-cost
+returns-then-not-goes-clause-cost g c =
+    let ways = g.C.Costs.ways c.args.costs.now in
+    let price = g.C.Costs.price c.args.costs.now in
+    limb-none c.args.shape ways price c.args.flat.now c.args.least.now c.args.node c.args.base c.args.layer c.args.edge
+    (prices-at (g.C.Costs.grid c.args.costs.now) c.args.shape ways price c.requires.grid (g.met.C.Costs.prices c.args.costs.now))
+    c.requires.flat c.requires.edge c.requires.inside c.requires.layer (sym c.goes.ensures.ways ∙ c.if-not-goes.true)
 
 pub place_in-requires-clause-node : goal.place_in-requires-clause-node
 place_in-requires-clause-node g c = let h = few c.args.flat.now c.requires.tree in let b = c.requires.node in omega arith

@@ -6,7 +6,7 @@ use Rattle.net_plan.proofs.order.order_of.Goals as goal
 
 pub loop-point-init : goal.loop-point-init
 loop-point-init c =
-    subst (λ (order : List ℕ). IsUnderWay c.args.topology.now order (set c.in_ok-handled.handled.items 0 true)) (sym c.new-order.ensures.items)
+    subst (λ (order : List ℕ). IsUnderWay c.args.topology.now order (set c.in_ok-handled.handled.items 0 true)) (sym c.in_ok-order.ensures.items)
     (order-first c.args.topology.now c.in_ok-handled.handled.items c.len.result c.len.ensures.tree
     (c.in_ok-handled.ensures.items_if_clones_equal (λ y e. e)) c.len.ensures.len)
 

@@ -1,6 +1,6 @@
 use Rattle.std.proofs.Common.{◌≡◌, ℕ, Option, Some, IsSome, sym, ap, subst, ◌∙◌, arith}
 use Rattle.net_plan.specs.Prices.{price_of}
-use Rattle.net_plan.proofs.FlatPriceLemmas.{flat-one, least-more}
+use Rattle.net_plan.proofs.FlatPriceLemmas.{flat-one, least-more, least-passed, none-over}
 use Rattle.net_plan.proofs.flat_costs.FlatCostsCosts.cost.Goals as goal
 use Rattle.gr_base.specs.Grid.{on_layer}
 
@@ -30,6 +30,16 @@ returns-then-is_least-clause-some g c =
     (omega (arith, test, count)) over in
     let some = c.args.self.now.prices.some c.args.e c.requires in
     (λ has. some.0 (subst (λ (o : Option ℕ). IsSome o) (is ∙ flat) has), λ goes. subst (λ (o : Option ℕ). IsSome o) (sym (is ∙ flat)) (some.1 goes))
+
+pub loop-layer-preserved-then-not-goes : goal.loop-layer-preserved-then-not-goes
+loop-layer-preserved-then-not-goes g c =
+    let costs = c.args.self.now.costs.now in
+    let test = c.loop-layer-test.true in
+    let count = c.layers-layer-end.ensures in
+    least-passed (λ layer. price_of costs.capacity.now costs.loads.now costs.rule.now.formula costs.net (on_layer costs.capacity.now.shape layer c.args.e))
+    c.loop-layer.layer c.loop-layer.least c.loop-layer.invariant
+    (none-over costs.capacity.now costs.loads.now costs.rule.now.formula costs.net c.args.self.now.shape c.args.e c.loop-layer.layer c.args.self.now.flattened c.requires
+    (omega (arith, test, count)) (sym c.goes.ensures.ways ∙ c.if-not-goes.true))
 
 pub loop-layer-preserved : goal.loop-layer-preserved
 loop-layer-preserved g c =
