@@ -20,10 +20,15 @@ use report_text::buffers;
 use route_evaluator::{TreeError, TreeMaker};
 use route_reader::Solution;
 use std::alloc::{AllocError, Global};
+use std::thread::Threads;
+
+/// All nets are planned in the caller's thread: the words of the command ask for no workers.
+const ONE_WORKER: u32 = 1;
 
 /// Reads the design, the library and the solution of these names, places buffers on the solution's
 /// trees, and writes them on out.
-pub(crate) fn buffer<S: Shelf, O: Sink>(
+pub(crate) fn buffer<R: Threads + Sync, S: Shelf, O: Sink>(
+    rt: &R,
     alloc: Global,
     shelf: &mut S,
     out: &mut O,
@@ -40,7 +45,7 @@ pub(crate) fn buffer<S: Shelf, O: Sink>(
     let library = open_library(alloc, shelf, &design, library)?;
     let solution = open_solution(alloc, shelf, &design, solution)?;
     let trees = solution_trees(alloc, &design, &solution)?;
-    let Ok(text) = buffers_on(alloc, &design, &library, &trees) else {
+    let Ok(text) = buffers_on(rt, alloc, &design, &library, &trees) else {
         return Err(Stop::NoMemory);
     };
     match write_whole(out, text.bytes()) {
@@ -94,7 +99,8 @@ fn solution_tree(
 }
 
 /// The text of the buffers that are placed on trees. The only error is want of memory.
-fn buffers_on(
+fn buffers_on<R: Threads + Sync>(
+    rt: &R,
     alloc: Global,
     design: &Design,
     library: &Library,
@@ -104,6 +110,6 @@ fn buffers_on(
     requires trees { AreRoutesOf design.now trees.now }
     ensures { IfOk result (IsBuffersText design.now library.now trees.now) }
 {
-    let plans = plan_all(alloc, design, library, trees)?;
+    let plans = plan_all(rt, alloc, design, library, trees, ONE_WORKER)?;
     buffers(alloc, design, library, trees, &plans)
 }

@@ -109,7 +109,7 @@ fn route_design<R: Threads + Wait + Sync, G: Gate + Sync>(
         routes,
         verdict,
     } = judged;
-    let plans = plan_all(alloc, design, library, &routes)?;
+    let plans = plan_all(rt, alloc, design, library, &routes, options.workers)?;
     let report = routing_report(alloc, design, library, &verdict, &routes, &plans)?;
     Ok(RoutedDesign {
         rounds,

@@ -156,7 +156,7 @@ fn carry_out<R: Threads + Wait + Sync, S: Shelf, O: Sink, E: Sink, G: Gate + Syn
                 library,
                 solution,
             },
-        ) => Left::without_rounds(buffer(alloc, shelf, out, design, library, solution)),
+        ) => Left::without_rounds(buffer(rt, alloc, shelf, out, design, library, solution)),
         Ok(Order::Make { made }) => Left::without_rounds(make_design(alloc, out, err, made)),
         Ok(
             Order::Trial {
