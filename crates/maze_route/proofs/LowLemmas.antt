@@ -1,6 +1,6 @@
--- A step to a cell with a low label changes nothing.
-use Rattle.std.proofs.Common.{◌≡◌, ℕ, ◌+◌, ◌≤◌, Bool, true, false, ◌&&◌, nat_le, nat_lt, Option, Some, None, refl, sym, ap, subst, ◌∙◌, arith}
-use Rattle.std.proofs.lemmas.Bool.Decides.{nat_tests}
+-- Steps to cells whose labels are low.
+use Rattle.std.proofs.Common.{◌≡◌, ℕ, ◌+◌, ◌≤◌, Bool, false, nat_le, Option, Some, None, refl, sym, subst}
+use Rattle.std.proofs.lemmas.Bool.{and_right}
 use Rattle.std.specs.Option.{option_map}
 use Rattle.cost_rules.specs.Prices.{ArePrices}
 use Rattle.gr_base.specs.declared.grid.Edge.{Edge}
@@ -14,26 +14,14 @@ use Rattle.maze_route.specs.declared.pane.Pane.{Pane}
 use Rattle.maze_route.specs.declared.window.Window.{Window}
 use Rattle.maze_route.proofs.StepLemmas.{step-least}
 
--- a label of at most one more than a cost is lowered by nothing that is more than it
-pub low-label : (o : Option ℕ) (label from cost : ℕ) → o ≡ Some label → label ≤ from + 1 → 1 ≤ cost → is_lower o (from + cost) ≡ false
-low-label o label from cost is low least =
-    ap (λ (q : Option ℕ). is_lower q (from + cost)) is ∙ not-less (from + cost) label (omega (arith, low, least))
-  where
-    not-less : (a b : ℕ) → b ≤ a → nat_lt a b ≡ false
-    not-less a b le = grind (arith, nat_tests)
-
-and_false : (p q : Bool) → q ≡ false → (p && q) ≡ false
-and_false true q is = is
-and_false false q is = refl
-
--- a step to it leaves the front as it was
+-- a step to a cell with a low label leaves the front as it was
 stands : (p : Pane) (aim : Window) (from to : ℕ) (o : Option ℕ) (front : Front) → ((k : ℕ) → o ≡ Some k → 1 ≤ k) → IsLow front.labels.costs.items from to →
     IsReach from (option_map (made_step p aim to) o) front front
 stands p aim from to None front least low = record { costs = refl; queue = refl }
 stands p aim from to (Some k) front least low =
     let step = made_step p aim to k in
     let never : does_lower (from + k) step front ≡ false =
-    and_false (nat_le (from + k) most_distance) (is_lower (label_at front.labels.costs.items to) (from + k)) (low k (least k refl)) in
+    and_right (nat_le (from + k) most_distance) (is_lower (label_at front.labels.costs.items to) (from + k)) (low k (least k refl)) in
     subst (λ (b : Bool). IsReachIf b (from + k) step front front) (sym never) (record { costs = refl; queue = refl })
 
 pub low-stands : (p : Pane) (ways : ℕ → Way → Bool) (price : Edge → Option ℕ) (aim : Window) (from n : ℕ) (side : Option ℕ) (front : Front) → ArePrices p.grid ways price →
