@@ -5,18 +5,20 @@ Each command is run three times, and the least time counts. Each design is route
 and its routes are judged; then it, and crowded designs, are routed with some numbers of rounds.
 Beside the files named, designs are made: nets of 2, 3 or 12 pins near one another, on layers that
 go one way each. Each is routed with a library of its number of layers, without kinds of buffers; then
-some with 4 and with 32 kinds, and their routes get buffers alone.
+some with 4 and with 32 kinds, and their routes get buffers alone. A crowded design is routed by
+several numbers of workers, by the clock.
 
 The texts are read whole before the first route is written, so a design with the same nets of more
 than 1,000 pins, which are read and not routed, tells what reading alone costs. A library or a
 solution with a wrong last token is read whole, and nothing is done with it: that tells what reading
-it costs.
+it costs. What PROFILE.md says of where the time goes, written by hand, ends the table.
 
 A program beside is another router with the same commands, and has to write the same bytes. Its runs
 alternate with ours. Least walks are compared with those of a plain program in Rust, which cargo
 builds: both have to find walks of one sum.
 """
 import argparse
+import datetime
 import os
 import resource
 import subprocess
@@ -26,12 +28,15 @@ import time
 
 HERE = os.path.dirname(os.path.abspath(__file__))
 RESULTS = os.path.join(HERE, "RESULTS.md")
+PROFILE = os.path.join(HERE, "PROFILE.md")
 CRATES = os.path.join(HERE, "..", "crates")
 ROUTER = os.path.join(CRATES, "groute", "out", "groute")
 PLANNERS = os.path.join(CRATES, "planning_times", "out", "planning_times")
 BOOK = os.path.join(CRATES, "book_times", "out", "book_times")
 TURNS = 200_000
 THREADS = [1, 2, 4]
+SHARED = (300, 300, 6, 300_000)
+SHARED_ROUNDS = [0, 5]
 PLANS = [
     ("topologies of 100,000 nets of 2 to 20 pins", ["topologies", "100000"], 100_000),
     ("flat walks across 10 by 10 tiles", ["walks", "10", "100000"], 100_000),
@@ -312,11 +317,50 @@ def mazes():
     return table
 
 
+def workers_row(bench, path, rc, rounds):
+    """By the clock, the seconds of a run with so many rounds, for each number of workers."""
+    row = f"| {rounds} "
+    alone = [None] * len(bench.routers)
+    for threads in THREADS:
+        for at, router in enumerate(bench.routers):
+            seconds = by_clock([router, "route", path, rc, str(rounds), "--workers", str(threads)])
+            alone[at] = alone[at] or seconds
+            row += f"| {seconds:.2f} " if threads == 1 else f"| {seconds:.2f} ({alone[at] / seconds:.2f}) "
+    return row + "|\n"
+
+
+def workers(bench):
+    """A crowded design, routed by several numbers of workers."""
+    names = ["workers {}, s", "beside, s"][:len(bench.routers)]
+    columns = [name.format(threads) for threads in THREADS for name in names]
+    x, y, l, n = SHARED
+    path = bench.put("design", made(x, y, l, n))
+    rc, _ = bench.library_of(path)
+    table = head_of([f"by the clock (times as fast as one), made {x} by {y} by {l}, {n:,} nets: rounds", *columns])
+    table += [workers_row(bench, path, rc, rounds) for rounds in SHARED_ROUNDS]
+    return table
+
+
+def machine():
+    """What the times were taken on, and when."""
+    with open("/proc/cpuinfo") as info:
+        names = [line.split(":", 1)[1].strip() for line in info if line.startswith("model name")]
+    return f"{len(names)} processors ({names[0]}), {datetime.date.today():%d %B %Y}"
+
+
+def profile():
+    """What is written of where the time goes, if anything is."""
+    if not os.path.exists(PROFILE):
+        return ""
+    with open(PROFILE) as file:
+        return "\n" + file.read()
+
+
 def by_clock(command):
     """The least seconds of three runs, by the clock."""
     def run():
         start = time.monotonic()
-        subprocess.run(command, stdout=subprocess.DEVNULL, check=True)
+        subprocess.run(command, stdout=subprocess.DEVNULL, stderr=subprocess.DEVNULL, check=True)
         return time.monotonic() - start
     return min(run() for _ in range(3))
 
@@ -340,14 +384,14 @@ def main():
     with tempfile.TemporaryDirectory() as folder:
         bench = Bench([ROUTER, *([given.beside] if given.beside else [])], folder)
         tables = [routes(bench, given.designs), long_read(bench), buffers(bench), rounds(bench, given.designs),
-                  plans(), mazes(), book()]
-    note = ("Processor time, least of three runs; what is written goes to a null device. `read both` reads a design "
+                  workers(bench), plans(), mazes(), book()]
+    note = (f"On {machine()}. Processor time, least of three runs; what is written goes to a null device. `read both` reads a design "
             "and its routes and judges nothing.")
     if given.beside:
         note += " `beside` is a plain Rust router of the same rules, whose runs alternate with ours."
     text = "\n".join("".join(table) for table in tables)
     with open(RESULTS, "w") as file:
-        file.write(f"# Times of the built programs\n\n{note}\n\n{text}")
+        file.write(f"# Times of the built programs\n\n{note}\n\n{text}{profile()}")
     print(text, end="")
 
 
