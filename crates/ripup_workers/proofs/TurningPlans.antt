@@ -100,9 +100,10 @@ still-maze c l m formula net pins margin t first now of_first of_now still plan 
     let w = window_of c.shape pins margin in
     grows-same w (price_of c l formula net) (price_of c m formula net) pins _ t
     (steps-same c.shape w (price_of c l formula net) (price_of c m formula net) (λ e is_in.
-    price-same c l m formula net e (λ wire.
-      (of_first.demand e is_in.edge wire ∙ sym (still.demand e is_in.begins) ∙ sym (of_now.demand e is_in.edge wire),
-      of_first.marks e is_in.edge wire ∙ sym (still.marks e is_in.begins) ∙ sym (of_now.marks e is_in.edge wire)))))
+    price-same c l m formula net e (λ wire. (
+      of_first.demand e is_in.edge wire ∙ sym (still.demand e is_in.begins) ∙ sym (of_now.demand e is_in.edge wire),
+      of_first.marks e is_in.edge wire ∙ sym (still.marks e is_in.begins) ∙ sym (of_now.marks e is_in.edge wire),
+    ))))
     plan
 
 -- a first part of a list is what that many elements of it are
@@ -150,7 +151,7 @@ was-planned d formula net kind slack tree copy front reply p q same long plan tr
       begins = (
         one.answered.begins.0 ++ (entry_of p.number (Claims one.claim) reply ∷ []),
         sym (append_assoc p.seen one.answered.begins.0 (entry_of p.number (Claims one.claim) reply ∷ []))
-          ∙ ap (λ (h : List Entry). h ++ (entry_of p.number (Claims one.claim) reply ∷ [])) one.answered.begins.1
-          ∙ sym one.answered.seen,
+            ∙ ap (λ (h : List Entry). h ++ (entry_of p.number (Claims one.claim) reply ∷ [])) one.answered.begins.1
+            ∙ sym one.answered.seen,
       );
     }
