@@ -2,7 +2,7 @@ use Rattle.router_top.proofs.PlannedLemmas.{planned-for}
 use Rattle.router_top.proofs.routing.route_design.Goals as goal
 
 pub plan_all-requires-clause-routes : goal.plan_all-requires-clause-routes
-plan_all-requires-clause-routes g c = c.in_ok-judged.ensures.held
+plan_all-requires-clause-routes g c κs within = c.in_ok-judged.ensures.held
 
 pub routing_report-requires : goal.routing_report-requires
 routing_report-requires g c =
