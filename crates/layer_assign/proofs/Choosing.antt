@@ -1,5 +1,5 @@
 -- One node's choices, span by span.
-use Rattle.std.proofs.Common.{◌≡◌, ◌≢◌, ℕ, ◌+◌, ◌*◌, ◌<◌, ◌≤◌, inl, inr, ◌⊎◌, Bool, true, false, ◌&&◌, ◌==◌, nat_lt, List, length, set, Option, Some, None, slice_get, IsSome, IsTrue, refl, sym, ap, subst, ◌∙◌, arith}
+use Rattle.std.proofs.Common.{◌≡◌, ◌≢◌, ℕ, ◌+◌, ◌*◌, ◌<◌, ◌≤◌, inl, inr, ◌⊎◌, Bool, true, false, ◌&&◌, ◌==◌, nat_lt, List, length, set, Option, Some, None, IsSome, IsTrue, refl, sym, ap, subst, ◌∙◌, arith}
 use Rattle.std.proofs.lemmas.Bool.{cases_eq, cases_Bool, both_ways}
 use Rattle.std.proofs.lemmas.Bool.Decides.{nat_tests}
 use Rattle.std.proofs.lemmas.List.{length-set}
@@ -243,8 +243,8 @@ still_small g ways price t node up base above old before new after number s laye
 
 -- each layer is offered where the edge may have it, at what it costs
 pub offers : (g : Shape) (ways : ℕ → Way → Bool) (price : Edge → Option ℕ) (t : TreeView) (node up : ℕ) (base : Option Span) (old new : List ℕ) (s : Option Span) (layer : ℕ) →
-    (limbs : List (Option ℕ)) (e : Edge) → ArePrices g ways price → IsFlat g t.shape → parent_edge t node ≡ Some e → IsTrue (has_edge t.shape e) → layer < g.layers →
-    slice_get limbs layer ≡ Some (limb_cost g price t old node base layer) → entry g.layers new up (widened s layer) ≡ entry g.layers old (parent_of t node) (widened s layer) →
+    (limbs : ℕ → Option ℕ) (e : Edge) → ArePrices g ways price → IsFlat g t.shape → parent_edge t node ≡ Some e → IsTrue (has_edge t.shape e) → layer < g.layers →
+    limbs layer ≡ limb_cost g price t old node base layer → entry g.layers new up (widened s layer) ≡ entry g.layers old (parent_of t node) (widened s layer) →
     offer g limbs new up s layer ≡ offered (may_take g ways t node) (onward_cost g price t old node base s) layer
 offers g ways price t node up base old new s layer limbs e prices flat is edge below at kept =
     let limb = wire_cost g price t node layer + entry g.layers old node (widened base layer) in
@@ -253,14 +253,14 @@ offers g ways price t node up base old new s layer limbs e prices flat is edge b
 
 -- the offers of all layers at one turn
 pub all_offers : (g : Shape) (ways : ℕ → Way → Bool) (price : Edge → Option ℕ) (t : TreeView) (node up : ℕ) (base above : Option Span) (old before new after from now : List ℕ) (number : ℕ) (s : Option Span) →
-    (limbs : List (Option ℕ)) → ArePrices g ways price → IsFlat g t.shape → IsTree t → 0 < node → node < length t.nodes → up ≡ parent_of t node → from ≡ old → now ≡ new →
-    ((l : ℕ) → l < g.layers → slice_get limbs l ≡ Some (limb_cost g price t from node base l)) →
+    (limbs : ℕ → Option ℕ) → ArePrices g ways price → IsFlat g t.shape → IsTree t → 0 < node → node < length t.nodes → up ≡ parent_of t node → from ≡ old → now ≡ new →
+    ((l : ℕ) → l < g.layers → limbs l ≡ limb_cost g price t from node base l) →
     Choosing g ways price t node base above old before new after (numbered_below g.layers number) → IsWithin g.layers s → span_number g.layers s ≡ number →
     (l : ℕ) → l < g.layers → offer g limbs now up s l ≡ offered (may_take g ways t node) (onward_cost g price t old node base s) l
 all_offers g ways price t node up base above old before new after from now number s limbs prices flat tree positive below parent same is at so_far within number_is l lt =
     let edge = some_edge t node tree positive below in
     let kept = still_small g ways price t node up base above old before new after number s l parent so_far within lt number_is in
-    let limb : slice_get limbs l ≡ Some (limb_cost g price t old node base l) = at l lt ∙ ap (λ (xs : List ℕ). Some (limb_cost g price t xs node base l)) same in
+    let limb : limbs l ≡ limb_cost g price t old node base l = at l lt ∙ ap (λ (xs : List ℕ). limb_cost g price t xs node base l) same in
     ap (λ (xs : List ℕ). offer g limbs xs up s l) is
     ∙ offers g ways price t node up base old new s l limbs edge.0 prices flat edge.1.0 edge.1.1 lt limb kept
 
@@ -270,8 +270,8 @@ pub record Finds (found : Option Best) (f : ℕ → ℕ) (may : ℕ → Bool) : 
   pub best : (b : Best) → found ≡ Some b → IsBest f may b.layer b.cost
 
 pub finds : (g : Shape) (ways : ℕ → Way → Bool) (price : Edge → Option ℕ) (t : TreeView) (node up : ℕ) (base above : Option Span) (old before new after from : List ℕ) (number : ℕ) (s : Option Span) →
-    (limbs : List (Option ℕ)) → ArePrices g ways price → IsFlat g t.shape → IsTree t → 0 < node → node < length t.nodes → up ≡ parent_of t node → from ≡ old →
-    ((l : ℕ) → l < g.layers → slice_get limbs l ≡ Some (limb_cost g price t from node base l)) →
+    (limbs : ℕ → Option ℕ) → ArePrices g ways price → IsFlat g t.shape → IsTree t → 0 < node → node < length t.nodes → up ≡ parent_of t node → from ≡ old →
+    ((l : ℕ) → l < g.layers → limbs l ≡ limb_cost g price t from node base l) →
     Choosing g ways price t node base above old before new after (numbered_below g.layers number) → IsWithin g.layers s → span_number g.layers s ≡ number →
     (layer : ℕ) × IsTrue (may_take g ways t node layer) →
     Finds (best_below (offer g limbs new up s) g.layers) (onward_cost g price t old node base s) (may_take g ways t node)

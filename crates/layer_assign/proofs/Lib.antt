@@ -6,6 +6,7 @@ pub mod TableLemmas
 pub mod ChoiceLemmas
 pub mod Choosing
 pub mod RunLemmas
+pub mod ThinLemmas
 pub mod Running
 pub mod Following
 pub mod PinLemmas

@@ -1,20 +1,20 @@
 -- The best layers along a run are those that the offers with their climbs give.
-use Rattle.std.proofs.Common.{◌≡◌, ℕ, zero, suc, ◌+◌, ◌-◌, ◌*◌, ◌<◌, ◌≤◌, inl, inr, true, false, nat_lt, max, min, List, Option, Some, None, slice_get, IfSome, add-one, refl, sym, ap, subst, ◌∙◌, arith}
+use Rattle.std.proofs.Common.{◌≡◌, ℕ, zero, suc, ◌+◌, ◌-◌, ◌*◌, ◌<◌, ◌≤◌, inl, inr, true, false, nat_lt, max, min, Option, Some, None, IfSome, add-one, refl, sym, ap, subst, ◌∙◌, arith}
 use Rattle.std.proofs.lemmas.Bool.{cases_lt}
 use Rattle.std.proofs.lemmas.Bool.Decides.{nat_tests}
-use Rattle.std.specs.Option.{option_map, option_and_then}
+use Rattle.std.specs.Option.{option_map}
 use Rattle.layer_assign.specs.declared.span.Best.{Best}
 use Rattle.layer_assign.specs.Spans.{widened, climb}
 use Rattle.layer_assign.specs.Tables.{better, best_below}
 use Rattle.layer_assign.specs.Runs.{offer_on, offer_from, a_climb_more, best_up_to, best_from}
 
-better-second : (a b : Best) → b.cost < a.cost → better (Some a) (Some b) ≡ Some b
+pub better-second : (a b : Best) → b.cost < a.cost → better (Some a) (Some b) ≡ Some b
 better-second a b less = let test : nat_lt b.cost a.cost ≡ true = grind (arith, nat_tests) in rw test refl
 
-better-first : (a b : Best) → a.cost ≤ b.cost → better (Some a) (Some b) ≡ Some a
+pub better-first : (a b : Best) → a.cost ≤ b.cost → better (Some a) (Some b) ≡ Some a
 better-first a b most = let test : nat_lt b.cost a.cost ≡ false = grind (arith, nat_tests) in rw test refl
 
-better-none : (a : Option Best) → better a None ≡ a
+pub better-none : (a : Option Best) → better a None ≡ a
 better-none None = refl
 better-none (Some a) = refl
 
@@ -77,7 +77,7 @@ below-from f a (suc n) =
     ap (λ o. better o (from_on f (a + 1) n)) (below-one f a) ∙
     better-assoc (best_below f a) (f a) (from_on f (a + 1) n)
 
-below-climbed : (f h : ℕ → Option Best) (n : ℕ) → ((m : ℕ) → m < n → f m ≡ a_climb_more (h m)) → best_below f n ≡ a_climb_more (best_below h n)
+pub below-climbed : (f h : ℕ → Option Best) (n : ℕ) → ((m : ℕ) → m < n → f m ≡ a_climb_more (h m)) → best_below f n ≡ a_climb_more (best_below h n)
 unfolding best_below
 below-climbed f h zero each = refl
 below-climbed f h (suc n) each =
@@ -113,7 +113,7 @@ climb-above l m le =
     omega (arith, high, low, more, same, le)
 
 -- a layer with a cost
-abbrev at_cost : ℕ → ℕ → Best
+abbrev pub at_cost : ℕ → ℕ → Best
 at_cost layer cost = record { layer = layer; cost = cost }
 
 offer-same : (o : Option ℕ) (layer x : ℕ) → x ≡ 0 →
@@ -132,23 +132,23 @@ offer-climbed (Some limb) layer x y more =
     let make : ℕ → Option Best = λ k. Some (record { layer = layer; cost = k }) in
     ap make e
 
-on-from : (limbs : List (Option ℕ)) (l : ℕ) → offer_on limbs l ≡ offer_from limbs l l
-on-from limbs l = offer-same (option_and_then (λ (o : Option ℕ). o) (slice_get limbs l)) l (climb (widened (widened None l) l)) (climb-none l)
+on-from : (limbs : ℕ → Option ℕ) (l : ℕ) → offer_on limbs l ≡ offer_from limbs l l
+on-from limbs l = offer-same (limbs l) l (climb (widened (widened None l) l)) (climb-none l)
 
-from-below : (limbs : List (Option ℕ)) (l m : ℕ) → m ≤ l → offer_from limbs (l + 1) m ≡ a_climb_more (offer_from limbs l m)
+pub from-below : (limbs : ℕ → Option ℕ) (l m : ℕ) → m ≤ l → offer_from limbs (l + 1) m ≡ a_climb_more (offer_from limbs l m)
 from-below limbs l m le =
-    offer-climbed (option_and_then (λ (o : Option ℕ). o) (slice_get limbs m)) m (climb (widened (widened None (l + 1)) m)) (climb (widened (widened None l) m)) (climb-below l m le)
+    offer-climbed (limbs m) m (climb (widened (widened None (l + 1)) m)) (climb (widened (widened None l) m)) (climb-below l m le)
 
-from-above : (limbs : List (Option ℕ)) (l m : ℕ) → l + 1 ≤ m → offer_from limbs l m ≡ a_climb_more (offer_from limbs (l + 1) m)
+from-above : (limbs : ℕ → Option ℕ) (l m : ℕ) → l + 1 ≤ m → offer_from limbs l m ≡ a_climb_more (offer_from limbs (l + 1) m)
 from-above limbs l m le =
-    offer-climbed (option_and_then (λ (o : Option ℕ). o) (slice_get limbs m)) m (climb (widened (widened None l) m)) (climb (widened (widened None (l + 1)) m)) (climb-above l m le)
+    offer-climbed (limbs m) m (climb (widened (widened None l) m)) (climb (widened (widened None (l + 1)) m)) (climb-above l m le)
 
-pub up_to-more : (limbs : List (Option ℕ)) (l : ℕ) → best_up_to limbs (l + 1) ≡ better (a_climb_more (best_up_to limbs l)) (offer_on limbs l)
+pub up_to-more : (limbs : ℕ → Option ℕ) (l : ℕ) → best_up_to limbs (l + 1) ≡ better (a_climb_more (best_up_to limbs l)) (offer_on limbs l)
 unfolding best_up_to
 up_to-more limbs l = rw add-one refl
 
 -- the best of the layers up to one are those of the offers with their climbs
-up_to-below : (limbs : List (Option ℕ)) (l : ℕ) → best_up_to limbs (l + 1) ≡ best_below (offer_from limbs l) (l + 1)
+pub up_to-below : (limbs : ℕ → Option ℕ) (l : ℕ) → best_up_to limbs (l + 1) ≡ best_below (offer_from limbs l) (l + 1)
 unfolding best_up_to best_below
 up_to-below limbs zero = up_to-more limbs 0 ∙ on-from limbs 0 ∙ sym (below-one (offer_from limbs 0) 0)
 up_to-below limbs (suc l) =
@@ -162,7 +162,7 @@ up_to-below limbs (suc l) =
     sym (below-one (offer_from limbs next) next) in
     subst (λ (k : ℕ). best_up_to limbs (k + 1) ≡ best_below (offer_from limbs k) (k + 1)) (sym at) step
 
-from-from_on : (limbs : List (Option ℕ)) (a n : ℕ) → best_from limbs a n ≡ from_on (offer_from limbs a) a n
+from-from_on : (limbs : ℕ → Option ℕ) (a n : ℕ) → best_from limbs a n ≡ from_on (offer_from limbs a) a n
 unfolding best_from
 from-from_on limbs a zero = refl
 from-from_on limbs a (suc n) =
@@ -171,7 +171,7 @@ from-from_on limbs a (suc n) =
     ap (λ o. better (offer_from limbs a a) o) (sym (from-climbed (offer_from limbs a) (offer_from limbs (a + 1)) (a + 1) n (λ m le. from-above limbs a m le)))
 
 -- the best up to a layer and the best above it make the best of all
-pub best-both : (limbs : List (Option ℕ)) (l n layers : ℕ) → l + 1 + n ≡ layers →
+pub best-both : (limbs : ℕ → Option ℕ) (l n layers : ℕ) → l + 1 + n ≡ layers →
     better (best_up_to limbs (l + 1)) (a_climb_more (best_from limbs (l + 1) n)) ≡ best_below (offer_from limbs l) layers
 best-both limbs l n layers all =
     ap (λ o. better o (a_climb_more (best_from limbs (l + 1) n))) (up_to-below limbs l) ∙
@@ -180,7 +180,7 @@ best-both limbs l n layers all =
     sym (below-from (offer_from limbs l) (l + 1) n) ∙ ap (best_below (offer_from limbs l)) all
 
 -- one layer further down
-pub from-more : (limbs : List (Option ℕ)) (k layer layers : ℕ) (best seen made : Option Best) → k + 1 ≡ layer → layer ≤ layers → best ≡ best_from limbs layer (layers - layer) →
+pub from-more : (limbs : ℕ → Option ℕ) (k layer layers : ℕ) (best seen made : Option Best) → k + 1 ≡ layer → layer ≤ layers → best ≡ best_from limbs layer (layers - layer) →
     seen ≡ a_climb_more best → made ≡ better (offer_on limbs k) seen → made ≡ best_from limbs k (layers - k)
 unfolding best_from
 from-more limbs k layer layers best seen made next most so_far climbs is =
@@ -203,28 +203,28 @@ climb-small : (o : Option Best) (most more : ℕ) → most + 3 ≤ more → IfSo
 climb-small None most more le small = tt
 climb-small (Some b) most more le small = omega arith
 
-on-small : (limbs : List (Option ℕ)) (l : ℕ) (o : Option ℕ) (most more : ℕ) → most ≤ more → IfSome o (λ cost. cost ≤ most) →
+on-small : (limbs : ℕ → Option ℕ) (l : ℕ) (o : Option ℕ) (most more : ℕ) → most ≤ more → IfSome o (λ cost. cost ≤ most) →
     IfSome (option_map (λ (limb : ℕ). at_cost l limb) o) (λ b. b.cost ≤ more)
 on-small limbs l None most more le small = tt
 on-small limbs l (Some limb) most more le small = omega arith
 
-abbrev pub AreSmall : List (Option ℕ) → ℕ → ℕ → Type 0
-AreSmall limbs layers most = (l : ℕ) → l < layers → IfSome (option_and_then (λ (o : Option ℕ). o) (slice_get limbs l)) (λ cost. cost ≤ most)
+abbrev pub AreSmall : (ℕ → Option ℕ) → ℕ → ℕ → Type 0
+AreSmall limbs layers most = (l : ℕ) → l < layers → IfSome (limbs l) (λ cost. cost ≤ most)
 
-pub up_to-small : (limbs : List (Option ℕ)) (layers most n : ℕ) → n ≤ layers → AreSmall limbs layers most → IfSome (best_up_to limbs n) (λ b. b.cost ≤ most + 3 * n)
+pub up_to-small : (limbs : ℕ → Option ℕ) (layers most n : ℕ) → n ≤ layers → AreSmall limbs layers most → IfSome (best_up_to limbs n) (λ b. b.cost ≤ most + 3 * n)
 unfolding best_up_to
 up_to-small limbs layers most zero le small = tt
 up_to-small limbs layers most (suc n) le small =
     better-if (λ b. b.cost ≤ most + 3 * suc n) (a_climb_more (best_up_to limbs n)) (offer_on limbs n)
     (climb-small (best_up_to limbs n) (most + 3 * n) (most + 3 * suc n) (omega arith) (up_to-small limbs layers most n (omega arith) small))
-    (on-small limbs n (option_and_then (λ (o : Option ℕ). o) (slice_get limbs n)) most (most + 3 * suc n) (omega arith) (small n (omega arith)))
+    (on-small limbs n (limbs n) most (most + 3 * suc n) (omega arith) (small n (omega arith)))
 
-pub from-small : (limbs : List (Option ℕ)) (layers most a n : ℕ) → a + n ≤ layers → AreSmall limbs layers most → IfSome (best_from limbs a n) (λ b. b.cost ≤ most + 3 * n)
+pub from-small : (limbs : ℕ → Option ℕ) (layers most a n : ℕ) → a + n ≤ layers → AreSmall limbs layers most → IfSome (best_from limbs a n) (λ b. b.cost ≤ most + 3 * n)
 unfolding best_from
 from-small limbs layers most a zero le small = tt
 from-small limbs layers most a (suc n) le small =
     better-if (λ b. b.cost ≤ most + 3 * suc n) (offer_on limbs a) (a_climb_more (best_from limbs (a + 1) n))
-    (on-small limbs a (option_and_then (λ (o : Option ℕ). o) (slice_get limbs a)) most (most + 3 * suc n) (omega arith) (small a (omega arith)))
+    (on-small limbs a (limbs a) most (most + 3 * suc n) (omega arith) (small a (omega arith)))
     (climb-small (best_from limbs (a + 1) n) (most + 3 * n) (most + 3 * suc n) (omega arith) (from-small limbs layers most (a + 1) n (omega arith) small))
 
 -- the best cost little

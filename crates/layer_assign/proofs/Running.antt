@@ -1,8 +1,8 @@
 -- One node's choices where its parent's tile is on a run, layer by layer.
-use Rattle.std.proofs.Common.{◌≡◌, ℕ, ◌+◌, ◌<◌, Bool, true, false, ◌&&◌, ◌==◌, not, nat_lt, List, length, Option, Some, None, slice_get, IsTrue, refl, sym, ap, subst, ◌∙◌, arith}
+use Rattle.std.proofs.Common.{◌≡◌, ℕ, ◌+◌, ◌<◌, Bool, true, false, ◌&&◌, ◌==◌, not, nat_lt, List, length, Option, Some, None, IsTrue, refl, sym, ap, subst, ◌∙◌, arith}
 use Rattle.std.proofs.lemmas.Bool.{both_ways}
 use Rattle.std.proofs.lemmas.Bool.Decides.{nat_tests}
-use Rattle.std.specs.Option.{option_map, option_and_then}
+use Rattle.std.specs.Option.{option_map}
 use Rattle.cost_rules.specs.Prices.{ArePrices}
 use Rattle.gr_base.specs.Trees.{TreeView, IsTree}
 use Rattle.gr_base.specs.declared.grid.Edge.{Edge}
@@ -49,24 +49,24 @@ run-is parent node (Some s) joined is = absurd (both_ways _ (inner ((parent + 1 
 
 -- the offers with their climbs are those over the parent's tile
 run-offers : (g : Shape) (ways : ℕ → Way → Bool) (price : Edge → Option ℕ) (t : TreeView) (node up : ℕ) (base : Option Span) (old from : List ℕ) (layer : ℕ) →
-    (limbs : List (Option ℕ)) → ArePrices g ways price → IsFlat g t.shape → IsTree t → 0 < node → node < length t.nodes → up ≡ parent_of t node → from ≡ old →
-    ((l : ℕ) → l < g.layers → slice_get limbs l ≡ Some (limb_cost g price t from node base l)) →
+    (limbs : ℕ → Option ℕ) → ArePrices g ways price → IsFlat g t.shape → IsTree t → 0 < node → node < length t.nodes → up ≡ parent_of t node → from ≡ old →
+    ((l : ℕ) → l < g.layers → limbs l ≡ limb_cost g price t from node base l) →
     ((s : Option Span) → IsWithin g.layers s → entry g.layers old (parent_of t node) s ≡ climb s) → layer < g.layers →
     (l : ℕ) → l < g.layers → offer_from limbs layer l ≡ offered (may_take g ways t node) (onward_cost g price t old node base (widened None layer)) l
 run-offers g ways price t node up base old from layer limbs prices flat tree positive below parent same at climbs inside l lt =
     let edge = some_edge t node tree positive below in
     let s = widened None layer in
-    let limb : slice_get limbs l ≡ Some (limb_cost g price t old node base l) = at l lt ∙ ap (λ (xs : List ℕ). Some (limb_cost g price t xs node base l)) same in
+    let limb : limbs l ≡ limb_cost g price t old node base l = at l lt ∙ ap (λ (xs : List ℕ). limb_cost g price t xs node base l) same in
     let over : entry g.layers old up (widened s l) ≡ entry g.layers old (parent_of t node) (widened s l) = ap (λ (k : ℕ). entry g.layers old k (widened s l)) parent in
     let within : IsWithin g.layers s = record { ordered = omega arith; high = inside } in
     let climbed : climb (widened s l) ≡ entry g.layers old up (widened s l) = sym (over ∙ climbs (widened s l) (widened-within g.layers s l within lt)) in
     let make : ℕ → Option Best =
-    λ x. option_map (λ (limb : ℕ). record { layer = l; cost = limb + x }) (option_and_then (λ (o : Option ℕ). o) (slice_get limbs l)) in
+    λ x. option_map (λ (limb : ℕ). record { layer = l; cost = limb + x }) (limbs l) in
     ap make climbed ∙ offers g ways price t node up base old old s l limbs edge.0 prices flat edge.1.0 edge.1.1 lt limb over
 
 pub run-finds : (g : Shape) (ways : ℕ → Way → Bool) (price : Edge → Option ℕ) (t : TreeView) (node up : ℕ) (base : Option Span) (old from : List ℕ) (layer : ℕ) →
-    (limbs : List (Option ℕ)) → ArePrices g ways price → IsFlat g t.shape → IsTree t → 0 < node → node < length t.nodes → up ≡ parent_of t node → from ≡ old →
-    ((l : ℕ) → l < g.layers → slice_get limbs l ≡ Some (limb_cost g price t from node base l)) →
+    (limbs : ℕ → Option ℕ) → ArePrices g ways price → IsFlat g t.shape → IsTree t → 0 < node → node < length t.nodes → up ≡ parent_of t node → from ≡ old →
+    ((l : ℕ) → l < g.layers → limbs l ≡ limb_cost g price t from node base l) →
     ((s : Option Span) → IsWithin g.layers s → entry g.layers old (parent_of t node) s ≡ climb s) → layer < g.layers →
     (l : ℕ) × IsTrue (may_take g ways t node l) →
     (found : Option Best) → found ≡ best_below (offer_from limbs layer) g.layers →

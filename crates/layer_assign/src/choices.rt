@@ -1,19 +1,18 @@
-ghost use Rattle.std.specs.Prelude.{◌≡◌, ℕ, ◌+◌, ◌*◌, ◌^◌, ◌<◌, ◌≤◌, ◌||◌, ◌==◌, false, not, Option, length, slice_get, get_or, IfSome, IsSome, IsTrue};
-ghost use Rattle.std.specs.Option.{option_and_then};
-ghost use Rattle.cost_rules.specs.Formulas.{most_cost};
+ghost use Rattle.std.specs.Prelude.{◌≡◌, ℕ, ◌+◌, ◌*◌, ◌^◌, ◌<◌, ◌≤◌, ◌||◌, ◌==◌, false, not, Option, length, get_or, IsSome, IsTrue};
 ghost use Rattle.gr_base.specs.Limits.{most_cells};
 ghost use Rattle.gr_base.specs.Trees.{IsTree};
 ghost use Rattle.layer_assign.specs.declared.span.Span.{Span as SpanView};
 ghost use Rattle.layer_assign.specs.Spans.{IsWithin, widened, climb, growing, spans_of};
 ghost use Rattle.layer_assign.specs.Assignments.{IsFlat, parent_of, may_take};
 ghost use Rattle.layer_assign.specs.Choices.{entry};
-ghost use Rattle.layer_assign.specs.Tables.{HasRows, IsSmall, offer, best_below};
+ghost use Rattle.layer_assign.specs.Tables.{HasRows, IsSmall, IsLimb, AreWires, priced, offer, best_below};
 ghost use Rattle.layer_assign.specs.Chosen.{is_near, holds_pins, may_precede, AreUntouched, Chooses, Writes};
 
+use crate::limbs::{best_layer, limb_of};
 use crate::runs::{choose_on_run, is_run};
-use crate::span::Span;
+use crate::span::{Limb, Span};
 use crate::spans::{next_span, spans_of};
-use crate::tables::{best_layer, limb_costs, write_best};
+use crate::tables::write_best;
 use cost_rules::Costs;
 use gr_base::{RouteTree, Shape};
 
@@ -84,7 +83,8 @@ fn choose_by_span<C: Costs>(
     ensures { Chooses shape (C.ways costs.now) (C.price costs.now) flat.now node base above
         least.old.items least.new.items choices.old.items choices.new.items }
 {
-    let limbs = limb_costs(costs, shape, flat, least, node, base);
+    let limb = limb_of(costs, shape, flat, least, node, base);
+    let mut wires = [None; 16];
     let parent = flat.parent(node);
     let mut next = None;
     for _ in 0..spans_of(shape) {
@@ -93,7 +93,9 @@ fn choose_by_span<C: Costs>(
         if !may_precede(parent, node, above, span) {
             continue;
         }
-        choose_layer(shape, &limbs, parent, node, span, least, choices);
+        choose_layer(
+            costs, shape, &limb, &mut wires, parent, node, span, least, choices,
+        );
     }
 }
 
@@ -131,15 +133,20 @@ fn is_near(parent: u32, pins: Option<Span>, span: Option<Span>) -> bool
 
 /// Chooses the best layer of a node's edge for one span that its parent's tile may have before, and
 /// adds what that costs to the parent's tile.
-fn choose_layer(
+fn choose_layer<C: Costs>(
+    costs: &C,
     shape: Shape,
-    limbs: &[Option<u64>; 16],
+    limb: &Limb,
+    wires: &mut [Option<u64>; 16],
     parent: u32,
     node: u32,
     span: Option<Span>,
     least: &mut Vec<u64>,
     choices: &mut Vec<u32>,
 )
+    requires grid { C.grid costs.now ≡ shape }
+    requires limb { IsLimb shape (C.price costs.now) limb.now }
+    requires wires { AreWires shape (C.price costs.now) limb.now.edge wires.old }
     requires span { IsWithin shape.layers span }
     requires parent { parent < most_cells }
     requires node { node < most_cells }
@@ -147,13 +154,12 @@ fn choose_layer(
     requires own { node * spans_of shape.layers + spans_of shape.layers ≤ length choices.old.items }
     requires small { (other : ℕ) → other < shape.layers →
         entry shape.layers least.old.items parent (widened span other) ≤ 2 ^ 50 }
-    requires limbs { (other : ℕ) → other < shape.layers →
-        IfSome (option_and_then (λ (o : Option ℕ). o) (slice_get limbs.now other)) (λ cost. cost ≤ 2 ^ 50 + most_cost) }
-    requires some { IsSome (best_below (offer shape limbs.now least.old.items parent span) shape.layers) }
-    ensures { Writes shape.layers parent node span
-        (best_below (offer shape limbs.now least.old.items parent span) shape.layers)
+    requires some { IsSome (best_below (offer shape (priced shape (C.price costs.now) limb.now) least.old.items parent span) shape.layers) }
+    ensures wires { AreWires shape (C.price costs.now) limb.now.edge wires.new }
+    ensures writes { Writes shape.layers parent node span
+        (best_below (offer shape (priced shape (C.price costs.now) limb.now) least.old.items parent span) shape.layers)
         least.old.items least.new.items choices.old.items choices.new.items }
 {
-    let best = best_layer(shape, limbs, least, parent, span);
+    let best = best_layer(costs, shape, limb, wires, least, parent, span);
     write_best(shape, parent, node, span, best, least, choices);
 }

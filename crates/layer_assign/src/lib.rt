@@ -6,6 +6,7 @@ mod choices;
 mod columns;
 mod first_least;
 mod layers;
+mod limbs;
 mod raised;
 mod runs;
 mod span;

@@ -1,18 +1,18 @@
 ghost use Rattle.std.specs.Prelude.{◌≡◌, ℕ, ◌+◌, ◌-◌, ◌^◌, ◌<◌, ◌≤◌, ◌&&◌, ◌==◌, not, is_none, nat_lt, None, Option, Some, length, slice_get, IfSome, IsTrue};
-ghost use Rattle.std.specs.Option.{option_and_then};
 ghost use Rattle.cost_rules.specs.Formulas.{most_cost};
 ghost use Rattle.gr_base.specs.Limits.{most_cells};
 ghost use Rattle.layer_assign.specs.declared.span.Span.{Span as SpanView};
 ghost use Rattle.layer_assign.specs.Spans.{IsWithin, climb};
 ghost use Rattle.layer_assign.specs.Assignments.{IsFlat, parent_of, may_take};
 ghost use Rattle.layer_assign.specs.Choices.{entry};
-ghost use Rattle.layer_assign.specs.Tables.{HasRows, IsSmall};
+ghost use Rattle.layer_assign.specs.Tables.{HasRows, IsSmall, number_in};
 ghost use Rattle.layer_assign.specs.Chosen.{Chooses};
 ghost use Rattle.layer_assign.specs.Runs.{is_run, offer_on, a_climb_more, best_from};
 
+use crate::limbs::{limb_of, run_costs};
 use crate::span::{Best, Span};
 use crate::spans::widened;
-use crate::tables::{better_of, limb_costs, write_best};
+use crate::tables::{better_of, write_best};
 use cost_rules::{Costs, VIA_COST};
 use gr_base::{RouteTree, Shape};
 
@@ -54,7 +54,8 @@ pub(crate) fn choose_on_run<C: Costs>(
     ensures { Chooses shape (C.ways costs.now) (C.price costs.now) flat.now node base None
         least.old.items least.new.items choices.old.items choices.new.items }
 {
-    let limbs = limb_costs(costs, shape, flat, least, node, base);
+    let limb = limb_of(costs, shape, flat, least, node, base);
+    let limbs = run_costs(costs, shape, &limb);
     let parent = flat.parent(node);
     let above = bests_above(shape, &limbs);
     let mut below = None;
@@ -76,9 +77,9 @@ pub(crate) fn choose_on_run<C: Costs>(
 /// For each layer the best of the layers above it, as it sees them.
 fn bests_above(shape: Shape, limbs: &[Option<u64>; 16]) -> [Option<Best>; 16]
     requires { (other : ℕ) → other < shape.layers →
-        IfSome (option_and_then (λ (o : Option ℕ). o) (slice_get limbs.now other)) (λ cost. cost ≤ 2 ^ 50 + most_cost) }
+        IfSome (number_in limbs.now other) (λ cost. cost ≤ 2 ^ 50 + most_cost) }
     ensures { (layer : ℕ) → layer < shape.layers → slice_get result layer ≡
-        Some (a_climb_more (best_from limbs.now (layer + 1) (shape.layers - (layer + 1)))) }
+        Some (a_climb_more (best_from (number_in limbs.now) (layer + 1) (shape.layers - (layer + 1)))) }
 {
     let mut above = [None; 16];
     let mut best = None;
@@ -91,16 +92,16 @@ fn bests_above(shape: Shape, limbs: &[Option<u64>; 16]) -> [Option<Best>; 16]
 }
 
 /// A layer with what the limb costs on it.
-fn offer_on(limbs: &[Option<u64>; 16], layer: u32) -> Option<Best>
+pub(crate) fn offer_on(limbs: &[Option<u64>; 16], layer: u32) -> Option<Best>
     requires { layer < 16 }
-    ensures { result ≡ offer_on limbs.now layer }
+    ensures { result ≡ offer_on (number_in limbs.now) layer }
 {
     let cost = limbs[layer as usize]?;
     Some(Best { layer, cost })
 }
 
 /// An offer as the next layer sees it, with one climb more.
-fn a_climb_more(offer: Option<Best>) -> Option<Best>
+pub(crate) fn a_climb_more(offer: Option<Best>) -> Option<Best>
     requires { IfSome offer (λ best. best.cost ≤ 2 ^ 60) }
     ensures { result ≡ a_climb_more offer }
 {

@@ -2,7 +2,7 @@ use Rattle.std.proofs.Common.{◌≡◌, ℕ, ◌+◌, ◌-◌, ◌<◌, inl, in
 use Rattle.std.proofs.lemmas.Bool.{cases_eq}
 use Rattle.std.proofs.lemmas.List.{length-set}
 use Rattle.layer_assign.specs.declared.span.Best.{Best}
-use Rattle.layer_assign.specs.Tables.{better}
+use Rattle.layer_assign.specs.Tables.{number_in, better}
 use Rattle.layer_assign.specs.Runs.{a_climb_more, best_from}
 use Rattle.layer_assign.proofs.FlatLemmas.{few_layers}
 use Rattle.layer_assign.proofs.RunLemmas.{from-more, from-small, costs-less}
@@ -12,7 +12,7 @@ use Rattle.layer_assign.proofs.runs.bests_above.Goals as goal
 pub loop-layer-init : goal.loop-layer-init
 unfolding best_from
 loop-layer-init c =
-    let limbs = c.args.limbs.now in
+    let limbs = number_in c.args.limbs.now in
     let all = c.layers-layer.ensures.layers in
     let none : c.args.shape.layers - c.layers-layer.result ≡ 0 = omega (arith, all) in
     record {
@@ -24,7 +24,7 @@ loop-layer-init c =
 
 pub a_climb_more-seen-requires : goal.a_climb_more-seen-requires
 a_climb_more-seen-requires c =
-    let limbs = c.args.limbs.now in
+    let limbs = number_in c.args.limbs.now in
     let layers = c.args.shape.layers in
     let few = few_layers c.args.shape in
     let most = c.loop-layer.invariant.most in
@@ -34,7 +34,7 @@ a_climb_more-seen-requires c =
 
 pub loop-layer-preserved : goal.loop-layer-preserved
 loop-layer-preserved c =
-    let limbs = c.args.limbs.now in
+    let limbs = number_in c.args.limbs.now in
     let layers = c.args.shape.layers in
     let test = c.loop-layer-test.true in
     let so_far = c.loop-layer.invariant in

@@ -1,17 +1,17 @@
 use Rattle.std.proofs.lemmas.Option.{same_Some}
-use Rattle.std.proofs.Common.{◌≡◌, ℕ, zero, suc, [], ◌∷◌, ◌+◌, ◌-◌, ◌<◌, ◌≤◌, false, Option, Some, None, List, IfSome, slice_get, get_or, refl, sym, ap, subst, ◌∙◌, arith}
+use Rattle.std.proofs.Common.{◌≡◌, ℕ, zero, suc, [], ◌∷◌, ◌+◌, ◌-◌, ◌<◌, false, Option, Some, None, List, slice_get, get_or, refl, sym, ap, subst, ◌∙◌, arith}
 use Rattle.std.proofs.lemmas.Bool.Decides.{nat_tests}
-use Rattle.std.specs.Option.{option_and_then}
 use Rattle.layer_assign.specs.declared.span.Best.{Best}
 use Rattle.layer_assign.specs.declared.span.Span.{Span}
 use Rattle.layer_assign.specs.Assignments.{parent_of}
 use Rattle.layer_assign.specs.Chosen.{Writes}
 use Rattle.layer_assign.specs.Spans.{widened, IsWithin}
-use Rattle.layer_assign.specs.Tables.{better, best_below}
+use Rattle.layer_assign.specs.Tables.{number_in, priced, better, best_below}
 use Rattle.layer_assign.specs.Runs.{offer_on, offer_from, a_climb_more, best_up_to, best_from}
 use Rattle.layer_assign.proofs.Choosing.{choosing-none, choosing-turn, choosing-done, single_below, adds-layer, all-single, prices-at}
 use Rattle.layer_assign.proofs.FlatLemmas.{few, few_layers, parent-at}
 use Rattle.layer_assign.proofs.RunLemmas.{AreSmall, up_to-more, up_to-small, costs-less, best-both}
+use Rattle.layer_assign.proofs.ThinLemmas.{thin-best}
 use Rattle.layer_assign.proofs.Running.{run-finds}
 use Rattle.layer_assign.proofs.runs.choose_on_run.Goals as goal
 
@@ -28,7 +28,7 @@ read-at (y ∷ xs) zero x is d = same_Some y x is
 read-at (y ∷ xs) (suc i) x is d = read-at xs i x is d
 
 -- the best of the layers up to one and of those above it is the best of all
-run-best : (limbs : List (Option ℕ)) (above : List (Option Best)) (layer layers : ℕ) (below seen own now best : Option Best) → layer < layers →
+run-best : (limbs : ℕ → Option ℕ) (above : List (Option Best)) (layer layers : ℕ) (below seen own now best : Option Best) → layer < layers →
     below ≡ best_up_to limbs layer → seen ≡ a_climb_more below → own ≡ offer_on limbs layer → now ≡ better seen own →
     slice_get above layer ≡ Some (a_climb_more (best_from limbs (layer + 1) (layers - (layer + 1)))) → best ≡ better now (get_or above layer None) →
     best ≡ best_below (offer_from limbs layer) layers
@@ -54,9 +54,8 @@ a_climb_more-requires g c =
     let test = c.loop-layer-test.true in
     let few = few_layers c.args.shape in
     let inside : c.loop-layer.layer < layers = omega (arith, c.layers-layer-end.ensures.layers) in
-    let limbs = c.limb_costs-limbs.result in
-    let small : AreSmall limbs layers 1125899907891200 =
-    λ l lt. subst (λ (o : Option (Option ℕ)). IfSome (option_and_then (λ (p : Option ℕ). p) o) (λ cost. cost ≤ 1125899907891200)) (sym (c.limb_costs-limbs.ensures.costs l lt)) (c.limb_costs-limbs.ensures.most l lt) in
+    let limbs = number_in c.run_costs-limbs.result in
+    let small : AreSmall limbs layers 1125899907891200 = c.run_costs-limbs.ensures.most in
     costs-less c.loop-layer.below (best_up_to limbs c.loop-layer.layer) c.loop-layer.layer (omega arith) c.loop-layer.invariant.below
     (up_to-small limbs layers 1125899907891200 c.loop-layer.layer (omega arith) small)
 
@@ -64,13 +63,14 @@ pub write_best-requires-clause-some : goal.write_best-requires-clause-some
 write_best-requires-clause-some g c =
     let inside : c.loop-layer.layer < c.args.shape.layers = let e = c.loop-layer-test.true in omega (arith, c.layers-layer-end.ensures.layers) in
     let found = run-finds c.args.shape (g.C.Costs.ways c.args.costs.now) (g.C.Costs.price c.args.costs.now) c.args.flat.now c.args.node c.parent-parent.result c.args.base c.args.least.now.items c.deref.result.now c.loop-layer.layer
-    c.limb_costs-limbs.result (prices-at (g.C.Costs.grid c.args.costs.now) c.args.shape (g.C.Costs.ways c.args.costs.now) (g.C.Costs.price c.args.costs.now) c.requires.grid (g.met.C.Costs.prices c.args.costs.now))
+    (priced c.args.shape (g.C.Costs.price c.args.costs.now) c.limb_of-limb.result) (prices-at (g.C.Costs.grid c.args.costs.now) c.args.shape (g.C.Costs.ways c.args.costs.now) (g.C.Costs.price c.args.costs.now) c.requires.grid (g.met.C.Costs.prices c.args.costs.now))
     c.requires.flat c.parent-parent.ensures.tree (let e = c.requires.early in let n = c.requires.next in omega arith) c.requires.node
-    (sym (parent-at c.args.flat.now c.args.node c.parent-parent.result c.parent-parent.ensures.parent)) c.deref.ensures.value c.limb_costs-limbs.ensures.costs
+    (sym (parent-at c.args.flat.now c.args.node c.parent-parent.result c.parent-parent.ensures.parent)) c.deref.ensures.value c.limb_of-limb.ensures.costs
     c.requires.climbs inside c.requires.layer c.better_of-best.result
-    (run-best c.limb_costs-limbs.result c.bests_above-above.result c.loop-layer.layer c.args.shape.layers c.loop-layer.below c.a_climb_more.result c.offer_on.result
+    (run-best (number_in c.run_costs-limbs.result) c.bests_above-above.result c.loop-layer.layer c.args.shape.layers c.loop-layer.below c.a_climb_more.result c.offer_on.result
     c.better_of-below.result c.better_of-best.result inside c.loop-layer.invariant.below c.a_climb_more.ensures c.offer_on.ensures c.better_of-below.ensures
-    (c.bests_above-above.ensures c.loop-layer.layer inside) c.better_of-best.ensures) in
+    (c.bests_above-above.ensures c.loop-layer.layer inside) c.better_of-best.ensures
+    ∙ thin-best (priced c.args.shape (g.C.Costs.price c.args.costs.now) c.limb_of-limb.result) (number_in c.run_costs-limbs.result) c.loop-layer.layer c.args.shape.layers c.run_costs-limbs.ensures.thins) in
     found.some
 
 pub loop-layer-preserved : goal.loop-layer-preserved
@@ -79,13 +79,14 @@ loop-layer-preserved g c =
     let next = c.requires.next in
     let node = c.requires.node in
     let found = run-finds c.args.shape (g.C.Costs.ways c.args.costs.now) (g.C.Costs.price c.args.costs.now) c.args.flat.now c.args.node c.parent-parent.result c.args.base c.args.least.now.items c.deref.result.now c.loop-layer.layer
-    c.limb_costs-limbs.result (prices-at (g.C.Costs.grid c.args.costs.now) c.args.shape (g.C.Costs.ways c.args.costs.now) (g.C.Costs.price c.args.costs.now) c.requires.grid (g.met.C.Costs.prices c.args.costs.now))
+    (priced c.args.shape (g.C.Costs.price c.args.costs.now) c.limb_of-limb.result) (prices-at (g.C.Costs.grid c.args.costs.now) c.args.shape (g.C.Costs.ways c.args.costs.now) (g.C.Costs.price c.args.costs.now) c.requires.grid (g.met.C.Costs.prices c.args.costs.now))
     c.requires.flat c.parent-parent.ensures.tree (let e = c.requires.early in let n = c.requires.next in omega arith) c.requires.node
-    (sym (parent-at c.args.flat.now c.args.node c.parent-parent.result c.parent-parent.ensures.parent)) c.deref.ensures.value c.limb_costs-limbs.ensures.costs
+    (sym (parent-at c.args.flat.now c.args.node c.parent-parent.result c.parent-parent.ensures.parent)) c.deref.ensures.value c.limb_of-limb.ensures.costs
     c.requires.climbs inside c.requires.layer c.better_of-best.result
-    (run-best c.limb_costs-limbs.result c.bests_above-above.result c.loop-layer.layer c.args.shape.layers c.loop-layer.below c.a_climb_more.result c.offer_on.result
+    (run-best (number_in c.run_costs-limbs.result) c.bests_above-above.result c.loop-layer.layer c.args.shape.layers c.loop-layer.below c.a_climb_more.result c.offer_on.result
     c.better_of-below.result c.better_of-best.result inside c.loop-layer.invariant.below c.a_climb_more.ensures c.offer_on.ensures c.better_of-below.ensures
-    (c.bests_above-above.ensures c.loop-layer.layer inside) c.better_of-best.ensures) in
+    (c.bests_above-above.ensures c.loop-layer.layer inside) c.better_of-best.ensures
+    ∙ thin-best (priced c.args.shape (g.C.Costs.price c.args.costs.now) c.limb_of-limb.result) (number_in c.run_costs-limbs.result) c.loop-layer.layer c.args.shape.layers c.run_costs-limbs.ensures.thins) in
     let within : IsWithin c.args.shape.layers (widened None c.loop-layer.layer) = record { ordered = omega arith; high = omega arith } in
     let P : Option Span → Type 0 =
     λ r. Writes c.args.shape.layers c.parent-parent.result c.args.node r c.better_of-best.result c.loop-layer.least.items c.write_best.new.least.items
@@ -95,8 +96,8 @@ loop-layer-preserved g c =
       below =
           c.better_of-below.ensures ∙
           ap (λ (o : Option Best). better o c.offer_on.result) (c.a_climb_more.ensures ∙ ap (λ (o : Option Best). a_climb_more o) c.loop-layer.invariant.below) ∙
-          ap (λ (o : Option Best). better (a_climb_more (best_up_to c.limb_costs-limbs.result c.loop-layer.layer)) o) c.offer_on.ensures ∙
-          sym (up_to-more c.limb_costs-limbs.result c.loop-layer.layer);
+          ap (λ (o : Option Best). better (a_climb_more (best_up_to (number_in c.run_costs-limbs.result) c.loop-layer.layer)) o) c.offer_on.ensures ∙
+          sym (up_to-more (number_in c.run_costs-limbs.result) c.loop-layer.layer);
       so_far =
           choosing-turn c.args.shape (g.C.Costs.ways c.args.costs.now) (g.C.Costs.price c.args.costs.now) c.args.flat.now c.args.node c.parent-parent.result c.args.base None
           c.args.least.now.items c.args.choices.now.items c.loop-layer.least.items c.loop-layer.choices.items c.write_best.new.least.items c.write_best.new.choices.items
