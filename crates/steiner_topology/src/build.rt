@@ -42,8 +42,6 @@ fn build(alloc: Global, tiles: &[Tile]) -> Result<Topology, AllocError>
     let joins = joins_of(alloc, tiles)?;
     let mut points = joined_points(alloc, tiles, &joins)?;
     let mut children = child_lists(alloc, &points)?;
-    points.reserve(joins.len())?;
-    children.reserve(joins.len())?;
     for &join in &joins {
         handle(&mut points, &mut children, join)?;
     }
@@ -63,12 +61,12 @@ fn joined_points(alloc: Global, tiles: &[Tile], joins: &[Join]) -> Result<Vec<Po
     Ok(points)
 }
 
-/// The tiles as points, each its own parent.
+/// The tiles as points, each its own parent, with room for as many points more.
 fn loose_points(alloc: Global, tiles: &[Tile]) -> Result<Vec<Point>, AllocError>
     requires few { length tiles.now < 2 ^ 31 }
     ensures { IfOk result (λ points. points.items ≡ loose_points tiles.now) }
 {
-    let mut points = Vec::with_capacity(alloc, tiles.len())?;
+    let mut points = Vec::with_capacity(alloc, 2 * tiles.len())?;
     for parent in 0..tiles.len() as u32 {
         let tile = tiles[parent as usize];
         points.push(Point { tile, parent })?;

@@ -8,13 +8,14 @@ use std::alloc::{AllocError, Global};
 /// The numbers of a point's children. Few points have more than four.
 pub type Children = SmallVec<u32, 4>;
 
-/// The list of each point's children. The only error is want of memory.
+/// The list of each point's children, with room for as many lists more. The only error is want of
+/// memory.
 pub fn child_lists(alloc: Global, points: &[Point]) -> Result<Vec<Children>, AllocError>
     requires parents { All (λ p. p.parent < length points.now) points.now }
     requires few { length points.now < 2 ^ 31 }
     ensures { IfOk result (λ lists. AreChildren points.now (lists_of lists.items)) }
 {
-    let mut children = empty_lists(alloc, points.len())?;
+    let mut children = empty_lists(alloc, points.len(), 2 * points.len())?;
     for child in 0..points.len() as u32 {
         let parent = points[child as usize].parent;
         if parent == child {
@@ -25,11 +26,11 @@ pub fn child_lists(alloc: Global, points: &[Point]) -> Result<Vec<Children>, All
     Ok(children)
 }
 
-/// So many empty lists.
-fn empty_lists(alloc: Global, count: usize) -> Result<Vec<Children>, AllocError>
+/// So many empty lists, with room for some number of them.
+fn empty_lists(alloc: Global, count: usize, room: usize) -> Result<Vec<Children>, AllocError>
     ensures { IfOk result (λ lists. lists_of lists.items ≡ replicate count []) }
 {
-    let mut lists = Vec::with_capacity(alloc, count)?;
+    let mut lists = Vec::with_capacity(alloc, room)?;
     for _ in 0..count {
         lists.push(SmallVec::new(alloc))?;
     }
