@@ -71,8 +71,8 @@ pub(crate) fn follow(
         (entry shape.layers choices.now)
         (λ node. slice_index layers.items node)) }
 {
-    let mut layers = vec![in alloc; 0]?;
-    layers.reserve(flat.len() as usize)?;
+    let mut layers = Vec::with_capacity(alloc, flat.len() as usize)?;
+    layers.push(0)?;
     for node in 1..flat.len() {
         let span = spans[flat.parent(node) as usize];
         let layer = choices[place_in(shape, node, span)];

@@ -49,7 +49,7 @@ loop-node-preserved c =
       so_far =
           rw add-one
           (following-more (length c.args.flat.now.nodes) c.args.shape.layers c.args.flat.now (growing c.args.spans.now.items) (entry c.args.shape.layers c.args.choices.now)
-          c.loop-node.spans.items c.grow_spans.new.spans.items c.loop-node.layers.items c.push.new.self.items c.loop-node.node x c.index-span.result.now
-          c.loop-node.invariant.later (omega arith) (omega arith) (ap (λ (k : ℕ). growing c.loop-node.spans.items k) up ∙ found.0) is (omega (arith, is, small)) c.in_ok-push.ensures.items
+          c.loop-node.spans.items c.grow_spans.new.spans.items c.loop-node.layers.items c.push-in-loop-node.new.self.items c.loop-node.node x c.index-span.result.now
+          c.loop-node.invariant.later (omega arith) (omega arith) (ap (λ (k : ℕ). growing c.loop-node.spans.items k) up ∙ found.0) is (omega (arith, is, small)) c.in_ok-push-2.ensures.items
           c.grow_spans.ensures.count c.grow_spans.ensures.spans c.loop-node.invariant.so_far);
     }
