@@ -17,7 +17,7 @@ use Rattle.maze_route.specs.Steps.{pane_step, pane_graph, rest_of, step_to, has_
 use Rattle.maze_route.specs.Walks.{IsFirstBack}
 use Rattle.maze_route.specs.declared.pane.Pane.{Pane}
 use Rattle.maze_route.specs.declared.pane.Step.{Step}
-use Rattle.maze_route.specs.declared.window.Window.{Window}
+use Rattle.maze_route.specs.declared.pane.Aim.{Aim}
 use Rattle.maze_route.proofs.Distances.{guided-distance, label-back, back-label, some-back}
 use Rattle.maze_route.proofs.SearchLemmas.{AllSteps}
 use Rattle.maze_route.proofs.HandingLemmas.{pick-step, pane-costs, pane-rest}
@@ -53,7 +53,7 @@ if-some (Some s) P all = all s refl
 at-some : (o : Option ℕ) (x : ℕ) (P : ℕ → Type 0) → o ≡ Some x → IfSome o P → P x
 at-some o x P is h = let Q : Option ℕ → Type 0 = λ q. IfSome q P in let r : IfSome (Some x) P = subst Q is h in r
 
-all-above : (p : Pane) (price : Edge → Option ℕ) (aim : Window) (label : ℕ → Option ℕ) (left n a : ℕ) (os : List (Option ℕ)) → AllSome (λ b. a ≤ b) os →
+all-above : (p : Pane) (price : Edge → Option ℕ) (aim : Aim) (label : ℕ → Option ℕ) (left n a : ℕ) (os : List (Option ℕ)) → AllSome (λ b. a ≤ b) os →
     AllSteps (NoLower label left a) (map (step_to p price aim n) os)
 all-above p price aim label left n a [] all = tt
 all-above p price aim label left n a (o ∷ os) all = (
@@ -62,12 +62,12 @@ all-above p price aim label left n a (o ∷ os) all = (
 )
 
 -- what the first step that makes up what is left says
-pub record IsFirstStep (p : Pane) (price : Edge → Option ℕ) (aim : Window) (label : ℕ → Option ℕ) (left n : ℕ) (steps : List (Option Step)) (first : Step) : Type 0 where
+pub record IsFirstStep (p : Pane) (price : Edge → Option ℕ) (aim : Aim) (label : ℕ → Option ℕ) (left n : ℕ) (steps : List (Option Step)) (first : Step) : Type 0 where
   pub taken : pane_step p price n first.cell ≡ Some first.cost
   pub made : makes_up (label first.cell) first.cost left ≡ true
   pub least : AllSteps (NoLower label left first.cell) steps
 
-first-by : (p : Pane) (price : Edge → Option ℕ) (aim : Window) (label : ℕ → Option ℕ) (left n : ℕ) (o : Option ℕ) (os : List (Option ℕ)) (first : Step) (step : Option Step) →
+first-by : (p : Pane) (price : Edge → Option ℕ) (aim : Aim) (label : ℕ → Option ℕ) (left n : ℕ) (o : Option ℕ) (os : List (Option ℕ)) (first : Step) (step : Option Step) →
     step_to p price aim n o ≡ step → Rises (o ∷ os) →
     (first_some (map (closer_of label left) (map (step_to p price aim n) os)) ≡ Some first → IsFirstStep p price aim label left n (map (step_to p price aim n) os) first) →
     either_of (closer_of label left step) (first_some (map (closer_of label left) (map (step_to p price aim n) os))) ≡ Some first →
@@ -96,7 +96,7 @@ first-by p price aim label left n o os first (Some step) to rises more is =
           }
     ]
 
-first-step : (p : Pane) (price : Edge → Option ℕ) (aim : Window) (label : ℕ → Option ℕ) (left n : ℕ) (os : List (Option ℕ)) (first : Step) → Rises os →
+first-step : (p : Pane) (price : Edge → Option ℕ) (aim : Aim) (label : ℕ → Option ℕ) (left n : ℕ) (os : List (Option ℕ)) (first : Step) → Rises os →
     first_some (map (closer_of label left) (map (step_to p price aim n) os)) ≡ Some first → IsFirstStep p price aim label left n (map (step_to p price aim n) os) first
 first-step p price aim label left n [] first rises is = absurd (none-some first is)
 first-step p price aim label left n (o ∷ os) first rises is =
@@ -148,13 +148,13 @@ sum-makes o label cost left is sum =
     ap (λ (l : Option ℕ). makes_up l cost left) is ∙ same
 
 -- the cell of the first step back is the first one back
-pub record GoesBack (p : Pane) (t : TreeView) (price : Edge → Option ℕ) (aim : Window) (label : ℕ → Option ℕ) (cell left : ℕ) (step : Step) : Type 0 where
+pub record GoesBack (p : Pane) (t : TreeView) (price : Edge → Option ℕ) (aim : Aim) (label : ℕ → Option ℕ) (cell left : ℕ) (step : Step) : Type 0 where
   pub first : IsFirstBack (pane_graph p t price) cell step.cell
   pub less : step.cost ≤ left
   pub some : 0 < step.cost
   pub near : IsNear p t price aim label step.cell (left - step.cost)
 
-pub goes-back : (p : Pane) (t : TreeView) (ways : ℕ → Way → Bool) (price : Edge → Option ℕ) (aim : Window) (label : ℕ → Option ℕ) (cell left : ℕ) (step : Step) → ArePrices p.grid ways price →
+pub goes-back : (p : Pane) (t : TreeView) (ways : ℕ → Way → Bool) (price : Edge → Option ℕ) (aim : Aim) (label : ℕ → Option ℕ) (cell left : ℕ) (step : Step) → ArePrices p.grid ways price →
     IsNear p t price aim label cell left → first_closer p price aim label cell left ≡ Some step → GoesBack p t price aim label cell left step
 goes-back p t ways price aim label cell left step prices near is =
     let graph = pane_graph p t price in
@@ -192,7 +192,7 @@ goes-back p t ways price aim label cell left step prices near is =
     }
 
 -- such a step is found where something is left
-none-closer : (p : Pane) (price : Edge → Option ℕ) (aim : Window) (label : ℕ → Option ℕ) (left n : ℕ) (steps : List (Option Step)) →
+none-closer : (p : Pane) (price : Edge → Option ℕ) (aim : Aim) (label : ℕ → Option ℕ) (left n : ℕ) (steps : List (Option Step)) →
     first_some (map (closer_of label left) steps) ≡ None → AllSteps (λ s. makes_up (label s.cell) s.cost left ≡ false) steps
 none-closer p price aim label left n [] is = tt
 none-closer p price aim label left n (None ∷ steps) is = (tt, none-closer p price aim label left n steps is)
@@ -207,7 +207,7 @@ some-from : (o : Option Step) → (o ≡ None → ⊥) → IsSome o
 some-from None h = absurd (h refl)
 some-from (Some s) h = refl
 
-pub finds-back : (p : Pane) (t : TreeView) (ways : ℕ → Way → Bool) (price : Edge → Option ℕ) (aim : Window) (label : ℕ → Option ℕ) (cell left : ℕ) → ArePrices p.grid ways price →
+pub finds-back : (p : Pane) (t : TreeView) (ways : ℕ → Way → Bool) (price : Edge → Option ℕ) (aim : Aim) (label : ℕ → Option ℕ) (cell left : ℕ) → ArePrices p.grid ways price →
     IsNear p t price aim label cell left → 0 < left → IsSome (first_closer p price aim label cell left)
 finds-back p t ways price aim label cell left prices near some =
     some-from (first_closer p price aim label cell left) (λ none.

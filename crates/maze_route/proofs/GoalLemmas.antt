@@ -20,7 +20,7 @@ use Rattle.maze_route.specs.Windows.{in_window, LieIn, IsPassable, TreeLiesIn}
 use Rattle.maze_route.specs.Backs.{IsNear, IsWalkBack}
 use Rattle.maze_route.specs.declared.pane.Pane.{Pane}
 use Rattle.maze_route.specs.declared.pane.Reached.{Reached}
-use Rattle.maze_route.specs.declared.window.Window.{Window}
+use Rattle.maze_route.specs.declared.pane.Aim.{Aim}
 use Rattle.maze_route.proofs.Distances.{at-most, guided-low, guided-distance}
 use Rattle.maze_route.proofs.PaneLemmas.{local-below, cell-local}
 use Rattle.maze_route.proofs.SeedLemmas.{tree-window, tree-source}
@@ -137,11 +137,11 @@ pub lies-in : (p : Pane) (t : TreeView) → t.shape ≡ p.grid → TreeLiesIn p.
 lies-in p t same lies cell held = let P : Shape → Type 0 = λ g. IsTrue (in_window g p.window cell) in subst P same (lies cell held)
 
 -- what the search and the first goal come to
-pub record Found (p : Pane) (t : TreeView) (price : Edge → Option ℕ) (aim : Window) (label : ℕ → Option ℕ) (ends : List ℕ) (first : Reached) : Type 0 where
+pub record Found (p : Pane) (t : TreeView) (price : Edge → Option ℕ) (aim : Aim) (label : ℕ → Option ℕ) (ends : List ℕ) (first : Reached) : Type 0 where
   pub near : IsNear p t price aim label first.cell first.cost
   pub goal : IsFirstGoal (pane_graph p t price) ends first.cell
 
-pub found-first : (p : Pane) (t : TreeView) (ways : ℕ → Way → Bool) (price : Edge → Option ℕ) (aim : Window) (marks : List Bool) (label : ℕ → Option ℕ) (ends : List ℕ) (first : Reached) → ArePrices p.grid ways price →
+pub found-first : (p : Pane) (t : TreeView) (ways : ℕ → Way → Bool) (price : Edge → Option ℕ) (aim : Aim) (marks : List Bool) (label : ℕ → Option ℕ) (ends : List ℕ) (first : Reached) → ArePrices p.grid ways price →
     Finds (pane_graph p t price) (rest_of p aim) marks label → ((n : ℕ) → is_marked marks n ≡ is_among ends n) → ((end : ℕ) → IsTrue (is_among ends end) → rest_of p aim end ≡ 0) →
     All (λ e. e < size_of p) ends → IsFirst label ends first → Found p t price aim label ends first
 found-first p t ways price aim marks label ends first prices finds marked free below is =
@@ -159,7 +159,7 @@ found-first p t ways price aim marks label ends first prices finds marked free b
     }
 
 -- the same, from what is known of each list of the goals' numbers
-pub found-of : (p : Pane) (t : TreeView) (ways : ℕ → Way → Bool) (price : Edge → Option ℕ) (aim : Window) (marks : List Bool) (label : ℕ → Option ℕ)
+pub found-of : (p : Pane) (t : TreeView) (ways : ℕ → Way → Bool) (price : Edge → Option ℕ) (aim : Aim) (marks : List Bool) (label : ℕ → Option ℕ)
     (goals ends boxed marked : List ℕ) (o : Option Reached) (first : Reached) → ArePrices p.grid ways price →
     Finds (pane_graph p t price) (rest_of p aim) marks label → ends ≡ map (local_of p) goals → boxed ≡ ends → marked ≡ ends →
     ((n : ℕ) → is_marked marks n ≡ is_among marked n) → ((end : ℕ) → IsTrue (is_among boxed end) → rest_of p aim end ≡ 0) →

@@ -12,7 +12,7 @@ use Rattle.maze_route.specs.Steps.{size_of, pane_step, pane_graph, rest_of, step
 use Rattle.maze_route.specs.declared.front.Front.{Front}
 use Rattle.maze_route.specs.declared.pane.Pane.{Pane}
 use Rattle.maze_route.specs.declared.pane.Step.{Step}
-use Rattle.maze_route.specs.declared.window.Window.{Window}
+use Rattle.maze_route.specs.declared.pane.Aim.{Aim}
 use Rattle.maze_route.proofs.StepLemmas.{step-by, step-least, step-rest, step-to-some, ahead-is, behind-is, at-some}
 use Rattle.maze_route.proofs.SearchLemmas.{labels_of, Grown, IsReached, AllSteps, CanTake, reach-all}
 
@@ -21,7 +21,7 @@ if-some None P all = tt
 if-some (Some s) P all = all s refl
 
 -- the steps from a cell can be taken
-can-take : (p : Pane) (t : TreeView) (price : Edge → Option ℕ) (aim : Window) (n : ℕ) (o : Option ℕ) →
+can-take : (p : Pane) (t : TreeView) (price : Edge → Option ℕ) (aim : Aim) (n : ℕ) (o : Option ℕ) →
     IfSome (step_to p price aim n o) (CanTake (pane_graph p t price) (rest_of p aim) (size_of p) n)
 can-take p t price aim n o =
     if-some (step_to p price aim n o) (CanTake (pane_graph p t price) (rest_of p aim) (size_of p) n) (λ s is.
@@ -31,22 +31,22 @@ can-take p t price aim n o =
     (record { taken = to.1.0; left = to.1.1 }, inside))
 
 -- a step that the graph has stands among them
-taken-by : (p : Pane) (price : Edge → Option ℕ) (aim : Window) (n m k : ℕ) (o : Option ℕ) → o ≡ Some m → pane_step p price n m ≡ Some k →
+taken-by : (p : Pane) (price : Edge → Option ℕ) (aim : Aim) (n m k : ℕ) (o : Option ℕ) → o ≡ Some m → pane_step p price n m ≡ Some k →
     step_to p price aim n o ≡ Some (made_step p aim m k)
 taken-by p price aim n m k o leads costs =
     ap (λ (q : Option ℕ). step_to p price aim n q) leads ∙ ap (λ (c : Option ℕ). option_map (made_step p aim m) c) costs
 
-pick-ahead : (p : Pane) (price : Edge → Option ℕ) (aim : Window) (n : ℕ) (P : Step → Type 0) (way : Way) → AllSteps P (steps_from p price aim n) → IfSome (step_to p price aim n (ahead_of p.shape n way)) P
+pick-ahead : (p : Pane) (price : Edge → Option ℕ) (aim : Aim) (n : ℕ) (P : Step → Type 0) (way : Way) → AllSteps P (steps_from p price aim n) → IfSome (step_to p price aim n (ahead_of p.shape n way)) P
 pick-ahead p price aim n P East all = all.1.1.1.0
 pick-ahead p price aim n P North all = all.1.1.1.1.0
 pick-ahead p price aim n P Up all = all.1.1.1.1.1.0
 
-pick-behind : (p : Pane) (price : Edge → Option ℕ) (aim : Window) (n : ℕ) (P : Step → Type 0) (way : Way) → AllSteps P (steps_from p price aim n) → IfSome (step_to p price aim n (behind_of p.shape n way)) P
+pick-behind : (p : Pane) (price : Edge → Option ℕ) (aim : Aim) (n : ℕ) (P : Step → Type 0) (way : Way) → AllSteps P (steps_from p price aim n) → IfSome (step_to p price aim n (behind_of p.shape n way)) P
 pick-behind p price aim n P Up all = all.0
 pick-behind p price aim n P North all = all.1.0
 pick-behind p price aim n P East all = all.1.1.0
 
-pub pick-step : (p : Pane) (price : Edge → Option ℕ) (aim : Window) (n m k : ℕ) (P : Step → Type 0) → pane_step p price n m ≡ Some k → AllSteps P (steps_from p price aim n) →
+pub pick-step : (p : Pane) (price : Edge → Option ℕ) (aim : Aim) (n m k : ℕ) (P : Step → Type 0) → pane_step p price n m ≡ Some k → AllSteps P (steps_from p price aim n) →
     P (made_step p aim m k)
 pick-step p price aim n m k P taken all =
     let by = step-by p price n m k taken in
@@ -62,12 +62,12 @@ pick-step p price aim n m k P taken all =
 pub pane-costs : (p : Pane) (t : TreeView) (ways : ℕ → Way → Bool) (price : Edge → Option ℕ) → ArePrices p.grid ways price → HasCosts (pane_graph p t price)
 pane-costs p t ways price prices u v k taken = step-least p ways price prices u v k taken
 
-pub pane-rest : (p : Pane) (t : TreeView) (ways : ℕ → Way → Bool) (price : Edge → Option ℕ) (aim : Window) → ArePrices p.grid ways price →
+pub pane-rest : (p : Pane) (t : TreeView) (ways : ℕ → Way → Bool) (price : Edge → Option ℕ) (aim : Aim) → ArePrices p.grid ways price →
     IsConsistent (pane_graph p t price) (rest_of p aim)
 pane-rest p t ways price aim prices u v k taken = step-rest p ways price aim prices u v k taken
 
 -- a settled cell is relaxed
-pub spread-grown : (p : Pane) (t : TreeView) (ways : ℕ → Way → Bool) (price : Edge → Option ℕ) (aim : Window) (cell from : ℕ) (before after : Front) → ArePrices p.grid ways price →
+pub spread-grown : (p : Pane) (t : TreeView) (ways : ℕ → Way → Bool) (price : Edge → Option ℕ) (aim : Aim) (cell from : ℕ) (before after : Front) → ArePrices p.grid ways price →
     IsSearching (pane_graph p t price) (rest_of p aim) (labels_of before) before.queue.pairs cell → labels_of before cell ≡ Some from →
     length before.labels.costs.items ≡ size_of p → HandsOn p price aim cell from before after →
     (Grown (pane_graph p t price) (rest_of p aim) cell from before after) × IsRelaxed (pane_graph p t price) (labels_of after) cell from

@@ -9,11 +9,11 @@ use Rattle.gr_base.specs.declared.grid.Way.{Way}
 use Rattle.gr_base.specs.Grid.{place_at, IsInside, beyond, stride, has_room, edge_at}
 use Rattle.gr_base.proofs.GridLemmas.{place-inside, some_columns, some_rows, few_cells}
 use Rattle.std.proofs.Math.Nat.{le-mul_of_pos_right}
-use Rattle.maze_route.specs.Steps.{size_of, cell_in, pane_step, step_to, made_step, ahead_of, behind_of, has_room_behind, before, tiles_to, rest_of, IsSpot}
+use Rattle.maze_route.specs.Steps.{size_of, cell_in, pane_step, step_to, made_step, ahead_of, behind_of, has_room_behind, before, steps_to, rest_of, IsSpot}
 use Rattle.maze_route.specs.declared.pane.Pane.{Pane}
 use Rattle.maze_route.specs.declared.pane.Spot.{Spot}
 use Rattle.maze_route.specs.declared.pane.Step.{Step}
-use Rattle.maze_route.specs.declared.window.Window.{Window}
+use Rattle.maze_route.specs.declared.pane.Aim.{Aim}
 use Rattle.maze_route.proofs.StepLemmas.{IsNext, IsBehind, next-ahead, next-behind, step-ahead, step-behind, ahead-is, behind-is, before-is}
 
 pub spot-inside : (p : Pane) (spot : Spot) → IsSpot p spot → IsInside p.shape spot.place
@@ -48,14 +48,14 @@ pub few-local : (p : Pane) (n : ℕ) → n < size_of p → n < 8388608
 few-local p n below = let few = few_cells p.shape in omega arith
 
 -- where there is no neighbour
-pub no-ahead : (p : Pane) (price : Edge → Option ℕ) (aim : Window) (spot : Spot) (way : Way) → IsSpot p spot → has_room p.shape spot.place way ≡ false →
+pub no-ahead : (p : Pane) (price : Edge → Option ℕ) (aim : Aim) (spot : Spot) (way : Way) → IsSpot p spot → has_room p.shape spot.place way ≡ false →
     None ≡ step_to p price aim spot.local (ahead_of p.shape spot.local way)
 no-ahead p price aim spot way is room =
     let test : Cell → Bool = λ q. has_room p.shape q way in
     let none : has_room p.shape (place_at p.shape spot.local) way ≡ false = ap test (sym is.place) ∙ room in
     sym (ap (λ b. step_to p price aim spot.local (if b then Some (spot.local + stride p.shape way) else None)) none)
 
-pub no-behind : (p : Pane) (price : Edge → Option ℕ) (aim : Window) (spot : Spot) (way : Way) → IsSpot p spot → has_room_behind spot.place way ≡ false →
+pub no-behind : (p : Pane) (price : Edge → Option ℕ) (aim : Aim) (spot : Spot) (way : Way) → IsSpot p spot → has_room_behind spot.place way ≡ false →
     None ≡ step_to p price aim spot.local (behind_of p.shape spot.local way)
 no-behind p price aim spot way is room =
     let test : Cell → Bool = λ q. has_room_behind q way in
@@ -63,13 +63,13 @@ no-behind p price aim spot way is room =
     sym (ap (λ b. step_to p price aim spot.local (if b then Some (spot.local - stride p.shape way) else None)) none)
 
 -- the step to a neighbour, from what it costs
-by-price : (p : Pane) (price : Edge → Option ℕ) (aim : Window) (from to : ℕ) (o cost : Option ℕ) → o ≡ Some to → pane_step p price from to ≡ cost →
+by-price : (p : Pane) (price : Edge → Option ℕ) (aim : Aim) (from to : ℕ) (o cost : Option ℕ) → o ≡ Some to → pane_step p price from to ≡ cost →
     option_map (made_step p aim to) cost ≡ step_to p price aim from o
 by-price p price aim from to o cost leads costs =
     let P : Option ℕ → Type 0 = λ q. option_map (made_step p aim to) cost ≡ step_to p price aim from q in
     subst P (sym leads) (ap (λ (k : Option ℕ). option_map (made_step p aim to) k) (sym costs))
 
-pub step-on : (p : Pane) (price : Edge → Option ℕ) (aim : Window) (spot : Spot) (way : Way) (to : ℕ) (cost : Option ℕ) →
+pub step-on : (p : Pane) (price : Edge → Option ℕ) (aim : Aim) (spot : Spot) (way : Way) (to : ℕ) (cost : Option ℕ) →
     IsSpot p spot → IsNext p spot.local to way → cost ≡ price (edge_at spot.cell way) →
     option_map (made_step p aim to) cost ≡ step_to p price aim spot.local (ahead_of p.shape spot.local way)
 step-on p price aim spot way to cost is next costs =
@@ -77,7 +77,7 @@ step-on p price aim spot way to cost is next costs =
     by-price p price aim spot.local to (ahead_of p.shape spot.local way) cost (ahead-is p spot.local to way next)
     (step-ahead p price spot.local to way next ∙ sym (costs ∙ ap price_of is.cell))
 
-pub step-back : (p : Pane) (price : Edge → Option ℕ) (aim : Window) (spot : Spot) (way : Way) (to low : ℕ) (cost : Option ℕ) →
+pub step-back : (p : Pane) (price : Edge → Option ℕ) (aim : Aim) (spot : Spot) (way : Way) (to low : ℕ) (cost : Option ℕ) →
     IsSpot p spot → IsNext p to spot.local way → low ≡ cell_in p to → cost ≡ price (edge_at low way) →
     option_map (made_step p aim to) cost ≡ step_to p price aim spot.local (behind_of p.shape spot.local way)
 step-back p price aim spot way to low cost is next low_is costs =
@@ -86,26 +86,26 @@ step-back p price aim spot way to low cost is next low_is costs =
     (step-behind p price to spot.local way next ∙ sym (costs ∙ ap price_of low_is))
 
 -- the rest from a neighbour, from its place
-pub rest-on : (p : Pane) (aim : Window) (spot : Spot) (way : Way) (to rest : ℕ) (place : Cell) → IsSpot p spot → IsNext p spot.local to way →
-    place ≡ beyond spot.place way → rest ≡ tiles_to aim place → rest ≡ rest_of p aim to
+pub rest-on : (p : Pane) (aim : Aim) (spot : Spot) (way : Way) (to rest : ℕ) (place : Cell) → IsSpot p spot → IsNext p spot.local to way →
+    place ≡ beyond spot.place way → rest ≡ steps_to aim place → rest ≡ rest_of p aim to
 rest-on p aim spot way to rest place is next leads tiles =
-    let f : Cell → ℕ = λ q. tiles_to aim (beyond q way) in
-    let h : Cell → ℕ = λ q. tiles_to aim q in
+    let f : Cell → ℕ = λ q. steps_to aim (beyond q way) in
+    let h : Cell → ℕ = λ q. steps_to aim q in
     tiles ∙ ap h leads ∙ ap f is.place ∙ ap h (sym next.place)
 
-pub rest-back : (p : Pane) (aim : Window) (spot : Spot) (way : Way) (to rest : ℕ) (place : Cell) → IsSpot p spot → IsNext p to spot.local way →
-    place ≡ before spot.place way → rest ≡ tiles_to aim place → rest ≡ rest_of p aim to
+pub rest-back : (p : Pane) (aim : Aim) (spot : Spot) (way : Way) (to rest : ℕ) (place : Cell) → IsSpot p spot → IsNext p to spot.local way →
+    place ≡ before spot.place way → rest ≡ steps_to aim place → rest ≡ rest_of p aim to
 rest-back p aim spot way to rest place is next leads tiles =
-    let f : Cell → ℕ = λ q. tiles_to aim (before q way) in
-    let h : Cell → ℕ = λ q. tiles_to aim q in
+    let f : Cell → ℕ = λ q. steps_to aim (before q way) in
+    let h : Cell → ℕ = λ q. steps_to aim q in
     tiles ∙ ap h leads ∙ ap f (is.place ∙ next.place) ∙ ap h (before-is (place_at p.shape to) way)
 
-pub made : (p : Pane) (aim : Window) (to cell cost rest : ℕ) (o : Option ℕ) → o ≡ Some cost → cell ≡ to → rest ≡ rest_of p aim to →
+pub made : (p : Pane) (aim : Aim) (to cell cost rest : ℕ) (o : Option ℕ) → o ≡ Some cost → cell ≡ to → rest ≡ rest_of p aim to →
     (whole : Option Step) → option_map (made_step p aim to) o ≡ whole → Some (record { cell = cell; cost = cost; rest = rest }) ≡ whole
 made p aim to cell cost rest o some same tiles whole is =
     let by_cell : ℕ → Option Step = λ n. Some (record { cell = n; cost = cost; rest = rest }) in
     let by_rest : ℕ → Option Step = λ n. Some (record { cell = to; cost = cost; rest = n }) in
     ap by_cell same ∙ ap by_rest tiles ∙ ap (λ (k : Option ℕ). option_map (made_step p aim to) k) (sym some) ∙ is
 
-pub unmade : (p : Pane) (aim : Window) (to : ℕ) (o : Option ℕ) → o ≡ None → (whole : Option Step) → option_map (made_step p aim to) o ≡ whole → None ≡ whole
+pub unmade : (p : Pane) (aim : Aim) (to : ℕ) (o : Option ℕ) → o ≡ None → (whole : Option Step) → option_map (made_step p aim to) o ≡ whole → None ≡ whole
 unmade p aim to o none whole is = ap (λ (k : Option ℕ). option_map (made_step p aim to) k) (sym none) ∙ is

@@ -14,10 +14,11 @@ use Rattle.gr_base.specs.Grid.{cells_of, number_of, place_at, IsInside, beyond, 
 use Rattle.gr_base.proofs.GridLemmas.{number-place, place-inside, same_cell, place-number, number-below, high-number, edge-room, place-high, high-below, edge-beyond, edge-of-beyond, edge_of-joins}
 use Rattle.maze_route.specs.Panes.{out_of}
 use Rattle.cost_rules.specs.Prices.{ArePrices}
-use Rattle.maze_route.specs.Steps.{size_of, cell_in, pane_step, ahead_of, behind_of, has_room_behind, before, tiles_to, rest_of, made_step, step_to}
+use Rattle.maze_route.specs.Steps.{size_of, cell_in, pane_step, ahead_of, behind_of, has_room_behind, before, steps_to, rest_of, made_step, step_to}
 use Rattle.maze_route.specs.Windows.{in_window, window_step}
 use Rattle.maze_route.specs.declared.pane.Pane.{Pane}
 use Rattle.maze_route.specs.declared.pane.Step.{Step}
+use Rattle.maze_route.specs.declared.pane.Aim.{Aim}
 use Rattle.maze_route.specs.declared.window.Window.{Window}
 use Rattle.maze_route.proofs.PaneLemmas.{place-cell, cell-below, cell-in-window}
 
@@ -186,35 +187,45 @@ behind-is p n m way next =
     let same : n - stride p.shape way ≡ m = omega arith in
     ap (λ b. if b then Some (n - stride p.shape way) else None) room ∙ ap (λ (c : ℕ). Some c) same
 
--- the distance in tiles changes by at most 1 with a step
+-- the distance in steps changes by at most 1 with a step
 shift-up : (lo hi x r : ℕ) → (lo - (x + 1)) + ((x + 1) - hi) + r ≤ 1 + ((lo - x) + (x - hi) + r)
 shift-up lo hi x r = omega arith
 
 shift-down : (lo hi x r : ℕ) → (lo - x) + (x - hi) + r ≤ 1 + ((lo - (x + 1)) + ((x + 1) - hi) + r)
 shift-down lo hi x r = omega arith
 
-tiles-beyond : (aim : Window) (q : Cell) (way : Way) → (tiles_to aim (beyond q way) ≤ 1 + tiles_to aim q) × (tiles_to aim q ≤ 1 + tiles_to aim (beyond q way))
-tiles-beyond aim q East =
-    let up = shift-up aim.x0 aim.x1 q.x ((aim.y0 - q.y) + (q.y - aim.y1)) in
-    let down = shift-down aim.x0 aim.x1 q.x ((aim.y0 - q.y) + (q.y - aim.y1)) in
-    (grind arith, grind arith)
-tiles-beyond aim q North =
-    let up = shift-up aim.y0 aim.y1 q.y ((aim.x0 - q.x) + (q.x - aim.x1)) in
-    let down = shift-down aim.y0 aim.y1 q.y ((aim.x0 - q.x) + (q.x - aim.x1)) in
-    (grind arith, grind arith)
-tiles-beyond aim q Up = (grind arith, grind arith)
+layers-up : (top layer r : ℕ) → r + (layer + 1 - top) ≤ 1 + (r + (layer - top))
+layers-up top layer r = omega arith
 
-next-rest : (p : Pane) (aim : Window) (n m : ℕ) (way : Way) → IsNext p n m way → (rest_of p aim m ≤ 1 + rest_of p aim n) × (rest_of p aim n ≤ 1 + rest_of p aim m)
+layers-down : (top layer r : ℕ) → r + (layer - top) ≤ 1 + (r + (layer + 1 - top))
+layers-down top layer r = omega arith
+
+steps-beyond : (aim : Aim) (q : Cell) (way : Way) → (steps_to aim (beyond q way) ≤ 1 + steps_to aim q) × (steps_to aim q ≤ 1 + steps_to aim (beyond q way))
+steps-beyond aim q East =
+    let r = (aim.tiles.y0 - q.y) + (q.y - aim.tiles.y1) + (q.layer - aim.top) in
+    let up = shift-up aim.tiles.x0 aim.tiles.x1 q.x r in
+    let down = shift-down aim.tiles.x0 aim.tiles.x1 q.x r in
+    (grind arith, grind arith)
+steps-beyond aim q North =
+    let r = (aim.tiles.x0 - q.x) + (q.x - aim.tiles.x1) + (q.layer - aim.top) in
+    let up = shift-up aim.tiles.y0 aim.tiles.y1 q.y r in
+    let down = shift-down aim.tiles.y0 aim.tiles.y1 q.y r in
+    (grind arith, grind arith)
+steps-beyond aim q Up =
+    let r = (aim.tiles.x0 - q.x) + (q.x - aim.tiles.x1) + (aim.tiles.y0 - q.y) + (q.y - aim.tiles.y1) in
+    (layers-up aim.top q.layer r, layers-down aim.top q.layer r)
+
+next-rest : (p : Pane) (aim : Aim) (n m : ℕ) (way : Way) → IsNext p n m way → (rest_of p aim m ≤ 1 + rest_of p aim n) × (rest_of p aim n ≤ 1 + rest_of p aim m)
 next-rest p aim n m way next =
-    let P : Cell → Type 0 = λ q. (tiles_to aim q ≤ 1 + rest_of p aim n) × (rest_of p aim n ≤ 1 + tiles_to aim q) in
-    subst P (sym next.place) (tiles-beyond aim (place_at p.shape n) way)
+    let P : Cell → Type 0 = λ q. (steps_to aim q ≤ 1 + rest_of p aim n) × (rest_of p aim n ≤ 1 + steps_to aim q) in
+    subst P (sym next.place) (steps-beyond aim (place_at p.shape n) way)
 
 pub step-least : (p : Pane) (ways : ℕ → Way → Bool) (price : Edge → Option ℕ) → ArePrices p.grid ways price → (n m k : ℕ) → pane_step p price n m ≡ Some k → 1 ≤ k
 step-least p ways price prices n m k is =
     let by = step-by p price n m k is in
     at-some (price by.edge) k (λ cost. 1 ≤ cost) by.priced (prices.least by.edge by.has)
 
-pub step-rest : (p : Pane) (ways : ℕ → Way → Bool) (price : Edge → Option ℕ) (aim : Window) → ArePrices p.grid ways price →
+pub step-rest : (p : Pane) (ways : ℕ → Way → Bool) (price : Edge → Option ℕ) (aim : Aim) → ArePrices p.grid ways price →
     (n m k : ℕ) → pane_step p price n m ≡ Some k → rest_of p aim n ≤ k + rest_of p aim m
 step-rest p ways price aim prices n m k is =
     let by = step-by p price n m k is in
@@ -234,7 +245,7 @@ map-some f None y is = absurd (none-some y is)
 map-some f (Some x) y is = (x, (refl, same_Some (f x) y is))
 
 -- a step leads to a cell of the window, and its rest is no less than what the step saves
-pub step-to-some : (p : Pane) (price : Edge → Option ℕ) (aim : Window) (n : ℕ) (o : Option ℕ) (s : Step) → step_to p price aim n o ≡ Some s →
+pub step-to-some : (p : Pane) (price : Edge → Option ℕ) (aim : Aim) (n : ℕ) (o : Option ℕ) (s : Step) → step_to p price aim n o ≡ Some s →
     (o ≡ Some s.cell) × ((pane_step p price n s.cell ≡ Some s.cost) × (s.rest ≡ rest_of p aim s.cell))
 step-to-some p price aim n None s is = absurd (none-some s is)
 step-to-some p price aim n (Some to) s is =
@@ -252,7 +263,7 @@ step-to-some p price aim n (Some to) s is =
     )
 
 -- what a step must be to be taken
-pub step-fits : (p : Pane) (ways : ℕ → Way → Bool) (price : Edge → Option ℕ) (aim : Window) → ArePrices p.grid ways price → (n from last size : ℕ) (o : Option ℕ) (step : Option Step) →
+pub step-fits : (p : Pane) (ways : ℕ → Way → Bool) (price : Edge → Option ℕ) (aim : Aim) → ArePrices p.grid ways price → (n from last size : ℕ) (o : Option ℕ) (step : Option Step) →
     step ≡ step_to p price aim n o → size ≡ size_of p → last ≤ from + rest_of p aim n →
     (IfSome step (λ s. s.cell < size)) × (IfSome step (λ s. last ≤ from + s.cost + s.rest))
 step-fits p ways price aim prices n from last size o None is all low = (tt, tt)
@@ -265,7 +276,7 @@ step-fits p ways price aim prices n from last size o (Some s) is all low =
     (omega (arith, inside), omega (arith, falls, rest))
 
 -- the same, by the cell's number
-pub spot-fits : (p : Pane) (grid : Shape) (ways : ℕ → Way → Bool) (price : Edge → Option ℕ) (aim : Window) → grid ≡ p.grid → ArePrices grid ways price →
+pub spot-fits : (p : Pane) (grid : Shape) (ways : ℕ → Way → Bool) (price : Edge → Option ℕ) (aim : Aim) → grid ≡ p.grid → ArePrices grid ways price →
     (n cell from last last_now size size_now : ℕ) (o : Option ℕ) (step : Option Step) →
     n ≡ cell → step ≡ step_to p price aim n o → size ≡ size_of p → last ≤ from + rest_of p aim cell → size_now ≡ size → last_now ≡ last →
     (IfSome step (λ s. s.cell < size_now)) × (IfSome step (λ s. last_now ≤ from + s.cost + s.rest))
@@ -276,7 +287,7 @@ spot-fits p grid ways price aim same prices n cell from last last_now size size_
     step-fits p ways price aim (subst P same prices) n from last_now size_now o step is (size_is ∙ all) near
 
 -- a step leads to a cell of the window
-pub step-within : (p : Pane) (price : Edge → Option ℕ) (aim : Window) (n size : ℕ) (o : Option ℕ) (step : Option Step) → step ≡ step_to p price aim n o → size ≡ size_of p →
+pub step-within : (p : Pane) (price : Edge → Option ℕ) (aim : Aim) (n size : ℕ) (o : Option ℕ) (step : Option Step) → step ≡ step_to p price aim n o → size ≡ size_of p →
     IfSome step (λ s. s.cell < size)
 step-within p price aim n size o None is all = tt
 step-within p price aim n size o (Some s) is all =

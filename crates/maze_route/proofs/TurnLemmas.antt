@@ -14,12 +14,12 @@ use Rattle.maze_route.specs.Labels.{label_from}
 use Rattle.maze_route.specs.Queues.{QueueView, IsPopped}
 use Rattle.maze_route.specs.Search.{most_distance, IsConsistent, is_marked, HasGoal, CanReach, Finds, is_above}
 use Rattle.maze_route.specs.Handing.{HandsOn}
-use Rattle.maze_route.specs.Steps.{size_of, pane_graph, rest_of, tiles_to, IsSpot}
+use Rattle.maze_route.specs.Steps.{size_of, pane_graph, rest_of, steps_to, IsSpot}
 use Rattle.maze_route.specs.Walks.{Graph}
 use Rattle.maze_route.specs.declared.front.Front.{Front}
 use Rattle.maze_route.specs.declared.pane.Pane.{Pane}
 use Rattle.maze_route.specs.declared.pane.Spot.{Spot}
-use Rattle.maze_route.specs.declared.window.Window.{Window}
+use Rattle.maze_route.specs.declared.pane.Aim.{Aim}
 use Rattle.maze_route.proofs.Distances.{at-most, make-at-most, guided-low}
 use Rattle.maze_route.proofs.LabelLemmas.{label-within, contains-cases}
 use Rattle.maze_route.proofs.SearchLemmas.{labels_of, weight_of, Falls, IsTurn, IsTaken, taken-label, stale-taken, open-taken, close-relaxed, stop-guided, sources-fall}
@@ -107,7 +107,7 @@ next-near nearest next true key is_next small near = let P : Option ℕ → Type
 next-near nearest next false key is_next small near = let P : Option ℕ → Type 0 = λ o. IfSome o (λ distance. distance ≤ most_distance) in subst P (sym is_next) near
 
 -- the turn of a pair whose cell is settled
-pub settled-turn : (p : Pane) (t : TreeView) (ways : ℕ → Way → Bool) (price : Edge → Option ℕ) (aim : Window) (marks : List Bool) (nearest next : Option ℕ) (marked : Bool)
+pub settled-turn : (p : Pane) (t : TreeView) (ways : ℕ → Way → Bool) (price : Edge → Option ℕ) (aim : Aim) (marks : List Bool) (nearest next : Option ℕ) (marked : Bool)
     (front after : Front) (queue : QueueView) (key cell cost : ℕ) → ArePrices p.grid ways price →
     IsTurn (pane_graph p t price) (rest_of p aim) marks (size_of p) nearest front → IsPopped key cell front.queue queue →
     labels_of front cell ≡ Some cost → key ≤ cost + rest_of p aim cell → is_marked marks cell ≡ marked → next ≡ (if marked then Some key else nearest) →
@@ -176,7 +176,7 @@ end-turn graph rest marks size nearest front consistent aims turn empty can =
     }
 
 -- a spot's distance is its cell's
-pub spot-rest : (p : Pane) (aim : Window) (spot : Spot) (cell rest : ℕ) → IsSpot p spot → spot.local ≡ cell → rest ≡ tiles_to aim spot.place → rest ≡ rest_of p aim cell
+pub spot-rest : (p : Pane) (aim : Aim) (spot : Spot) (cell rest : ℕ) → IsSpot p spot → spot.local ≡ cell → rest ≡ steps_to aim spot.place → rest ≡ rest_of p aim cell
 spot-rest p aim spot cell rest is local tiles =
-    let f : Cell → ℕ = λ q. tiles_to aim q in
+    let f : Cell → ℕ = λ q. steps_to aim q in
     tiles ∙ ap f is.place ∙ ap (λ (n : ℕ). rest_of p aim n) local

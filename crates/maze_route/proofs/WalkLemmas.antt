@@ -10,20 +10,20 @@ use Rattle.maze_route.specs.Steps.{cell_in, pane_graph, rest_of}
 use Rattle.maze_route.specs.Walks.{IsFirstBack, LeadsBack}
 use Rattle.maze_route.specs.declared.pane.Pane.{Pane}
 use Rattle.maze_route.specs.declared.pane.Step.{Step}
-use Rattle.maze_route.specs.declared.window.Window.{Window}
+use Rattle.maze_route.specs.declared.pane.Aim.{Aim}
 use Rattle.maze_route.proofs.BackLemmas.{GoesBack}
 use Rattle.maze_route.proofs.Distances.{guided-distance, source-zero, distance-source}
 use Rattle.maze_route.proofs.HandingLemmas.{pane-costs, pane-rest}
 
 -- the cells so far, by numbers in the window, and how a walk from the cell in hand makes up the whole
-pub record IsOnWay (p : Pane) (t : TreeView) (price : Edge → Option ℕ) (aim : Window) (label : ℕ → Option ℕ) (goal : ℕ) (cells : List ℕ) (cell left : ℕ) : Type 0 where
+pub record IsOnWay (p : Pane) (t : TreeView) (price : Edge → Option ℕ) (aim : Aim) (label : ℕ → Option ℕ) (goal : ℕ) (cells : List ℕ) (cell left : ℕ) : Type 0 where
   pub near : IsNear p t price aim label cell left
   pub done : List ℕ
   pub are : cells ≡ map (cell_in p) done
   pub starts : (rest : List ℕ) → (tail : List ℕ) × (done ++ cell ∷ rest ≡ goal ∷ tail)
   pub onward : (rest : List ℕ) → LeadsBack (pane_graph p t price) (cell ∷ rest) → LeadsBack (pane_graph p t price) (done ++ cell ∷ rest)
 
-pub way-start : (p : Pane) (t : TreeView) (price : Edge → Option ℕ) (aim : Window) (label : ℕ → Option ℕ) (goal cell left : ℕ) (cells : List ℕ) →
+pub way-start : (p : Pane) (t : TreeView) (price : Edge → Option ℕ) (aim : Aim) (label : ℕ → Option ℕ) (goal cell left : ℕ) (cells : List ℕ) →
     cells ≡ [] → cell ≡ goal → IsNear p t price aim label goal left → IsOnWay p t price aim label goal cells cell left
 way-start p t price aim label goal cell left cells none same near =
     let P : ℕ → Type 0 = λ n. IsNear p t price aim label n left in
@@ -40,7 +40,7 @@ map-push f [] x = refl
 map-push f (y ∷ ys) x = ap (λ (zs : List ℕ). f y ∷ zs) (map-push f ys x)
 
 -- a cell that something is left from is no source
-outside : (p : Pane) (t : TreeView) (ways : ℕ → Way → Bool) (price : Edge → Option ℕ) (aim : Window) (label : ℕ → Option ℕ) (cell left : ℕ) → ArePrices p.grid ways price →
+outside : (p : Pane) (t : TreeView) (ways : ℕ → Way → Bool) (price : Edge → Option ℕ) (aim : Aim) (label : ℕ → Option ℕ) (cell left : ℕ) → ArePrices p.grid ways price →
     IsNear p t price aim label cell left → 0 < left → (pane_graph p t price).source cell ≡ false
 outside p t ways price aim label cell left prices near some =
     let graph = pane_graph p t price in
@@ -50,7 +50,7 @@ outside p t ways price aim label cell left prices near some =
       | inr isnt ↦ isnt
     ]
 
-pub way-turn : (p : Pane) (t : TreeView) (ways : ℕ → Way → Bool) (price : Edge → Option ℕ) (aim : Window) (label : ℕ → Option ℕ) (goal cell left next left_next at : ℕ) (step : Step) (cells cells_next : List ℕ) →
+pub way-turn : (p : Pane) (t : TreeView) (ways : ℕ → Way → Bool) (price : Edge → Option ℕ) (aim : Aim) (label : ℕ → Option ℕ) (goal cell left next left_next at : ℕ) (step : Step) (cells cells_next : List ℕ) →
     ArePrices p.grid ways price → IsOnWay p t price aim label goal cells cell left → 0 < left → GoesBack p t price aim label cell left step →
     next ≡ step.cell → left_next ≡ left - step.cost → at ≡ cell_in p cell → cells_next ≡ cells ++ at ∷ [] →
     IsOnWay p t price aim label goal cells_next next left_next
@@ -72,7 +72,7 @@ way-turn p t ways price aim label goal cell left next left_next at step cells ce
           (way.onward (next ∷ rest) (outside p t ways price aim label cell left prices way.near some, (first, leads)));
     }
 
-pub way-end : (p : Pane) (t : TreeView) (ways : ℕ → Way → Bool) (price : Edge → Option ℕ) (aim : Window) (label : ℕ → Option ℕ) (goal cell left at : ℕ) (cells whole : List ℕ) →
+pub way-end : (p : Pane) (t : TreeView) (ways : ℕ → Way → Bool) (price : Edge → Option ℕ) (aim : Aim) (label : ℕ → Option ℕ) (goal cell left at : ℕ) (cells whole : List ℕ) →
     ArePrices p.grid ways price → IsOnWay p t price aim label goal cells cell left → left ≡ 0 → at ≡ cell_in p cell → whole ≡ cells ++ at ∷ [] →
     IsWalkBack p t price goal whole
 way-end p t ways price aim label goal cell left at cells whole prices way none is_at pushed =

@@ -5,9 +5,9 @@ use Rattle.gr_base.specs.Trees.{TreeView}
 use Rattle.maze_route.specs.Search.{AreGuided}
 use Rattle.maze_route.specs.Steps.{size_of, cell_in, rest_of, pane_graph, steps_from}
 use Rattle.maze_route.specs.Walks.{LeadsBack}
+use Rattle.maze_route.specs.declared.pane.Aim.{Aim}
 use Rattle.maze_route.specs.declared.pane.Pane.{Pane}
 use Rattle.maze_route.specs.declared.pane.Step.{Step}
-use Rattle.maze_route.specs.declared.window.Window.{Window}
 
 -- the label and the cost make up the label that is left
 abbrev pub makes_up : Option ℕ → ℕ → ℕ → Bool
@@ -28,11 +28,11 @@ first_some [] = None
 first_some (step ∷ steps) = either_of step (first_some steps)
 
 -- the first step back, by rising number of the neighbour
-abbrev pub first_closer : Pane → (Edge → Option ℕ) → Window → (ℕ → Option ℕ) → ℕ → ℕ → Option Step
+abbrev pub first_closer : Pane → (Edge → Option ℕ) → Aim → (ℕ → Option ℕ) → ℕ → ℕ → Option Step
 first_closer p price aim label cell left = first_some (map (closer_of label left) (steps_from p price aim cell))
 
 -- a cell whose label is within the bound of the search
-pub record IsNear (p : Pane) (t : TreeView) (price : Edge → Option ℕ) (aim : Window) (label : ℕ → Option ℕ)
+pub record IsNear (p : Pane) (t : TreeView) (price : Edge → Option ℕ) (aim : Aim) (label : ℕ → Option ℕ)
     (cell left : ℕ) : Type 0 where
   pub inside : cell < size_of p
   pub labelled : label cell ≡ Some left

@@ -5,9 +5,9 @@ use Rattle.maze_route.specs.Labels.{label_at, is_lower}
 use Rattle.maze_route.specs.Queues.{IsPushed}
 use Rattle.maze_route.specs.Search.{most_distance}
 use Rattle.maze_route.specs.declared.front.Front.{Front}
+use Rattle.maze_route.specs.declared.pane.Aim.{Aim}
 use Rattle.maze_route.specs.declared.pane.Pane.{Pane}
 use Rattle.maze_route.specs.declared.pane.Step.{Step}
-use Rattle.maze_route.specs.declared.window.Window.{Window}
 use Rattle.maze_route.specs.Steps.{steps_from}
 
 -- the step's end has its label lowered to the cost, and waits with the cost and the rest as key
@@ -47,5 +47,5 @@ AreReaches from (step ∷ next ∷ rest) before after =
     (between : Front) × (IsReach from step before between × AreReaches from (next ∷ rest) between after)
 
 -- what the steps from a cell with this label do
-abbrev pub HandsOn : Pane → (Edge → Option ℕ) → Window → ℕ → ℕ → Front → Front → Type 0
+abbrev pub HandsOn : Pane → (Edge → Option ℕ) → Aim → ℕ → ℕ → Front → Front → Type 0
 HandsOn p price aim cell from before after = AreReaches from (steps_from p price aim cell) before after

@@ -11,10 +11,10 @@ use Rattle.gr_base.specs.Trees.{TreeView, holds, cell_at}
 use Rattle.maze_route.specs.Panes.{out_of, into}
 use Rattle.maze_route.specs.Walks.{Graph}
 use Rattle.maze_route.specs.Windows.{window_step}
+use Rattle.maze_route.specs.declared.pane.Aim.{Aim}
 use Rattle.maze_route.specs.declared.pane.Pane.{Pane}
 use Rattle.maze_route.specs.declared.pane.Spot.{Spot}
 use Rattle.maze_route.specs.declared.pane.Step.{Step}
-use Rattle.maze_route.specs.declared.window.Window.{Window}
 
 -- how many cells the window has
 abbrev pub size_of : Pane → ℕ
@@ -65,18 +65,20 @@ ahead_of s n way = if has_room s (place_at s n) way then Some (n + stride s way)
 abbrev pub behind_of : Shape → ℕ → Way → Option ℕ
 behind_of s n way = if has_room_behind (place_at s n) way then Some (n - stride s way) else None
 
--- how many tiles lie between a place and a box at least
-abbrev pub tiles_to : Window → Cell → ℕ
-tiles_to aim cell = (aim.x0 - cell.x) + (cell.x - aim.x1) + (aim.y0 - cell.y) + (cell.y - aim.y1)
+-- how many steps lie between a place and a box at least
+abbrev pub steps_to : Aim → Cell → ℕ
+steps_to aim cell =
+    (aim.tiles.x0 - cell.x) + (cell.x - aim.tiles.x1) + (aim.tiles.y0 - cell.y) + (cell.y - aim.tiles.y1)
+    + (cell.layer - aim.top)
 
-abbrev pub rest_of : Pane → Window → ℕ → ℕ
-rest_of p aim n = tiles_to aim (place_at p.shape n)
+abbrev pub rest_of : Pane → Aim → ℕ → ℕ
+rest_of p aim n = steps_to aim (place_at p.shape n)
 
 -- the step from a cell to another, if there is one
-abbrev pub made_step : Pane → Window → ℕ → ℕ → Step
+abbrev pub made_step : Pane → Aim → ℕ → ℕ → Step
 made_step p aim to cost = record { cell = to; cost = cost; rest = rest_of p aim to }
 
-abbrev pub step_to : Pane → (Edge → Option ℕ) → Window → ℕ → Option ℕ → Option Step
+abbrev pub step_to : Pane → (Edge → Option ℕ) → Aim → ℕ → Option ℕ → Option Step
 step_to p price aim from None = None
 step_to p price aim from (Some to) = option_map (made_step p aim to) (pane_step p price from to)
 
@@ -87,7 +89,7 @@ sides s n =
     ahead_of s n Up ∷ []
 
 -- the steps from a cell, by rising number of the neighbour
-abbrev pub steps_from : Pane → (Edge → Option ℕ) → Window → ℕ → List (Option Step)
+abbrev pub steps_from : Pane → (Edge → Option ℕ) → Aim → ℕ → List (Option Step)
 steps_from p price aim n = map (step_to p price aim n) (sides p.shape n)
 
 -- the node's cell has label 0

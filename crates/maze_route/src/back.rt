@@ -5,9 +5,8 @@ ghost use Rattle.maze_route.specs.Labels.{label_at};
 ghost use Rattle.maze_route.specs.Steps.{size_of, IsSpot};
 
 use crate::front::Labels;
-use crate::pane::{Pane, Reached, Spot, Step};
+use crate::pane::{Aim, Pane, Reached, Spot, Step};
 use crate::steps::{ahead, behind};
-use crate::window::Window;
 use cost_rules::Costs;
 use gr_base::{Cells, RouteTree, Way};
 use std::alloc::{AllocError, Global};
@@ -39,7 +38,7 @@ fn either(first: Option<Step>, second: Option<Step>) -> Option<Step>
 fn step_back<C: Costs>(
     costs: &C,
     pane: Pane,
-    aim: Window,
+    aim: Aim,
     labels: &Labels,
     spot: Spot,
     left: u64,
@@ -67,7 +66,7 @@ pub(crate) fn walk_back<C: Costs>(
     alloc: Global,
     costs: &C,
     pane: Pane,
-    aim: Window,
+    aim: Aim,
     tree: &RouteTree,
     labels: &Labels,
     goal: Reached,

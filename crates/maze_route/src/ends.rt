@@ -7,7 +7,7 @@ ghost use Rattle.maze_route.specs.Steps.{size_of, rest_of, local_of};
 ghost use Rattle.maze_route.specs.Windows.{LieIn};
 
 use crate::front::Labels;
-use crate::pane::{Pane, Reached};
+use crate::pane::{Aim, Pane, Reached};
 use crate::window::Window;
 use std::alloc::{AllocError, Global};
 
@@ -23,19 +23,26 @@ pub(crate) fn locals(alloc: Global, pane: Pane, cells: &[u32]) -> Result<Vec<u32
     Ok(ends)
 }
 
-/// A box of tiles that holds these cells of a window.
-pub(crate) fn box_of(pane: Pane, ends: &[u32]) -> Window
+/// A box of tiles and layers that holds these cells of a window.
+pub(crate) fn box_of(pane: Pane, ends: &[u32]) -> Aim
     requires { All (λ end. end < size_of pane) ends.now }
     ensures { (end : ℕ) → IsTrue (is_among ends.now end) → rest_of pane result end ≡ 0 }
 {
-    let mut aim = Window {
-        x0: u32::MAX,
-        y0: u32::MAX,
-        x1: 0,
-        y1: 0,
+    let mut aim = Aim {
+        tiles: Window {
+            x0: u32::MAX,
+            y0: u32::MAX,
+            x1: 0,
+            y1: 0,
+        },
+        top: 0,
     };
     for &end in ends {
-        aim = aim.with(pane.spot(end).place);
+        let place = pane.spot(end).place;
+        aim = Aim {
+            tiles: aim.tiles.with(place),
+            top: aim.top.max(place.layer),
+        };
     }
     aim
 }

@@ -13,6 +13,13 @@ pub(crate) struct Pane {
     pub(crate) ghost fits: { IsPane grid window shape },
 }
 
+/// A box of tiles, on the layers up to one.
+#[derive(Clone, Copy)]
+pub(crate) struct Aim {
+    pub(crate) tiles: Window,
+    pub(crate) top: u32,
+}
+
 /// A cell of a window: its number there and in the grid, and its place, counted from the window's
 /// first column and row.
 #[derive(Clone, Copy)]

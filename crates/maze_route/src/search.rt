@@ -8,10 +8,9 @@ ghost use Rattle.maze_route.specs.Search.{most_distance, is_above, HasSources, I
 ghost use Rattle.maze_route.specs.Handing.{IsLow, IsReach, HandsOn};
 
 use crate::front::{Front, Labels};
-use crate::pane::{Pane, Spot, Step};
+use crate::pane::{Aim, Pane, Spot, Step};
 use crate::queue::BucketQueue;
 use crate::steps::{ahead, behind, distance_to, has_ahead, has_behind};
-use crate::window::Window;
 use cost_rules::Costs;
 use gr_base::{RouteTree, Way};
 use std::alloc::{AllocError, Global};
@@ -23,7 +22,7 @@ const MOST_DISTANCE: u64 = 1_152_921_504_606_846_976;
 fn reach(front: &mut Front, from: u64, step: Option<Step>) -> Result<(), AllocError>
     requires from { from ≤ most_distance }
     requires small { IfSome step (λ s. s.cost ≤ most_cost) }
-    requires rest { IfSome step (λ s. s.rest < 2 ^ 34) }
+    requires rest { IfSome step (λ s. s.rest < 2 ^ 35) }
     requires inside { IfSome step (λ s. s.cell < length front.old.labels.costs.items) }
     requires keys { IfSome step (λ s. front.old.queue.last ≤ from + s.cost + s.rest) }
     ensures done { OnOk result (IsReach from step front.old front.new) }
@@ -45,7 +44,7 @@ fn reach(front: &mut Front, from: u64, step: Option<Step>) -> Result<(), AllocEr
 }
 
 /// The front at which the tree's cells have label 0, and wait.
-fn seeded(alloc: Global, pane: Pane, aim: Window, tree: &RouteTree) -> Result<Front, AllocError>
+fn seeded(alloc: Global, pane: Pane, aim: Aim, tree: &RouteTree) -> Result<Front, AllocError>
     requires grid { tree.now.shape ≡ pane.grid }
     requires tree { TreeLiesIn pane.window tree.now }
     ensures size { IfOk result (λ front. length front.labels.costs.items ≡ size_of pane) }
@@ -118,7 +117,7 @@ fn is_low_ahead(labels: &Labels, pane: Pane, spot: Spot, from: u64, way: Way) ->
 fn hand_back<C: Costs>(
     costs: &C,
     pane: Pane,
-    aim: Window,
+    aim: Aim,
     front: &mut Front,
     spot: Spot,
     from: u64,
@@ -145,7 +144,7 @@ fn hand_back<C: Costs>(
 fn hand_on<C: Costs>(
     costs: &C,
     pane: Pane,
-    aim: Window,
+    aim: Aim,
     front: &mut Front,
     spot: Spot,
     from: u64,
@@ -172,7 +171,7 @@ fn hand_on<C: Costs>(
 fn settle<C: Costs>(
     costs: &C,
     pane: Pane,
-    aim: Window,
+    aim: Aim,
     front: &mut Front,
     spot: Spot,
     from: u64,
@@ -203,7 +202,7 @@ pub(crate) fn search<C: Costs>(
     alloc: Global,
     costs: &C,
     pane: Pane,
-    aim: Window,
+    aim: Aim,
     marks: &[bool],
     tree: &RouteTree,
 ) -> Result<Labels, AllocError>

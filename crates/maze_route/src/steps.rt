@@ -2,10 +2,9 @@ ghost use Rattle.std.specs.Prelude.{◌≡◌, ◌^◌, ◌<◌, ◌≤◌, IsTr
 ghost use Rattle.cost_rules.specs.Formulas.{most_cost};
 ghost use Rattle.gr_base.specs.Grid.{IsInside, beyond, has_room};
 ghost use Rattle.gr_base.specs.Limits.{most_cells};
-ghost use Rattle.maze_route.specs.Steps.{IsSpot, has_room_behind, before, ahead_of, behind_of, tiles_to, step_to};
+ghost use Rattle.maze_route.specs.Steps.{IsSpot, has_room_behind, before, ahead_of, behind_of, steps_to, step_to};
 
-use crate::pane::{Pane, Spot, Step};
-use crate::window::Window;
+use crate::pane::{Aim, Pane, Spot, Step};
 use cost_rules::Costs;
 use gr_base::{Cell, Edge, Shape, Way};
 
@@ -76,31 +75,25 @@ fn one_back(place: Cell, way: Way) -> Cell
     }
 }
 
-/// How many tiles lie between a place and a box at least.
-pub(crate) fn distance_to(aim: Window, place: Cell) -> u64
-    ensures tiles { result ≡ tiles_to aim place }
-    ensures small { result < 2 ^ 34 }
+/// How many steps lie between a place and a box at least.
+pub(crate) fn distance_to(aim: Aim, place: Cell) -> u64
+    ensures steps { result ≡ steps_to aim place }
+    ensures small { result < 2 ^ 35 }
 {
-    let columns = u64::from(aim.x0.saturating_sub(place.x))
-        + u64::from(place.x.saturating_sub(aim.x1));
-    let rows = u64::from(aim.y0.saturating_sub(place.y))
-        + u64::from(place.y.saturating_sub(aim.y1));
-    columns + rows
+    let columns = u64::from(aim.tiles.x0.saturating_sub(place.x))
+        + u64::from(place.x.saturating_sub(aim.tiles.x1));
+    let rows = u64::from(aim.tiles.y0.saturating_sub(place.y))
+        + u64::from(place.y.saturating_sub(aim.tiles.y1));
+    columns + rows + u64::from(place.layer.saturating_sub(aim.top))
 }
 
 /// The step to the next cell along the way, if there is one.
-pub(crate) fn ahead<C: Costs>(
-    costs: &C,
-    pane: Pane,
-    aim: Window,
-    spot: Spot,
-    way: Way,
-) -> Option<Step>
+pub(crate) fn ahead<C: Costs>(costs: &C, pane: Pane, aim: Aim, spot: Spot, way: Way) -> Option<Step>
     requires grid { C.grid costs.now ≡ pane.grid }
     requires spot { IsSpot pane spot }
     ensures step { result ≡ step_to pane (C.price costs.now) aim spot.local (ahead_of pane.shape spot.local way) }
     ensures cost { IfSome result (λ s. s.cost ≤ most_cost) }
-    ensures rest { IfSome result (λ s. s.rest < 2 ^ 34) }
+    ensures rest { IfSome result (λ s. s.rest < 2 ^ 35) }
 {
     if !has_ahead(pane.shape, spot.place, way) {
         return None;
@@ -123,7 +116,7 @@ pub(crate) fn ahead<C: Costs>(
 pub(crate) fn behind<C: Costs>(
     costs: &C,
     pane: Pane,
-    aim: Window,
+    aim: Aim,
     spot: Spot,
     way: Way,
 ) -> Option<Step>
@@ -131,7 +124,7 @@ pub(crate) fn behind<C: Costs>(
     requires spot { IsSpot pane spot }
     ensures step { result ≡ step_to pane (C.price costs.now) aim spot.local (behind_of pane.shape spot.local way) }
     ensures cost { IfSome result (λ s. s.cost ≤ most_cost) }
-    ensures rest { IfSome result (λ s. s.rest < 2 ^ 34) }
+    ensures rest { IfSome result (λ s. s.rest < 2 ^ 35) }
 {
     if !has_behind(spot.place, way) {
         return None;

@@ -30,12 +30,19 @@ unwrap-label-requires g c =
     let has = taken-has graph (rest_of c.args.pane c.args.aim) c.args.marks.now (size_of c.args.pane) c.loop-key.nearest c.loop-key.front c.in-Some.key c.in-Some.cell c.pop.new.self c.loop-key.invariant c.in-Some.ensures in
     is-some c.at.result has.cost (c.at.ensures ∙ has.is)
 
+pub overflow_add-label : goal.overflow_add-label
+overflow_add-label g c =
+    let graph = pane_graph c.args.pane c.args.tree.now (g.C.Costs.price c.args.costs.now) in
+    let has = taken-has graph (rest_of c.args.pane c.args.aim) c.args.marks.now (size_of c.args.pane) c.loop-key.nearest c.loop-key.front c.in-Some.key c.in-Some.cell c.pop.new.self c.loop-key.invariant c.in-Some.ensures in
+    let same : has.cost ≡ c.unwrap-label.result = same_Some has.cost c.unwrap-label.result (sym has.is ∙ sym c.at.ensures ∙ c.unwrap-label.ensures) in
+    omega (arith, same, has.small, c.distance_to.ensures.small)
+
 pub settle-requires : goal.settle-requires
 settle-requires g c =
     let graph = pane_graph c.args.pane c.args.tree.now (g.C.Costs.price c.args.costs.now) in
     let has = taken-has graph (rest_of c.args.pane c.args.aim) c.args.marks.now (size_of c.args.pane) c.loop-key.nearest c.loop-key.front c.in-Some.key c.in-Some.cell c.pop.new.self c.loop-key.invariant c.in-Some.ensures in
     let same : has.cost ≡ c.unwrap-label.result = same_Some has.cost c.unwrap-label.result (sym has.is ∙ sym c.at.ensures ∙ c.unwrap-label.ensures) in
-    let rest = spot-rest c.args.pane c.args.aim c.spot-spot.result c.spot-spot.result.local c.distance_to.result c.spot-spot.ensures.spot refl c.distance_to.ensures.tiles in
+    let rest = spot-rest c.args.pane c.args.aim c.spot-spot.result c.spot-spot.result.local c.distance_to.result c.spot-spot.ensures.spot refl c.distance_to.ensures.steps in
     record {
       grid = c.requires.costs;
       spot = c.spot-spot.ensures.spot;
@@ -59,7 +66,7 @@ loop-key-preserved g c =
     let P : Shape → Type 0 = λ s. ArePrices s (g.C.Costs.ways c.args.costs.now) price in
     let prices = subst P c.requires.costs (g.met.C.Costs.prices c.args.costs.now) in
     let is = sym c.at.ensures ∙ c.unwrap-label.ensures in
-    let rest = spot-rest c.args.pane c.args.aim c.spot-spot.result c.in-Some.cell c.distance_to.result c.spot-spot.ensures.spot c.spot-spot.ensures.local c.distance_to.ensures.tiles in
+    let rest = spot-rest c.args.pane c.args.aim c.spot-spot.result c.in-Some.cell c.distance_to.result c.spot-spot.ensures.spot c.spot-spot.ensures.local c.distance_to.ensures.steps in
     let S : ℕ → Type 0 = λ n. HandsOn c.args.pane price c.args.aim n c.unwrap-label.result (left_of c.loop-key.front c.pop.new.self) c.settle.new.front in
     let spreads = subst S c.spot-spot.ensures.local c.in_ok-settle.ensures in
     let turn = settled-turn c.args.pane c.args.tree.now (g.C.Costs.ways c.args.costs.now) price c.args.aim c.args.marks.now c.loop-key.nearest c.nearest_with-nearest.result
@@ -74,7 +81,7 @@ loop-key-smaller g c =
     let P : Shape → Type 0 = λ s. ArePrices s (g.C.Costs.ways c.args.costs.now) price in
     let prices = subst P c.requires.costs (g.met.C.Costs.prices c.args.costs.now) in
     let is = sym c.at.ensures ∙ c.unwrap-label.ensures in
-    let rest = spot-rest c.args.pane c.args.aim c.spot-spot.result c.in-Some.cell c.distance_to.result c.spot-spot.ensures.spot c.spot-spot.ensures.local c.distance_to.ensures.tiles in
+    let rest = spot-rest c.args.pane c.args.aim c.spot-spot.result c.in-Some.cell c.distance_to.result c.spot-spot.ensures.spot c.spot-spot.ensures.local c.distance_to.ensures.steps in
     let S : ℕ → Type 0 = λ n. HandsOn c.args.pane price c.args.aim n c.unwrap-label.result (left_of c.loop-key.front c.pop.new.self) c.settle.new.front in
     let spreads = subst S c.spot-spot.ensures.local c.in_ok-settle.ensures in
     let turn = settled-turn c.args.pane c.args.tree.now (g.C.Costs.ways c.args.costs.now) price c.args.aim c.args.marks.now c.loop-key.nearest c.nearest_with-nearest.result
@@ -86,7 +93,7 @@ loop-key-smaller g c =
 pub loop-key-preserved-then-label-distance_to : goal.loop-key-preserved-then-label-distance_to
 loop-key-preserved-then-label-distance_to g c =
     let is = sym c.at.ensures ∙ c.unwrap-label.ensures in
-    let rest = spot-rest c.args.pane c.args.aim c.spot-spot.result c.in-Some.cell c.distance_to.result c.spot-spot.ensures.spot c.spot-spot.ensures.local c.distance_to.ensures.tiles in
+    let rest = spot-rest c.args.pane c.args.aim c.spot-spot.result c.in-Some.cell c.distance_to.result c.spot-spot.ensures.spot c.spot-spot.ensures.local c.distance_to.ensures.steps in
     let turn = stale-turn (pane_graph c.args.pane c.args.tree.now (g.C.Costs.price c.args.costs.now)) (rest_of c.args.pane c.args.aim) c.args.marks.now (size_of c.args.pane) c.loop-key.nearest
     c.loop-key.front c.in-Some.key c.in-Some.cell c.unwrap-label.result c.pop.new.self c.loop-key.invariant c.in-Some.ensures is (omega (arith, rest, c.if-label-distance_to.true)) in
     turn.0
@@ -94,7 +101,7 @@ loop-key-preserved-then-label-distance_to g c =
 pub loop-key-smaller-then-label-distance_to : goal.loop-key-smaller-then-label-distance_to
 loop-key-smaller-then-label-distance_to g c =
     let is = sym c.at.ensures ∙ c.unwrap-label.ensures in
-    let rest = spot-rest c.args.pane c.args.aim c.spot-spot.result c.in-Some.cell c.distance_to.result c.spot-spot.ensures.spot c.spot-spot.ensures.local c.distance_to.ensures.tiles in
+    let rest = spot-rest c.args.pane c.args.aim c.spot-spot.result c.in-Some.cell c.distance_to.result c.spot-spot.ensures.spot c.spot-spot.ensures.local c.distance_to.ensures.steps in
     let turn = stale-turn (pane_graph c.args.pane c.args.tree.now (g.C.Costs.price c.args.costs.now)) (rest_of c.args.pane c.args.aim) c.args.marks.now (size_of c.args.pane) c.loop-key.nearest
     c.loop-key.front c.in-Some.key c.in-Some.cell c.unwrap-label.result c.pop.new.self c.loop-key.invariant c.in-Some.ensures is (omega (arith, rest, c.if-label-distance_to.true)) in
     turn.1
