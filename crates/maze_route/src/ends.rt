@@ -16,7 +16,7 @@ pub(crate) fn locals(alloc: Global, pane: Pane, cells: &[u32]) -> Result<Vec<u32
     requires { LieIn pane.grid pane.window cells.now }
     ensures { IfOk result (λ ends. ends.items ≡ map (local_of pane) cells.now) }
 {
-    let mut ends = Vec::new(alloc);
+    let mut ends = Vec::with_capacity(alloc, cells.len())?;
     for &cell in cells {
         ends.push(pane.local(cell))?;
     }

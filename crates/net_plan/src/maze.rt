@@ -81,7 +81,7 @@ fn grow<C: Costs>(
 fn missing(alloc: Global, tree: &RouteTree, pins: &[u32]) -> Result<Vec<u32>, AllocError>
     ensures { IfOk result (λ goals. goals.items ≡ missing tree.now pins.now) }
 {
-    let mut goals = Vec::new(alloc);
+    let mut goals = Vec::with_capacity(alloc, pins.len())?;
     for &pin in pins {
         if tree.node_at(pin).is_none() {
             goals.push(pin)?;
@@ -94,7 +94,7 @@ fn missing(alloc: Global, tree: &RouteTree, pins: &[u32]) -> Result<Vec<u32>, Al
 fn others(alloc: Global, goals: &[u32], walk: &[u32]) -> Result<Vec<u32>, AllocError>
     ensures { IfOk result (λ others. others.items ≡ filter (λ goal. not (is_among walk.now goal)) goals.now) }
 {
-    let mut others = Vec::new(alloc);
+    let mut others = Vec::with_capacity(alloc, goals.len())?;
     for &goal in goals {
         if !walk.contains(&goal) {
             others.push(goal)?;
