@@ -1,8 +1,6 @@
-use Rattle.std.proofs.Common.{◌≡◌, ℕ, Bool, false, List, length, slice_index_or, sym, ap, subst, ◌∙◌, arith}
+use Rattle.std.proofs.Common.{◌≡◌, Bool, List, length, sym, ap, subst, ◌∙◌, arith}
 use Rattle.std.proofs.lemmas.List.{take_at}
-use Rattle.std.specs.List.{filter, range_with_len}
-use Rattle.std.proofs.lemmas.Result.{IfOk-weaker}
-use Rattle.book_state.specs.Books.{nets_of, victims}
+use Rattle.book_state.specs.Books.{nets_of}
 use Rattle.book_state.specs.Crowds.{AreFlagged}
 use Rattle.book_state.proofs.VictimTables.{flagged-victims}
 use Rattle.book_state.proofs.replica.Replica.victims.Goals as goal
@@ -19,5 +17,4 @@ returns c =
     let long : length flags ≡ nets_of capacity =
     omega (arith, same, filled, c.deref_mut.ensures.len, c.in_ok-flags.ensures.len, c.in_ok-flags.flags.ok.0, c.nets.ensures.nets, c.requires.stands.nets) in
     let are = subst (AreFlagged capacity h 0) (sym whole) c.flag_block.ensures.flags in
-    IfOk-weaker c.flagged.result (λ (nets : List ℕ). nets ≡ filter (λ net. slice_index_or flags net false) (range_with_len 0 (length flags))) (λ (nets : List ℕ). nets ≡ victims capacity h)
-    (λ nets is. flagged-victims capacity h flags nets long are is) c.flagged.ensures
+    flagged-victims capacity h flags c.flagged.result long are c.flagged.ensures
