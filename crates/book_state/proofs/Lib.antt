@@ -3,6 +3,7 @@ pub mod BookSteps
 pub mod HistoryLists
 pub mod PastLists
 pub mod ReplicaSteps
+pub mod PlaceSteps
 pub mod StandSteps
 pub mod LegalHistories
 pub mod EdgeSearch
@@ -11,3 +12,4 @@ pub mod LeastMarks
 pub mod RouteCopies
 pub mod BookingLaws
 pub mod StillSteps
+pub mod VictimTables

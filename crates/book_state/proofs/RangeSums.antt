@@ -79,3 +79,12 @@ filter-passes p n xs new is passes more =
 pub filter-fails : (p : ℕ → Bool) (n : ℕ) (xs : List ℕ) → xs ≡ filter p (range_with_len 0 n) → p n ≡ false → xs ≡ filter p (range_with_len 0 (n + 1))
 filter-fails p n xs is fails =
     is ∙ sym (filter-more p n ∙ ap (λ (b : Bool). filter p (range_with_len 0 n) ++ cond b (n ∷ []) []) fails ∙ append-nil (filter p (range_with_len 0 n)))
+
+-- two tests that agree on a range pass the same numbers of it
+pub filter-same : (p q : ℕ → Bool) (a n : ℕ) → ((k : ℕ) → a ≤ k → k < a + n → p k ≡ q k) → filter p (range_with_len a n) ≡ filter q (range_with_len a n)
+filter-same p q a zero same = refl
+filter-same p q a (suc n) same =
+    let rest = filter-same p q (a + 1) n (λ k low high. same k (omega arith) (omega arith)) in
+    let first = same a (omega arith) (omega arith) in
+    ap (λ (b : Bool). cond b (a ∷ filter p (range_with_len (a + 1) n)) (filter p (range_with_len (a + 1) n))) first
+    ∙ ap (λ (ks : List ℕ). cond (q a) (a ∷ ks) ks) rest

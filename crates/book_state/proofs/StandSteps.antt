@@ -13,8 +13,8 @@ use Rattle.grid_demand.proofs.OperationLemmas.{IsWireOf, demand-added, demand-ta
 use Rattle.grid_demand.specs.LoadSums.{LoadsView, marks_at, no_loads, share, added, taken, marked, mark_of, HasRoom, HasShare}
 use Rattle.grid_demand.specs.Tables.{CapacityView, capacity_at, need_at, IsCapacity}
 use Rattle.book_state.proofs.BookSteps as steps
-use Rattle.book_state.proofs.ReplicaSteps.{take-entry, length-before, place-kept, place-whole, place_of-same, place_of-other, is_same, claimed-free, released-booked, booked-claim, booked-claim_other, booked-release, booked-release_other, booked-mark, idle-by}
-use Rattle.book_state.proofs.HistoryLists.{slice_get-right}
+use Rattle.book_state.proofs.PlaceSteps.{places-same, places-change, places-none, last-place, no-place}
+use Rattle.book_state.proofs.ReplicaSteps.{take-entry, length-before, place-whole, claimed-free, released-booked, booked-claim, booked-claim_other, booked-release, booked-release_other, booked-mark, idle-by}
 use Rattle.book_state.specs.Books.{nets_of, booked, share_of, demand, IsCall, IsLegal, AreLoadsOf, IsIdle}
 use Rattle.book_state.specs.Entries.{is_mark, is_mark_call}
 use Rattle.book_state.specs.Replicas.{ReplicaView, tree_of, tree_of_call, tree_at_place, place_of, IsPlace, StandsFor, IsClaimed, IsReleased}
@@ -81,11 +81,6 @@ loads-release c h e l new net t of is within before after same other =
       marks = λ x edge wire. of.marks x edge wire ∙ sym (steps.marks-idle c h e x other);
     })
 
--- the place of a net that an entry leaves as it was
-place-same : (h : List Entry) (e : Entry) (place : Option ℕ) (net : ℕ) → IsPlace h place (booked h net) → booked (h ++ e ∷ []) net ≡ booked h net → IsPlace (h ++ e ∷ []) place (booked (h ++ e ∷ []) net)
-place-same h e place net is same =
-    subst (λ (tree : Option TreeView). IsPlace (h ++ e ∷ []) place tree) (sym same) (place-kept h (e ∷ []) place (booked h net) is)
-
 -- what a replica is after one more entry
 abbrev Pushed : CapacityView → List Entry → Entry → ReplicaView → Type 0
 Pushed c h e r = StandsFor c (h ++ e ∷ []) r
@@ -95,7 +90,7 @@ push-idle : (c : CapacityView) (h : List Entry) (e : Entry) (r : ReplicaView) (f
 push-idle c h e r front new stands long same loads = record {
   front = long ∙ sym (length_push h e);
   nets = stands.nets;
-  places = λ net. place-same h e (place_of r.places net) net (stands.places net) (same net);
+  places = places-same h e r.places stands.places same;
   loads = loads;
 }
 
@@ -106,29 +101,9 @@ push-change : (c : CapacityView) (h : List Entry) (e : Entry) (r : ReplicaView) 
 push-change c h e r front net place new stands long within same there loads = record {
   front = long ∙ sym (length_push h e);
   nets = length-set r.places net place ∙ stands.nets;
-  places = λ other. elim (is_same other net) [
-    | inl is ↦
-        let P : ℕ → Type 0 = λ n. IsPlace (h ++ e ∷ []) (place_of (slice_set r.places net place) n) (booked (h ++ e ∷ []) n) in
-        let below : net < length r.places = let nets = stands.nets in omega (arith, nets) in
-        subst P (sym is) (subst (λ (o : Option ℕ). IsPlace (h ++ e ∷ []) o (booked (h ++ e ∷ []) net)) (sym (place_of-same r.places net place below)) there)
-    | inr apart ↦
-        subst (λ (o : Option ℕ). IsPlace (h ++ e ∷ []) o (booked (h ++ e ∷ []) other)) (sym (place_of-other r.places net other place apart))
-        (place-same h e (place_of r.places other) other (stands.places other) (same other apart))
-  ];
+  places = places-change h e r.places net place stands.places (let nets = stands.nets in omega (arith, nets)) same there;
   loads = loads;
 }
-
--- the place of the last entry, a claim
-last-place : (h : List Entry) (e : Entry) (claim : Claim) (place : ℕ) → place ≡ length h → e.call ≡ Claims claim → booked (h ++ e ∷ []) claim.net ≡ Some claim.tree →
-    IsPlace (h ++ e ∷ []) (Some place) (booked (h ++ e ∷ []) claim.net)
-last-place h e claim place is call after =
-    subst (λ (tree : Option TreeView). IsPlace (h ++ e ∷ []) (Some place) tree) (sym after) (record {
-      tree_there = ap (λ (o : Option Entry). tree_of o) (slice_get-right h (e ∷ []) place 0 (omega arith)) ∙ ap (λ (k : Call). tree_of_call k) call;
-      known = refl;
-    })
-
-no-place : (h : List Entry) (net : ℕ) → booked h net ≡ None → IsPlace h None (booked h net)
-no-place h net is = subst (λ (tree : Option TreeView). IsPlace h None tree) (sym is) (record { tree_there = refl; known = refl })
 
 is_mark-claim : (e : Entry) (claim : Claim) → e.call ≡ Claims claim → is_mark e ≡ false
 is_mark-claim e claim call = ap (λ (k : Call). is_mark_call k) call
@@ -227,19 +202,13 @@ pub stands-nothing : (c : CapacityView) (places : List (Option ℕ)) (l : LoadsV
 stands-nothing c places l none loads = record {
   front = refl;
   nets = ap length none ∙ length-replicate (nets_of c) None;
-  places = λ net.
-      subst (λ (o : Option ℕ). IsPlace [] o (booked [] net)) (sym (ap (λ (os : List (Option ℕ)). place_of os net) none ∙ no-places (nets_of c) net)) (no-place [] net (steps.booked-none net));
+  places = places-none (nets_of c) places none;
   loads = subst (λ (v : LoadsView). AreLoadsOf c [] v) (sym loads) (record {
     shape = refl;
     demand = λ x edge wire. demand-none c.shape x (record { edge = edge; wire = wire }) ∙ sym (steps.demand-none c x);
     marks = λ x edge wire. marks-none c.shape x (record { edge = edge; wire = wire }) ∙ sym (steps.marks-none c x);
   });
 }
-  where
-    no-places : (n net : ℕ) → place_of (replicate n None) net ≡ None
-    no-places zero net = refl
-    no-places (suc n) zero = refl
-    no-places (suc n) (suc net) = no-places n net
 
 -- the trees of a legal history's claims lie in the design's grid
 pub tree-shape : (c : CapacityView) (h : List Entry) (place : Option ℕ) (t : TreeView) → IsLegal c h → tree_at_place h place ≡ Some t → t.shape ≡ c.shape

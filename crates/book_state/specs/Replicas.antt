@@ -39,11 +39,15 @@ pub record IsPlace (h : List Entry) (place : Option ℕ) (tree : Option TreeView
   pub tree_there : tree_at_place h place ≡ tree
   pub known : is_some place ≡ is_some tree
 
+-- each net's place is that of the claim with its booked tree
+abbrev pub ArePlaces : List Entry → List (Option ℕ) → Type 0
+ArePlaces h places = (net : ℕ) → IsPlace h (place_of places net) (booked h net)
+
 -- a replica stands for a history: it has read all of it, and has its bookings, demand and marks
 pub record StandsFor (c : CapacityView) (h : List Entry) (r : ReplicaView) : Type 0 where
   pub front : r.front ≡ length h
   pub nets : length r.places ≡ nets_of c
-  pub places : (net : ℕ) → IsPlace h (place_of r.places net) (booked h net)
+  pub places : ArePlaces h r.places
   pub loads : AreLoadsOf c h r.loads
 
 -- the claim at a place of a history was answered Claimed

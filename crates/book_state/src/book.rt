@@ -5,18 +5,19 @@ ghost use Rattle.grid_demand.specs.Tables.{capacity_of};
 ghost use Rattle.book_state.specs.Books.{nets_of, booked as booked_tree, demand, reply_to_free as free_reply, reply_to_claim, reply_to_release, reply_to_mark, booked_routes, IsClaim, IsRight, IsLegal, AreLoadsOf, victims as victims_of};
 ghost use Rattle.book_state.specs.Entries.{is_claim_call};
 ghost use Rattle.book_state.specs.Marks.{least_mark as least_mark_of};
-ghost use Rattle.book_state.specs.Replicas.{StandsFor};
 ghost use Rattle.book_state.specs.Views.{with_entry, with_call};
 
 use crate::edges::reply_to_free;
 use crate::entry::{Call, Claim, Entry, Reply};
 use crate::history::History;
 use crate::least::least_mark;
+use crate::places::{places_at, tree_by_place};
 use crate::replica::Replica;
 use gr_base::{Cells, Design, RouteTree, Routes};
 use grid_demand::{Capacity, Loads};
 use std::alloc::{AllocError, Global};
 use std::marker::Model;
+use std::thread::Threads;
 
 /// A claim that was not answered, for want of memory.
 #[derive(Debug, Drop)]
@@ -192,6 +193,15 @@ impl BookState {
         self.replica.victims(&self.capacity, &self.history)
     }
 
+    /// The same, looked for in at most so many blocks of nets side by side.
+    pub fn victims_by<R: Threads + Sync>(&self, rt: &R, blocks: u32) -> Result<Cells, AllocError>
+        requires { 0 < blocks }
+        ensures { IfOk result (λ nets. nets ≡ victims_of self.now.capacity self.now.history) }
+    {
+        self.replica
+            .victims_by(rt, &self.capacity, &self.history, blocks)
+    }
+
     /// The length of the shortest first part of the history that ends with a mark of least
     /// overflow. None exactly where the history has no mark.
     pub fn least_mark(&self) -> Option<u64>
@@ -207,11 +217,11 @@ impl BookState {
         ensures { IfOk result (λ routes. routes ≡ booked_routes self.now.capacity (take front self.now.history)) }
     {
         let alloc = self.history.alloc();
-        let replica = self.replica_at(&self.capacity, front)?;
-        let nets = replica.nets();
+        let nets = self.replica.nets();
+        let places = places_at(&self.capacity, &self.history, nets, front)?;
         let mut routes = Routes::new(alloc, nets)?;
         for net in 0..nets {
-            if let Some(tree) = replica.tree(&self.history, net) {
+            if let Some(tree) = tree_by_place(&self.history, &places, net) {
                 routes.set(net, tree.copy(alloc)?);
             }
         }
@@ -225,20 +235,10 @@ impl BookState {
         requires front { front ≤ length self.now.history }
         ensures { IfOk result (λ loads. AreLoadsOf self.now.capacity (take front self.now.history) loads) }
     {
-        let replica = self.replica_at(capacity, front)?;
-        Ok(replica.into_loads())
-    }
-
-    /// A replica of the first `front` entries.
-    fn replica_at(&self, capacity: &Capacity, front: u64) -> Result<Replica, AllocError>
-        requires capacity { capacity.now ≡ self.now.capacity }
-        requires front { front ≤ length self.now.history }
-        ensures { IfOk result (λ replica. StandsFor self.now.capacity (take front self.now.history) replica) }
-    {
         let nets = self.replica.nets();
         let mut replica = Replica::of_nothing(self.history.alloc(), capacity, nets)?;
         replica.read(capacity, &self.history, front);
-        Ok(replica)
+        Ok(replica.into_loads())
     }
 
     /// Adds an entry behind the others. It comes back only for want of memory.

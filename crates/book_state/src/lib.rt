@@ -9,6 +9,7 @@ mod history;
 mod laws;
 mod least;
 mod past;
+mod places;
 mod replica;
 mod still;
 mod victims;

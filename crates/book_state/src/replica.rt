@@ -9,6 +9,7 @@ ghost use Rattle.book_state.specs.Replicas.{StandsFor, tree_at_place, place_of, 
 use crate::entry::{Call, Claim, Entry, Reply};
 use crate::history::History;
 use crate::past::Past;
+use crate::places::tree_by_place;
 use gr_base::{Design, RouteTree};
 use grid_demand::{Capacity, Loads};
 use std::alloc::{AllocError, Global};
@@ -82,8 +83,7 @@ impl Replica {
     pub(crate) fn tree<'a>(&self, history: &'a History, net: u32) -> Option<&'a RouteTree>
         ensures { option_copied result ≡ tree_at_place history.now (place_of self.now.places net) }
     {
-        let place = (*self.places.get(net as usize)?)?;
-        tree_of_claim(history, place)
+        tree_by_place(history, &self.places, net)
     }
 
     /// Reads what a legal history has beyond the part that the replica stands for, which is the
@@ -210,17 +210,4 @@ impl Model for Replica {
     ghost view = { seen };
 
     ghost invariant = { Keeps };
-}
-
-/// The tree of the claim at a place.
-fn tree_of_claim(history: &History, place: u64) -> Option<&RouteTree>
-    ensures { option_copied result ≡ tree_at_place history.now (Some place) }
-{
-    if place >= history.len() {
-        return None;
-    }
-    match &history.entry(place).call {
-        Call::Claim(claim) => Some(&claim.tree),
-        Call::Release { .. } | Call::Mark => None,
-    }
 }

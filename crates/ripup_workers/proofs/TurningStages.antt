@@ -31,8 +31,7 @@ use Rattle.round_core.specs.Attempts.{Stage, Rests, Claiming, Broken, kind_of, i
 use Rattle.round_core.specs.Rounds.{IsFull, claim_of, slacks_of_turn, IsPlanAfter, IsRouteOfNet}
 use Rattle.round_core.specs.RunHistories.{Setting, IsPlanOver, IsPlanned}
 use Rattle.round_core.proofs.StageSteps.{attempts-push}
-use Rattle.round_core.proofs.RoundSteps.{pattern-after}
-use Rattle.round_core.proofs.TurnLemmas.{maze-after}
+use Rattle.round_core.proofs.TurnLemmas.{plan-after}
 use Rattle.track_book.specs.Passes.{PassView, IsPass, IsAnswered, HasLearnt}
 use Rattle.ripup_workers.specs.Turning.{IsOver, HasFollowed, HasLed, IsPlanFor, HasTried}
 use Rattle.work_share.specs.Views.{times}
@@ -322,13 +321,13 @@ pub plan-pattern : (d : DesignView) (formula : Formula) (v : CapacityView) (h : 
     kind ≡ Pattern → IsPattern v l formula net (pins_at d net) t → IsRouteOfNet d net t → IsPlanFor d formula h net kind t
 plan-pattern d formula v h l net kind t same of is plan routes =
     subst (λ (k : PlanKind). IsPlanFor d formula h net k t) (sym is)
-    (record { plan = pattern-after d formula (capacity_of d) v h l net t refl same of plan; routes = routes })
+    (record { plan = plan-after d formula (capacity_of d) v h l net Pattern t refl same of plan; routes = routes })
 
 pub plan-maze : (d : DesignView) (formula : Formula) (v : CapacityView) (h : List Entry) (l : LoadsView) (net : ℕ) (kind : PlanKind) (margin : ℕ) (t : TreeView) → v ≡ capacity_of d → AreLoadsOf (capacity_of d) h l →
     kind ≡ Maze margin → IsMaze v l formula net (pins_at d net) margin t → IsRouteOfNet d net t → IsPlanFor d formula h net kind t
 plan-maze d formula v h l net kind margin t same of is plan routes =
     subst (λ (k : PlanKind). IsPlanFor d formula h net k t) (sym is)
-    (record { plan = maze-after d formula (capacity_of d) v h l net margin t refl same of plan; routes = routes })
+    (record { plan = plan-after d formula (capacity_of d) v h l net (Maze margin) t refl same of plan; routes = routes })
 
 pub routes-net : {E : Type 0} (d : DesignView) (net : ℕ) (r : Result TreeView E) →
     ((wanted : Net) → slice_get d.nets net ≡ Some wanted → IfOk r (IsRouteOf d.frame.shape wanted)) → IfOk r (IsRouteOfNet d net)

@@ -8,22 +8,26 @@ use crate::worker::Worker;
 use book_state::Reply;
 use std::alloc::AllocError;
 use std::sync::Wait;
+use std::thread::Threads;
 use track_book::{BookName, TrackBook};
 
 impl<N: BookName> Coordinator<N> {
-    /// Ends a round: once what all workers did is seen, it is marked, and the workers see the mark.
-    pub(crate) fn end_round<R: Wait>(
+    /// Ends a round: once what all workers did is seen, it is marked, and the workers see the mark. The
+    /// victims are looked for in at most so many blocks of nets side by side.
+    pub(crate) fn end_round<R: Threads + Wait + Sync>(
         &mut self,
         rt: &R,
         book: &TrackBook<N>,
         workers: &mut Vec<Worker<N>>,
+        blocks: u32,
     ) -> Result<Marked, AllocError>
-        requires { 0 < length workers.old.items }
+        requires workers { 0 < length workers.old.items }
+        requires blocks { 0 < blocks }
         ensures { IfOk result (λ marked. AreMarked N.capacity self.old.pass self.new.pass
             (map (λ w. w.pass) workers.old.items) (map (λ w. w.pass) workers.new.items) marked) }
     {
         self.meet_all(rt, book, workers);
-        let marked = self.mark(rt, book)?;
+        let marked = self.mark(rt, book, blocks)?;
         self.meet_all(rt, book, workers);
         Ok(marked)
     }
@@ -49,13 +53,19 @@ impl<N: BookName> Coordinator<N> {
     }
 
     /// Marks the edges over their capacity, and finds the nets on such edges.
-    fn mark<R: Wait>(&mut self, rt: &R, book: &TrackBook<N>) -> Result<Marked, AllocError>
+    fn mark<R: Threads + Wait + Sync>(
+        &mut self,
+        rt: &R,
+        book: &TrackBook<N>,
+        blocks: u32,
+    ) -> Result<Marked, AllocError>
+        requires { 0 < blocks }
         ensures { IfOk result (IsMarked N.capacity self.old.pass self.new.pass) }
     {
         let Reply::Marked { overflow } = book.mark(rt, &mut self.pass)? else {
             unreachable!()
         };
-        let victims = book.victims(rt, &mut self.pass)?;
+        let victims = book.victims(rt, &mut self.pass, blocks)?;
         Ok(Marked { overflow, victims })
     }
 }

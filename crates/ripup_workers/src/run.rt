@@ -87,7 +87,7 @@ fn run_rounds<N: BookName + Send + Sync, R: Threads + Wait + Sync, G: Gate + Syn
     let mut before = None;
     for round in 0..asked.rounds + 1 {
         workers = attempt_nets(rt, alloc, asked, round, &nets, book, gate, workers)?;
-        let marked = coordinator.end_round(rt, book, &mut workers)?;
+        let marked = coordinator.end_round(rt, book, &mut workers, asked.workers)?;
         nets = routed_of(alloc, asked.design, marked.victims.as_slice())?;
         if nets.is_empty() {
             return Ok(workers);

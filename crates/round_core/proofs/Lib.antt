@@ -1,7 +1,6 @@
 pub mod HandLemmas
 pub mod StandLemmas
 pub mod TurnLemmas
-pub mod RoundSteps
 pub mod CutSteps
 pub mod StageSteps
 pub mod ApartSteps
@@ -10,7 +9,6 @@ pub mod JoiningLaw
 pub mod RoutedTrees
 pub mod TurnWordLemmas
 pub mod RangeCounts
-pub mod OneHand
 pub mod HeldCounts
 pub mod WorldSteps
 pub mod WorldCalls

@@ -200,30 +200,6 @@ called-keeps w book worker call phase since keeps is other world =
       nets = keeps.nets;
     }
 
--- a call that didn't happen leaves the book
-abbrev pub with_book : Inside → BookView → Inside
-with_book w book = record {
-  alloc = w.alloc;
-  design = w.design;
-  formula = w.formula;
-  rounds = w.rounds;
-  watch = w.watch;
-  goal = w.goal;
-  book = book;
-  overflow = w.overflow;
-  round = w.round;
-  over = w.over;
-  left = w.left;
-  phases = w.phases;
-  since = w.since;
-}
-
-pub same-keeps : (w : Inside) (book : BookView) → book ≡ w.book → Keeps w → Keeps (with_book w book)
-same-keeps w book is keeps = subst (λ (b : BookView). Keeps (with_book w b)) (sym is) keeps
-
-pub same-view : (w : Inside) (book : BookView) → book ≡ w.book → seen (with_book w book) ≡ seen w
-same-view w book is = ap (λ (b : BookView). seen (with_book w b)) is
-
 -- a release that is allowed
 pub record IsReleaseIn (w : Inside) (worker net : ℕ) : Type 0 where
   pub net_is : net ≡ net_in (phase_at (seen w) worker)

@@ -1,8 +1,6 @@
 pub mod Rounds
 pub mod Standing
-pub mod Turns
 pub mod Hands
-pub mod Results
 pub mod Attempts
 pub mod TurnWords
 pub mod RunHistories

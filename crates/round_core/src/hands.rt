@@ -10,14 +10,8 @@ use std::marker::Model;
 /// The number under which the marks stand in a history.
 pub(crate) const MARKER: u32 = 0;
 
-/// The number under which the claims and releases stand there.
-pub(crate) const HAND: u32 = 1;
-
 /// The most workers of a run, each with a number of its own from 1 on.
 pub const MOST_WORKERS: u32 = 16;
-
-/// The callers' numbers are below this.
-pub(crate) const CALLERS: u32 = HAND + 1;
 
 /// Places in a history, counted from 0 and rising.
 #[derive(Debug, Drop)]

@@ -1,14 +1,9 @@
-//! The laws of histories to which several workers add.
+//! The law of histories to which several workers add.
 ghost use Rattle.std.specs.Prelude.{ℕ, List, IsTrue};
-ghost use Rattle.cost_rules.specs.declared.site.Formula.{Formula};
-ghost use Rattle.gr_base.specs.Designs.{DesignView};
-ghost use Rattle.grid_demand.specs.Tables.{capacity_of};
-ghost use Rattle.book_state.specs.Books.{IsLegal};
 ghost use Rattle.book_state.specs.Cuts.{AtMarks};
 ghost use Rattle.book_state.specs.Entries.{AtEach, is_mark, calls_of};
 ghost use Rattle.book_state.specs.declared.entry.Entry.{Entry};
-ghost use Rattle.round_core.specs.RunHistories.{Setting, AreAttempts, AreGranted, IsRunHistory, one_worker};
-ghost use Rattle.round_core.specs.Rounds.{AreRoundsUpTo};
+ghost use Rattle.round_core.specs.RunHistories.{Setting, AreAttempts, AreGranted};
 ghost use Rattle.round_core.specs.Standing.{Stands};
 ghost use Rattle.round_core.specs.TurnWords.{AreTurnsOf};
 
@@ -22,11 +17,4 @@ pub fn attempts_are_turns()
         AtMarks (λ s. (number : ℕ) → AreTurnsOf s.round (calls_of number s.segment)) h }
     ensures stands { (t : Setting) → (h : List Entry) → AreAttempts t h →
         AtEach (λ before e. IsTrue (is_mark e) → Stands t.design before) h }
-{}
-
-/// The rounds of one hand in the order of the design are a run history of one worker, which no watch
-/// ends early. The function itself does nothing.
-pub fn one_hand_is_one_worker()
-    ensures { (d : DesignView) → (formula : Formula) → (rounds : ℕ) → (h : List Entry) → IsLegal (capacity_of d) h →
-        AreRoundsUpTo d formula rounds h → IsRunHistory (one_worker d formula rounds) h }
 {}

@@ -7,14 +7,11 @@ mod laws;
 mod machine;
 mod moves;
 mod phases;
-mod rounds;
 mod steps;
-mod turns;
 mod world;
 
 pub use hands::{HandLog, MOST_WORKERS, Places, hands_of};
-pub use laws::{attempts_are_turns, one_hand_is_one_worker};
+pub use laws::attempts_are_turns;
 pub use machine::routed_nets;
-pub use rounds::{Rounds, route_rounds};
 pub use steps::{Phase, Step, StepRefused};
 pub use world::World;

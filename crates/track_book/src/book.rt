@@ -17,6 +17,7 @@ use grid_demand::Capacity;
 use maze_route::Window;
 use std::alloc::AllocError;
 use std::sync::{Mutex, Wait};
+use std::thread::Threads;
 
 /// The book N, which threads share. Each call is one entry of one history, and its reply is the one
 /// that a book for one thread gives there. `claim`, `release`, `mark`, `sync`, `victims` and `meet`
@@ -123,14 +124,21 @@ impl<N: BookName> TrackBook<N> {
     }
 
     /// The pass sees the whole history. The result are the booked nets whose tree then has a wire edge
-    /// with more demand than capacity, in the order of the design. The only error is want of memory,
-    /// and leaves the pass as it was.
-    pub fn victims<R: Wait>(&self, rt: &R, pass: &mut Pass<N>) -> Result<Cells, AllocError>
+    /// with more demand than capacity, in the order of the design. They are looked for in at most so
+    /// many blocks of nets side by side, while the lock is held. The only error is want of memory, and
+    /// leaves the pass as it was.
+    pub fn victims<R: Threads + Wait + Sync>(
+        &self,
+        rt: &R,
+        pass: &mut Pass<N>,
+        blocks: u32,
+    ) -> Result<Cells, AllocError>
+        requires { 0 < blocks }
         ensures learnt { OnOk result (HasLearnt N.capacity pass.old pass.new) }
         ensures victims { IfOk result (λ nets. nets ≡ victims_of N.capacity pass.new.seen) }
         ensures err { OnErr result (pass.new ≡ pass.old) }
     {
-        self.lock.lock(rt).victims(&self.front, pass)
+        self.lock.lock(rt).victims(rt, &self.front, pass, blocks)
     }
 
     /// Both passes come to have seen one history, which begins with what each had seen.

@@ -14,6 +14,7 @@ use book_state::{BookState, Call, Claim, ClaimRefused, History, Reply};
 use gr_base::Cells;
 use std::alloc::AllocError;
 use std::marker::{Model, PhantomData};
+use std::thread::Threads;
 
 /// The book for one thread, and the seat of the history's keeper.
 #[derive(Drop)]
@@ -123,15 +124,22 @@ impl<N: BookName> Locked<N> {
 
     /// The pass sees the whole history, and gets the victims after it. An error leaves the pass as it
     /// was.
-    pub(crate) fn victims(&mut self, front: &Front, pass: &mut Pass<N>) -> Result<Cells, AllocError>
+    pub(crate) fn victims<R: Threads + Sync>(
+        &mut self,
+        rt: &R,
+        front: &Front,
+        pass: &mut Pass<N>,
+        blocks: u32,
+    ) -> Result<Cells, AllocError>
         requires front { word_of front.now ≡ N.word }
+        requires blocks { 0 < blocks }
         ensures same { self.new ≡ self.old }
         ensures learnt { OnOk result (HasLearnt N.capacity pass.old pass.new) }
         ensures seen { OnOk result (pass.new.seen ≡ self.old) }
         ensures victims { IfOk result (λ nets. nets ≡ victims_of N.capacity self.old) }
         ensures err { OnErr result (pass.new ≡ pass.old) }
     {
-        let victims = self.state.victims()?;
+        let victims = self.state.victims_by(rt, blocks)?;
         self.show(front, pass);
         Ok(victims)
     }
