@@ -1,5 +1,5 @@
 -- One more net is counted.
-use Rattle.std.proofs.Common.{◌≡◌, ◌↔◌, ℕ, zero, suc, ◌+◌, ◌-◌, ◌*◌, ◌^◌, ◌<◌, ◌≤◌, ◌||◌, ◌&&◌, inl, inr, Bool, true, false, List, [], ◌∷◌, length, map, All, Option, Some, IfSome, slice_get, count_by, if◌then◌else◌, IsTrue, sym, ap, subst, ◌∙◌, arith}
+use Rattle.std.proofs.Common.{◌≡◌, ℕ, zero, suc, ◌+◌, ◌*◌, ◌^◌, ◌<◌, ◌≤◌, ◌||◌, ◌&&◌, inl, inr, Bool, true, false, List, [], ◌∷◌, length, map, All, Option, Some, IfSome, slice_get, count_by, if◌then◌else◌, IsTrue, refl, sym, ap, subst, ◌∙◌, arith}
 use Rattle.std.proofs.Math.Path.{fun_ext}
 use Rattle.std.specs.List.{range_with_len}
 use Rattle.std.proofs.lemmas.Bool.{or_cases, and_parts, false≢true}
@@ -7,30 +7,32 @@ use Rattle.std.proofs.lemmas.List.FromFn.{length-map-range_with_len}
 use Rattle.std.proofs.lemmas.List.Sums.{count_by-le-length, length-filter}
 use Rattle.gr_base.specs.Capacities.{need}
 use Rattle.gr_base.specs.Designs.{DesignView, IsDesign, IsNet, is_routed, is_routed_net, pins_in, pins_at}
-use Rattle.gr_base.specs.EdgeSets.{Edges, IsJoined}
-use Rattle.gr_base.specs.Grid.{cells_of, edge_at, high_of, has_edge, is_wire}
+use Rattle.gr_base.specs.EdgeSets.{Edges}
+use Rattle.gr_base.specs.Grid.{cells_of, edge_at, high_of, has_edge}
 use Rattle.gr_base.specs.Limits.{most_width}
 use Rattle.gr_base.specs.Sums.{wire_at, wire_edges, via_edges, wires_from_cells}
+use Rattle.gr_base.specs.Trees.{TreeView, edges_of}
 use Rattle.gr_base.specs.declared.frame.Frame.{Frame}
 use Rattle.gr_base.specs.declared.frame.Net.{Net}
 use Rattle.gr_base.specs.declared.grid.Edge.{Edge}
 use Rattle.gr_base.specs.declared.grid.Shape.{Shape}
 use Rattle.gr_base.specs.declared.grid.Way.TheVariants.{Up}
 use Rattle.gr_base.proofs.GridLemmas.{few_cells}
-use Rattle.grid_demand.specs.LoadSums.{LoadsView, demand_at}
+use Rattle.grid_demand.specs.LoadSums.{LoadsView, demand_at, added}
 use Rattle.grid_demand.specs.Tables.{CapacityView, capacity_of, need_at}
 use Rattle.grid_demand.proofs.CapacityLemmas.{get-all, tables-of}
-use Rattle.grid_demand.proofs.OperationLemmas.{need-most}
+use Rattle.grid_demand.proofs.OperationLemmas.{demand-added, need-most}
 use Rattle.solution_text.specs.declared.run.Run.{Run}
 use Rattle.solution_text.specs.Covers.{is_on, covers}
 use Rattle.solution_text.specs.Runs.{LieIn}
 use Rattle.route_reader.specs.Solutions.{SolutionView, IsOf, edges_by, runs_at}
-use Rattle.route_evaluator.specs.Counts.{sum_before, IsCharged}
-use Rattle.route_evaluator.specs.EdgeNumbers.{edges_numbered, is_via_number}
+use Rattle.route_evaluator.specs.Counts.{sum_before, noted, with_count, AreCharged, AreCounted, AreTallied, HasRoom, HasRoomFor, IsCharged}
+use Rattle.route_evaluator.specs.EdgeNumbers.{edges_numbered}
 use Rattle.route_evaluator.specs.Gathers.{covered_by, Adds}
-use Rattle.route_evaluator.specs.NumberSets.{NumberSetView}
-use Rattle.route_evaluator.proofs.CountLemmas.{times, vias-count, wires-count}
-use Rattle.route_evaluator.proofs.StepLemmas.{sum-next, sum-most}
+use Rattle.route_evaluator.specs.NetCounts.{IsCountOf}
+use Rattle.route_evaluator.specs.declared.net_count.NetCount.{NetCount}
+use Rattle.route_evaluator.specs.declared.tally.Tally.{Tally}
+use Rattle.route_evaluator.proofs.StepLemmas.{sum-next, sum-most, routed-next, routed-most, listed-next}
 
 -- the edges that are gathered of a net are those of its set
 pub gathered-is : (d : DesignView) (s : SolutionView) (net : ℕ) (frame : Frame) (old numbers : List ℕ) (runs : List Run) → IsOf d s → frame ≡ d.frame →
@@ -91,99 +93,114 @@ demand-room d sets k e design below =
     let few = design.few_nets in
     omega (arith, most, few, below)
 
--- the numbers of edges have room too
-pub wires-room : (d : DesignView) (sets : ℕ → Edges) (k : ℕ) → IsDesign d → k < length d.nets →
-    sum_before d k (λ net. count_by (sets net) (wire_edges d.frame.shape)) ≤ 2 ^ 62
-wires-room d sets k design below =
-    let most = sum-most d (λ net. count_by (sets net) (wire_edges d.frame.shape)) 16777216 k (λ net. few_wires (sets net)) in
-    let few = design.few_nets in
-    omega (arith, most, few, below)
-  where
-    few_wires : (set : Edges) → count_by set (wire_edges d.frame.shape) ≤ 16777216
-    few_wires set =
-        let cells = few_cells d.frame.shape in
-        omega (
-          arith,
-          count_by-le-length set (wire_edges d.frame.shape),
-          length-filter (has_edge d.frame.shape) (wires_from_cells d.frame.shape),
-          count_by-le-length (has_edge d.frame.shape) (wires_from_cells d.frame.shape),
-          length-map-range_with_len wire_at 0 (2 * cells_of d.frame.shape),
-          cells,
-        )
+-- each set has few wire edges and few via edges
+few_wires : (g : Shape) (set : Edges) → count_by set (wire_edges g) ≤ 16777216
+few_wires g set =
+    omega (
+      arith,
+      count_by-le-length set (wire_edges g),
+      length-filter (has_edge g) (wires_from_cells g),
+      count_by-le-length (has_edge g) (wires_from_cells g),
+      length-map-range_with_len wire_at 0 (2 * cells_of g),
+      few_cells g,
+    )
 
-pub vias-room : (d : DesignView) (sets : ℕ → Edges) (k : ℕ) → IsDesign d → k < length d.nets →
-    sum_before d k (λ net. count_by (sets net) (via_edges d.frame.shape)) ≤ 2 ^ 62
-vias-room d sets k design below =
-    let most = sum-most d (λ net. count_by (sets net) (via_edges d.frame.shape)) 8388608 k (λ net. few_vias (sets net)) in
-    let few = design.few_nets in
-    omega (arith, most, few, below)
-  where
-    up : ℕ → Edge
-    up cell = edge_at cell Up
+few_vias : (g : Shape) (set : Edges) → count_by set (via_edges g) ≤ 8388608
+few_vias g set =
+    omega (
+      arith,
+      count_by-le-length set (via_edges g),
+      length-filter (has_edge g) (map (λ cell. edge_at cell Up) (range_with_len 0 (cells_of g))),
+      count_by-le-length (has_edge g) (map (λ cell. edge_at cell Up) (range_with_len 0 (cells_of g))),
+      length-map-range_with_len (λ cell. edge_at cell Up) 0 (cells_of g),
+      few_cells g,
+    )
 
-    few_vias : (set : Edges) → count_by set (via_edges d.frame.shape) ≤ 8388608
-    few_vias set =
-        let g : Shape = d.frame.shape in
-        let cells = few_cells g in
-        omega (
-          arith,
-          count_by-le-length set (via_edges g),
-          length-filter (has_edge g) (map (λ cell. edge_at cell Up) (range_with_len 0 (cells_of g))),
-          count_by-le-length (has_edge g) (map (λ cell. edge_at cell Up) (range_with_len 0 (cells_of g))),
-          length-map-range_with_len (λ cell. edge_at cell Up) 0 (cells_of g),
-          cells,
-        )
+-- the counts have room for those of one more net
+pub counted-room : (d : DesignView) (sets : ℕ → Edges) (k nets_in wires_in vias_in : ℕ) (apart pins : List ℕ) (c : NetCount) → IsDesign d → is_routed d k ≡ true →
+    IsCountOf d.frame.shape (sets k) pins c → AreCounted d sets k nets_in wires_in vias_in apart → HasRoomFor nets_in wires_in vias_in c
+counted-room d sets k nets_in wires_in vias_in apart pins c design routed count counted =
+    let g : Shape = d.frame.shape in
+    let below = routed-below d k routed in
+    let few = design.few_nets in
+    record {
+      wires =
+          let most = sum-most d (λ net. count_by (sets net) (wire_edges g)) 16777216 k (λ net. few_wires g (sets net)) in
+          omega (arith, most, few, below, counted.wires, count.wires, few_wires g (sets k));
+      vias =
+          let most = sum-most d (λ net. count_by (sets net) (via_edges g)) 8388608 k (λ net. few_vias g (sets net)) in
+          omega (arith, most, few, below, counted.vias, count.vias, few_vias g (sets k));
+      routed = omega (arith, below, few, counted.routed, routed-most d k);
+    }
 
 -- the demand once a net's edges are charged
-pub demand-next : (d : DesignView) (sets : ℕ → Edges) (k : ℕ) (numbers : List ℕ) (capacity : CapacityView) (old new : LoadsView) → is_routed d k ≡ true →
-    edges_numbered numbers ≡ sets k → capacity ≡ capacity_of d → old.shape ≡ d.frame.shape →
-    ((e : Edge) → IsTrue (has_edge d.frame.shape e) → IsTrue (is_wire e) → demand_at old e ≡ sum_before d k (λ net. if sets net e then need d net e else 0)) →
-    IsCharged capacity k (edges_numbered numbers) old new →
-    (e : Edge) → IsTrue (has_edge d.frame.shape e) → IsTrue (is_wire e) → demand_at new e ≡ sum_before d (k + 1) (λ net. if sets net e then need d net e else 0)
-demand-next d sets k numbers capacity old new routed same of shape before charged e edge wire =
-    charged e (subst (λ (g : Shape). IsTrue (has_edge g e)) (sym shape) edge) wire
-    ∙ ap (λ (n : ℕ). n + (if edges_numbered numbers e then need_at capacity k e else 0)) (before e edge wire)
-    ∙ ap (λ (set : Edges). sum_before d k (λ net. if sets net e then need d net e else 0) + (if set e then need_at capacity k e else 0)) same
-    ∙ ap (λ (c : CapacityView). sum_before d k (λ net. if sets net e then need d net e else 0) + (if sets k e then need_at c k e else 0)) of
-    ∙ sym (sum-next d (λ net. if sets net e then need d net e else 0) k routed)
+pub charged-next : (d : DesignView) (sets : ℕ → Edges) (k : ℕ) (set : Edges) (capacity : CapacityView) (old new : LoadsView) → is_routed d k ≡ true →
+    set ≡ sets k → capacity ≡ capacity_of d → new.shape ≡ old.shape → IsCharged capacity k set old new → AreCharged d sets k old → AreCharged d sets (k + 1) new
+charged-next d sets k set capacity old new routed same of shape charged before = record {
+  shape = shape ∙ before.shape;
+  demand = λ e edge wire.
+      charged e (subst (λ (g : Shape). IsTrue (has_edge g e)) (sym before.shape) edge) wire
+      ∙ ap (λ (n : ℕ). n + (if set e then need_at capacity k e else 0)) (before.demand e edge wire)
+      ∙ ap (λ (s : Edges). sum_before d k (λ net. if sets net e then need d net e else 0) + (if s e then need_at capacity k e else 0)) same
+      ∙ ap (λ (c : CapacityView). sum_before d k (λ net. if sets net e then need d net e else 0) + (if sets k e then need_at c k e else 0)) of
+      ∙ sym (sum-next d (λ net. if sets net e then need d net e else 0) k routed);
+}
 
--- what a net's numbers add to the counts
-pub vias-next : (d : DesignView) (sets : ℕ → Edges) (k : ℕ) (numbers listed : List ℕ) (old more : ℕ) → is_routed d k ≡ true →
-    edges_numbered numbers ≡ sets k → LieIn d.frame.shape (edges_numbered numbers) → listed ≡ numbers → ((n : ℕ) → times listed n ≤ 1) →
-    more ≡ count_by is_via_number listed → old ≡ sum_before d k (λ net. count_by (sets net) (via_edges d.frame.shape)) →
-    old + more ≡ sum_before d (k + 1) (λ net. count_by (sets net) (via_edges d.frame.shape))
-vias-next d sets k numbers listed old more routed same within are once is before =
-    let each = subst (λ (xs : List ℕ). (n : ℕ) → times xs n ≤ 1) are once in
-    let count : more ≡ count_by (sets k) (via_edges d.frame.shape) =
-    is ∙ ap (count_by is_via_number) are ∙ vias-count d.frame.shape numbers within each ∙ ap (λ (set : Edges). count_by set (via_edges d.frame.shape)) same in
-    ap (λ (n : ℕ). n + more) before ∙ ap (λ (n : ℕ). sum_before d k (λ net. count_by (sets net) (via_edges d.frame.shape)) + n) count
-    ∙ sym (sum-next d (λ net. count_by (sets net) (via_edges d.frame.shape)) k routed)
+-- a tree that is put in charges its edges
+pub tree-charged : (c : CapacityView) (net : ℕ) (t : TreeView) (old new : LoadsView) → new ≡ added c net t old → IsCharged c net (edges_of t) old new
+tree-charged c net t old new is e edge wire =
+    ap (λ (l : LoadsView). demand_at l e) is ∙ demand-added c net t old e (record { edge = edge; wire = wire })
 
-pub wires-next : (d : DesignView) (sets : ℕ → Edges) (k : ℕ) (numbers listed again : List ℕ) (old vias : ℕ) → is_routed d k ≡ true →
-    edges_numbered numbers ≡ sets k → LieIn d.frame.shape (edges_numbered numbers) → listed ≡ numbers → again ≡ numbers → ((n : ℕ) → times listed n ≤ 1) →
-    vias ≡ count_by is_via_number listed → old ≡ sum_before d k (λ net. count_by (sets net) (wire_edges d.frame.shape)) →
-    old + (length again - vias) ≡ sum_before d (k + 1) (λ net. count_by (sets net) (wire_edges d.frame.shape))
-wires-next d sets k numbers listed again old vias routed same within are too once is before =
-    let each = subst (λ (xs : List ℕ). (n : ℕ) → times xs n ≤ 1) are once in
-    let whole = wires-count d.frame.shape numbers within each in
-    let via_is : vias ≡ count_by is_via_number numbers = is ∙ ap (count_by is_via_number) are in
-    let long : length again ≡ length numbers = ap (λ (xs : List ℕ). length xs) too in
-    let rest : length again - vias ≡ count_by (edges_numbered numbers) (wire_edges d.frame.shape) = omega (arith, whole, via_is, long) in
-    let count : length again - vias ≡ count_by (sets k) (wire_edges d.frame.shape) =
-    rest ∙ ap (λ (set : Edges). count_by set (wire_edges d.frame.shape)) same in
-    ap (λ (n : ℕ). n + (length again - vias)) before
-    ∙ ap (λ (n : ℕ). sum_before d k (λ net. count_by (sets net) (wire_edges d.frame.shape)) + n) count
-    ∙ sym (sum-next d (λ net. count_by (sets net) (wire_edges d.frame.shape)) k routed)
+-- there is room for a net's need
+pub room-next : (d : DesignView) (sets : ℕ → Edges) (k : ℕ) (l : LoadsView) → IsDesign d → is_routed d k ≡ true → AreCharged d sets k l → HasRoom l
+room-next d sets k l design routed charged e edge wire =
+    let same = charged.demand e (subst (λ (g : Shape). IsTrue (has_edge g e)) charged.shape edge) wire in
+    let room = demand-room d sets k e design (routed-below d k routed) in
+    omega (arith, same, room)
 
--- what was said of the gathered edges and the pins holds of the net's set
-pub joined-same : (d : DesignView) (sets : ℕ → Edges) (k : ℕ) (frame : Frame) (set : Edges) (pins : List ℕ) (joined : Bool) → frame ≡ d.frame → set ≡ sets k →
-    pins ≡ pins_at d k → IsTrue joined ↔ IsJoined frame.shape set pins → IsTrue joined ↔ IsJoined d.frame.shape (sets k) (pins_at d k)
-joined-same d sets k frame set pins joined same is are decides =
-    subst (λ (f : Frame). IsTrue joined ↔ IsJoined f.shape (sets k) (pins_at d k)) same
-    (subst (λ (s : Edges). IsTrue joined ↔ IsJoined frame.shape s (pins_at d k)) is
-    (subst (λ (ps : List ℕ). IsTrue joined ↔ IsJoined frame.shape set ps) are decides))
+-- what is counted of a net holds of its set of edges and its pins
+pub count-same : (d : DesignView) (sets : ℕ → Edges) (k : ℕ) (g : Shape) (set : Edges) (pins : List ℕ) (c : NetCount) → g ≡ d.frame.shape → set ≡ sets k →
+    pins ≡ pins_at d k → IsCountOf g set pins c → IsCountOf d.frame.shape (sets k) (pins_at d k) c
+count-same d sets k g set pins c shape same are count =
+    subst (λ (h : Shape). IsCountOf h (sets k) (pins_at d k) c) shape
+    (subst (λ (s : Edges). IsCountOf g s (pins_at d k) c) same
+    (subst (λ (ps : List ℕ). IsCountOf g set ps c) are count))
 
--- a net has few edges
-pub few-numbers : (d : DesignView) (set : NumberSetView) (listed : List ℕ) → length listed ≤ set.bound → set.bound ≡ 3 * cells_of d.frame.shape →
-    length listed ≤ 25165824
-few-numbers d set listed few bound = omega (arith, few, bound, few_cells d.frame.shape)
+-- the counts once a net's are added
+pub counted-next : (d : DesignView) (sets : ℕ → Edges) (k nets_in wires_in vias_in : ℕ) (apart : List ℕ) (c : NetCount) → is_routed d k ≡ true →
+    IsCountOf d.frame.shape (sets k) (pins_at d k) c → AreCounted d sets k nets_in wires_in vias_in apart →
+    AreCounted d sets (k + 1) (nets_in + 1) (wires_in + c.wires) (vias_in + c.vias) (noted c.joined k apart)
+counted-next d sets k nets_in wires_in vias_in apart c routed count counted =
+    let listed = listed-next d sets k apart (noted c.joined k apart) c.joined routed count.joined
+    (record { rising = counted.rising; unjoined = counted.unjoined }) refl in
+    let wires : ℕ → ℕ = λ net. count_by (sets net) (wire_edges d.frame.shape) in
+    let vias : ℕ → ℕ = λ net. count_by (sets net) (via_edges d.frame.shape) in
+    record {
+      routed = ap (λ (n : ℕ). n + 1) counted.routed ∙ sym (routed-next d k routed);
+      wires = ap (λ (n : ℕ). n + c.wires) counted.wires ∙ ap (λ (n : ℕ). sum_before d k wires + n) count.wires ∙ sym (sum-next d wires k routed);
+      vias = ap (λ (n : ℕ). n + c.vias) counted.vias ∙ ap (λ (n : ℕ). sum_before d k vias + n) count.vias ∙ sym (sum-next d vias k routed);
+      rising = listed.rising;
+      unjoined = listed.unjoined;
+    }
+
+-- the tally with other loads
+abbrev pub with_loads : Tally → LoadsView → Tally
+with_loads t loads = record {
+  capacity = t.capacity;
+  loads = loads;
+  wires = t.wires;
+  vias = t.vias;
+  routed = t.routed;
+  unjoined = t.unjoined;
+}
+
+-- the tally once a net's edges are charged and what is counted of it is added
+pub tallied-next : (d : DesignView) (sets : ℕ → Edges) (k : ℕ) (old new : Tally) (loads : LoadsView) (c : NetCount) → is_routed d k ≡ true →
+    new ≡ with_count k c (with_loads old loads) → AreCharged d sets (k + 1) loads → IsCountOf d.frame.shape (sets k) (pins_at d k) c →
+    AreTallied d sets k old → AreTallied d sets (k + 1) new
+tallied-next d sets k old new loads c routed is charged count tallied =
+    subst (λ (t : Tally). AreTallied d sets (k + 1) t) (sym is) (record {
+      capacity = tallied.capacity;
+      charged = charged;
+      counted = counted-next d sets k old.routed old.wires old.vias old.unjoined c routed count tallied.counted;
+    })

@@ -63,7 +63,7 @@ no-edge-above g a b e a_in above is edge =
     omega (arith, less, top, over)
 
 -- the edge between a cell of the grid and another has the two as its ends
-joined : (g : Shape) (a b : ℕ) (e : Edge) → a < cells_of g → edge_of g a b ≡ Some e → IsTrue (has_edge g e) → Joins g e a b
+pub joined : (g : Shape) (a b : ℕ) (e : Edge) → a < cells_of g → edge_of g a b ≡ Some e → IsTrue (has_edge g e) → Joins g e a b
 joined g a b e a_in is edge =
     elim (cases_lt b (cells_of g)) [
       | inl b_in ↦ subst (λ (o : Option Edge). IfSome o (λ x. Joins g x a b)) is (edge_of-joins g a b a_in b_in)
@@ -80,7 +80,7 @@ joins-edge_of g e a b joins =
     ]
 
 -- the second end is a cell
-joins-inside : (g : Shape) (e : Edge) (a b : ℕ) → Joins g e a b → b < cells_of g
+pub joins-inside : (g : Shape) (e : Edge) (a b : ℕ) → Joins g e a b → b < cells_of g
 joins-inside g e a b joins =
     elim joins.ends [
       | inl ends ↦ subst (λ (n : ℕ). n < cells_of g) ends.1 (high-below g e joins.edge)

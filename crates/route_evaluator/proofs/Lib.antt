@@ -13,6 +13,5 @@ pub mod TreePaths
 pub mod ListedLemmas
 pub mod PlantLemmas
 pub mod NetTreeLemmas
-pub mod GatheredLemmas
-pub mod TreeGather
+pub mod NetCountLemmas
 pub mod RouteTrees

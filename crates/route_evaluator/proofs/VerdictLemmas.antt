@@ -11,7 +11,7 @@ use Rattle.gr_base.specs.declared.grid.Edge.{Edge}
 use Rattle.gr_base.specs.declared.grid.Shape.{Shape}
 use Rattle.grid_demand.specs.LoadSums.{LoadsView, demand_at}
 use Rattle.grid_demand.proofs.LoadLemmas.{total_overflow-same, most_overflow-same}
-use Rattle.route_evaluator.specs.Counts.{sum_before, AreCounted}
+use Rattle.route_evaluator.specs.Counts.{sum_before, AreTallied}
 use Rattle.route_evaluator.specs.Verdicts.{IsUnjoined, IsVerdict}
 use Rattle.route_evaluator.specs.declared.tally.Tally.{Tally}
 use Rattle.route_evaluator.specs.declared.verdict.Verdict.{Verdict}
@@ -49,21 +49,21 @@ unjoined-all d sets nets listed net = (
 )
 
 -- a net that isn't routed counts nothing
-pub counted-skip : (d : DesignView) (sets : ℕ → Edges) (k : ℕ) (t : Tally) → is_routed d k ≡ false → AreCounted d sets k t → AreCounted d sets (k + 1) t
-counted-skip d sets k t off counted =
-    let tallied = counted.tallied in
-    let listed = listed-skip d sets k t.unjoined (λ u. both_ways (is_routed d k) off u.routed) (record { rising = tallied.rising; unjoined = tallied.unjoined }) in
+pub tallied-skip : (d : DesignView) (sets : ℕ → Edges) (k : ℕ) (t : Tally) → is_routed d k ≡ false → AreTallied d sets k t → AreTallied d sets (k + 1) t
+tallied-skip d sets k t off tallied =
+    let counted = tallied.counted in
+    let listed = listed-skip d sets k t.unjoined (λ u. both_ways (is_routed d k) off u.routed) (record { rising = counted.rising; unjoined = counted.unjoined }) in
     record {
-      tallied = record {
-        capacity = tallied.capacity;
-        shape = tallied.shape;
-        demand = λ e edge wire. tallied.demand e edge wire ∙ sym (sum-skip d (λ net. if sets net e then need d net e else 0) k off);
-        reached = tallied.reached;
-        routed = tallied.routed ∙ sym (routed-skip d k off);
-        wires = tallied.wires ∙ sym (sum-skip d _ k off);
-        vias = tallied.vias ∙ sym (sum-skip d _ k off);
+      capacity = tallied.capacity;
+      charged = record {
+        shape = tallied.charged.shape;
+        demand = λ e edge wire. tallied.charged.demand e edge wire ∙ sym (sum-skip d (λ net. if sets net e then need d net e else 0) k off);
+      };
+      counted = record {
+        routed = counted.routed ∙ sym (routed-skip d k off);
+        wires = counted.wires ∙ sym (sum-skip d _ k off);
+        vias = counted.vias ∙ sym (sum-skip d _ k off);
         rising = listed.rising;
         unjoined = listed.unjoined;
       };
-      edges = counted.edges;
     }

@@ -1,19 +1,17 @@
--- What is counted of the nets of a solution, one after another.
-use Rattle.std.specs.Prelude.{◌≡◌, ◌↔◌, ℕ, ◌*◌, ◌+◌, ◌^◌, ◌<◌, ◌≤◌, Bool, List, [], ◌∷◌, ◌++◌, length, Contains, count_by, sum_by, filter, if◌then◌else◌, IsTrue}
+-- What is counted of the nets of a design, one after another.
+use Rattle.std.specs.Prelude.{◌≡◌, ◌↔◌, ℕ, ◌+◌, ◌^◌, ◌<◌, ◌≤◌, Bool, List, [], ◌∷◌, ◌++◌, length, Contains, count_by, sum_by, filter, if◌then◌else◌, IsTrue}
 use Rattle.std.specs.List.{range_with_len}
 use Rattle.std.specs.List.Sorted.{IsStrictlyIncreasing}
 use Rattle.gr_base.specs.Capacities.{need}
 use Rattle.gr_base.specs.Designs.{DesignView, is_routed}
 use Rattle.gr_base.specs.EdgeSets.{Edges}
-use Rattle.gr_base.specs.Grid.{cells_of, has_edge, is_wire}
+use Rattle.gr_base.specs.Grid.{has_edge, is_wire}
 use Rattle.gr_base.specs.Sums.{wire_edges, via_edges}
 use Rattle.gr_base.specs.declared.grid.Edge.{Edge}
 use Rattle.grid_demand.specs.LoadSums.{LoadsView, demand_at}
 use Rattle.grid_demand.specs.Tables.{CapacityView, capacity_of, need_at}
-use Rattle.solution_text.specs.Runs.{LieIn}
-use Rattle.route_evaluator.specs.EdgeNumbers.{edges_numbered}
-use Rattle.route_evaluator.specs.NumberSets.{empty_set}
 use Rattle.route_evaluator.specs.Verdicts.{IsUnjoined, IsVerdict}
+use Rattle.route_evaluator.specs.declared.net_count.NetCount.{NetCount}
 use Rattle.route_evaluator.specs.declared.tally.Tally.{Tally}
 use Rattle.route_evaluator.specs.declared.verdict.Verdict.{Verdict}
 
@@ -25,30 +23,42 @@ sum_before d count f = sum_by f (filter (is_routed d) (range_with_len 0 count))
 abbrev pub noted : Bool → ℕ → List ℕ → List ℕ
 noted joined net nets = if joined then nets else nets ++ net ∷ []
 
--- the nets below a number are counted
+-- the demand is that of the nets below a number
+pub record AreCharged (d : DesignView) (sets : ℕ → Edges) (count : ℕ) (l : LoadsView) : Type 0 where
+  pub shape : l.shape ≡ d.frame.shape
+  pub demand : (e : Edge) → IsTrue (has_edge d.frame.shape e) → IsTrue (is_wire e) →
+      demand_at l e ≡ sum_before d count (λ net. if sets net e then need d net e else 0)
+
+-- so many of the nets below a number are routed, with so many wire edges and via edges, and these aren't joined
+pub record AreCounted (d : DesignView) (sets : ℕ → Edges) (count nets_in wires_in vias_in : ℕ) (apart : List ℕ) : Type 0 where
+  pub routed : nets_in ≡ count_by (is_routed d) (range_with_len 0 count)
+  pub wires : wires_in ≡ sum_before d count (λ net. count_by (sets net) (wire_edges d.frame.shape))
+  pub vias : vias_in ≡ sum_before d count (λ net. count_by (sets net) (via_edges d.frame.shape))
+  pub rising : IsStrictlyIncreasing apart
+  pub unjoined : (net : ℕ) → Contains apart net ↔ ((net < count) × IsUnjoined d sets net)
+
+-- the nets below a number are in the tally
 pub record AreTallied (d : DesignView) (sets : ℕ → Edges) (count : ℕ) (t : Tally) : Type 0 where
   pub capacity : t.capacity ≡ capacity_of d
-  pub shape : t.loads.shape ≡ d.frame.shape
-  pub demand : (e : Edge) → IsTrue (has_edge d.frame.shape e) → IsTrue (is_wire e) →
-      demand_at t.loads e ≡ sum_before d count (λ net. if sets net e then need d net e else 0)
-  pub reached : t.reached.cells ≡ empty_set (cells_of d.frame.shape)
-  pub routed : t.routed ≡ count_by (is_routed d) (range_with_len 0 count)
-  pub wires : t.wires ≡ sum_before d count (λ net. count_by (sets net) (wire_edges d.frame.shape))
-  pub vias : t.vias ≡ sum_before d count (λ net. count_by (sets net) (via_edges d.frame.shape))
-  pub rising : IsStrictlyIncreasing t.unjoined
-  pub unjoined : (net : ℕ) → Contains t.unjoined net ↔ ((net < count) × IsUnjoined d sets net)
+  pub charged : AreCharged d sets count t.loads
+  pub counted : AreCounted d sets count t.routed t.wires t.vias t.unjoined
 
--- the nets below a number are counted, and no edges are left of them
-pub record AreCounted (d : DesignView) (sets : ℕ → Edges) (count : ℕ) (t : Tally) : Type 0 where
-  pub tallied : AreTallied d sets count t
-  pub edges : t.edges ≡ empty_set (3 * cells_of d.frame.shape)
+-- what is counted of a net is added
+abbrev pub with_count : ℕ → NetCount → Tally → Tally
+with_count net c t = record {
+  capacity = t.capacity;
+  loads = t.loads;
+  wires = t.wires + c.wires;
+  vias = t.vias + c.vias;
+  routed = t.routed + 1;
+  unjoined = noted c.joined net t.unjoined;
+}
 
--- the nets below a number are counted, and the edges of the net with this number are gathered
-pub record AreGathered (d : DesignView) (sets : ℕ → Edges) (net : ℕ) (t : Tally) : Type 0 where
-  pub tallied : AreTallied d sets net t
-  pub bound : t.edges.bound ≡ 3 * cells_of d.frame.shape
-  pub edges : edges_numbered t.edges.numbers ≡ sets net
-  pub inside : LieIn d.frame.shape (edges_numbered t.edges.numbers)
+-- the counts have room for those of one more net
+pub record HasRoomFor (nets_in wires_in vias_in : ℕ) (c : NetCount) : Type 0 where
+  pub routed : nets_in + 1 < 2 ^ 32
+  pub wires : wires_in + c.wires < 2 ^ 64
+  pub vias : vias_in + c.vias < 2 ^ 64
 
 -- each wire edge has room for the need of one more net
 abbrev pub HasRoom : LoadsView → Type 0
@@ -60,11 +70,7 @@ IsCharged c net set old new =
     (e : Edge) → IsTrue (has_edge old.shape e) → IsTrue (is_wire e) →
     demand_at new e ≡ demand_at old e + (if set e then need_at c net e else 0)
 
--- the net whose edges were gathered is counted
-abbrev pub CountsNet : DesignView → ℕ → (old new : Tally) → Type 0
-CountsNet d net old new = (sets : ℕ → Edges) → AreGathered d sets net old → AreCounted d sets (net + 1) new
-
 -- the verdict says what was counted of all nets
 abbrev pub TellsOf : ℕ → Tally → Verdict → Type 0
 TellsOf via_cost t v =
-    (d : DesignView) → (sets : ℕ → Edges) → AreCounted d sets (length d.nets) t → IsVerdict d via_cost sets v
+    (d : DesignView) → (sets : ℕ → Edges) → AreTallied d sets (length d.nets) t → IsVerdict d via_cost sets v

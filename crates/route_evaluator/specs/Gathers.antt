@@ -1,4 +1,4 @@
--- How the edges of runs and of trees come into a set of edges.
+-- How the edges of runs come into a set of edges.
 use Rattle.std.specs.Prelude.{◌≡◌, ◌||◌, ℕ, List}
 use Rattle.std.specs.List.{list_any}
 use Rattle.gr_base.specs.EdgeSets.{Edges}

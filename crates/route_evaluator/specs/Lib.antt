@@ -3,6 +3,7 @@ pub mod NumberSets
 pub mod NumberSetStore
 pub mod EdgeNumbers
 pub mod Gathers
+pub mod NetCounts
 pub mod Counts
 pub mod NetTrees
 pub mod TreeSets

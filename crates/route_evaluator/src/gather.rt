@@ -1,7 +1,6 @@
-//! The edges that the runs of a net cover, and those of a tree.
+//! The edges that the runs of a net cover.
 ghost use Rattle.std.specs.Prelude.{◌≡◌, ◌<◌, ◌*◌, length, All, IfOk, OnOk};
 ghost use Rattle.gr_base.specs.Grid.{cells_of};
-ghost use Rattle.gr_base.specs.Trees.{IsTree, edges_of};
 ghost use Rattle.solution_text.specs.Covers.{covers};
 ghost use Rattle.solution_text.specs.Runs.{LieIn};
 ghost use Rattle.route_reader.specs.Solutions.{IsOf, IsRun, edges_by};
@@ -11,7 +10,7 @@ ghost use Rattle.route_evaluator.specs.NumberSets.{empty_set};
 
 use crate::edge_numbers::edge_number;
 use crate::number_set::NumberSet;
-use gr_base::{Design, Edge, RouteTree, Shape};
+use gr_base::{Design, Edge, Shape};
 use route_reader::Solution;
 use solution_text::Run;
 use std::alloc::{AllocError, Global};
@@ -82,19 +81,4 @@ pub(crate) fn edges_of_net(
     let mut edges = NumberSet::new(alloc, 3 * design.frame().shape.cells())?;
     gather_net(&mut edges, design, solution, net)?;
     Ok(edges)
-}
-
-/// Puts the edges of a tree into a set of edges.
-pub(crate) fn gather_tree(edges: &mut NumberSet, tree: &RouteTree) -> Result<(), AllocError>
-    requires bound { edges.old.bound ≡ 3 * cells_of tree.now.shape }
-    ensures bound { OnOk result (edges.new.bound ≡ edges.old.bound) }
-    ensures edges { OnOk result (Adds (edges_of tree.now) edges.old.numbers edges.new.numbers) }
-    ensures tree { OnOk result (IsTree tree.now) }
-{
-    for node in 0..tree.len() {
-        if let Some(edge) = tree.edge_to_parent(node) {
-            edges.insert(edge_number(edge))?;
-        }
-    }
-    Ok(())
 }

@@ -5,9 +5,11 @@ ghost use Rattle.straight_runs.specs.Routed.{AreRouted};
 ghost use Rattle.route_evaluator.specs.NetTrees.{AreTrees};
 ghost use Rattle.route_evaluator.specs.Verdicts.{IsVerdict};
 
+use crate::number_set::NumberSet;
+use crate::reached::Reached;
 use crate::tally::Tally;
 use crate::verdict::Verdict;
-use gr_base::{Design, Routes};
+use gr_base::{Design, NodeIndex, Routes};
 use route_reader::Solution;
 use std::alloc::{AllocError, Global};
 
@@ -24,10 +26,13 @@ pub fn evaluate(
     requires cost { via_cost ≤ 1000 }
     ensures { IfOk result (λ verdict. IsVerdict design.now via_cost (edges_by solution.now) verdict) }
 {
+    let shape = design.frame().shape;
     let mut tally = Tally::new(alloc, design)?;
+    let mut edges = NumberSet::new(alloc, 3 * shape.cells())?;
+    let mut reached = Reached::new(alloc, shape)?;
     for net in 0..design.nets() {
         if design.routed(net) {
-            tally.count(design, solution, net)?;
+            tally.count_runs(&mut edges, &mut reached, design, solution, net)?;
         }
     }
     Ok(tally.verdict(via_cost))
@@ -48,11 +53,12 @@ pub fn evaluate_routes(
     ensures trees { OnOk result (AreTrees design.now routes.now) }
 {
     let mut tally = Tally::new(alloc, design)?;
+    let mut index = NodeIndex::new(alloc, design.frame().shape.cells())?;
     for net in 0..design.nets() {
         if !design.routed(net) {
             continue;
         }
-        tally.count_tree(design, routes, net)?;
+        tally.count_route(&mut index, design, routes, net)?;
     }
     Ok(tally.verdict(via_cost))
 }

@@ -6,6 +6,7 @@ mod edge_numbers;
 mod flood;
 mod gather;
 mod judgement;
+mod net_count;
 mod net_runs;
 mod net_tree;
 mod number_set;

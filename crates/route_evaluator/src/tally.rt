@@ -1,31 +1,31 @@
-//! What is counted of the nets of a solution.
-ghost use Rattle.std.specs.Prelude.{◌≡◌, ◌+◌, ℕ, count_by, IfOk, OnOk, IsTrue, IsSomeAnd};
+//! What is counted of the nets of a design, one after another.
+ghost use Rattle.std.specs.Prelude.{◌≡◌, ◌+◌, ◌*◌, ◌≤◌, ℕ, length, IfOk, OnOk, IsTrue, IsSomeAnd};
 ghost use Rattle.gr_base.specs.Designs.{is_routed};
 ghost use Rattle.gr_base.specs.EdgeSets.{Edges};
+ghost use Rattle.gr_base.specs.Grid.{cells_of};
 ghost use Rattle.gr_base.specs.Trees.{IsTree, route_edges, tree_at};
 ghost use Rattle.solution_text.specs.Runs.{LieIn};
 ghost use Rattle.route_reader.specs.Solutions.{IsOf, edges_by};
-ghost use Rattle.route_evaluator.specs.EdgeNumbers.{edges_numbered, is_via_number};
-ghost use Rattle.route_evaluator.specs.Counts.{AreCounted, AreGathered, CountsNet, HasRoom, IsCharged, TellsOf, noted};
+ghost use Rattle.route_evaluator.specs.EdgeNumbers.{edges_numbered};
+ghost use Rattle.route_evaluator.specs.NumberSets.{empty_set};
+ghost use Rattle.route_evaluator.specs.Counts.{AreTallied, HasRoom, HasRoomFor, IsCharged, TellsOf, noted, with_count};
 
 use crate::edge_numbers::{edge_with_number, is_via};
-use crate::flood::joins;
-use crate::gather::{gather, gather_tree};
+use crate::gather::gather_net;
+use crate::net_count::{NetCount, count_edges, count_tree};
 use crate::number_set::NumberSet;
 use crate::reached::Reached;
 use crate::verdict::Verdict;
-use gr_base::{Cells, Design, Routes};
+use gr_base::{Cells, Design, NodeIndex, Routes};
 use grid_demand::{Capacity, Loads};
 use route_reader::Solution;
 use std::alloc::{AllocError, Global};
 
-/// What was counted of the nets so far, and the sets that each net uses anew.
+/// What was counted of the nets so far.
 #[derive(Drop)]
 pub(crate) struct Tally {
     pub capacity: Capacity,
     pub loads: Loads,
-    pub edges: NumberSet,
-    pub reached: Reached,
     pub wires: u64,
     pub vias: u64,
     pub routed: u32,
@@ -35,16 +35,13 @@ pub(crate) struct Tally {
 impl Tally {
     /// No net is counted. The only error is want of memory.
     pub(crate) fn new(alloc: Global, design: &Design) -> Result<Tally, AllocError>
-        ensures { IfOk result (λ tally. (sets : ℕ → Edges) → AreCounted design.now sets 0 tally) }
+        ensures { IfOk result (λ tally. (sets : ℕ → Edges) → AreTallied design.now sets 0 tally) }
     {
-        let shape = design.frame().shape;
         let capacity = Capacity::of(alloc, design)?;
         let loads = Loads::new(alloc, &capacity)?;
         Ok(Tally {
             capacity,
             loads,
-            edges: NumberSet::new(alloc, 3 * shape.cells())?,
-            reached: Reached::new(alloc, shape)?,
             wires: 0,
             vias: 0,
             routed: 0,
@@ -52,60 +49,67 @@ impl Tally {
         })
     }
 
-    /// Counts the next net, which is routed, by the runs of a solution. The only error is want of
-    /// memory.
-    pub(crate) fn count(
+    /// Counts the next net, which is routed, by the runs of a solution. The sets serve net after
+    /// net. The only error is want of memory.
+    pub(crate) fn count_runs(
         &mut self,
+        edges: &mut NumberSet,
+        reached: &mut Reached,
         design: &Design,
         solution: &Solution,
         net: u32,
     ) -> Result<(), AllocError>
         requires solution { IsOf design.now solution.now }
         requires routed { IsTrue (is_routed design.now net) }
-        requires counted { AreCounted design.now (edges_by solution.now) net self.old }
-        ensures { OnOk result (AreCounted design.now (edges_by solution.now) (net + 1) self.new) }
+        requires edges { edges.old ≡ empty_set (3 * cells_of design.now.frame.shape) }
+        requires reached { reached.old.cells ≡ empty_set (cells_of design.now.frame.shape) }
+        requires tallied { AreTallied design.now (edges_by solution.now) net self.old }
+        ensures tallied { OnOk result (AreTallied design.now (edges_by solution.now) (net + 1) self.new) }
+        ensures edges { OnOk result (edges.new ≡ edges.old) }
+        ensures reached { OnOk result (reached.new.cells ≡ reached.old.cells) }
     {
-        gather(&mut self.edges, design.frame().shape, solution.runs(net))?;
-        self.count_gathered(design, net)?;
+        gather_net(edges, design, solution, net)?;
+        let pins = design.net(net).pins.as_slice();
+        let count = count_edges(edges, reached, design.frame().shape, pins)?;
+        charge(&mut self.loads, &self.capacity, net, edges);
+        edges.clear();
+        self.include(net, count)?;
         Ok(())
     }
 
-    /// Counts the next net, which is routed, by its tree, which is in the design's grid. The only
-    /// error is want of memory.
-    pub(crate) fn count_tree(
+    /// Counts the next net, which is routed, by its tree, which is in the design's grid. The index
+    /// serves net after net. The only error is want of memory.
+    pub(crate) fn count_route(
         &mut self,
+        index: &mut NodeIndex,
         design: &Design,
         routes: &Routes,
         net: u32,
     ) -> Result<(), AllocError>
         requires routed { IsTrue (is_routed design.now net) }
         requires tree { IsSomeAnd (tree_at routes.now net) (λ tree. tree.shape ≡ design.now.frame.shape) }
-        requires counted { AreCounted design.now (route_edges routes.now) net self.old }
-        ensures counted { OnOk result (AreCounted design.now (route_edges routes.now) (net + 1) self.new) }
-        ensures tree { OnOk result (IsSomeAnd (tree_at routes.now net) IsTree) }
+        requires index { cells_of design.now.frame.shape ≤ length index.old }
+        requires tallied { AreTallied design.now (route_edges routes.now) net self.old }
+        ensures tallied { OnOk result (AreTallied design.now (route_edges routes.now) (net + 1) self.new) }
+        ensures index { length index.new ≡ length index.old }
+        ensures tree { IsSomeAnd (tree_at routes.now net) IsTree }
     {
-        gather_tree(&mut self.edges, routes.get(net).unwrap())?;
-        self.count_gathered(design, net)?;
+        let tree = routes.get(net).unwrap();
+        let count = count_tree(tree, index, design.net(net).pins.as_slice());
+        self.loads.add(&self.capacity, net, tree);
+        self.include(net, count)?;
         Ok(())
     }
 
-    /// Counts the next net, which is routed, and whose edges are gathered. The only error is want
-    /// of memory.
-    fn count_gathered(&mut self, design: &Design, net: u32) -> Result<(), AllocError>
-        requires routed { IsTrue (is_routed design.now net) }
-        requires gathered { (sets : ℕ → Edges) × AreGathered design.now sets net self.old }
-        ensures { OnOk result (CountsNet design.now net self.old self.new) }
+    /// Adds what is counted of a net. The only error is want of memory.
+    fn include(&mut self, net: u32, count: NetCount) -> Result<(), AllocError>
+        requires { HasRoomFor self.old.routed self.old.wires self.old.vias count }
+        ensures { OnOk result (self.new ≡ with_count net count self.old) }
     {
-        let shape = design.frame().shape;
-        let pins = design.net(net).pins.as_slice();
-        charge(&mut self.loads, &self.capacity, net, &self.edges);
-        let joined = joins(&mut self.reached, &self.edges, shape, pins)?;
-        note(&mut self.unjoined, net, joined)?;
-        let vias = count_vias(self.edges.numbers());
-        self.vias += vias;
-        self.wires += self.edges.numbers().len() as u64 - vias;
+        note(&mut self.unjoined, net, count.joined)?;
+        self.wires += count.wires;
+        self.vias += count.vias;
         self.routed += 1;
-        self.edges.clear();
         Ok(())
     }
 
@@ -139,19 +143,6 @@ fn charge(loads: &mut Loads, capacity: &Capacity, net: u32, edges: &NumberSet)
             loads.charge(capacity, net, edge_with_number(*number));
         }
     }
-}
-
-/// How many of the edges with these numbers are via edges.
-fn count_vias(numbers: &[u32]) -> u64
-    ensures { result ≡ count_by is_via_number numbers.now }
-{
-    let mut vias = 0;
-    for number in numbers {
-        if is_via(*number) {
-            vias += 1;
-        }
-    }
-    vias
 }
 
 /// Puts a net behind the others, unless it is joined. The only error is want of memory.

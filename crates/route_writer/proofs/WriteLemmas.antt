@@ -8,7 +8,7 @@ use Rattle.gr_base.specs.EdgeSets.{Edges}
 use Rattle.gr_io.specs.Parts.{AppendsPart}
 use Rattle.gr_base.specs.Trees.{TreeView, edges_of, tree_at, edges_or_none, route_edges}
 use Rattle.std.specs.Result.{OnErr}
-use Rattle.route_writer.specs.RouteTexts.{net_text}
+use Rattle.route_writer.specs.RouteTexts.{net_text, nets_text, routes_text}
 use Rattle.solution_text.specs.WrittenText.{record_text, text_of_net, written_text}
 
 -- the text of the first nets
@@ -125,3 +125,37 @@ stands-cut {old} next whole behind is part s = record {
       ∙ ap (λ (t : List ℕ). s.done ++ t) (sym (append_assoc part.done part.rest behind) ∙ ap (λ (t : List ℕ). t ++ behind) part.whole)
       ∙ sym (append_assoc s.done _ behind) ∙ ap (λ (t : List ℕ). t ++ behind) s.whole ∙ sym is;
 }
+
+-- a first part of a text is one of a longer text
+pub part-more : {old new text : List ℕ} (more whole : List ℕ) → whole ≡ text ++ more → AppendsPart old new text → AppendsPart old new whole
+part-more more whole is part = record {
+  done = part.done;
+  rest = part.rest ++ more;
+  written = part.written;
+  whole = sym (append_assoc part.done part.rest more) ∙ ap (λ (t : List ℕ). t ++ more) part.whole ∙ sym is;
+}
+
+-- ---- the records of nets from one number on
+
+module _ (d : DesignView) (trees : List (Option TreeView)) where
+  pub nets-none : (first last : ℕ) → first ≡ last → nets_text d trees first last ≡ []
+  nets-none first last is = let e : last - first ≡ 0 = omega arith in ap (λ (n : ℕ). flat_map (net_text d trees) (range_with_len first n)) e
+
+  pub nets-join : (a b c : ℕ) → a ≤ b → b ≤ c → nets_text d trees a c ≡ nets_text d trees a b ++ nets_text d trees b c
+  nets-join a b c low high =
+      let e : c - a ≡ (b - a) + (c - b) = omega arith in
+      let f : a + (b - a) ≡ b = omega arith in
+      ap (λ (n : ℕ). flat_map (net_text d trees) (range_with_len a n)) e
+      ∙ ap (flat_map (net_text d trees)) (range-split a (b - a) (c - b))
+      ∙ flat_map-append (net_text d trees) (range_with_len a (b - a)) (range_with_len (a + (b - a)) (c - b))
+      ∙ ap (λ (n : ℕ). nets_text d trees a b ++ flat_map (net_text d trees) (range_with_len n (c - b))) f
+
+  pub nets-next : (a k : ℕ) → a ≤ k → nets_text d trees a (k + 1) ≡ nets_text d trees a k ++ net_text d trees k
+  nets-next a k low =
+      let e : (k + 1) - k ≡ 1 = omega arith in
+      nets-join a k (k + 1) low (omega arith)
+      ∙ ap (λ (t : List ℕ). nets_text d trees a k ++ t)
+      (ap (λ (n : ℕ). flat_map (net_text d trees) (range_with_len k n)) e ∙ append-nil (net_text d trees k))
+
+  pub nets-all : nets_text d trees 0 (length d.nets) ≡ routes_text d trees
+  nets-all = let e : length d.nets - 0 ≡ length d.nets = omega arith in ap (λ (n : ℕ). flat_map (net_text d trees) (range_with_len 0 n)) e

@@ -1,1 +1,2 @@
 pub mod RouteTexts
+pub mod Blocks

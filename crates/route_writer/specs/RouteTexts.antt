@@ -1,6 +1,7 @@
 -- The text of routes, and its parts.
-use Rattle.std.specs.Prelude.{ℕ, List, ◌++◌, Option, slice_get, codes}
+use Rattle.std.specs.Prelude.{ℕ, ◌-◌, List, ◌++◌, Option, slice_get, codes}
 use Rattle.std.specs.Fmt.{decimal}
+use Rattle.std.specs.List.{flat_map, range_with_len}
 use Rattle.gr_base.specs.Designs.{DesignView}
 use Rattle.gr_base.specs.Trees.{TreeView, route_edges}
 use Rattle.gr_base.specs.declared.frame.Net.{Net}
@@ -17,3 +18,7 @@ net_text d trees net = text_of_net d.frame (slice_get d.nets net) (route_edges t
 -- the text of the edges of each net's tree
 abbrev pub routes_text : DesignView → List (Option TreeView) → List ℕ
 routes_text d trees = written_text d (route_edges trees)
+
+-- the records of the routed nets from the first number on, below the last
+abbrev pub nets_text : DesignView → List (Option TreeView) → (first last : ℕ) → List ℕ
+nets_text d trees first last = flat_map (net_text d trees) (range_with_len first (last - first))

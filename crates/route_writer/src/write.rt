@@ -1,10 +1,11 @@
-ghost use Rattle.std.specs.Prelude.{◌≡◌, ◌<◌, ◌≤◌, ◌++◌, [], length, Err, IsTrue, OnOk, OnErr};
+ghost use Rattle.std.specs.Prelude.{◌≡◌, ◌≤◌, ◌++◌, [], Err, IsTrue, OnOk, OnErr};
 ghost use Rattle.gr_io.specs.Counts.{Rose};
 ghost use Rattle.gr_io.specs.Parts.{AppendsPart};
 ghost use Rattle.straight_runs.specs.Routed.{AreRouted};
-ghost use Rattle.route_writer.specs.RouteTexts.{net_text, routes_text};
+ghost use Rattle.route_writer.specs.RouteTexts.{routes_text};
 
 use crate::error::WriteError;
+use crate::nets::put_net;
 use crate::record::Draft;
 use gr_base::{Design, Routes};
 use gr_io::{Failed, Sink, write_whole};
@@ -25,20 +26,6 @@ fn flush<K: Sink>(sink: &mut K, text: &mut Vec<u8>) -> Result<(), Failed>
 {
     write_whole(sink, text)?;
     text.clear();
-    Ok(())
-}
-
-/// Puts the record of a net behind the text, if the net is routed. The only error is want of memory.
-fn put_net(draft: &mut Draft, design: &Design, routes: &Routes, net: u32) -> Result<(), AllocError>
-    requires routed { AreRouted design.now routes.now }
-    requires net { net < length design.now.nets }
-    ensures { OnOk result (draft.new.text.items ≡ draft.old.text.items ++ net_text design.now routes.now net) }
-{
-    if !design.routed(net) {
-        return Ok(());
-    }
-    let tree = routes.get(net).unwrap();
-    draft.put_record(design, design.net(net), tree)?;
     Ok(())
 }
 

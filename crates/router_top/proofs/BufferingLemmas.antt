@@ -11,9 +11,10 @@ use Rattle.gr_base.specs.Trees.{TreeView, tree_at}
 use Rattle.gr_io.specs.Devices.{Device, Reading, IsUntouched}
 use Rattle.gr_io.specs.Counts.{Rose}
 use Rattle.gr_io.specs.declared.shelf.Slot.{Slot}
-use Rattle.gr_io.specs.declared.shelf.Slot.TheVariants.{Solution}
+use Rattle.gr_io.specs.declared.shelf.Slot.TheVariants.{Library, Solution}
 use Rattle.ispd_reader.specs.declared.fault.DesignFault.{DesignFault as DesignFaultKind}
 use Rattle.rc_library.specs.Libraries.{LibraryView}
+use Rattle.rc_library.specs.LibraryText.{library_of}
 use Rattle.rc_library.specs.declared.fault.LibraryFault.{LibraryFault as LibraryFaultKind}
 use Rattle.route_reader.specs.SolutionText.{solution_of}
 use Rattle.solution_text.specs.declared.fault.SolutionFault.{SolutionFault as SolutionFaultKind}
@@ -33,6 +34,29 @@ by-cover : (P : (ℕ → Edges) → Type 0) (d : DesignView) (s : SolutionView) 
     IsSomeAnd held (λ bytes. P (cover d bytes))
 by-cover P d s None covered holds = covered
 by-cover P d s (Some bytes) covered holds = subst P (fun_ext (λ net. fun_ext (λ e. covered net e))) holds
+
+-- the files of a buffering, and that the runs of the solution are those of its bytes
+pub record AreRead (shelf : Reading) (design_name library_name solution_name : List ℕ) : Type 0 where
+  pub files : AreAccepted shelf design_name library_name solution_name
+  pub covered : IsTrue shelf.tells → IsCovered files.design (shelf.held Solution solution_name) files.solution
+
+-- once they were opened one after another, each where the shelf held what it held at first
+abbrev pub are-read : (shelf : Reading) (design_name library_name solution_name : List ℕ) (d : DesignView) (lib : LibraryView) (s : SolutionView)
+    (library solution : Option (List ℕ)) → (IsTrue shelf.tells → design_said shelf.held design_name ≡ Some (Ok d)) →
+    library ≡ shelf.held Library library_name → (IsTrue shelf.tells → option_map (library_of d) library ≡ Some (Ok lib)) →
+    solution ≡ shelf.held Solution solution_name → (IsTrue shelf.tells → option_map (solution_of d) solution ≡ Some (Ok s)) →
+    (IsTrue shelf.tells → IsCovered d solution s) → AreRead shelf design_name library_name solution_name
+are-read shelf design_name library_name solution_name d lib s library solution said same library_read kept solution_read covered = record {
+  files = record {
+    design = d;
+    said = said;
+    library = lib;
+    library_read = λ tells. ap (option_map (library_of d)) (sym same) ∙ library_read tells;
+    solution = s;
+    solution_read = λ tells. ap (option_map (solution_of d)) (sym kept) ∙ solution_read tells;
+  };
+  covered = λ tells. subst (λ (o : Option (List ℕ)). IsCovered d o s) kept (covered tells);
+}
 
 -- the texts of a buffering, all of which are accepted
 module _ (shelf : Reading) (design_name library_name solution_name : List ℕ) (files : AreAccepted shelf design_name library_name solution_name)

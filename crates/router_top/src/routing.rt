@@ -1,5 +1,5 @@
 //! The command that routes a design.
-ghost use Rattle.std.specs.Prelude.{◌≡◌, IfOk};
+ghost use Rattle.std.specs.Prelude.{◌≡◌, ◌<◌, IfOk};
 ghost use Rattle.gr_base.specs.Designs.{IsDesign};
 ghost use Rattle.gr_base.specs.Trees.{TreeView, route_edges};
 ghost use Rattle.rc_library.specs.Libraries.{IsLibraryOf};
@@ -25,7 +25,7 @@ use rc_library::Library;
 use report_text::{buffers, report};
 use ripup_workers::{Gate, Rounds, route_rounds};
 use route_evaluator::{Verdict, evaluate_routes};
-use route_writer::{WriteError, write_solution};
+use route_writer::{WriteError, write_solution_by};
 use std::alloc::{AllocError, Global};
 use std::sync::Wait;
 use std::thread::Threads;
@@ -80,7 +80,7 @@ pub(crate) fn route<R: Threads + Wait + Sync, S: Shelf, O: Sink, E: Sink, G: Gat
     let Ok(routed) = route_design(rt, alloc, &design, &library, options, gate, rules) else {
         return Left::without_rounds(Err(Stop::NoMemory));
     };
-    let end = write_routes(alloc, out, err, &design, &routed);
+    let end = write_routes(rt, alloc, out, err, &design, &routed, options.workers);
     Left {
         end,
         rounds: Some(routed.rounds),
@@ -172,21 +172,24 @@ fn routing_report(
     Ok(text)
 }
 
-/// Writes the routes on out, and their report on err.
-fn write_routes<O: Sink, E: Sink>(
+/// Writes the routes on out, by so many workers, and their report on err.
+fn write_routes<R: Threads + Sync, O: Sink, E: Sink>(
+    rt: &R,
     alloc: Global,
     out: &mut O,
     err: &mut E,
     design: &Design,
     routed: &RoutedDesign,
+    workers: u32,
 ) -> Result<Outcome, Stop>
-    requires { AreRouted design.now routed.now.routes }
+    requires routed { AreRouted design.now routed.now.routes }
+    requires workers { 0 < workers }
     ensures { IsWritten (written_text design.now (route_edges routed.now.routes)) routed.now.report
         (device_of O.tells O.faults O.written out.old out.new)
         (device_of E.tells E.faults E.written err.old err.new)
         result }
 {
-    match write_solution(alloc, out, design, &routed.routes) {
+    match write_solution_by(rt, alloc, out, design, &routed.routes, workers) {
         Ok(()) => {}
         Err(WriteError::Failed) => return Err(Stop::WriteFailed),
         Err(WriteError::NoMemory) => return Err(Stop::NoMemory),

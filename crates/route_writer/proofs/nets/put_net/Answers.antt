@@ -2,7 +2,7 @@ use Rattle.std.proofs.Common.{List, ◌++◌, sym, ap, ◌∙◌, append-nil}
 use Rattle.std.specs.Option.{option_copied}
 use Rattle.gr_base.specs.Trees.{route_edges}
 use Rattle.route_writer.proofs.WriteLemmas.{text-skip, text-routed}
-use Rattle.route_writer.proofs.write.put_net.Goals as goal
+use Rattle.route_writer.proofs.nets.put_net.Goals as goal
 
 pub returns-then-not-routed : goal.returns-then-not-routed
 returns-then-not-routed c =
