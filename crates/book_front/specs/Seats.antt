@@ -1,5 +1,5 @@
 -- The seats of a front, as clauses see them.
-use Rattle.std.specs.Prelude.{◌≡◌, ℕ, true, false, List, [], length, Some, slice_get}
+use Rattle.std.specs.Prelude.{◌≡◌, ℕ, true, false, List, [], ◌∷◌, ◌++◌, length, Some, slice_get}
 use mathlib.Core.List.{IsPrefix}
 use Rattle.atomic_table.specs.Seated.{TableId}
 use Rattle.book_state.specs.Entries.{calls_of}
@@ -31,6 +31,17 @@ pub record IsPass (word : TableId) (s : PassSeat) : Type 0 where
 pub record IsSame (word : TableId) (old new : PassSeat) : Type 0 where
   pub pass : IsPass word new
   pub number : (knows new).number ≡ (knows old).number
+
+-- the keeper's seat and a pass's behind a call by which the pass added an entry
+pub record HasAppended (word : TableId) (keeper seat : PassSeat) (entry : Entry) (after : PassSeat × PassSeat) : Type 0 where
+  pub keeper_is : IsKeeper word after.0
+  pub pass : IsSame word seat after.1
+  pub old : IsPrefix (knows seat).seen (knows keeper).seen
+  pub seen : (knows after.1).seen ≡ (knows keeper).seen ++ entry ∷ []
+  pub mine : (knows after.1).mine ≡ (knows seat).mine ++ entry ∷ []
+  pub calls : (knows after.1).mine ≡ calls_of (knows seat).number (knows after.1).seen
+  pub list : (knows after.0).seen ≡ (knows after.1).seen
+  pub made : (knows after.0).made ≡ (knows keeper).made
 
 -- the pass of a number, which has seen nothing yet
 pub record IsNew (word : TableId) (number : ℕ) (s : PassSeat) : Type 0 where

@@ -33,28 +33,16 @@ nobody = record { keeps = false; numbered = false; number = 0; seen = []; mine =
 
 -- the keeper that has given out one more number, and the pass with that number, which has seen what the keeper has
 abbrev pub with_pass : View → View
-with_pass v = record {
-  keeps = v.keeps;
-  numbered = v.numbered;
-  number = v.number;
-  seen = v.seen;
-  mine = v.mine;
-  old = v.old;
-  made = v.made + 1;
-  ended = v.ended;
-}
+with_pass v = record v { made = v.made + 1 }
 
 abbrev pub new_pass : View → View
 new_pass v = pass_view v.made v.seen [] []
 
 -- a pass that takes the role from the keeper, and has then seen what the keeper has
 abbrev pub with_role : View → View → View
-with_role v keeper = record {
+with_role v keeper = record v {
   keeps = true;
-  numbered = v.numbered;
-  number = v.number;
   seen = keeper.seen;
-  mine = v.mine;
   old = v.seen;
   made = keeper.made;
   ended = keeper.ended;
@@ -62,16 +50,7 @@ with_role v keeper = record {
 
 -- a pass that gives the role back, and the keeper that gets it
 abbrev pub without_role : View → View
-without_role v = record {
-  keeps = false;
-  numbered = v.numbered;
-  number = v.number;
-  seen = v.seen;
-  mine = v.mine;
-  old = v.old;
-  made = 0;
-  ended = [];
-}
+without_role v = record v { keeps = false; made = 0; ended = [] }
 
 abbrev pub role_of : View → View
 role_of v = keeper_view v.made v.ended v.seen
@@ -81,29 +60,11 @@ abbrev pub ended_of : View → Ended
 ended_of v = record { number = v.number; seen = v.seen; mine = v.mine }
 
 abbrev pub with_ended : View → View → View
-with_ended v pass = record {
-  keeps = v.keeps;
-  numbered = v.numbered;
-  number = v.number;
-  seen = v.seen;
-  mine = v.mine;
-  old = v.old;
-  made = v.made;
-  ended = v.ended ++ ended_of pass ∷ [];
-}
+with_ended v pass = record v { ended = v.ended ++ ended_of pass ∷ [] }
 
 -- a pass that adds an entry of its own
 abbrev pub with_entry : View → Entry → View
-with_entry v e = record {
-  keeps = v.keeps;
-  numbered = v.numbered;
-  number = v.number;
-  seen = v.seen ++ e ∷ [];
-  mine = v.mine ++ e ∷ [];
-  old = v.old;
-  made = v.made;
-  ended = v.ended;
-}
+with_entry v e = record v { seen = v.seen ++ e ∷ []; mine = v.mine ++ e ∷ [] }
 
 -- an entry, where any will do
 abbrev pub some_entry : Entry

@@ -1,7 +1,7 @@
 //! What the seats of a front do.
 ghost use Rattle.std.specs.Prelude.{◌≡◌, true, ◌^◌, ◌<◌, ◌≤◌, [], ◌∷◌, ◌++◌, length, All, IfOk};
 ghost use mathlib.Core.List.{IsPrefix};
-ghost use Rattle.book_front.specs.Seats.{word_of, knows, IsKeeper, IsPass, IsSame, AreFresh, AreAll, AreIn};
+ghost use Rattle.book_front.specs.Seats.{word_of, knows, IsKeeper, IsPass, IsSame, HasAppended, AreFresh, AreAll, AreIn};
 ghost use Rattle.book_front.specs.Views.{with_pass, new_pass, with_role, without_role, role_of, with_ended};
 ghost use Rattle.book_state.specs.Entries.{calls_of};
 
@@ -81,14 +81,7 @@ impl Front {
         requires number { entry.now.number ≡ (knows seat).number }
         requires few { length (knows keeper).seen < 2 ^ 62 }
         requires entry { entry.now ≡ E.entry }
-        ensures keeper { IsKeeper (word_of self.now) result.0 }
-        ensures pass { IsSame (word_of self.now) seat result.1 }
-        ensures old { IsPrefix (knows seat).seen (knows keeper).seen }
-        ensures seen { (knows result.1).seen ≡ (knows keeper).seen ++ entry.now ∷ [] }
-        ensures mine { (knows result.1).mine ≡ (knows seat).mine ++ entry.now ∷ [] }
-        ensures calls { (knows result.1).mine ≡ calls_of (knows seat).number (knows result.1).seen }
-        ensures list { (knows result.0).seen ≡ (knows result.1).seen }
-        ensures made { (knows result.0).made ≡ (knows keeper).made }
+        ensures { HasAppended (word_of self.now) keeper seat entry.now result }
     {
         self.take_role(&mut seat, keeper);
         self.table
@@ -150,9 +143,8 @@ impl Front {
         ensures word { seat.new.seat.table_id ≡ word_of self.now }
         ensures role { knows seat.new ≡ with_role (knows seat.old) (knows keeper) }
     {
-        self.table
-            .shared
-            .join_seat::<TakeRole>(&mut seat.seat, keeper.seat);
+        let table = &self.table.shared;
+        table.join_seat::<TakeRole>(&mut seat.seat, keeper.seat);
     }
 
     /// The pass gives the keeper's role back.
@@ -176,8 +168,7 @@ impl Front {
         ensures word { keeper.new.seat.table_id ≡ word_of self.now }
         ensures keeper { knows keeper.new ≡ with_ended (knows keeper.old) (knows seat) }
     {
-        self.table
-            .shared
-            .join_seat::<EndPass>(&mut keeper.seat, seat.seat);
+        let table = &self.table.shared;
+        table.join_seat::<EndPass>(&mut keeper.seat, seat.seat);
     }
 }

@@ -1,4 +1,9 @@
 //! The rule of the counting word, and the steps that keep it.
+ghost use Rattle.book_front.specs.Rule.{Kept};
+ghost use Rattle.book_front.specs.Views.{first_keeper, with_pass, new_pass, with_role, nobody, some_entry, without_role, role_of, with_ended};
+ghost use Rattle.book_state.specs.declared.entry.Entry.{Entry};
+ghost use Rattle.book_front.specs.Steps.{Appends, Looks, Finishes};
+
 use crate::view::View;
 use atomic_table::{Join, Play, Split, TableRule};
 use std::marker::{Brand, PhantomData};
@@ -7,9 +12,6 @@ use std::marker::{Brand, PhantomData};
 pub(crate) struct Counted;
 
 impl TableRule<(), View, ()> for Counted {
-    ghost use Rattle.book_front.specs.Rule.{Kept};
-    ghost use Rattle.book_front.specs.Views.{first_keeper};
-
     ghost holds = { λ key s. Kept s.words s.views };
 
     ghost first = { λ key. first_keeper };
@@ -19,8 +21,6 @@ impl TableRule<(), View, ()> for Counted {
 pub(crate) struct NewPass;
 
 impl Split<View> for NewPass {
-    ghost use Rattle.book_front.specs.Views.{with_pass, new_pass};
-
     ghost left = { with_pass };
 
     ghost right = { new_pass };
@@ -30,45 +30,17 @@ impl Split<View> for NewPass {
 pub(crate) struct TakeRole;
 
 impl Join<View> for TakeRole {
-    ghost use Rattle.book_front.specs.Views.{with_role, nobody};
-
     ghost both = { with_role };
-
-    ghost spent = { nobody };
-}
-
-/// A pass gives the keeper's role back.
-pub(crate) struct GiveRole;
-
-impl Split<View> for GiveRole {
-    ghost use Rattle.book_front.specs.Views.{without_role, role_of};
-
-    ghost left = { without_role };
-
-    ghost right = { role_of };
-}
-
-/// A pass ends, and the keeper remembers what it knew.
-pub(crate) struct EndPass;
-
-impl Join<View> for EndPass {
-    ghost use Rattle.book_front.specs.Views.{with_ended, nobody};
-
-    ghost both = { with_ended };
 
     ghost spent = { nobody };
 }
 
 /// Which entry a step adds. Each call picks it.
 pub(crate) trait Said {
-    ghost use Rattle.book_state.specs.declared.entry.Entry.{Entry};
-
     ghost entry: { Entry };
 }
 
 impl Said for Brand {
-    ghost use Rattle.book_front.specs.Views.{some_entry};
-
     ghost entry = { some_entry };
 }
 
@@ -78,25 +50,37 @@ pub(crate) struct Append<E: Said> {
 }
 
 impl<E: Said> Play<(), View> for Append<E> {
-    ghost use Rattle.book_front.specs.Steps.{Appends};
-
     ghost then = { λ step me found after. Appends E.entry me after };
+}
+
+/// A pass gives the keeper's role back.
+pub(crate) struct GiveRole;
+
+impl Split<View> for GiveRole {
+    ghost left = { without_role };
+
+    ghost right = { role_of };
 }
 
 /// A step by which a pass looks at the word.
 pub(crate) struct Look;
 
 impl Play<(), View> for Look {
-    ghost use Rattle.book_front.specs.Steps.{Looks};
-
     ghost then = { λ step me found after. Looks me found after };
+}
+
+/// A pass ends, and the keeper remembers what it knew.
+pub(crate) struct EndPass;
+
+impl Join<View> for EndPass {
+    ghost both = { with_ended };
+
+    ghost spent = { nobody };
 }
 
 /// A step by which the keeper looks at the word when passes have ended.
 pub(crate) struct Finish;
 
 impl Play<(), View> for Finish {
-    ghost use Rattle.book_front.specs.Steps.{Finishes};
-
     ghost then = { λ step me found after. Finishes me found after };
 }

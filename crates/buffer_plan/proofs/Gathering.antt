@@ -255,6 +255,16 @@ steps-hung s node parent k nodes upper trail lists below own are later earlier b
     let product : length s.library.kinds * n ≡ k * n = ap (λ (m : ℕ). m * n) kinds in
     steps-low k nodes n (length below) (length own) upper (omega arith) (omega arith) (omega arith) short
 
+pub hung-in-steps : {parent k nodes raised now : ℕ} {without : List (Option (List Pair))} {below own : List Pair} (old : ℕ) (upper : List Pair) (s : Sites) (node : ℕ)
+    (trail : List Chosen) (lists : List (Option (List Pair))) → AreGathered s (node + 1) trail lists → 0 < node → parent < node →
+    below ≡ pairs_at lists node → without ≡ slice_set lists node None → own ≡ pairs_at without parent →
+    length s.library.kinds ≡ k → s.tree.nodes ≡ nodes → length upper ≤ length below + k →
+    raised ≤ old + 3 * (k * (length below + k)) + length below + k → now ≤ raised + 2 * (length own + length upper) → now ≤ old + most_steps k nodes
+hung-in-steps {parent} {k} {nodes} {raised} {now} {without} {below} {own} old upper s node trail lists are later earlier below_is taken own_is kinds long short up joined =
+    let steps = steps-hung s node parent k nodes (length upper) trail lists below own are later earlier below_is
+    (own-is lists without node parent own taken own_is earlier) kinds long short in
+    omega (arith, steps, up, joined)
+
 -- the steps of all nodes so far, where a node takes at most m
 pub steps-turn : (m nodes node old before now : ℕ) → 1 < node → node ≤ nodes → before ≤ old + m * (nodes - node) → now ≤ before + m →
     now ≤ old + m * (nodes - (node - 1))

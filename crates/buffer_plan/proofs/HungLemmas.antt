@@ -99,21 +99,21 @@ pub seen-same : (n k v : ℕ) (t : RcTree) (b c : Buffers) → k + n ≡ t.nodes
 seen-same zero k v t b c at each = refl
 seen-same (suc n) k v t b c at each =
     let m : ℕ = t.nodes - suc n in
-    let here : b m ≡ c m = each m (omega arith) (omega arith) in
     let own = seen-same n (suc k) v t b c (omega arith) (λ node le lt. each node (omega arith) lt) in
     let below = seen-same n (suc k) m t b c (omega arith) (λ node le lt. each node (omega arith) lt) in
     ap (λ (x : Seen). if v == t.parent m then joined x (along (t.wire m) (behind (b m) (seen_of_last n t b m))) else x) own
     ∙ ap (λ (x : Seen). if v == t.parent m then joined (seen_of_last n t c v) (along (t.wire m) (behind (b m) x)) else seen_of_last n t c v) below
-    ∙ ap (λ (o : Option Kind). if v == t.parent m then joined (seen_of_last n t c v) (along (t.wire m) (behind o (seen_of_last n t c m))) else seen_of_last n t c v) here
+    ∙ ap (λ (o : Option Kind). if v == t.parent m then joined (seen_of_last n t c v) (along (t.wire m) (behind o (seen_of_last n t c m))) else seen_of_last n t c v)
+    (each m (omega arith) (omega arith))
 
 pub choice-same : (n k v : ℕ) (t : RcTree) (p q : Held) → k + n ≡ t.nodes → ((node : ℕ) → k ≤ node → node < t.nodes → p node ≡ q node) →
     choice_of_last n t p v ≡ choice_of_last n t q v
 choice-same zero k v t p q at each = refl
 choice-same (suc n) k v t p q at each =
     let m : ℕ = t.nodes - suc n in
-    let here : p m ≡ q m = each m (omega arith) (omega arith) in
     let own = choice-same n (suc k) v t p q (omega arith) (λ node le lt. each node (omega arith) lt) in
     let below = choice-same n (suc k) m t p q (omega arith) (λ node le lt. each node (omega arith) lt) in
     ap (λ (x : Chosen). if v == t.parent m then both x (over m (p m) (choice_of_last n t p m)) else x) own
     ∙ ap (λ (x : Chosen). if v == t.parent m then both (choice_of_last n t q v) (over m (p m) x) else choice_of_last n t q v) below
-    ∙ ap (λ (o : Option ℕ). if v == t.parent m then both (choice_of_last n t q v) (over m o (choice_of_last n t q m)) else choice_of_last n t q v) here
+    ∙ ap (λ (o : Option ℕ). if v == t.parent m then both (choice_of_last n t q v) (over m o (choice_of_last n t q m)) else choice_of_last n t q v)
+    (each m (omega arith) (omega arith))

@@ -1,5 +1,8 @@
 -- The lists of nodes while they are gathered.
 use Rattle.std.specs.Prelude.{◌≡◌, ℕ, ◌+◌, ◌-◌, ◌*◌, ◌^◌, ◌<◌, ◌≤◌, List, [], ◌∷◌, length, All, sum_by, Option, Some, None, slice_index_or}
+use Rattle.gr_base.specs.Trees.{TreeView}
+use Rattle.rc_library.specs.Libraries.{LibraryView}
+use Rattle.elmore_delay.specs.Loadings.{LoadingView}
 use Rattle.elmore_delay.specs.Ranges.{IsSeen}
 use Rattle.ginneken_lists.specs.Candidates.{Chosen, Candidate, Nothing, Buffered, Both}
 use Rattle.ginneken_lists.specs.Pairs.{candidates as candidates_of, AreMarked}
@@ -20,6 +23,11 @@ pairs_at lists node = pairs_in (slice_index_or lists node None)
 -- how many pairs a list has beyond one
 abbrev pub more_pairs : Option (List Pair) → ℕ
 more_pairs list = length (pairs_in list) - 1
+
+-- the loading is one of this tree, by this library
+pub record IsLoadingOf (loading : LoadingView) (tree : TreeView) (library : LibraryView) : Type 0 where
+  pub tree_is : loading.tree ≡ tree
+  pub library_is : loading.library ≡ library
 
 -- at each node before a number stands the list of its candidates, of its children those from that number on
 pub record AreGathered (s : Sites) (from : ℕ) (trail : List Chosen) (lists : List (Option (List Pair))) : Type 0 where

@@ -6,7 +6,7 @@ ghost use Rattle.ginneken_lists.specs.Pairs.{candidates as candidates_of, AreMar
 ghost use Rattle.ginneken_lists.specs.Trails.{Keeps};
 ghost use Rattle.buffer_plan.specs.Best.{may_place};
 ghost use Rattle.buffer_plan.specs.Picked.{sites_of, all_hanging};
-ghost use Rattle.buffer_plan.specs.Gathered.{pairs_in, AreGathered, AreSmall, most_steps};
+ghost use Rattle.buffer_plan.specs.Gathered.{pairs_in, IsLoadingOf, AreGathered, AreSmall, most_steps};
 
 use crate::lists::{self, Lists};
 use elmore_delay::Loading;
@@ -27,8 +27,7 @@ pub(crate) fn hang_all<L: Ledger>(
     pool: &mut ListPool,
     steps: &mut Steps<L>,
 ) -> Result<(), AllocError>
-    requires tree { loading.now.tree ≡ tree.now }
-    requires library { loading.now.library ≡ library.now }
+    requires ours { IsLoadingOf loading.now tree.now library.now }
     requires loading { IsLoading loading.now }
     requires lists { AreGathered (sites_of loading.now) (length tree.now.nodes) trail.old lists.old.items }
     ensures lists { OnOk result (AreGathered (sites_of loading.now) 1 trail.new lists.new.items) }
@@ -55,8 +54,7 @@ fn hang<L: Ledger>(
     pool: &mut ListPool,
     steps: &mut Steps<L>,
 ) -> Result<(), AllocError>
-    requires tree { loading.now.tree ≡ tree.now }
-    requires library { loading.now.library ≡ library.now }
+    requires ours { IsLoadingOf loading.now tree.now library.now }
     requires loading { IsLoading loading.now }
     requires later { 0 < node }
     requires lists { AreGathered (sites_of loading.now) (node + 1) trail.old lists.old.items }

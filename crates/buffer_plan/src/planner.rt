@@ -3,6 +3,7 @@ ghost use Rattle.std.specs.Prelude.{◌≡◌, ◌+◌, ◌*◌, ◌≤◌, Some
 ghost use Rattle.elmore_delay.specs.Loadings.{IsLoading};
 ghost use Rattle.ginneken_lists.specs.Pairs.{candidate_of};
 ghost use Rattle.buffer_plan.specs.Best.{IsBest, time_with};
+ghost use Rattle.buffer_plan.specs.Gathered.{IsLoadingOf};
 ghost use Rattle.buffer_plan.specs.Picked.{picked_candidate, picked};
 
 use crate::hanging::hang_all;
@@ -70,8 +71,7 @@ impl Planner {
         loading: &Loading,
         steps: &mut Steps<L>,
     ) -> Result<Pair, AllocError>
-        requires tree { loading.now.tree ≡ tree.now }
-        requires library { loading.now.library ≡ library.now }
+        requires ours { IsLoadingOf loading.now tree.now library.now }
         ensures picked { IfOk result (λ pair. picked_candidate loading.now ≡ Some (candidate_of self.new.trail pair)) }
         ensures mark { IfOk result (λ pair. pair.mark ≤ length self.new.trail) }
         ensures loading { IsLoading loading.now }

@@ -13,11 +13,11 @@ use Rattle.gr_base.specs.declared.frame.Net.{Net}
 use Rattle.gr_base.specs.declared.grid.Shape.{Shape}
 use Rattle.gr_text.specs.Numbers.{number_in, decimal_value}
 use Rattle.gr_text.specs.Tokens.{Place, tokens, place_in}
-use Rattle.gr_text.specs.Reading.{Reader, and_then, ◌>>=◌, pure, check, token_or_end, several}
+use Rattle.gr_text.specs.Reading.{Reader, and_then, ◌>>=◌, pure, check, token_or_end, several, end, value_of}
 use Rattle.ispd_reader.specs.Header.{shape_of, frame}
 use Rattle.ispd_reader.specs.Nets as grammar
-use Rattle.ispd_reader.specs.Adjustments.{adjustments, counted_adjustments, adjustment_count, end}
-use Rattle.ispd_reader.specs.DesignText.{design, design_of, value_of}
+use Rattle.ispd_reader.specs.Adjustments.{adjustments, counted_adjustments, adjustment_count}
+use Rattle.ispd_reader.specs.DesignText.{design, design_of}
 use Rattle.ispd_reader.specs.declared.fault.DesignFault.{DesignFault}
 use Rattle.ispd_reader.proofs.HeaderLemmas.{shape_of-new}
 use Rattle.design_maker.specs.Ranges.{IsMade}

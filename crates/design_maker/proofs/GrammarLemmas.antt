@@ -14,13 +14,16 @@ use Rattle.gr_base.specs.Designs.{net_from, pins_of, tile_of, middle}
 use Rattle.gr_base.specs.declared.frame.Net.{Net}
 use Rattle.gr_base.specs.declared.grid.Shape.{Shape}
 use Rattle.gr_text.specs.Numbers.{number_in, decimal_value}
-use Rattle.gr_text.specs.Reading.{several}
+use Rattle.gr_text.specs.Reading.{natural, several}
 use Rattle.solution_text.proofs.CentreLemmas.{tile-back}
 use Rattle.solution_text.proofs.NumberLemmas.{natural-back}
-use Rattle.ispd_reader.specs.Steps.{natural, words, layer_in}
-use Rattle.ispd_reader.specs.Header.{shape_of, grid, padded, by_layer, capacities, measures, layers, corner, tile_size, frame}
+use Rattle.ispd_reader.specs.Faults.{ends}
+use Rattle.ispd_reader.specs.Steps.{words, layer_in}
+use Rattle.ispd_reader.specs.Header.{shape_of, grid, padded, by_layer, capacities, measures, layers, corner, above_zero, frame}
 use Rattle.ispd_reader.specs.Nets.{coordinate, pin, net_id, pin_count, net, net_count}
-use Rattle.ispd_reader.specs.declared.fault.DesignFault.TheVariants.{Word, PinLayer}
+use Rattle.ispd_reader.specs.declared.fault.DesignFault.{DesignFault}
+use Rattle.ispd_reader.specs.declared.fault.DesignFault.TheVariants.{Word, Number, PinLayer}
+use Rattle.ispd_reader.specs.declared.fault.DesignFault.TheVariants as wrong
 use Rattle.design_maker.specs.Nets.{MadeNet}
 use Rattle.design_maker.specs.Designs as designs
 use Rattle.design_maker.specs.Designs.{frame_on, cell_on, net_on}
@@ -37,33 +40,39 @@ says-two : (first second : List ℕ) → bytes_eq first first ≡ true → bytes
 unfolding words
 says-two first second one two = says-then _ _ {words = first ∷ []} (says-word Word first one) (says-word Word second two)
 
+says-above_zero : (most : ℕ) (fault : DesignFault) (n : ℕ) → n < 2 ^ 64 → 0 < n → n ≤ most → Says (above_zero most fault) (decimal n ∷ []) n
+unfolding above_zero
+says-above_zero most fault n small some few =
+    let more : nat_lt 0 n ≡ true = grind (arith, nat_tests) in
+    says-then _ _ {words = decimal n ∷ []} (says-natural most n small few) (then-checks _ _ _ more (says-pure n))
+
 pub says-grid : (made : Made) (shape : Shape) → made.columns ≤ most_cells → made.rows ≤ most_cells → made.layers ≤ most_layers →
     0 < made.columns → 0 < made.rows → 0 < made.layers →
     shape_of made.columns made.rows made.layers ≡ Some shape → Says grid (grid_line made) shape
 unfolding grid
 says-grid made shape columns rows layers some_columns some_rows some_layers is =
     says-then _ _ {words = codes "grid" ∷ []} (says-word Word (codes "grid") refl)
-    (says-then _ _ {words = decimal made.columns ∷ []} (says-natural 1 most_cells made.columns (omega arith) (omega arith) columns)
-    (says-then _ _ {words = decimal made.rows ∷ []} (says-natural 1 most_cells made.rows (omega arith) (omega arith) rows)
-    (says-then _ _ {words = decimal made.layers ∷ []} (says-natural 1 most_layers made.layers (omega arith) (omega arith) layers)
+    (says-then _ _ {words = decimal made.columns ∷ []} (says-above_zero most_cells Number made.columns (omega arith) (omega arith) columns)
+    (says-then _ _ {words = decimal made.rows ∷ []} (says-above_zero most_cells Number made.rows (omega arith) (omega arith) rows)
+    (says-then _ _ {words = decimal made.layers ∷ []} (says-above_zero most_layers Number made.layers (omega arith) (omega arith) layers)
     (says-given _ shape is))))
 
 module _ (number : ℕ → ℕ) (most : ℕ) (small : most < 2 ^ 64) (fits : (layer : ℕ) → number layer ≤ most) where
-  says-numbers : (xs : List ℕ) → AllByRecursion (λ layer. Says (natural 0 most) (decimal (number layer) ∷ []) (number layer)) xs
+  says-numbers : (xs : List ℕ) → AllByRecursion (λ layer. Says (natural ends Number most) (decimal (number layer) ∷ []) (number layer)) xs
   says-numbers [] = tt
   says-numbers (layer ∷ xs) =
       let few = fits layer in
-      (says-natural 0 most (number layer) (omega arith) (omega arith) few, says-numbers xs)
+      (says-natural most (number layer) (omega arith) few, says-numbers xs)
 
   says-by_layer : (count : ℕ) → Says (by_layer count most) (layer_words number count) (designs.by_layer number count)
   unfolding by_layer
   says-by_layer count =
       let xs = range_with_len 1 count in
       let word : ℕ → List (List ℕ) = λ layer. decimal (number layer) ∷ [] in
-      let all : Says (several (λ _. natural 0 most) (length xs) []) (flat_map word xs) (map number xs) =
-      says-several (natural 0 most) word number xs [] (says-numbers xs) in
-      let counted : Says (several (λ _. natural 0 most) count []) (flat_map word xs) (map number xs) =
-      subst (λ (n : ℕ). Says (several (λ _. natural 0 most) n []) (flat_map word xs) (map number xs)) (length-range_with_len 1 count) all in
+      let all : Says (several (λ _. natural ends Number most) (length xs) []) (flat_map word xs) (map number xs) =
+      says-several (natural ends Number most) word number xs [] (says-numbers xs) in
+      let counted : Says (several (λ _. natural ends Number most) count []) (flat_map word xs) (map number xs) =
+      subst (λ (n : ℕ). Says (several (λ _. natural ends Number most) n []) (flat_map word xs) (map number xs)) (length-range_with_len 1 count) all in
       says-words (append-nil (flat_map word xs) ∙ flat_map_single (λ (layer : ℕ). decimal (number layer)) xs)
       (says-then _ _ {others = []} counted (says-pure (padded (map number xs))))
 
@@ -121,9 +130,9 @@ says-corner : Says corner (codes "0" ∷ []) (pos 0)
 unfolding corner number_in decimal_value
 says-corner = says-number _ _ _ (codes "0") (pos 0) refl
 
-says-tile_size : Says tile_size (codes "10" ∷ []) 10
-unfolding tile_size number_in decimal_value
-says-tile_size = says-then _ _ {words = codes "10" ∷ []} (says-literal 0 most_tile 10 (codes "10") refl) (then-checks _ _ _ refl (says-pure 10))
+says-tile_size : Says (above_zero most_tile wrong.Tile) (codes "10" ∷ []) 10
+unfolding above_zero number_in decimal_value
+says-tile_size = says-then _ _ {words = codes "10" ∷ []} (says-literal most_tile 10 (codes "10") refl) (then-checks _ _ _ refl (says-pure 10))
 
 -- the frame, and the words before the number of nets
 pub says-frame : (made : Made) (shape : Shape) → Says grid (grid_line made) shape → 2 ≤ shape.layers →
@@ -160,7 +169,7 @@ says-first_layer : (shape : Shape) → 1 ≤ shape.layers → Says (layer_in sha
 unfolding layer_in number_in decimal_value
 says-first_layer shape some =
     let most : nat_le 1 shape.layers ≡ true = grind (arith, nat_tests) in
-    says-then _ _ {words = codes "1" ∷ []} (says-literal 0 most_id 1 (codes "1") refl) (then-checks _ _ _ (rw most refl) (says-pure 0))
+    says-then _ _ {words = codes "1" ∷ []} (says-literal most_id 1 (codes "1") refl) (then-checks _ _ _ (rw most refl) (says-pure 0))
 
 -- the nets so far: their ids are below the next number, and they have few pins
 pub record AreBefore (number : ℕ) (found : List Net) : Type 0 where
@@ -194,7 +203,7 @@ module _ (made : Made) (shape : Shape) (columns : shape.columns ≡ made.columns
   unfolding net_id
   says-net_id number found small before =
       let none : is_none (net_from 0 number found) ≡ true = ap is_none (fresh 0 number number found (omega arith) before.ids) in
-      says-then _ _ {words = decimal number ∷ []} (says-natural 0 most_id number (omega arith) (omega arith) small) (then-checks _ _ _ none (says-pure number))
+      says-then _ _ {words = decimal number ∷ []} (says-natural most_id number (omega arith) small) (then-checks _ _ _ none (says-pure number))
 
   says-pin_count : (number count : ℕ) (found : List Net) → number < 1000000 → 0 < count → count ≤ 12 → AreBefore number found →
       Says (pin_count (pins_of found)) (decimal count ∷ []) count
@@ -203,14 +212,14 @@ module _ (made : Made) (shape : Shape) (columns : shape.columns ≡ made.columns
       let pins = before.pins in
       let more : nat_lt 0 count ≡ true = grind (arith, nat_tests) in
       let most : nat_le (pins_of found + count) most_pins ≡ true = let fits : pins_of found + count ≤ most_pins = omega arith in grind (arith, nat_tests) in
-      says-then _ _ {words = decimal count ∷ []} (says-natural 0 most_pins count (omega arith) (omega arith) (omega arith)) (then-checks _ _ _ (and-from (nat_lt 0 count) more most) (says-pure count))
+      says-then _ _ {words = decimal count ∷ []} (says-natural most_pins count (omega arith) (omega arith)) (then-checks _ _ _ (and-from (nat_lt 0 count) more most) (says-pure count))
     where
       and-from : (b : Bool) {c : Bool} → b ≡ true → c ≡ true → (b && c) ≡ true
       and-from b one two = rw one two
 
-  says-width : Says (natural 0 most_width) (codes "1" ∷ []) 1
+  says-width : Says (natural ends Number most_width) (codes "1" ∷ []) 1
   unfolding number_in decimal_value
-  says-width = says-literal 0 most_width 1 (codes "1") refl
+  says-width = says-literal most_width 1 (codes "1") refl
 
   words-of_pins : (tiles : List Tile) → words_of (map pin_line tiles) ≡ flat_map pin_line tiles
   words-of_pins [] = refl
@@ -255,4 +264,4 @@ module _ (made : Made) (shape : Shape) (columns : shape.columns ≡ made.columns
 pub says-net_count : (count : ℕ) → count ≤ most_nets → Says net_count (codes "num" ∷ codes "net" ∷ decimal count ∷ []) count
 unfolding net_count
 says-net_count count few =
-    says-then _ _ {words = codes "num" ∷ codes "net" ∷ []} (says-two (codes "num") (codes "net") refl refl) (says-natural 0 most_nets count (omega arith) (omega arith) few)
+    says-then _ _ {words = codes "num" ∷ codes "net" ∷ []} (says-two (codes "num") (codes "net") refl refl) (says-natural most_nets count (omega arith) few)

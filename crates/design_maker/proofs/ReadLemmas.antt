@@ -6,11 +6,11 @@ use Rattle.std.specs.Fmt.{decimal}
 use Rattle.std.proofs.lemmas.Bool.Decides.{nat_tests}
 use Rattle.gr_text.specs.Numbers.{number_in}
 use Rattle.gr_text.specs.Tokens.{Place, AtEnd}
-use Rattle.gr_text.specs.Reading.{Reader, and_then, ◌>>=◌, pure, check, given, token, word, number, several}
+use Rattle.gr_text.specs.Reading.{Reader, and_then, ◌>>=◌, pure, check, given, token, word, number, natural, several}
 use Rattle.solution_text.proofs.NumberLemmas.{natural-back}
 use Rattle.ispd_reader.specs.Faults.{ends}
-use Rattle.ispd_reader.specs.Steps.{natural}
 use Rattle.ispd_reader.specs.declared.fault.DesignFault.{DesignFault}
+use Rattle.ispd_reader.specs.declared.fault.DesignFault.TheVariants.{Number}
 
 -- a place with these tokens left, up to the text's end
 abbrev pub place : ℕ → List (List ℕ) → Place
@@ -67,22 +67,22 @@ pub says-number : (fault : DesignFault) (low high : ℤ) (text : List ℕ) (z : 
 unfolding number
 says-number fault low high text z is = says-then _ _ {words = text ∷ []} (says-token text) (says-given fault z is)
 
-number-back : (low high n : ℕ) → n < 2 ^ 64 → low ≤ n → n ≤ high → number_in (pos low) (pos high) (decimal n) ≡ Some (pos n)
+number-back : (most n : ℕ) → n < 2 ^ 64 → n ≤ most → number_in (pos 0) (pos most) (decimal n) ≡ Some (pos n)
 unfolding number_in
-number-back low high n small least most =
-    let some : nat_le low n ≡ true = grind (arith, nat_tests) in
-    let few : nat_le n high ≡ true = grind (arith, nat_tests) in
+number-back most n small below =
+    let some : nat_le 0 n ≡ true = grind (arith, nat_tests) in
+    let few : nat_le n most ≡ true = grind (arith, nat_tests) in
     rw (natural-back n small) (rw (some, few) refl)
 
 -- a written number in the range
-pub says-natural : (low high n : ℕ) → n < 2 ^ 64 → low ≤ n → n ≤ high → Says (natural low high) (decimal n ∷ []) n
+pub says-natural : (most n : ℕ) → n < 2 ^ 64 → n ≤ most → Says (natural ends Number most) (decimal n ∷ []) n
 unfolding natural
-says-natural low high n small least most =
-    says-then _ _ {words = decimal n ∷ []} (says-number _ _ _ (decimal n) (pos n) (number-back low high n small least most)) (says-pure n)
+says-natural most n small few =
+    says-then _ _ {words = decimal n ∷ []} (says-number _ _ _ (decimal n) (pos n) (number-back most n small few)) (says-pure n)
 
-pub says-literal : (low high n : ℕ) (text : List ℕ) → number_in (pos low) (pos high) text ≡ Some (pos n) → Says (natural low high) (text ∷ []) n
+pub says-literal : (most n : ℕ) (text : List ℕ) → number_in (pos 0) (pos most) text ≡ Some (pos n) → Says (natural ends Number most) (text ∷ []) n
 unfolding natural
-says-literal low high n text is = says-then _ _ {words = text ∷ []} (says-number _ _ _ text (pos n) is) (says-pure n)
+says-literal most n text is = says-then _ _ {words = text ∷ []} (says-number _ _ _ text (pos n) is) (says-pure n)
 
 -- items that don't depend on those before
 pub says-several : {A X : Type 0} (item : Reader DesignFault A) (words : X → List (List ℕ)) (value : X → A) (xs : List X) (found : List A) →

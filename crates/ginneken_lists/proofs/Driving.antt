@@ -29,6 +29,10 @@ find-only {A = A} test (y ∷ ys) x one passes only =
       | inr there ↦ find-only test ys x there passes (λ k d inside. only (suc k) d (omega arith))
     ])
 
+-- two times are compared as those that they are
+pub no_later-as : {a b x y : Option ℤ} {judged : Bool} → x ≡ a → y ≡ b → no_later x y ≡ judged → no_later a b ≡ judged
+no_later-as {a} {b} {x} {y} {judged} a_is b_is is = ap (λ (t : Option ℤ). no_later t b) (sym a_is) ∙ ap (no_later x) (sym b_is) ∙ is
+
 -- a pair that leads: no other one has a later time at the input, nor as late a time at a smaller load
 pub record Leads {A : Type 0} (seen : A → Seen) (r : ℕ) (all : List A) (best : A) : Type 0 where
   pub one : Contains all best

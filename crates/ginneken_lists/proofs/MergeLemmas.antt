@@ -183,6 +183,27 @@ pub record AreRead (trail now next : List Chosen) (left right : List Stored) (be
   pub mark_is : pair.mark ≡ mark
   pub after_is : after ≡ steps + 2
 
+pub are-read : {trail now next : List Chosen} {left right : List Stored} {before beside : ℕ} {o other pair : Stored} {mark steps between after : ℕ} →
+    before < length left → (beside ≡ length right → ⊥) → o ≡ get_or left before o → other ≡ get_or right beside other →
+    All (λ (s : Stored). s.mark ≤ length trail) left → All (λ (s : Stored). s.mark ≤ length trail) right → Keeps now next →
+    chosen_of next mark ≡ both (chosen_of now o.mark) (chosen_of now other.mark) → mark ≤ length next →
+    sight pair ≡ joined (sight o) (sight other) → pair.mark ≡ mark → between ≡ steps + 1 → after ≡ between + 1 →
+    AreRead trail now next left right before beside o other pair mark steps after
+are-read ahead apart first second left_marks right_marks grows named fits seen mark_is one two = record {
+  ahead = ahead;
+  apart = apart;
+  first = first;
+  second = second;
+  after_is = omega arith;
+  left_marks = left_marks;
+  right_marks = right_marks;
+  grows = grows;
+  named = named;
+  fits = fits;
+  seen = seen;
+  mark_is = mark_is;
+}
+
 read-mark : (most : ℕ) (xs : List Stored) (k : ℕ) (x : Stored) → All (λ (s : Stored). s.mark ≤ most) xs → k < length xs → x ≡ get_or xs k x → x.mark ≤ most
 read-mark most xs k x marks inside is = subst (λ (s : Stored). s.mark ≤ most) (sym is) (marks k x inside)
 

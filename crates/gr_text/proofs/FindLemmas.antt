@@ -2,6 +2,7 @@
 use Rattle.std.proofs.Common.{◌≡◌, ℕ, ◌+◌, ◌≤◌, false, List, [], ◌++◌, length, Ok, Err, refl, sym, ap, subst, ◌∙◌, append_assoc, append-nil}
 use Rattle.std.specs.List.{list_all}
 use Rattle.std.proofs.lemmas.List.Folds.{list_all-append}
+use Rattle.gr_io.specs.declared.shelf.Slot.{Slot}
 use Rattle.gr_text.specs.declared.tokens.TokenError.{TokenError}
 use Rattle.gr_text.specs.declared.tokens.TokenError.TheVariants.{Failed, TooLong, NoMemory}
 use Rattle.gr_text.specs.Tokens.{is_blank, Place, place_in, AtEnd, PastLimit}
@@ -98,6 +99,14 @@ find-cut before at after bytes new_bytes left (TooLong token) word place skips s
       subst P (sym place_is) taken.0,
       one ∙ ap (λ n. n + 1) same ∙ ap (λ n. n + 1) (sym (place-number before.room before.number bytes)),
     )
+
+-- the same slot by another name
+pub taken-at : (at after : Stream) (left left' : Slot → List ℕ) (slot other : Slot) (error : TokenError) → slot ≡ other →
+    TakesToken at.room at.number (at.pending ++ left slot) (Err error) after (left' slot) →
+    TakesToken at.room at.number (at.pending ++ left other) (Err error) after (left' other)
+taken-at at after left left' slot other error same taken =
+    let P : Slot → Type 0 = λ s. TakesToken at.room at.number (at.pending ++ left s) (Err error) after (left' s) in
+    subst P same taken
 
 -- blanks up to the text's end
 pub find-end : (before after : Stream) (bytes left : List ℕ) → SkipsAll before.room bytes (after.pending ++ left) →

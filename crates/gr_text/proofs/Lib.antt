@@ -8,3 +8,4 @@ pub mod TakeLemmas
 pub mod FindLemmas
 pub mod NumberLemmas
 pub mod SeveralLemmas
+pub mod SaysLemmas

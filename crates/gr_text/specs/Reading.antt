@@ -1,6 +1,6 @@
 -- The steps that every grammar of tokens is made of. A grammar is a reader: from a place among the tokens it gives a
 -- value and the place behind it, or the fault of the first token that is wrong, with that token's number.
-use Rattle.std.specs.Prelude.{ℕ, zero, suc, ◌+◌, Bool, List, [], ◌∷◌, ◌++◌, ℤ, Option, Some, None, Result, Ok, Err, if◌then◌else◌}
+use Rattle.std.specs.Prelude.{ℕ, zero, suc, ◌+◌, Bool, List, [], ◌∷◌, ◌++◌, ℤ, pos, nat_abs, Option, Some, None, is_none, Result, Ok, Err, if◌then◌else◌}
 use Rattle.std.specs.Str.{bytes_eq}
 use Rattle.gr_text.specs.declared.source.Ends.{Ends}
 use Rattle.gr_text.specs.Tokens.{Place, Ending, AtEnd, PastLimit}
@@ -72,9 +72,26 @@ number ends fault low high = do
   found ← token ends
   given (number_in low high found) fault
 
+-- a whole number from 0 on
+unfoldable pub natural : {F : Type 0} → Ends F → F → ℕ → Reader F ℕ
+natural ends fault most = do
+  n ← number ends fault (pos 0) (pos most)
+  pure (nat_abs n)
+
 -- so many items, one after another, behind those found so far; what an item is depends on these
 unfoldable pub several : {F A : Type 0} → (List A → Reader F A) → ℕ → List A → Reader F (List A)
 several item zero found = pure found
 several item (suc count) found = do
   one ← item found
   several item count (found ++ one ∷ [])
+
+-- no further token
+unfoldable pub end : {F : Type 0} → Ends F → F → Reader F (Unit {0})
+end ends trailing = do
+  more ← token_or_end ends
+  check (is_none more) trailing
+
+-- what is said of a whole text: a value, or the first fault and the number of its token
+abbrev pub value_of : {F A : Type 0} → Read F A → Result A (F × ℕ)
+value_of (Ok read) = Ok read.0
+value_of (Err fault) = Err fault

@@ -62,6 +62,14 @@ abbrev pub Onward : {S F V : Type 0} → (reaches : S → List ℕ → Type 0) �
 Onward reaches stops result before after =
     (bytes : List ℕ) → reaches before bytes → Reaches result (reaches after bytes) (stops after bytes)
 
+-- what a call that takes tokens leaves of the source, by the words of its trait: the reads that failed are counted, little
+-- is read behind what it took, and the tokens come from where they came before
+pub record Moves {S F V O : Type 0} (faults : S → ℕ) (reaches : S → List ℕ → Type 0) (stops : S → List ℕ → ℕ → Type 0)
+    (origin : S → O) (result : Result V (ReadError F)) (before after : S) : Type 0 where
+  pub counts : Counts result (faults before) (faults after)
+  pub onward : Onward reaches stops result before after
+  pub same : origin after ≡ origin before
+
 -- the same of a stream over the unread bytes of each slot
 abbrev pub GoesThrough : {F V : Type 0} → (tells : Bool) → Result V (ReadError F) → (before : Stream) → (Slot → List ℕ) →
     (after : Stream) → (Slot → List ℕ) → Type 0

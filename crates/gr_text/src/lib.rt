@@ -13,7 +13,7 @@ mod tokens;
 
 pub use numbers::{is_whole, natural_of, whole, whole_of};
 pub use reader::TokenReader;
-pub use reading::{check, next_token, next_token_or_end, number, word};
+pub use reading::{check, end, given, natural, next_token, next_token_or_end, number, word};
 pub use source::{Ends, ReadError, TokenSource};
 pub use text::{Text, put_number};
 pub use tokens::{Token, TokenError, Tokens};

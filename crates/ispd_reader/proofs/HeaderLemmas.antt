@@ -3,9 +3,10 @@ use Rattle.std.proofs.Common.{◌≡◌, ℕ, ◌+◌, ◌-◌, ◌<◌, ◌≤�
 use Rattle.std.proofs.Math.Bool.{Bool-set}
 use Rattle.std.proofs.lemmas.List.{take_more_set, drop-set-lt, drop-drop, drop-replicate, get_or-take, get_or_default, length-take-le, take-append-drop}
 use Rattle.gr_text.specs.Tokens.{Place}
-use Rattle.gr_text.specs.Reading.{Reader, several}
-use Rattle.ispd_reader.specs.Steps.{natural}
+use Rattle.gr_text.specs.Reading.{Reader, natural, several}
+use Rattle.ispd_reader.specs.Faults.{ends}
 use Rattle.ispd_reader.specs.declared.fault.DesignFault.{DesignFault}
+use Rattle.ispd_reader.specs.declared.fault.DesignFault.TheVariants.{Number}
 use Rattle.gr_text.proofs.SeveralLemmas.{several-next, several-fails, several-done}
 use Rattle.gr_base.specs.Limits.{is_grid, most_capacity, most_width}
 use Rattle.gr_base.specs.Designs.{IsLayer}
@@ -45,11 +46,11 @@ shape_of-new columns rows layers (Some shape) some is_columns is_rows is_layers 
 -- numbers for the layers, one after another
 
 abbrev pub one_number : ℕ → List ℕ → Reader DesignFault ℕ
-one_number most = λ _. natural 0 most
+one_number most = λ _. natural ends Number most
 
 pub by_layer-fails : (layers most at : ℕ) (numbers : List ℕ) (start place : Place) (fault : DesignFault × ℕ) → at < layers →
     several (one_number most) (layers - at) (take at numbers) place ≡ several (one_number most) layers [] start →
-    natural 0 most place ≡ Err fault → by_layer layers most start ≡ Err fault
+    natural ends Number most place ≡ Err fault → by_layer layers most start ≡ Err fault
 unfolding by_layer
 by_layer-fails layers most at numbers start place fault below reads fails =
     let all : several (one_number most) layers [] start ≡ Err fault =
@@ -58,7 +59,7 @@ by_layer-fails layers most at numbers start place fault below reads fails =
 
 pub by_layer-next : (layers most at : ℕ) (numbers : List ℕ) (start place after : Place) (n : ℕ) → at < layers → at < length numbers →
     several (one_number most) (layers - at) (take at numbers) place ≡ several (one_number most) layers [] start →
-    natural 0 most place ≡ Ok (n, after) →
+    natural ends Number most place ≡ Ok (n, after) →
     several (one_number most) (layers - (at + 1)) (take (at + 1) (set numbers at n)) after ≡ several (one_number most) layers [] start
 by_layer-next layers most at numbers start place after n below within reads is =
     rw (take_more_set numbers at n within)

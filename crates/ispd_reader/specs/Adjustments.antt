@@ -1,29 +1,24 @@
 -- The adjustments of a design text, and its end.
-use Rattle.std.specs.Prelude.{ℕ, nat_lt, pos, nat_abs, List, [], Option, Some, None, option_and_then, is_none, if◌then◌else◌}
+use Rattle.std.specs.Prelude.{ℕ, nat_lt, pos, nat_abs, List, [], Option, Some, None, option_and_then, if◌then◌else◌}
 use Rattle.gr_base.specs.Limits.{most_id, most_capacity, most_adjustments}
 use Rattle.gr_base.specs.Grid.{number_of, edge_of, is_wire}
 use Rattle.gr_base.specs.declared.frame.Adjustment.{Adjustment}
 use Rattle.gr_base.specs.declared.grid.Edge.{Edge}
 use Rattle.gr_base.specs.declared.grid.Shape.{Shape}
 use Rattle.gr_text.specs.Numbers.{number_in}
-use Rattle.gr_text.specs.Reading.{Reader, ◌>>=◌, ◌>>◌, pure, check, given, token_or_end, several}
+use Rattle.gr_text.specs.Reading.{Reader, ◌>>=◌, ◌>>◌, pure, check, given, natural, end, token_or_end, several}
 use Rattle.ispd_reader.specs.Faults.{ends}
-use Rattle.ispd_reader.specs.Steps.{natural, layer_in}
+use Rattle.ispd_reader.specs.Steps.{layer_in}
 use Rattle.ispd_reader.specs.declared.fault.DesignFault.{DesignFault}
 use Rattle.ispd_reader.specs.declared.fault.DesignFault.TheVariants.{Number, Adjust, Trailing}
-
--- a column or row of the grid, of so many
-unfoldable pub tile : ℕ → Reader DesignFault ℕ
-tile tiles = do
-  at ← natural 0 most_id
-  check (nat_lt at tiles) Adjust
-  pure at
 
 -- a place of the grid, as the number of its cell
 unfoldable pub place : Shape → Reader DesignFault ℕ
 place shape = do
-  column ← tile shape.columns
-  row ← tile shape.rows
+  column ← natural ends Number most_id
+  check (nat_lt column shape.columns) Adjust
+  row ← natural ends Number most_id
+  check (nat_lt row shape.rows) Adjust
   layer ← layer_in shape Adjust
   pure (number_of shape (record { x = column; y = row; layer = layer }))
 
@@ -40,14 +35,8 @@ adjustment shape = do
   from ← place shape
   to ← place shape
   edge ← given (wire_between shape from to) Adjust
-  capacity ← natural 0 most_capacity
+  capacity ← natural ends Number most_capacity
   pure (record { edge = edge; capacity = capacity })
-
--- no further token
-unfoldable pub end : Reader DesignFault (Unit {0})
-end = do
-  more ← token_or_end ends
-  check (is_none more) Trailing
 
 -- the number of adjustments, which is the token in hand
 unfoldable pub adjustment_count : List ℕ → Reader DesignFault ℕ
@@ -60,7 +49,7 @@ unfoldable pub counted_adjustments : Shape → List ℕ → Reader DesignFault (
 counted_adjustments shape word = do
   count ← adjustment_count word
   adjustments ← several (λ _. adjustment shape) count []
-  end
+  end ends Trailing
   pure adjustments
 
 abbrev pub adjustments_from : Shape → Option (List ℕ) → Reader DesignFault (List Adjustment)

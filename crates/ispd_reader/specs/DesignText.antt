@@ -1,9 +1,9 @@
 -- What a design text says. The grammar is a table: one line for each check, in the order of the text.
-use Rattle.std.specs.Prelude.{ℕ, List, Result, Ok, Err}
+use Rattle.std.specs.Prelude.{ℕ, List, Result}
 use Rattle.gr_base.specs.Limits.{most_bytes}
 use Rattle.gr_base.specs.Designs.{DesignView}
 use Rattle.gr_text.specs.Tokens.{place_in}
-use Rattle.gr_text.specs.Reading.{Read, Reader, ◌>>=◌, pure}
+use Rattle.gr_text.specs.Reading.{Reader, ◌>>=◌, pure, value_of}
 use Rattle.ispd_reader.specs.Header.{frame}
 use Rattle.ispd_reader.specs.Nets.{nets}
 use Rattle.ispd_reader.specs.Adjustments.{adjustments}
@@ -16,10 +16,6 @@ design = do
   nets ← nets frame
   adjustments ← adjustments frame.shape
   pure (record { frame = frame; nets = nets; adjustments = adjustments })
-
-abbrev pub value_of : Read DesignFault DesignView → Result DesignView (DesignFault × ℕ)
-value_of (Ok read) = Ok read.0
-value_of (Err fault) = Err fault
 
 -- what the bytes of a text say: a design, or the first fault and the number of its token
 unfoldable pub design_of : List ℕ → Result DesignView (DesignFault × ℕ)

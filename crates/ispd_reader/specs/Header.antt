@@ -6,9 +6,9 @@ use Rattle.gr_base.specs.Designs.{IsLayer}
 use Rattle.gr_base.specs.declared.frame.Frame.{Frame}
 use Rattle.gr_base.specs.declared.frame.Layer.{Layer}
 use Rattle.gr_base.specs.declared.grid.Shape.{Shape}
-use Rattle.gr_text.specs.Reading.{Reader, ◌>>=◌, ◌>>◌, pure, check, given, word, number, several}
+use Rattle.gr_text.specs.Reading.{Reader, ◌>>=◌, ◌>>◌, pure, check, given, word, number, natural, several}
 use Rattle.ispd_reader.specs.Faults.{ends}
-use Rattle.ispd_reader.specs.Steps.{natural, words}
+use Rattle.ispd_reader.specs.Steps.{words}
 use Rattle.ispd_reader.specs.declared.fault.DesignFault.{DesignFault}
 use Rattle.ispd_reader.specs.declared.fault.DesignFault.TheVariants.{Word, Number, Grid, Tile, NoLayer}
 
@@ -21,13 +21,20 @@ shape_where columns rows layers false valid = None
 abbrev pub shape_of : ℕ → ℕ → ℕ → Option Shape
 shape_of columns rows layers = shape_where columns rows layers (is_grid columns rows layers) refl
 
+-- a whole number above 0, where 0 has a fault of its own
+unfoldable pub above_zero : ℕ → DesignFault → Reader DesignFault ℕ
+above_zero most fault = do
+  n ← natural ends Number most
+  check (nat_lt 0 n) fault
+  pure n
+
 -- the word `grid` and the numbers of columns, rows and layers
 unfoldable pub grid : Reader DesignFault Shape
 grid = do
   word ends Word (codes "grid")
-  columns ← natural 1 most_cells
-  rows ← natural 1 most_cells
-  layers ← natural 1 most_layers
+  columns ← above_zero most_cells Number
+  rows ← above_zero most_cells Number
+  layers ← above_zero most_layers Number
   given (shape_of columns rows layers) Grid
 
 -- the numbers, and 0 for each layer that a grid may have and this one hasn't
@@ -37,7 +44,7 @@ padded numbers = numbers ++ replicate (most_layers - length numbers) 0
 -- one number for each of the layers
 unfoldable pub by_layer : ℕ → ℕ → Reader DesignFault (List ℕ)
 by_layer layers most = do
-  numbers ← several (λ _. natural 0 most) layers []
+  numbers ← several (λ _. natural ends Number most) layers []
   pure (padded numbers)
 
 -- the layers' capacities along one way; where the grid is wider than one tile that way, not all of them are 0
@@ -90,13 +97,6 @@ pub record IsStack (shape : Shape) (stack : List Layer) : Type 0 where
 unfoldable pub corner : Reader DesignFault ℤ
 corner = number ends Number (neg_ℤ (pos most_lower)) (pos most_lower)
 
--- the width or height of a tile
-unfoldable pub tile_size : Reader DesignFault ℕ
-tile_size = do
-  size ← natural 0 most_tile
-  check (nat_lt 0 size) Tile
-  pure size
-
 -- all that stands before the nets
 unfoldable pub frame : Reader DesignFault Frame
 frame = do
@@ -104,8 +104,8 @@ frame = do
   layers ← layers shape
   lower_x ← corner
   lower_y ← corner
-  tile_width ← tile_size
-  tile_height ← tile_size
+  tile_width ← above_zero most_tile Tile
+  tile_height ← above_zero most_tile Tile
   pure (record {
     shape = shape;
     layers = layers;

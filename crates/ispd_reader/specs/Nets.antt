@@ -5,9 +5,9 @@ use Rattle.gr_base.specs.Grid.{number_of}
 use Rattle.gr_base.specs.Designs.{net_from, pins_of, tile_of}
 use Rattle.gr_base.specs.declared.frame.Frame.{Frame}
 use Rattle.gr_base.specs.declared.frame.Net.{Net}
-use Rattle.gr_text.specs.Reading.{Reader, ◌>>=◌, ◌>>◌, pure, check, given, token, number, several}
+use Rattle.gr_text.specs.Reading.{Reader, ◌>>=◌, ◌>>◌, pure, check, given, token, number, natural, several}
 use Rattle.ispd_reader.specs.Faults.{ends}
-use Rattle.ispd_reader.specs.Steps.{natural, words, layer_in}
+use Rattle.ispd_reader.specs.Steps.{words, layer_in}
 use Rattle.ispd_reader.specs.declared.fault.DesignFault.{DesignFault}
 use Rattle.ispd_reader.specs.declared.fault.DesignFault.TheVariants.{Number, Pins, PinOutside, PinLayer, RepeatedId}
 
@@ -28,14 +28,14 @@ pin frame = do
 -- a net's id, which none of the nets before it has
 unfoldable pub net_id : List Net → Reader DesignFault ℕ
 net_id found = do
-  id ← natural 0 most_id
+  id ← natural ends Number most_id
   check (is_none (net_from 0 id found)) RepeatedId
   pure id
 
 -- the number of a net's pins: at least one, and with those of the nets before it no more than a design may have
 unfoldable pub pin_count : ℕ → Reader DesignFault ℕ
 pin_count before = do
-  count ← natural 0 most_pins
+  count ← natural ends Number most_pins
   check (nat_lt 0 count && nat_le (before + count) most_pins) Pins
   pure count
 
@@ -45,7 +45,7 @@ net frame found = do
   name ← token ends
   id ← net_id found
   count ← pin_count (pins_of found)
-  width ← natural 0 most_width
+  width ← natural ends Number most_width
   pins ← several (λ _. pin frame) count []
   pure (record { name = name; id = id; width = width; pins = pins })
 
@@ -53,7 +53,7 @@ net frame found = do
 unfoldable pub net_count : Reader DesignFault ℕ
 net_count = do
   words (codes "num") (codes "net")
-  natural 0 most_nets
+  natural ends Number most_nets
 
 -- how many nets there are, and the nets
 unfoldable pub nets : Frame → Reader DesignFault (List Net)

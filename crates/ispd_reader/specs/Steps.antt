@@ -1,17 +1,11 @@
 -- The steps of the design's grammar that several of its parts use.
-use Rattle.std.specs.Prelude.{ℕ, ◌-◌, ◌&&◌, nat_le, pos, nat_abs, List}
+use Rattle.std.specs.Prelude.{ℕ, ◌-◌, ◌&&◌, nat_le, List}
 use Rattle.gr_base.specs.Limits.{most_id}
 use Rattle.gr_base.specs.declared.grid.Shape.{Shape}
-use Rattle.gr_text.specs.Reading.{Reader, ◌>>=◌, ◌>>◌, pure, check, word, number}
+use Rattle.gr_text.specs.Reading.{Reader, ◌>>=◌, ◌>>◌, pure, check, word, natural}
 use Rattle.ispd_reader.specs.Faults.{ends}
 use Rattle.ispd_reader.specs.declared.fault.DesignFault.{DesignFault}
 use Rattle.ispd_reader.specs.declared.fault.DesignFault.TheVariants.{Word, Number}
-
--- a whole number from 0 or more on
-unfoldable pub natural : ℕ → ℕ → Reader DesignFault ℕ
-natural low high = do
-  n ← number ends Number (pos low) (pos high)
-  pure (nat_abs n)
 
 -- these two words
 unfoldable pub words : List ℕ → List ℕ → Reader DesignFault (Unit {0})
@@ -22,6 +16,6 @@ words first second = do
 -- one of the grid's layers, which a text counts from 1 and a cell from 0
 unfoldable pub layer_in : Shape → DesignFault → Reader DesignFault ℕ
 layer_in shape fault = do
-  layer ← natural 0 most_id
+  layer ← natural ends Number most_id
   check (nat_le 1 layer && nat_le layer shape.layers) fault
   pure (layer - 1)

@@ -1,42 +1,28 @@
 //! The adjustments and the end of the text.
 ghost use Rattle.std.specs.Prelude.{◌≡◌, ℕ, ◌<◌, ◌≤◌, [], IsTrue, IfOk, IfSome, OnOk};
-ghost use Rattle.gr_text.specs.Reads.{ReadsBy, Counts, Onward};
+ghost use Rattle.gr_text.specs.Reads.{ReadsBy, Moves, Counts, Onward};
 ghost use Rattle.gr_text.specs.Reading.{several};
 ghost use Rattle.gr_base.specs.Limits.{most_adjustments};
 ghost use Rattle.gr_base.specs.Grid.{cells_of, has_edge, is_wire};
 ghost use Rattle.gr_base.specs.Designs.{IsAdjustment};
-ghost use Rattle.ispd_reader.specs.Adjustments.{tile, place, wire_between, adjustment, end, adjustment_count, counted_adjustments, adjustments};
+ghost use Rattle.ispd_reader.specs.Adjustments.{place, wire_between, adjustment, adjustment_count, counted_adjustments, adjustments};
 
 use crate::fault::DesignFault;
-use crate::steps::{ENDS, given, layer_in, natural};
+use crate::steps::{ENDS, layer_in};
 use gr_base::{Adjustment, Design, Edge, MOST_ADJUSTMENTS, MOST_CAPACITY, MOST_ID, Shape, Way};
-use gr_text::{ReadError, TokenSource, check, next_token_or_end, whole_of};
-
-/// Takes a column or a row, of so many.
-#[tactic(auto, unfolding(crate::specs::Adjustments::tile))]
-fn tile<S: TokenSource>(source: &mut S, tiles: u32) -> Result<u32, ReadError<DesignFault>>
-    ensures reads { ReadsBy S.tells S.place (tile tiles) (λ at. at) result source.old source.new }
-    ensures faults { Counts result (S.faults source.old) (S.faults source.new) }
-    ensures onward { Onward S.reaches S.stops result source.old source.new }
-    ensures origin { S.origin source.new ≡ S.origin source.old }
-    ensures below { IfOk result (λ at. at < tiles) }
-{
-    let at = natural(source, 0, MOST_ID)?;
-    check(source, at < tiles, DesignFault::Adjust)?;
-    Ok(at)
-}
+use gr_text::{ReadError, TokenSource, check, end, given, natural, next_token_or_end, whole_of};
 
 /// Takes a place of the grid, and gives its cell.
 #[tactic(auto, unfolding(crate::specs::Adjustments::place))]
 fn place<S: TokenSource>(source: &mut S, shape: Shape) -> Result<u32, ReadError<DesignFault>>
     ensures reads { ReadsBy S.tells S.place (place shape) (λ cell. cell) result source.old source.new }
-    ensures faults { Counts result (S.faults source.old) (S.faults source.new) }
-    ensures onward { Onward S.reaches S.stops result source.old source.new }
-    ensures origin { S.origin source.new ≡ S.origin source.old }
+    ensures moves { Moves S.faults S.reaches S.stops S.origin result source.old source.new }
     ensures cell { IfOk result (λ cell. cell < cells_of shape) }
 {
-    let column = tile(source, shape.columns())?;
-    let row = tile(source, shape.rows())?;
+    let column = natural(source, ENDS, DesignFault::Number, MOST_ID)?;
+    check(source, column < shape.columns(), DesignFault::Adjust)?;
+    let row = natural(source, ENDS, DesignFault::Number, MOST_ID)?;
+    check(source, row < shape.rows(), DesignFault::Adjust)?;
     let layer = layer_in(source, shape, DesignFault::Adjust)?;
     Ok(shape.cell_of(column, row, layer))
 }
@@ -63,15 +49,13 @@ fn adjustment<S: TokenSource>(
     shape: Shape,
 ) -> Result<Adjustment, ReadError<DesignFault>>
     ensures reads { ReadsBy S.tells S.place (adjustment shape) (λ adjustment. adjustment) result source.old source.new }
-    ensures faults { Counts result (S.faults source.old) (S.faults source.new) }
-    ensures onward { Onward S.reaches S.stops result source.old source.new }
-    ensures origin { S.origin source.new ≡ S.origin source.old }
+    ensures moves { Moves S.faults S.reaches S.stops S.origin result source.old source.new }
     ensures adjustment { IfOk result (IsAdjustment shape) }
 {
     let from = place(source, shape)?;
     let to = place(source, shape)?;
     let edge = given(source, wire_between(shape, from, to), DesignFault::Adjust)?;
-    let capacity = natural(source, 0, MOST_CAPACITY)?;
+    let capacity = natural(source, ENDS, DesignFault::Number, MOST_CAPACITY)?;
     Ok(Adjustment { edge, capacity })
 }
 
@@ -102,9 +86,7 @@ fn several_adjustments<S: TokenSource>(
     requires most { count ≤ most_adjustments }
     ensures reads { ReadsBy S.tells S.place (several (λ _. adjustment design.old.frame.shape) count [])
         (λ _. design.new.adjustments) result source.old source.new }
-    ensures faults { Counts result (S.faults source.old) (S.faults source.new) }
-    ensures onward { Onward S.reaches S.stops result source.old source.new }
-    ensures origin { S.origin source.new ≡ S.origin source.old }
+    ensures moves { Moves S.faults S.reaches S.stops S.origin result source.old source.new }
     ensures frame { design.new.frame ≡ design.old.frame }
     ensures nets { design.new.nets ≡ design.old.nets }
 {
@@ -118,19 +100,6 @@ fn several_adjustments<S: TokenSource>(
     Ok(())
 }
 
-/// Sees that no further token is there.
-#[tactic(auto, unfolding(crate::specs::Adjustments::end))]
-fn end<S: TokenSource>(source: &mut S) -> Result<(), ReadError<DesignFault>>
-    ensures reads { ReadsBy S.tells S.place end (λ _. tt) result source.old source.new }
-    ensures faults { Counts result (S.faults source.old) (S.faults source.new) }
-    ensures onward { Onward S.reaches S.stops result source.old source.new }
-    ensures origin { S.origin source.new ≡ S.origin source.old }
-    ensures ended { OnOk result (IsTrue S.tells → S.ended source.new) }
-{
-    let more = next_token_or_end(source, ENDS)?;
-    check(source, !more, DesignFault::Trailing)
-}
-
 /// Reads the adjustments, whose number is in hand, into a design without adjustments.
 #[tactic(auto, unfolding(crate::specs::Adjustments::counted_adjustments))]
 fn counted_adjustments<S: TokenSource>(
@@ -140,16 +109,14 @@ fn counted_adjustments<S: TokenSource>(
     requires { design.old.adjustments ≡ [] }
     ensures reads { ReadsBy S.tells S.place (counted_adjustments design.old.frame.shape (S.word source.old))
         (λ _. design.new.adjustments) result source.old source.new }
-    ensures faults { Counts result (S.faults source.old) (S.faults source.new) }
-    ensures onward { Onward S.reaches S.stops result source.old source.new }
-    ensures origin { S.origin source.new ≡ S.origin source.old }
+    ensures moves { Moves S.faults S.reaches S.stops S.origin result source.old source.new }
     ensures frame { design.new.frame ≡ design.old.frame }
     ensures nets { design.new.nets ≡ design.old.nets }
     ensures ended { OnOk result (IsTrue S.tells → S.ended source.new) }
 {
     let count = adjustment_count(source)?;
     several_adjustments(source, design, count)?;
-    end(source)
+    end(source, ENDS, DesignFault::Trailing)
 }
 
 /// Reads the adjustments, of which there may be none, into a design without adjustments.
@@ -161,9 +128,7 @@ pub(crate) fn adjustments<S: TokenSource>(
     requires { design.old.adjustments ≡ [] }
     ensures reads { ReadsBy S.tells S.place (adjustments design.old.frame.shape)
         (λ _. design.new.adjustments) result source.old source.new }
-    ensures faults { Counts result (S.faults source.old) (S.faults source.new) }
-    ensures onward { Onward S.reaches S.stops result source.old source.new }
-    ensures origin { S.origin source.new ≡ S.origin source.old }
+    ensures moves { Moves S.faults S.reaches S.stops S.origin result source.old source.new }
     ensures frame { design.new.frame ≡ design.old.frame }
     ensures nets { design.new.nets ≡ design.old.nets }
     ensures ended { OnOk result (IsTrue S.tells → S.ended source.new) }

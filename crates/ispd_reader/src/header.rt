@@ -1,17 +1,17 @@
 //! What stands before the nets: the grid, the capacities, the widths and spacings, and the tiles.
 ghost use Rattle.std.specs.Prelude.{◌≡◌, ◌-◌, ◌*◌, ◌<◌, ◌≤◌, ℤ, All, Any, length, replicate, take, drop, nat_lt, negsuc, pos, ◌≤ℤ◌, IsTrue, IfOk};
 ghost use Rattle.std.specs.List.{list_any};
-ghost use Rattle.gr_text.specs.Reads.{ReadsBy, Counts, Onward};
-ghost use Rattle.gr_base.specs.Limits.{most_lower, most_tile, most_width, most_capacity};
+ghost use Rattle.gr_text.specs.Reads.{ReadsBy, Moves};
+ghost use Rattle.gr_base.specs.Limits.{most_lower, most_width, most_capacity};
 ghost use Rattle.gr_base.specs.Designs.{IsFrame};
-ghost use Rattle.ispd_reader.specs.Header.{shape_of, grid, by_layer, stack_of, IsStack, capacities, measures, layers, corner, tile_size, frame};
+ghost use Rattle.ispd_reader.specs.Header.{above_zero, shape_of, grid, by_layer, stack_of, IsStack, capacities, measures, layers, corner, frame};
 
 use crate::fault::DesignFault;
-use crate::steps::{ENDS, given, natural, words};
+use crate::steps::{ENDS, words};
 use gr_base::{
     Frame, Layer, MOST_CAPACITY, MOST_CELLS, MOST_LAYERS, MOST_LOWER, MOST_TILE, MOST_WIDTH, Shape,
 };
-use gr_text::{ReadError, TokenSource, check, number, word};
+use gr_text::{ReadError, TokenSource, check, given, natural, number, word};
 
 /// What stands for a layer that the grid hasn't.
 const NO_LAYER: Layer = Layer {
@@ -28,17 +28,32 @@ fn shape_of(columns: u32, rows: u32, layers: u32) -> Option<Shape>
     Shape::new(columns, rows, layers)
 }
 
+/// Takes a whole number from 1 to `most`. 0 has a fault of its own.
+#[tactic(auto, unfolding(crate::specs::Header::above_zero))]
+fn above_zero<S: TokenSource>(
+    source: &mut S,
+    most: u32,
+    fault: DesignFault,
+) -> Result<u32, ReadError<DesignFault>>
+    ensures reads { ReadsBy S.tells S.place (above_zero most fault) (λ n. n) result source.old source.new }
+    ensures moves { Moves S.faults S.reaches S.stops S.origin result source.old source.new }
+    ensures some { IfOk result (λ n. 0 < n) }
+    ensures most { IfOk result (λ n. n ≤ most) }
+{
+    let n = natural(source, ENDS, DesignFault::Number, most)?;
+    check(source, 0 < n, fault)?;
+    Ok(n)
+}
+
 #[tactic(auto, unfolding(crate::specs::Header::grid))]
 fn grid<S: TokenSource>(source: &mut S) -> Result<Shape, ReadError<DesignFault>>
     ensures reads { ReadsBy S.tells S.place grid (λ shape. shape) result source.old source.new }
-    ensures faults { Counts result (S.faults source.old) (S.faults source.new) }
-    ensures onward { Onward S.reaches S.stops result source.old source.new }
-    ensures origin { S.origin source.new ≡ S.origin source.old }
+    ensures moves { Moves S.faults S.reaches S.stops S.origin result source.old source.new }
 {
     word(source, ENDS, DesignFault::Word, b"grid")?;
-    let columns = natural(source, 1, MOST_CELLS)?;
-    let rows = natural(source, 1, MOST_CELLS)?;
-    let layers = natural(source, 1, MOST_LAYERS)?;
+    let columns = above_zero(source, MOST_CELLS, DesignFault::Number)?;
+    let rows = above_zero(source, MOST_CELLS, DesignFault::Number)?;
+    let layers = above_zero(source, MOST_LAYERS, DesignFault::Number)?;
     given(source, shape_of(columns, rows, layers), DesignFault::Grid)
 }
 
@@ -50,16 +65,14 @@ fn by_layer<S: TokenSource>(
 ) -> Result<[u32; 16], ReadError<DesignFault>>
     requires { layers ≤ 16 }
     ensures reads { ReadsBy S.tells S.place (by_layer layers most) (λ numbers. numbers) result source.old source.new }
-    ensures faults { Counts result (S.faults source.old) (S.faults source.new) }
-    ensures onward { Onward S.reaches S.stops result source.old source.new }
-    ensures origin { S.origin source.new ≡ S.origin source.old }
+    ensures moves { Moves S.faults S.reaches S.stops S.origin result source.old source.new }
     ensures count { IfOk result (λ numbers. length numbers ≡ 16) }
     ensures most { IfOk result (All (λ n. n ≤ most)) }
     ensures others { IfOk result (λ numbers. drop layers numbers ≡ replicate (16 - layers) 0) }
 {
     let mut numbers = [0; 16];
     for layer in 0..layers {
-        numbers[layer as usize] = natural(source, 0, most)?;
+        numbers[layer as usize] = natural(source, ENDS, DesignFault::Number, most)?;
     }
     Ok(numbers)
 }
@@ -81,9 +94,7 @@ fn capacities<S: TokenSource>(
     requires { layers ≤ 16 }
     ensures reads { ReadsBy S.tells S.place (capacities way.now tiles layers)
         (λ numbers. numbers) result source.old source.new }
-    ensures faults { Counts result (S.faults source.old) (S.faults source.new) }
-    ensures onward { Onward S.reaches S.stops result source.old source.new }
-    ensures origin { S.origin source.new ≡ S.origin source.old }
+    ensures moves { Moves S.faults S.reaches S.stops S.origin result source.old source.new }
     ensures count { IfOk result (λ numbers. length numbers ≡ 16) }
     ensures most { IfOk result (All (λ n. n ≤ most_capacity)) }
     ensures some { IfOk result (λ numbers. 1 < tiles → Any (λ n. 0 < n) (take layers numbers)) }
@@ -109,9 +120,7 @@ fn measures<S: TokenSource>(
     requires { layers ≤ 16 }
     ensures reads { ReadsBy S.tells S.place (measures first.now second.now layers)
         (λ numbers. numbers) result source.old source.new }
-    ensures faults { Counts result (S.faults source.old) (S.faults source.new) }
-    ensures onward { Onward S.reaches S.stops result source.old source.new }
-    ensures origin { S.origin source.new ≡ S.origin source.old }
+    ensures moves { Moves S.faults S.reaches S.stops S.origin result source.old source.new }
     ensures count { IfOk result (λ numbers. length numbers ≡ 16) }
     ensures most { IfOk result (All (λ n. n ≤ most_width)) }
 {
@@ -123,28 +132,11 @@ fn measures<S: TokenSource>(
 #[tactic(auto, unfolding(crate::specs::Header::corner))]
 fn corner<S: TokenSource>(source: &mut S) -> Result<i64, ReadError<DesignFault>>
     ensures reads { ReadsBy S.tells S.place corner (λ n. n) result source.old source.new }
-    ensures faults { Counts result (S.faults source.old) (S.faults source.new) }
-    ensures onward { Onward S.reaches S.stops result source.old source.new }
-    ensures origin { S.origin source.new ≡ S.origin source.old }
+    ensures moves { Moves S.faults S.reaches S.stops S.origin result source.old source.new }
     ensures low { IfOk result (λ n. negsuc (most_lower - 1) ≤ℤ n) }
     ensures high { IfOk result (λ n. n ≤ℤ pos most_lower) }
 {
     number(source, ENDS, DesignFault::Number, -MOST_LOWER, MOST_LOWER)
-}
-
-/// The width or the height of a tile.
-#[tactic(auto, unfolding(crate::specs::Header::tile_size))]
-fn tile_size<S: TokenSource>(source: &mut S) -> Result<u32, ReadError<DesignFault>>
-    ensures reads { ReadsBy S.tells S.place tile_size (λ n. n) result source.old source.new }
-    ensures faults { Counts result (S.faults source.old) (S.faults source.new) }
-    ensures onward { Onward S.reaches S.stops result source.old source.new }
-    ensures origin { S.origin source.new ≡ S.origin source.old }
-    ensures some { IfOk result (λ n. 0 < n) }
-    ensures most { IfOk result (λ n. n ≤ most_tile) }
-{
-    let size = natural(source, 0, MOST_TILE)?;
-    check(source, size > 0, DesignFault::Tile)?;
-    Ok(size)
 }
 
 /// The numbers of each layer out of those of all layers.
@@ -177,9 +169,7 @@ fn layers<S: TokenSource>(
     shape: Shape,
 ) -> Result<[Layer; 16], ReadError<DesignFault>>
     ensures reads { ReadsBy S.tells S.place (layers shape) (λ layers. layers) result source.old source.new }
-    ensures faults { Counts result (S.faults source.old) (S.faults source.new) }
-    ensures onward { Onward S.reaches S.stops result source.old source.new }
-    ensures origin { S.origin source.new ≡ S.origin source.old }
+    ensures moves { Moves S.faults S.reaches S.stops S.origin result source.old source.new }
     ensures stack { IfOk result (IsStack shape) }
 {
     let vertical = capacities(source, b"vertical", shape.rows(), shape.layers())?;
@@ -194,17 +184,15 @@ fn layers<S: TokenSource>(
 #[tactic(auto, unfolding(crate::specs::Header::frame))]
 pub(crate) fn frame<S: TokenSource>(source: &mut S) -> Result<Frame, ReadError<DesignFault>>
     ensures reads { ReadsBy S.tells S.place frame (λ frame. frame) result source.old source.new }
-    ensures faults { Counts result (S.faults source.old) (S.faults source.new) }
-    ensures onward { Onward S.reaches S.stops result source.old source.new }
-    ensures origin { S.origin source.new ≡ S.origin source.old }
+    ensures moves { Moves S.faults S.reaches S.stops S.origin result source.old source.new }
     ensures frame { IfOk result IsFrame }
 {
     let shape = grid(source)?;
     let layers = layers(source, shape)?;
     let lower_x = corner(source)?;
     let lower_y = corner(source)?;
-    let tile_width = tile_size(source)?;
-    let tile_height = tile_size(source)?;
+    let tile_width = above_zero(source, MOST_TILE, DesignFault::Tile)?;
+    let tile_height = above_zero(source, MOST_TILE, DesignFault::Tile)?;
     Ok(Frame {
         shape,
         layers,

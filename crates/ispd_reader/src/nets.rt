@@ -1,6 +1,6 @@
 //! The nets and their pins.
 ghost use Rattle.std.specs.Prelude.{◌≡◌, ℕ, ◌+◌, ◌*◌, ◌<◌, ◌≤◌, List, [], All, Some, None, length, IsTrue, IfOk};
-ghost use Rattle.gr_text.specs.Reads.{ReadsBy, Counts, Onward};
+ghost use Rattle.gr_text.specs.Reads.{ReadsBy, Moves};
 ghost use Rattle.gr_text.specs.Reading.{token, several};
 ghost use Rattle.gr_base.specs.Limits.{most_nets, most_pins, most_id, most_width};
 ghost use Rattle.gr_base.specs.Names.{is_token};
@@ -10,20 +10,18 @@ ghost use Rattle.ispd_reader.specs.Faults.{ends};
 ghost use Rattle.ispd_reader.specs.Nets.{coordinate, pin, net_id, pin_count, net, net_count, nets};
 
 use crate::fault::DesignFault;
-use crate::steps::{ENDS, given, layer_in, natural, words};
+use crate::steps::{ENDS, layer_in, words};
 use gr_base::{
     Cells, Design, MOST_COORDINATE, MOST_ID, MOST_NETS, MOST_PINS, MOST_WIDTH, Name, Net,
 };
-use gr_text::{ReadError, TokenSource, check, next_token, number};
+use gr_text::{ReadError, TokenSource, check, given, natural, next_token, number};
 use std::alloc::Global;
 
 /// Takes a coordinate of a pin.
 #[tactic(auto, unfolding(crate::specs::Nets::coordinate))]
 fn coordinate<S: TokenSource>(source: &mut S) -> Result<i64, ReadError<DesignFault>>
     ensures reads { ReadsBy S.tells S.place coordinate (λ at. at) result source.old source.new }
-    ensures faults { Counts result (S.faults source.old) (S.faults source.new) }
-    ensures onward { Onward S.reaches S.stops result source.old source.new }
-    ensures origin { S.origin source.new ≡ S.origin source.old }
+    ensures moves { Moves S.faults S.reaches S.stops S.origin result source.old source.new }
 {
     number(
         source,
@@ -38,9 +36,7 @@ fn coordinate<S: TokenSource>(source: &mut S) -> Result<i64, ReadError<DesignFau
 #[tactic(auto, unfolding(crate::specs::Nets::pin))]
 fn pin<S: TokenSource>(source: &mut S, design: &Design) -> Result<u32, ReadError<DesignFault>>
     ensures reads { ReadsBy S.tells S.place (pin design.now.frame) (λ pin. pin) result source.old source.new }
-    ensures faults { Counts result (S.faults source.old) (S.faults source.new) }
-    ensures onward { Onward S.reaches S.stops result source.old source.new }
-    ensures origin { S.origin source.new ≡ S.origin source.old }
+    ensures moves { Moves S.faults S.reaches S.stops S.origin result source.old source.new }
     ensures cell { IfOk result (λ pin. pin < cells_of design.now.frame.shape) }
 {
     let x = coordinate(source)?;
@@ -61,9 +57,7 @@ fn pins<S: TokenSource>(
 ) -> Result<Cells, ReadError<DesignFault>>
     ensures reads { ReadsBy S.tells S.place (several (λ _. pin design.now.frame) count [])
         (λ pins. pins) result source.old source.new }
-    ensures faults { Counts result (S.faults source.old) (S.faults source.new) }
-    ensures onward { Onward S.reaches S.stops result source.old source.new }
-    ensures origin { S.origin source.new ≡ S.origin source.old }
+    ensures moves { Moves S.faults S.reaches S.stops S.origin result source.old source.new }
     ensures count { IfOk result (λ pins. length pins ≡ count) }
     ensures cells { IfOk result (All (λ pin. pin < cells_of design.now.frame.shape)) }
 {
@@ -80,9 +74,7 @@ fn pins<S: TokenSource>(
 /// Takes a net's name.
 fn name<S: TokenSource>(alloc: Global, source: &mut S) -> Result<Name, ReadError<DesignFault>>
     ensures reads { ReadsBy S.tells S.place (token ends) (λ name. name) result source.old source.new }
-    ensures faults { Counts result (S.faults source.old) (S.faults source.new) }
-    ensures onward { Onward S.reaches S.stops result source.old source.new }
-    ensures origin { S.origin source.new ≡ S.origin source.old }
+    ensures moves { Moves S.faults S.reaches S.stops S.origin result source.old source.new }
     ensures token { IfOk result (λ name. IsTrue (is_token name)) }
 {
     next_token(source, ENDS)?;
@@ -96,13 +88,11 @@ fn name<S: TokenSource>(alloc: Global, source: &mut S) -> Result<Name, ReadError
 #[tactic(auto, unfolding(crate::specs::Nets::net_id))]
 fn net_id<S: TokenSource>(source: &mut S, design: &Design) -> Result<u32, ReadError<DesignFault>>
     ensures reads { ReadsBy S.tells S.place (net_id design.now.nets) (λ id. id) result source.old source.new }
-    ensures faults { Counts result (S.faults source.old) (S.faults source.new) }
-    ensures onward { Onward S.reaches S.stops result source.old source.new }
-    ensures origin { S.origin source.new ≡ S.origin source.old }
+    ensures moves { Moves S.faults S.reaches S.stops S.origin result source.old source.new }
     ensures most { IfOk result (λ id. id ≤ most_id) }
     ensures fresh { IfOk result (λ id. net_with_id design.now id ≡ None) }
 {
-    let id = natural(source, 0, MOST_ID)?;
+    let id = natural(source, ENDS, DesignFault::Number, MOST_ID)?;
     check(
         source,
         design.net_of_id(id).is_none(),
@@ -116,13 +106,11 @@ fn net_id<S: TokenSource>(source: &mut S, design: &Design) -> Result<u32, ReadEr
 fn pin_count<S: TokenSource>(source: &mut S, before: u32) -> Result<u32, ReadError<DesignFault>>
     requires { before ≤ most_pins }
     ensures reads { ReadsBy S.tells S.place (pin_count before) (λ count. count) result source.old source.new }
-    ensures faults { Counts result (S.faults source.old) (S.faults source.new) }
-    ensures onward { Onward S.reaches S.stops result source.old source.new }
-    ensures origin { S.origin source.new ≡ S.origin source.old }
+    ensures moves { Moves S.faults S.reaches S.stops S.origin result source.old source.new }
     ensures some { IfOk result (λ count. 0 < count) }
     ensures most { IfOk result (λ count. before + count ≤ most_pins) }
 {
-    let count = natural(source, 0, MOST_PINS)?;
+    let count = natural(source, ENDS, DesignFault::Number, MOST_PINS)?;
     check(
         source,
         0 < count && before + count <= MOST_PINS,
@@ -143,9 +131,7 @@ fn net<S: TokenSource>(
     requires most { before ≤ most_pins }
     ensures reads { ReadsBy S.tells S.place (net design.now.frame design.now.nets)
         (λ net. net) result source.old source.new }
-    ensures faults { Counts result (S.faults source.old) (S.faults source.new) }
-    ensures onward { Onward S.reaches S.stops result source.old source.new }
-    ensures origin { S.origin source.new ≡ S.origin source.old }
+    ensures moves { Moves S.faults S.reaches S.stops S.origin result source.old source.new }
     ensures net { IfOk result (IsNet design.now.frame.shape) }
     ensures fresh { IfOk result (λ net. net_with_id design.now net.id ≡ None) }
     ensures pins { IfOk result (λ net. before + length net.pins ≤ most_pins) }
@@ -153,7 +139,7 @@ fn net<S: TokenSource>(
     let name = name(alloc, source)?;
     let id = net_id(source, design)?;
     let count = pin_count(source, before)?;
-    let width = natural(source, 0, MOST_WIDTH)?;
+    let width = natural(source, ENDS, DesignFault::Number, MOST_WIDTH)?;
     let pins = pins(alloc, source, design, count)?;
     Ok(Net {
         name,
@@ -167,13 +153,11 @@ fn net<S: TokenSource>(
 #[tactic(auto, unfolding(crate::specs::Nets::net_count))]
 fn net_count<S: TokenSource>(source: &mut S) -> Result<u32, ReadError<DesignFault>>
     ensures reads { ReadsBy S.tells S.place net_count (λ count. count) result source.old source.new }
-    ensures faults { Counts result (S.faults source.old) (S.faults source.new) }
-    ensures onward { Onward S.reaches S.stops result source.old source.new }
-    ensures origin { S.origin source.new ≡ S.origin source.old }
+    ensures moves { Moves S.faults S.reaches S.stops S.origin result source.old source.new }
     ensures most { IfOk result (λ count. count ≤ most_nets) }
 {
     words(source, b"num", b"net")?;
-    natural(source, 0, MOST_NETS)
+    natural(source, ENDS, DesignFault::Number, MOST_NETS)
 }
 
 /// Adds so many nets to a design without nets.
@@ -187,9 +171,7 @@ fn counted_nets<S: TokenSource>(
     requires most { count ≤ most_nets }
     ensures reads { ReadsBy S.tells S.place (several (net design.old.frame) count [])
         (λ _. design.new.nets) result source.old source.new }
-    ensures faults { Counts result (S.faults source.old) (S.faults source.new) }
-    ensures onward { Onward S.reaches S.stops result source.old source.new }
-    ensures origin { S.origin source.new ≡ S.origin source.old }
+    ensures moves { Moves S.faults S.reaches S.stops S.origin result source.old source.new }
     ensures frame { design.new.frame ≡ design.old.frame }
     ensures adjustments { design.new.adjustments ≡ design.old.adjustments }
 {
@@ -214,9 +196,7 @@ pub(crate) fn nets<S: TokenSource>(
     requires { design.old.nets ≡ [] }
     ensures reads { ReadsBy S.tells S.place (nets design.old.frame)
         (λ _. design.new.nets) result source.old source.new }
-    ensures faults { Counts result (S.faults source.old) (S.faults source.new) }
-    ensures onward { Onward S.reaches S.stops result source.old source.new }
-    ensures origin { S.origin source.new ≡ S.origin source.old }
+    ensures moves { Moves S.faults S.reaches S.stops S.origin result source.old source.new }
     ensures frame { design.new.frame ≡ design.old.frame }
     ensures adjustments { design.new.adjustments ≡ design.old.adjustments }
 {

@@ -1,7 +1,7 @@
 ghost use Rattle.std.specs.Prelude.{◌≡◌, ℕ, ◌≤◌, List, [], IsTrue, OnOk};
 ghost use Rattle.gr_io.specs.Counts.{Rose};
 ghost use Rattle.gr_io.specs.declared.shelf.Slot.{Slot};
-ghost use Rattle.gr_text.specs.Reads.{ReadsBy, Counts, OfPlace, Says, Onward, AtFault, GoesThrough};
+ghost use Rattle.gr_text.specs.Reads.{ReadsBy, Moves, Counts, OfPlace, Says, AtFault, GoesThrough};
 ghost use Rattle.gr_text.specs.Streams.{place_at};
 ghost use Rattle.gr_text.specs.Unread.{IsReadTo};
 ghost use Rattle.ispd_reader.specs.DesignText.{design, design_of};
@@ -19,9 +19,7 @@ use std::alloc::Global;
 #[tactic(auto, unfolding(crate::specs::DesignText::design))]
 fn design<S: TokenSource>(alloc: Global, source: &mut S) -> Result<Design, ReadError<DesignFault>>
     ensures reads { ReadsBy S.tells S.place design (λ design. design) result source.old source.new }
-    ensures faults { Counts result (S.faults source.old) (S.faults source.new) }
-    ensures onward { Onward S.reaches S.stops result source.old source.new }
-    ensures origin { S.origin source.new ≡ S.origin source.old }
+    ensures moves { Moves S.faults S.reaches S.stops S.origin result source.old source.new }
     ensures ended { OnOk result (IsTrue S.tells → S.ended source.new) }
 {
     let frame = frame(source)?;

@@ -1,7 +1,6 @@
 pub mod LibraryLemmas
 pub mod PlacesLemmas
 pub mod KindLemmas
-pub mod ReadLemmas
 pub mod ItemsLemmas
 pub mod NetLemmas
 pub mod GatheredLemmas

@@ -1,10 +1,10 @@
 -- The items of a library text: each is read behind its word, and adds to what was gathered before it.
-use Rattle.std.specs.Prelude.{ℕ, ◌-◌, ◌&&◌, not, nat_lt, nat_le, Bool, true, false, pos, neg_ℤ, nat_abs, List, length, Option, Some, None, is_none, slice_index_or}
+use Rattle.std.specs.Prelude.{ℕ, ◌-◌, ◌&&◌, not, nat_lt, nat_le, Bool, true, false, pos, neg_ℤ, List, length, Option, Some, None, is_none, slice_index_or}
 use Rattle.std.specs.List.{list_any}
 use Rattle.std.specs.Str.{bytes_eq}
 use Rattle.gr_base.specs.Limits.{most_id, most_pins}
 use Rattle.gr_base.specs.Designs.{DesignView, net_with_id, pins_at}
-use Rattle.gr_text.specs.Reading.{Reader, ◌>>=◌, ◌>>◌, pure, check, given, token, number}
+use Rattle.gr_text.specs.Reading.{Reader, ◌>>=◌, ◌>>◌, pure, check, given, token, number, natural}
 use Rattle.rc_library.specs.Faults.{ends}
 use Rattle.rc_library.specs.Limits.{most_resistance, most_capacitance, most_time, most_kinds}
 use Rattle.rc_library.specs.Gathered.{Gathered, with_wire, with_kind, with_places, with_block, with_driver_of, with_sink_of, with_flip}
@@ -17,31 +17,25 @@ use Rattle.rc_library.specs.declared.parts.Kind.{Kind}
 use Rattle.rc_library.specs.declared.parts.Sinking.{Sinking}
 use Rattle.rc_library.specs.declared.parts.NamedKind.{NamedKind}
 
--- a whole number from 0 on
-unfoldable pub natural : ℕ → Reader LibraryFault ℕ
-natural most = do
-  n ← number ends fault.Number (pos 0) (pos most)
-  pure (nat_abs n)
-
 -- `R C`
 unfoldable pub wire : Reader LibraryFault Wire
 wire = do
-  r ← natural most_resistance
-  c ← natural most_capacitance
+  r ← natural ends fault.Number most_resistance
+  c ← natural ends fault.Number most_capacitance
   pure (record { r = r; c = c })
 
 -- `C TIME`
 unfoldable pub sinking : Reader LibraryFault Sinking
 sinking = do
-  c ← natural most_capacitance
+  c ← natural ends fault.Number most_capacitance
   time ← number ends fault.Number (neg_ℤ (pos most_time)) (pos most_time)
   pure (record { c = c; time = time })
 
 -- `C R D`
 unfoldable pub kind : Reader LibraryFault Kind
 kind = do
-  c ← natural most_capacitance
-  r ← natural most_resistance
+  c ← natural ends fault.Number most_capacitance
+  r ← natural ends fault.Number most_resistance
   delay ← number ends fault.Number (pos 0) (pos most_time)
   pure (record { c = c; r = r; delay = delay })
 
@@ -53,7 +47,7 @@ waits_for_wire wires layer =
 -- `LAYER`
 unfoldable pub layer : List (Option Wire) → Reader LibraryFault ℕ
 layer wires = do
-  layer ← natural most_id
+  layer ← natural ends fault.Number most_id
   check (waits_for_wire wires layer) fault.Layer
   pure (layer - 1)
 
@@ -75,7 +69,7 @@ via_item g = do
 unfoldable pub driver_item : Gathered → Reader LibraryFault Gathered
 driver_item g = do
   check (is_none g.driver) fault.Word
-  driver ← natural most_resistance
+  driver ← natural ends fault.Number most_resistance
   pure (record g { driver = Some driver })
 
 -- `sink C TIME`
@@ -104,30 +98,25 @@ kind_item inverts g = do
   kind ← kind
   pure (with_kind (record { name = name; kind = kind; inverts = inverts }) g)
 
--- `COLUMN` or `ROW`, of so many
-unfoldable pub tile : ℕ → Reader LibraryFault ℕ
-tile tiles = do
-  at ← natural most_id
-  check (nat_lt at tiles) fault.Tile
-  pure at
-
 -- `block COLUMN ROW`
 unfoldable pub block_item : DesignView → Gathered → Reader LibraryFault Gathered
 block_item d g = do
-  column ← tile d.frame.shape.columns
-  row ← tile d.frame.shape.rows
+  column ← natural ends fault.Number most_id
+  check (nat_lt column d.frame.shape.columns) fault.Tile
+  row ← natural ends fault.Number most_id
+  check (nat_lt row d.frame.shape.rows) fault.Tile
   pure (with_places (with_block column row g.places) g)
 
 -- `ID`, as the number of its net
 unfoldable pub net : DesignView → Reader LibraryFault ℕ
 net d = do
-  id ← natural most_id
+  id ← natural ends fault.Number most_id
   given (net_with_id d id) fault.UnknownId
 
 -- `PIN` of a net, whose driver is pin 0
 unfoldable pub pin : DesignView → ℕ → Reader LibraryFault ℕ
 pin d net = do
-  pin ← natural most_pins
+  pin ← natural ends fault.Number most_pins
   check (nat_le 1 pin && nat_lt pin (length (pins_at d net))) fault.Pin
   pure pin
 
@@ -135,7 +124,7 @@ pin d net = do
 unfoldable pub drive_item : DesignView → Gathered → Reader LibraryFault Gathered
 drive_item d g = do
   net ← net d
-  r ← natural most_resistance
+  r ← natural ends fault.Number most_resistance
   pure (with_places (with_driver_of net r g.places) g)
 
 -- `pin ID PIN C TIME`

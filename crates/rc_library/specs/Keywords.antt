@@ -6,17 +6,12 @@ use Rattle.rc_library.specs.declared.keyword.Keyword.TheVariants.{Wire, Via, Dri
 
 -- the first version that has the word
 abbrev pub since : Keyword → ℕ
-since Wire = 1
-since Via = 1
-since Driver = 1
-since Sink = 1
-since Kind = 1
-since End = 1
+since Inverter = 3
+since Flip = 3
 since Block = 2
 since Drive = 2
 since Pin = 2
-since Inverter = 3
-since Flip = 3
+since other = 1
 
 -- what a word is in the last version
 abbrev pub named : List ℕ → Option Keyword

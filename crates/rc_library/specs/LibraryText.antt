@@ -1,10 +1,10 @@
 -- What a library text says for a design. The grammar is a table: one line for each check, in the order of the text.
-use Rattle.std.specs.Prelude.{ℕ, zero, suc, ◌+◌, List, Option, Some, None, is_none, Result, Ok, Err, if◌then◌else◌, codes}
+use Rattle.std.specs.Prelude.{ℕ, zero, suc, ◌+◌, List, Option, Some, None, Result, Err, if◌then◌else◌, codes}
 use Rattle.std.specs.Str.{bytes_eq}
 use Rattle.gr_base.specs.Limits.{most_bytes}
 use Rattle.gr_base.specs.Designs.{DesignView}
 use Rattle.gr_text.specs.Tokens.{place_in}
-use Rattle.gr_text.specs.Reading.{Read, Reader, ◌>>=◌, ◌>>◌, pure, check, given, token, token_or_end, word}
+use Rattle.gr_text.specs.Reading.{Reader, ◌>>=◌, ◌>>◌, pure, given, token, word, end, value_of}
 use Rattle.rc_library.specs.Faults.{ends}
 use Rattle.rc_library.specs.Libraries.{LibraryView}
 use Rattle.rc_library.specs.Gathered.{Gathered, nothing, finished}
@@ -51,24 +51,14 @@ version = do
   found ← token ends
   given (version_of found) fault.Word
 
--- no further token
-unfoldable pub end : Reader LibraryFault (Unit {0})
-end = do
-  more ← token_or_end ends
-  check (is_none more) fault.Trailing
-
 -- a whole library text; an item takes a byte or more, so that a text within its limit has no more items than this
 unfoldable pub library : DesignView → Reader LibraryFault LibraryView
 library d = do
   version ← version
   gathered ← items most_bytes d (nothing d version)
   library ← given (finished gathered) fault.Missing
-  end
+  end ends fault.Trailing
   pure library
-
-abbrev pub value_of : Read LibraryFault LibraryView → Result LibraryView (LibraryFault × ℕ)
-value_of (Ok read) = Ok read.0
-value_of (Err fault) = Err fault
 
 -- what the bytes of a text say for a design: a library, or the first fault and the number of its token
 unfoldable pub library_of : DesignView → List ℕ → Result LibraryView (LibraryFault × ℕ)

@@ -1,7 +1,7 @@
 //! The items of a library text: each is taken behind its word.
 ghost use Rattle.std.specs.Prelude.{◌≡◌, ◌<◌, ◌≤◌, true, false, IfOk, OnOk, length};
 ghost use Rattle.gr_base.specs.Names.{is_token};
-ghost use Rattle.gr_text.specs.Reads.{ReadsBy, Counts, Onward};
+ghost use Rattle.gr_text.specs.Reads.{ReadsBy, Moves};
 ghost use Rattle.rc_library.specs.Gathered.{IsOf, IsLike};
 ghost use Rattle.rc_library.specs.Keywords.{since};
 ghost use Rattle.rc_library.specs.Items.{layer, wire_item, via_item, driver_item, sink_item, has_kind, kind_name, kind_item, block_item, drive_item, pin_item, flip_item, item};
@@ -12,9 +12,9 @@ use crate::keyword::Keyword;
 use crate::kinds::Kinds;
 use crate::limits::{MOST_KINDS, MOST_RESISTANCE};
 use crate::parts::NamedKind;
-use crate::steps::{ENDS, kind, natural, net, pin, sinking, tile, wire};
+use crate::steps::{ENDS, kind, net, pin, sinking, wire};
 use gr_base::{Design, MOST_ID, Name};
-use gr_text::{ReadError, TokenSource, check, next_token};
+use gr_text::{ReadError, TokenSource, check, natural, next_token};
 use std::alloc::Global;
 
 /// Takes the number of a layer whose wire isn't given yet. Layers count from 1 in the text, and from
@@ -25,12 +25,10 @@ fn layer<S: TokenSource>(
     gathered: &Gathered,
 ) -> Result<u32, ReadError<LibraryFault>>
     ensures reads { ReadsBy S.tells S.place (layer gathered.now.wires) (λ layer. layer) result source.old source.new }
-    ensures faults { Counts result (S.faults source.old) (S.faults source.new) }
-    ensures onward { Onward S.reaches S.stops result source.old source.new }
-    ensures origin { S.origin source.new ≡ S.origin source.old }
+    ensures moves { Moves S.faults S.reaches S.stops S.origin result source.old source.new }
     ensures below { IfOk result (λ layer. layer < length gathered.now.wires) }
 {
-    let layer = natural(source, MOST_ID)?;
+    let layer = natural(source, ENDS, LibraryFault::Number, MOST_ID)?;
     check(source, gathered.waits_for_wire(layer), LibraryFault::Layer)?;
     Ok(layer - 1)
 }
@@ -43,9 +41,7 @@ fn wire_item<S: TokenSource>(
 ) -> Result<(), ReadError<LibraryFault>>
     ensures reads { ReadsBy S.tells S.place (wire_item gathered.old) (λ _. gathered.new) result
         source.old source.new }
-    ensures faults { Counts result (S.faults source.old) (S.faults source.new) }
-    ensures onward { Onward S.reaches S.stops result source.old source.new }
-    ensures origin { S.origin source.new ≡ S.origin source.old }
+    ensures moves { Moves S.faults S.reaches S.stops S.origin result source.old source.new }
     ensures like { OnOk result (IsLike gathered.old gathered.new) }
 {
     let layer = layer(source, gathered)?;
@@ -62,9 +58,7 @@ fn via_item<S: TokenSource>(
 ) -> Result<(), ReadError<LibraryFault>>
     ensures reads { ReadsBy S.tells S.place (via_item gathered.old) (λ _. gathered.new) result
         source.old source.new }
-    ensures faults { Counts result (S.faults source.old) (S.faults source.new) }
-    ensures onward { Onward S.reaches S.stops result source.old source.new }
-    ensures origin { S.origin source.new ≡ S.origin source.old }
+    ensures moves { Moves S.faults S.reaches S.stops S.origin result source.old source.new }
     ensures like { OnOk result (IsLike gathered.old gathered.new) }
 {
     check(source, !gathered.has_via(), LibraryFault::Word)?;
@@ -81,13 +75,11 @@ fn driver_item<S: TokenSource>(
 ) -> Result<(), ReadError<LibraryFault>>
     ensures reads { ReadsBy S.tells S.place (driver_item gathered.old) (λ _. gathered.new) result
         source.old source.new }
-    ensures faults { Counts result (S.faults source.old) (S.faults source.new) }
-    ensures onward { Onward S.reaches S.stops result source.old source.new }
-    ensures origin { S.origin source.new ≡ S.origin source.old }
+    ensures moves { Moves S.faults S.reaches S.stops S.origin result source.old source.new }
     ensures like { OnOk result (IsLike gathered.old gathered.new) }
 {
     check(source, !gathered.has_driver(), LibraryFault::Word)?;
-    let driver = natural(source, MOST_RESISTANCE)?;
+    let driver = natural(source, ENDS, LibraryFault::Number, MOST_RESISTANCE)?;
     gathered.set_driver(driver);
     Ok(())
 }
@@ -100,9 +92,7 @@ fn sink_item<S: TokenSource>(
 ) -> Result<(), ReadError<LibraryFault>>
     ensures reads { ReadsBy S.tells S.place (sink_item gathered.old) (λ _. gathered.new) result
         source.old source.new }
-    ensures faults { Counts result (S.faults source.old) (S.faults source.new) }
-    ensures onward { Onward S.reaches S.stops result source.old source.new }
-    ensures origin { S.origin source.new ≡ S.origin source.old }
+    ensures moves { Moves S.faults S.reaches S.stops S.origin result source.old source.new }
     ensures like { OnOk result (IsLike gathered.old gathered.new) }
 {
     check(source, !gathered.has_sink(), LibraryFault::Word)?;
@@ -119,9 +109,7 @@ fn kind_name<S: TokenSource>(
     kinds: &Kinds,
 ) -> Result<Name, ReadError<LibraryFault>>
     ensures reads { ReadsBy S.tells S.place (kind_name kinds.now) (λ name. name) result source.old source.new }
-    ensures faults { Counts result (S.faults source.old) (S.faults source.new) }
-    ensures onward { Onward S.reaches S.stops result source.old source.new }
-    ensures origin { S.origin source.new ≡ S.origin source.old }
+    ensures moves { Moves S.faults S.reaches S.stops S.origin result source.old source.new }
     ensures fresh { IfOk result (λ name. has_kind kinds.now name ≡ false) }
     ensures token { IfOk result (λ name. is_token name ≡ true) }
 {
@@ -145,9 +133,7 @@ fn kind_item<S: TokenSource>(
     requires version { inverts ≡ true → 3 ≤ gathered.old.version }
     ensures reads { ReadsBy S.tells S.place (kind_item inverts gathered.old) (λ _. gathered.new) result
         source.old source.new }
-    ensures faults { Counts result (S.faults source.old) (S.faults source.new) }
-    ensures onward { Onward S.reaches S.stops result source.old source.new }
-    ensures origin { S.origin source.new ≡ S.origin source.old }
+    ensures moves { Moves S.faults S.reaches S.stops S.origin result source.old source.new }
     ensures like { OnOk result (IsLike gathered.old gathered.new) }
 {
     let room = gathered.kinds().len() < MOST_KINDS;
@@ -176,14 +162,14 @@ fn block_item<S: TokenSource>(
     requires version { 2 ≤ gathered.old.version }
     ensures reads { ReadsBy S.tells S.place (block_item design.now gathered.old) (λ _. gathered.new) result
         source.old source.new }
-    ensures faults { Counts result (S.faults source.old) (S.faults source.new) }
-    ensures onward { Onward S.reaches S.stops result source.old source.new }
-    ensures origin { S.origin source.new ≡ S.origin source.old }
+    ensures moves { Moves S.faults S.reaches S.stops S.origin result source.old source.new }
     ensures like { OnOk result (IsLike gathered.old gathered.new) }
 {
     let shape = design.frame().shape;
-    let column = tile(source, shape.columns())?;
-    let row = tile(source, shape.rows())?;
+    let column = natural(source, ENDS, LibraryFault::Number, MOST_ID)?;
+    check(source, column < shape.columns(), LibraryFault::Tile)?;
+    let row = natural(source, ENDS, LibraryFault::Number, MOST_ID)?;
+    check(source, row < shape.rows(), LibraryFault::Tile)?;
     let Ok(()) = gathered.block(alloc, column, row) else {
         return Err(ReadError::NoMemory);
     };
@@ -202,13 +188,11 @@ fn drive_item<S: TokenSource>(
     requires version { 2 ≤ gathered.old.version }
     ensures reads { ReadsBy S.tells S.place (drive_item design.now gathered.old) (λ _. gathered.new) result
         source.old source.new }
-    ensures faults { Counts result (S.faults source.old) (S.faults source.new) }
-    ensures onward { Onward S.reaches S.stops result source.old source.new }
-    ensures origin { S.origin source.new ≡ S.origin source.old }
+    ensures moves { Moves S.faults S.reaches S.stops S.origin result source.old source.new }
     ensures like { OnOk result (IsLike gathered.old gathered.new) }
 {
     let net = net(source, design)?;
-    let r = natural(source, MOST_RESISTANCE)?;
+    let r = natural(source, ENDS, LibraryFault::Number, MOST_RESISTANCE)?;
     let Ok(()) = gathered.set_driver_of(alloc, net, r) else {
         return Err(ReadError::NoMemory);
     };
@@ -227,9 +211,7 @@ fn pin_item<S: TokenSource>(
     requires version { 2 ≤ gathered.old.version }
     ensures reads { ReadsBy S.tells S.place (pin_item design.now gathered.old) (λ _. gathered.new) result
         source.old source.new }
-    ensures faults { Counts result (S.faults source.old) (S.faults source.new) }
-    ensures onward { Onward S.reaches S.stops result source.old source.new }
-    ensures origin { S.origin source.new ≡ S.origin source.old }
+    ensures moves { Moves S.faults S.reaches S.stops S.origin result source.old source.new }
     ensures like { OnOk result (IsLike gathered.old gathered.new) }
 {
     let net = net(source, design)?;
@@ -253,9 +235,7 @@ fn flip_item<S: TokenSource>(
     requires version { 3 ≤ gathered.old.version }
     ensures reads { ReadsBy S.tells S.place (flip_item design.now gathered.old) (λ _. gathered.new) result
         source.old source.new }
-    ensures faults { Counts result (S.faults source.old) (S.faults source.new) }
-    ensures onward { Onward S.reaches S.stops result source.old source.new }
-    ensures origin { S.origin source.new ≡ S.origin source.old }
+    ensures moves { Moves S.faults S.reaches S.stops S.origin result source.old source.new }
     ensures like { OnOk result (IsLike gathered.old gathered.new) }
 {
     let net = net(source, design)?;
@@ -278,9 +258,7 @@ pub(crate) fn item<S: TokenSource>(
     requires since { since keyword ≤ gathered.old.version }
     ensures reads { ReadsBy S.tells S.place (item design.now keyword gathered.old) (λ _. gathered.new) result
         source.old source.new }
-    ensures faults { Counts result (S.faults source.old) (S.faults source.new) }
-    ensures onward { Onward S.reaches S.stops result source.old source.new }
-    ensures origin { S.origin source.new ≡ S.origin source.old }
+    ensures moves { Moves S.faults S.reaches S.stops S.origin result source.old source.new }
     ensures like { OnOk result (IsLike gathered.old gathered.new) }
 {
     match keyword {

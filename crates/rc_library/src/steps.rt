@@ -1,69 +1,30 @@
 //! Steps that several items are read by.
-ghost use Rattle.std.specs.Prelude.{◌≡◌, ℕ, ◌<◌, ◌≤◌, Some, IfOk, length};
+ghost use Rattle.std.specs.Prelude.{◌≡◌, ◌<◌, IfOk, length};
 ghost use Rattle.gr_base.specs.Designs.{pins_at};
-ghost use Rattle.gr_text.specs.Reads.{ReadsBy, Counts, Onward};
-ghost use Rattle.gr_text.specs.Reading.{given};
+ghost use Rattle.gr_text.specs.Reads.{ReadsBy, Moves};
 ghost use Rattle.rc_library.specs.Libraries.{IsWire, IsKind, IsSinking};
-ghost use Rattle.rc_library.specs.Items.{natural, wire, sinking, kind, tile, net, pin};
+ghost use Rattle.rc_library.specs.Items.{wire, sinking, kind, net, pin};
 
 use crate::fault::LibraryFault;
 use crate::limits::{MOST_CAPACITANCE, MOST_RESISTANCE, MOST_TIME};
 use crate::parts::{Kind, Sinking, Wire};
 use gr_base::{Design, MOST_ID, MOST_PINS};
-use gr_text::{Ends, ReadError, TokenSource, check, number};
+use gr_text::{Ends, ReadError, TokenSource, check, given, natural, number};
 
 pub(crate) const ENDS: Ends<LibraryFault> = Ends {
     ended: LibraryFault::Ended,
     too_long: LibraryFault::TooLong,
 };
 
-/// The value that the token in hand gives, or else this fault of that token.
-pub(crate) fn given<S: TokenSource, T>(
-    source: &S,
-    value: Option<T>,
-    fault: LibraryFault,
-) -> Result<T, ReadError<LibraryFault>>
-    ensures reads { ReadsBy S.tells S.place (given value fault) (λ v. v) result source.now source.now }
-    ensures faults { (count : ℕ) → Counts result count count }
-    ensures onward { Onward S.reaches S.stops result source.now source.now }
-    ensures value { IfOk result (λ v. value ≡ Some v) }
-{
-    match value {
-        Some(value) => Ok(value),
-        None => Err(ReadError::Fault {
-            fault,
-            token: source.number(),
-        }),
-    }
-}
-
-/// Takes the next token, which has to be a whole number from 0 to `most`.
-#[tactic(auto, unfolding(crate::specs::Items::natural))]
-pub(crate) fn natural<S: TokenSource>(
-    source: &mut S,
-    most: u32,
-) -> Result<u32, ReadError<LibraryFault>>
-    ensures reads { ReadsBy S.tells S.place (natural most) (λ n. n) result source.old source.new }
-    ensures faults { Counts result (S.faults source.old) (S.faults source.new) }
-    ensures onward { Onward S.reaches S.stops result source.old source.new }
-    ensures origin { S.origin source.new ≡ S.origin source.old }
-    ensures most { IfOk result (λ n. n ≤ most) }
-{
-    let n = number(source, ENDS, LibraryFault::Number, 0, i64::from(most))?;
-    Ok(n as u32)
-}
-
 /// Takes a resistance and a capacitance.
 #[tactic(auto, unfolding(crate::specs::Items::wire))]
 pub(crate) fn wire<S: TokenSource>(source: &mut S) -> Result<Wire, ReadError<LibraryFault>>
     ensures reads { ReadsBy S.tells S.place wire (λ wire. wire) result source.old source.new }
-    ensures faults { Counts result (S.faults source.old) (S.faults source.new) }
-    ensures onward { Onward S.reaches S.stops result source.old source.new }
-    ensures origin { S.origin source.new ≡ S.origin source.old }
+    ensures moves { Moves S.faults S.reaches S.stops S.origin result source.old source.new }
     ensures fits { IfOk result IsWire }
 {
-    let r = natural(source, MOST_RESISTANCE)?;
-    let c = natural(source, MOST_CAPACITANCE)?;
+    let r = natural(source, ENDS, LibraryFault::Number, MOST_RESISTANCE)?;
+    let c = natural(source, ENDS, LibraryFault::Number, MOST_CAPACITANCE)?;
     Ok(Wire { r, c })
 }
 
@@ -71,12 +32,10 @@ pub(crate) fn wire<S: TokenSource>(source: &mut S) -> Result<Wire, ReadError<Lib
 #[tactic(auto, unfolding(crate::specs::Items::sinking))]
 pub(crate) fn sinking<S: TokenSource>(source: &mut S) -> Result<Sinking, ReadError<LibraryFault>>
     ensures reads { ReadsBy S.tells S.place sinking (λ sink. sink) result source.old source.new }
-    ensures faults { Counts result (S.faults source.old) (S.faults source.new) }
-    ensures onward { Onward S.reaches S.stops result source.old source.new }
-    ensures origin { S.origin source.new ≡ S.origin source.old }
+    ensures moves { Moves S.faults S.reaches S.stops S.origin result source.old source.new }
     ensures fits { IfOk result IsSinking }
 {
-    let c = natural(source, MOST_CAPACITANCE)?;
+    let c = natural(source, ENDS, LibraryFault::Number, MOST_CAPACITANCE)?;
     let time = number(source, ENDS, LibraryFault::Number, -MOST_TIME, MOST_TIME)?;
     Ok(Sinking { c, time })
 }
@@ -85,32 +44,13 @@ pub(crate) fn sinking<S: TokenSource>(source: &mut S) -> Result<Sinking, ReadErr
 #[tactic(auto, unfolding(crate::specs::Items::kind))]
 pub(crate) fn kind<S: TokenSource>(source: &mut S) -> Result<Kind, ReadError<LibraryFault>>
     ensures reads { ReadsBy S.tells S.place kind (λ kind. kind) result source.old source.new }
-    ensures faults { Counts result (S.faults source.old) (S.faults source.new) }
-    ensures onward { Onward S.reaches S.stops result source.old source.new }
-    ensures origin { S.origin source.new ≡ S.origin source.old }
+    ensures moves { Moves S.faults S.reaches S.stops S.origin result source.old source.new }
     ensures fits { IfOk result IsKind }
 {
-    let c = natural(source, MOST_CAPACITANCE)?;
-    let r = natural(source, MOST_RESISTANCE)?;
+    let c = natural(source, ENDS, LibraryFault::Number, MOST_CAPACITANCE)?;
+    let r = natural(source, ENDS, LibraryFault::Number, MOST_RESISTANCE)?;
     let delay = number(source, ENDS, LibraryFault::Number, 0, MOST_TIME)?;
     Ok(Kind { c, r, delay })
-}
-
-/// Takes a column or a row, of so many.
-#[tactic(auto, unfolding(crate::specs::Items::tile))]
-pub(crate) fn tile<S: TokenSource>(
-    source: &mut S,
-    tiles: u32,
-) -> Result<u32, ReadError<LibraryFault>>
-    ensures reads { ReadsBy S.tells S.place (tile tiles) (λ at. at) result source.old source.new }
-    ensures faults { Counts result (S.faults source.old) (S.faults source.new) }
-    ensures onward { Onward S.reaches S.stops result source.old source.new }
-    ensures origin { S.origin source.new ≡ S.origin source.old }
-    ensures below { IfOk result (λ at. at < tiles) }
-{
-    let at = natural(source, MOST_ID)?;
-    check(source, at < tiles, LibraryFault::Tile)?;
-    Ok(at)
 }
 
 /// Takes the id of a net, and gives the net's number.
@@ -120,12 +60,10 @@ pub(crate) fn net<S: TokenSource>(
     design: &Design,
 ) -> Result<u32, ReadError<LibraryFault>>
     ensures reads { ReadsBy S.tells S.place (net design.now) (λ net. net) result source.old source.new }
-    ensures faults { Counts result (S.faults source.old) (S.faults source.new) }
-    ensures onward { Onward S.reaches S.stops result source.old source.new }
-    ensures origin { S.origin source.new ≡ S.origin source.old }
+    ensures moves { Moves S.faults S.reaches S.stops S.origin result source.old source.new }
     ensures below { IfOk result (λ net. net < length design.now.nets) }
 {
-    let id = natural(source, MOST_ID)?;
+    let id = natural(source, ENDS, LibraryFault::Number, MOST_ID)?;
     given(source, design.net_of_id(id), LibraryFault::UnknownId)
 }
 
@@ -138,12 +76,10 @@ pub(crate) fn pin<S: TokenSource>(
 ) -> Result<u32, ReadError<LibraryFault>>
     requires { net < length design.now.nets }
     ensures reads { ReadsBy S.tells S.place (pin design.now net) (λ pin. pin) result source.old source.new }
-    ensures faults { Counts result (S.faults source.old) (S.faults source.new) }
-    ensures onward { Onward S.reaches S.stops result source.old source.new }
-    ensures origin { S.origin source.new ≡ S.origin source.old }
+    ensures moves { Moves S.faults S.reaches S.stops S.origin result source.old source.new }
     ensures below { IfOk result (λ pin. pin < length (pins_at design.now net)) }
 {
-    let pin = natural(source, MOST_PINS)?;
+    let pin = natural(source, ENDS, LibraryFault::Number, MOST_PINS)?;
     let pins = design.net(net).pins.as_slice().len();
     check(source, 1 <= pin && (pin as usize) < pins, LibraryFault::Pin)?;
     Ok(pin)

@@ -1,12 +1,12 @@
 //! A whole library text.
 ghost use Rattle.std.specs.Prelude.{◌≡◌, ℕ, ◌≤◌, IsTrue, IfOk, IfSome, OnOk, Ok};
 ghost use Rattle.gr_base.specs.Limits.{most_bytes};
-ghost use Rattle.gr_text.specs.Reads.{ReadsBy, Counts, Onward};
+ghost use Rattle.gr_text.specs.Reads.{ReadsBy, Moves, Counts, Onward};
 ghost use Rattle.gr_text.specs.Reading.{given};
 ghost use Rattle.rc_library.specs.Libraries.{IsLibraryOf};
 ghost use Rattle.rc_library.specs.Gathered.{IsOf, IsLike, finished};
 ghost use Rattle.rc_library.specs.Keywords.{since};
-ghost use Rattle.rc_library.specs.LibraryText.{keyword, items, version_of, version, end, library};
+ghost use Rattle.rc_library.specs.LibraryText.{keyword, items, version_of, version, library};
 ghost use Rattle.rc_library.specs.declared.fault.LibraryFault.TheVariants as fault;
 
 use crate::fault::LibraryFault;
@@ -14,18 +14,16 @@ use crate::gathered::Gathered;
 use crate::items::item;
 use crate::keyword::{Keyword, keyword_of};
 use crate::library::Library;
-use crate::steps::{ENDS, given};
+use crate::steps::ENDS;
 use gr_base::{Design, MOST_BYTES};
-use gr_text::{ReadError, TokenSource, check, next_token, next_token_or_end, word};
+use gr_text::{ReadError, TokenSource, end, given, next_token, word};
 use std::alloc::Global;
 
 /// Takes the word that an item begins with, or `end`.
 #[tactic(auto, unfolding(crate::specs::LibraryText::keyword))]
 fn keyword<S: TokenSource>(source: &mut S, version: u32) -> Result<Keyword, ReadError<LibraryFault>>
     ensures reads { ReadsBy S.tells S.place (keyword version) (λ keyword. keyword) result source.old source.new }
-    ensures faults { Counts result (S.faults source.old) (S.faults source.new) }
-    ensures onward { Onward S.reaches S.stops result source.old source.new }
-    ensures origin { S.origin source.new ≡ S.origin source.old }
+    ensures moves { Moves S.faults S.reaches S.stops S.origin result source.old source.new }
     ensures since { IfOk result (λ keyword. since keyword ≤ version) }
 {
     next_token(source, ENDS)?;
@@ -47,9 +45,7 @@ fn items<S: TokenSource>(
     requires of { IsOf design.now gathered.old }
     ensures reads { ReadsBy S.tells S.place (items most_bytes design.now gathered.old)
         (λ _. gathered.new) result source.old source.new }
-    ensures faults { Counts result (S.faults source.old) (S.faults source.new) }
-    ensures onward { Onward S.reaches S.stops result source.old source.new }
-    ensures origin { S.origin source.new ≡ S.origin source.old }
+    ensures moves { Moves S.faults S.reaches S.stops S.origin result source.old source.new }
     ensures like { OnOk result (IsLike gathered.old gathered.new) }
 {
     for _ in 0..MOST_BYTES {
@@ -84,9 +80,7 @@ fn version_of(word: &[u8]) -> Option<u32>
 #[tactic(auto, unfolding(crate::specs::LibraryText::version))]
 fn version<S: TokenSource>(source: &mut S) -> Result<u32, ReadError<LibraryFault>>
     ensures reads { ReadsBy S.tells S.place version (λ version. version) result source.old source.new }
-    ensures faults { Counts result (S.faults source.old) (S.faults source.new) }
-    ensures onward { Onward S.reaches S.stops result source.old source.new }
-    ensures origin { S.origin source.new ≡ S.origin source.old }
+    ensures moves { Moves S.faults S.reaches S.stops S.origin result source.old source.new }
     ensures least { IfOk result (λ version. 1 ≤ version) }
     ensures greatest { IfOk result (λ version. version ≤ 3) }
 {
@@ -94,19 +88,6 @@ fn version<S: TokenSource>(source: &mut S) -> Result<u32, ReadError<LibraryFault
     next_token(source, ENDS)?;
     let version = given(source, version_of(source.word()), LibraryFault::Word)?;
     Ok(version)
-}
-
-/// Sees that no further token is there.
-#[tactic(auto, unfolding(crate::specs::LibraryText::end))]
-fn end<S: TokenSource>(source: &mut S) -> Result<(), ReadError<LibraryFault>>
-    ensures reads { ReadsBy S.tells S.place end (λ _. tt) result source.old source.new }
-    ensures faults { Counts result (S.faults source.old) (S.faults source.new) }
-    ensures onward { Onward S.reaches S.stops result source.old source.new }
-    ensures origin { S.origin source.new ≡ S.origin source.old }
-    ensures ended { OnOk result (IsTrue S.tells → S.ended source.new) }
-{
-    let more = next_token_or_end(source, ENDS)?;
-    check(source, !more, LibraryFault::Trailing)
 }
 
 /// The library that was gathered, where the token in hand is its end and nothing is missing.
@@ -138,9 +119,7 @@ pub(crate) fn library<S: TokenSource>(
 ) -> Result<Library, ReadError<LibraryFault>>
     ensures reads { ReadsBy S.tells S.place (library design.now) (λ library. library) result source.old source.new }
     ensures of { IfOk result (IsLibraryOf design.now) }
-    ensures faults { Counts result (S.faults source.old) (S.faults source.new) }
-    ensures onward { Onward S.reaches S.stops result source.old source.new }
-    ensures origin { S.origin source.new ≡ S.origin source.old }
+    ensures moves { Moves S.faults S.reaches S.stops S.origin result source.old source.new }
     ensures ended { OnOk result (IsTrue S.tells → S.ended source.new) }
 {
     let version = version(source)?;
@@ -149,6 +128,6 @@ pub(crate) fn library<S: TokenSource>(
     };
     items(alloc, source, design, &mut gathered)?;
     let library = finish(alloc, source, design, gathered)?;
-    end(source)?;
+    end(source, ENDS, LibraryFault::Trailing)?;
     Ok(library)
 }

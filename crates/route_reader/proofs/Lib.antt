@@ -6,5 +6,4 @@ pub mod PushLemmas
 pub mod StepLemmas
 pub mod TextLemmas
 pub mod FinishLemmas
-pub mod ReadLemmas
 pub mod CoverLemmas

@@ -3,7 +3,7 @@ ghost use Rattle.std.specs.Prelude.{◌≡◌, ℕ, ◌≤◌, true, false, List
 ghost use Rattle.gr_base.specs.declared.grid.Edge.{Edge};
 ghost use Rattle.gr_io.specs.Counts.{Rose};
 ghost use Rattle.gr_io.specs.declared.shelf.Slot.{Slot};
-ghost use Rattle.gr_text.specs.Reads.{Counts, Says, Onward, AtFault, GoesThrough};
+ghost use Rattle.gr_text.specs.Reads.{Moves, Counts, Says, Onward, AtFault, GoesThrough};
 ghost use Rattle.gr_text.specs.Streams.{place_at};
 ghost use Rattle.gr_text.specs.Unread.{IsReadTo};
 ghost use Rattle.solution_text.specs.Cover.{cover};
@@ -37,9 +37,7 @@ fn take_token<S: TokenSource>(
     requires fits { Fits design.now gathering.old }
     ensures takes { (s : Progress) → Gathers design.now s gathering.old →
         Takes design.now s S.tells (S.place source.old) (S.place source.new) gathering.new result }
-    ensures faults { Counts result (S.faults source.old) (S.faults source.new) }
-    ensures onward { Onward S.reaches S.stops result source.old source.new }
-    ensures origin { S.origin source.new ≡ S.origin source.old }
+    ensures moves { Moves S.faults S.reaches S.stops S.origin result source.old source.new }
     ensures ended { result ≡ Ok false → IsTrue S.tells → S.ended source.new }
 {
     if !next_token_or_end(source, ENDS)? {
@@ -86,9 +84,7 @@ fn solution<S: TokenSource>(
 ) -> Result<Solution, ReadError<SolutionFault>>
     ensures says { IsTrue S.tells → Says (solution_at design.now start (S.place source.old)) result }
     ensures of { IfOk result (IsOf design.now) }
-    ensures faults { Counts result (S.faults source.old) (S.faults source.new) }
-    ensures onward { Onward S.reaches S.stops result source.old source.new }
-    ensures origin { S.origin source.new ≡ S.origin source.old }
+    ensures moves { Moves S.faults S.reaches S.stops S.origin result source.old source.new }
     ensures ended { OnOk result (IsTrue S.tells → S.ended source.new) }
 {
     let Ok(mut gathering) = Gathering::new(alloc, design.nets()) else {

@@ -1,8 +1,8 @@
 -- Readers whose faults depend on the tokens up to the fault alone.
-use Rattle.std.proofs.Common.{◌≡◌, ℕ, zero, suc, ◌+◌, ◌-◌, ◌≤◌, Bool, true, false, List, [], ◌∷◌, ◌++◌, take, Option, Some, None, Ok, Err, refl, sym, ap, subst, ◌∙◌, arith, ℤ}
+use Rattle.std.proofs.Common.{◌≡◌, ℕ, zero, suc, ◌+◌, ◌-◌, ◌≤◌, Bool, true, false, List, [], ◌∷◌, ◌++◌, take, Option, Some, None, is_none, Ok, Err, refl, sym, ap, subst, ◌∙◌, arith, ℤ}
 use Rattle.gr_text.specs.declared.source.Ends.{Ends}
 use Rattle.gr_text.specs.Tokens.{Place, Ending, AtEnd, PastLimit}
-use Rattle.gr_text.specs.Reading.{Read, Reader, and_then, ◌>>=◌, pure, check, given, next_of, token, next_or_end, token_or_end, word, number, several}
+use Rattle.gr_text.specs.Reading.{Read, Reader, and_then, ◌>>=◌, pure, check, given, next_of, token, next_or_end, token_or_end, word, number, natural, several, end}
 
 -- two places with the same tokens up to one number
 pub record Agree (n : ℕ) (p q : Place) : Type 0 where
@@ -271,7 +271,7 @@ IsEarly-last ends next then sure = record {
       (last-early ends next then sure p p.rest q.rest p.ending n f agree.rest is));
 }
 
--- words, numbers, and items again and again
+-- words, numbers, items again and again, and the end
 
 pub IsCausal-word : {F : Type 0} (ends : Ends F) (fault : F) (text : List ℕ) → IsCausal (word ends fault text)
 unfolding word
@@ -281,7 +281,16 @@ pub IsCausal-number : {F : Type 0} (ends : Ends F) (fault : F) (low high : ℤ) 
 unfolding number
 IsCausal-number ends fault low high = IsCausal-bind (token ends) _ (IsCausal-token ends) (λ found. IsCausal-given _ fault)
 
+pub IsCausal-natural : {F : Type 0} (ends : Ends F) (fault : F) (most : ℕ) → IsCausal (natural ends fault most)
+unfolding natural
+IsCausal-natural ends fault most = IsCausal-bind _ _ (IsCausal-number ends fault _ _) (λ n. IsCausal-pure _)
+
 pub IsCausal-several : {F A : Type 0} (item : List A → Reader F A) → ((found : List A) → IsCausal (item found)) → (count : ℕ) (found : List A) → IsCausal (several item count found)
 unfolding several
 IsCausal-several item each zero found = IsCausal-pure found
 IsCausal-several item each (suc count) found = IsCausal-bind (item found) _ (each found) (λ one. IsCausal-several item each count (found ++ one ∷ []))
+
+pub IsEarly-end : {F : Type 0} (ends : Ends F) (trailing : F) → IsEarly (end ends trailing)
+unfolding end check
+IsEarly-end ends trailing =
+    IsEarly-last ends (λ more. check (is_none more) trailing) (λ word. (IsCausal-check (is_none (Some word)) trailing).faults) (IsSure-pure tt)

@@ -4,50 +4,42 @@ use Rattle.gr_base.specs.Designs.{DesignView}
 use Rattle.gr_text.specs.Tokens.{Place}
 use Rattle.gr_text.specs.Reading.{Reader, ◌>>=◌}
 use Rattle.rc_library.specs.Gathered.{Gathered}
-use Rattle.rc_library.specs.Items.{natural, wire, sinking, kind, layer, wire_item, via_item, driver_item, sink_item, kind_name, kind_item, tile, block_item, net, pin, drive_item, pin_item, flip_item}
+use Rattle.rc_library.specs.Items.{wire, sinking, kind, layer, wire_item, via_item, driver_item, sink_item, kind_name, kind_item, block_item, net, pin, drive_item, pin_item, flip_item}
 use Rattle.rc_library.specs.LibraryText.{Adds, keyword, item_or_end, items}
 use Rattle.rc_library.specs.declared.fault.LibraryFault.{LibraryFault}
 use Rattle.rc_library.specs.declared.parts.NamedKind.{NamedKind}
 use Rattle.rc_library.specs.declared.parts.Wire.{Wire}
 use Rattle.rc_library.proofs.ItemsLemmas.{each-word}
 use Rattle.text_laws.specs.LibraryItems.{ItemsEndWithTheirTokens}
-use Rattle.text_laws.proofs.TakingLemmas.{Takes, Takes-bind, Takes-pure, Takes-check, Takes-given, Takes-token, Takes-number, same-then, same-after}
-
-Takes-natural : (most : ℕ) → Takes 1 (natural most)
-unfolding natural
-Takes-natural most = Takes-bind _ _ (Takes-number _ _ _ _) (λ n. Takes-pure _)
+use Rattle.text_laws.proofs.TakingLemmas.{Takes, Takes-bind, Takes-pure, Takes-check, Takes-given, Takes-token, Takes-number, Takes-natural, same-then, same-after}
 
 Takes-wire : Takes 2 wire
 unfolding wire
-Takes-wire = Takes-bind _ _ (Takes-natural _) (λ r. Takes-bind _ _ (Takes-natural _) (λ c. Takes-pure _))
+Takes-wire = Takes-bind _ _ (Takes-natural _ _ _) (λ r. Takes-bind _ _ (Takes-natural _ _ _) (λ c. Takes-pure _))
 
 Takes-sinking : Takes 2 sinking
 unfolding sinking
-Takes-sinking = Takes-bind _ _ (Takes-natural _) (λ c. Takes-bind _ _ (Takes-number _ _ _ _) (λ time. Takes-pure _))
+Takes-sinking = Takes-bind _ _ (Takes-natural _ _ _) (λ c. Takes-bind _ _ (Takes-number _ _ _ _) (λ time. Takes-pure _))
 
 Takes-kind : Takes 3 kind
 unfolding kind
-Takes-kind = Takes-bind _ _ (Takes-natural _) (λ c. Takes-bind _ _ (Takes-natural _) (λ r. Takes-bind _ _ (Takes-number _ _ _ _) (λ delay. Takes-pure _)))
+Takes-kind = Takes-bind _ _ (Takes-natural _ _ _) (λ c. Takes-bind _ _ (Takes-natural _ _ _) (λ r. Takes-bind _ _ (Takes-number _ _ _ _) (λ delay. Takes-pure _)))
 
 Takes-layer : (wires : List (Option Wire)) → Takes 1 (layer wires)
 unfolding layer
-Takes-layer wires = Takes-bind _ _ (Takes-natural _) (λ at. Takes-bind _ _ (Takes-check _ _) (λ _. Takes-pure _))
+Takes-layer wires = Takes-bind _ _ (Takes-natural _ _ _) (λ at. Takes-bind _ _ (Takes-check _ _) (λ _. Takes-pure _))
 
 Takes-kind_name : (kinds : List NamedKind) → Takes 1 (kind_name kinds)
 unfolding kind_name
 Takes-kind_name kinds = Takes-bind _ _ (Takes-token _) (λ name. Takes-bind _ _ (Takes-check _ _) (λ _. Takes-pure _))
 
-Takes-tile : (tiles : ℕ) → Takes 1 (tile tiles)
-unfolding tile
-Takes-tile tiles = Takes-bind _ _ (Takes-natural _) (λ at. Takes-bind _ _ (Takes-check _ _) (λ _. Takes-pure _))
-
 Takes-net : (d : DesignView) → Takes 1 (net d)
 unfolding net
-Takes-net d = Takes-bind _ _ (Takes-natural _) (λ id. Takes-given _ _)
+Takes-net d = Takes-bind _ _ (Takes-natural _ _ _) (λ id. Takes-given _ _)
 
 Takes-pin : (d : DesignView) (number : ℕ) → Takes 1 (pin d number)
 unfolding pin
-Takes-pin d number = Takes-bind _ _ (Takes-natural _) (λ at. Takes-bind _ _ (Takes-check _ _) (λ _. Takes-pure _))
+Takes-pin d number = Takes-bind _ _ (Takes-natural _ _ _) (λ at. Takes-bind _ _ (Takes-check _ _) (λ _. Takes-pure _))
 
 Takes-wire_item : (g : Gathered) → Takes 3 (wire_item g)
 unfolding wire_item
@@ -59,7 +51,7 @@ Takes-via_item g = Takes-bind _ _ (Takes-check _ _) (λ _. Takes-bind _ _ Takes-
 
 Takes-driver_item : (g : Gathered) → Takes 1 (driver_item g)
 unfolding driver_item
-Takes-driver_item g = Takes-bind _ _ (Takes-check _ _) (λ _. Takes-bind _ _ (Takes-natural _) (λ driver. Takes-pure _))
+Takes-driver_item g = Takes-bind _ _ (Takes-check _ _) (λ _. Takes-bind _ _ (Takes-natural _ _ _) (λ driver. Takes-pure _))
 
 Takes-sink_item : (g : Gathered) → Takes 2 (sink_item g)
 unfolding sink_item
@@ -71,11 +63,13 @@ Takes-kind_item inverts g = Takes-bind _ _ (Takes-check _ _) (λ _. Takes-bind _
 
 Takes-block_item : (d : DesignView) (g : Gathered) → Takes 2 (block_item d g)
 unfolding block_item
-Takes-block_item d g = Takes-bind _ _ (Takes-tile _) (λ column. Takes-bind _ _ (Takes-tile _) (λ row. Takes-pure _))
+Takes-block_item d g =
+    Takes-bind _ _ (Takes-natural _ _ _) (λ column. Takes-bind _ _ (Takes-check _ _) (λ _. Takes-bind _ _ (Takes-natural _ _ _)
+    (λ row. Takes-bind _ _ (Takes-check _ _) (λ _. Takes-pure _))))
 
 Takes-drive_item : (d : DesignView) (g : Gathered) → Takes 2 (drive_item d g)
 unfolding drive_item
-Takes-drive_item d g = Takes-bind _ _ (Takes-net d) (λ number. Takes-bind _ _ (Takes-natural _) (λ r. Takes-pure _))
+Takes-drive_item d g = Takes-bind _ _ (Takes-net d) (λ number. Takes-bind _ _ (Takes-natural _ _ _) (λ r. Takes-pure _))
 
 Takes-pin_item : (d : DesignView) (g : Gathered) → Takes 4 (pin_item d g)
 unfolding pin_item

@@ -2,7 +2,7 @@
 use Rattle.std.proofs.Common.{◌≡◌, ℕ, ◌+◌, ◌≤◌, Bool, true, false, List, [], ◌∷◌, length, Option, Some, None, Ok, Err, refl, ap, subst, arith, ℤ}
 use Rattle.gr_text.specs.declared.source.Ends.{Ends}
 use Rattle.gr_text.specs.Tokens.{Place, Ending, AtEnd, PastLimit}
-use Rattle.gr_text.specs.Reading.{Read, Reader, and_then, ◌>>=◌, pure, check, given, next_of, token, number}
+use Rattle.gr_text.specs.Reading.{Read, Reader, and_then, ◌>>=◌, pure, check, given, next_of, token, number, natural}
 use Rattle.text_laws.proofs.EarlyLemmas.{ok-same, err-not-ok}
 
 -- a value takes at least so many tokens
@@ -56,6 +56,10 @@ Takes-token ends = record { on = λ p after w is. next-takes ends p.number p.res
 pub Takes-number : {F : Type 0} (ends : Ends F) (fault : F) (low high : ℤ) → Takes 1 (number ends fault low high)
 unfolding number
 Takes-number ends fault low high = Takes-bind (token ends) _ (Takes-token ends) (λ found. Takes-given _ fault)
+
+pub Takes-natural : {F : Type 0} (ends : Ends F) (fault : F) (most : ℕ) → Takes 1 (natural ends fault most)
+unfolding natural
+Takes-natural ends fault most = Takes-bind _ _ (Takes-number ends fault _ _) (λ n. Takes-pure _)
 
 -- what follows a reader is read alike by two that are alike on the places that it leaves
 same-behind : {F A B : Type 0} (least : ℕ) (first : Reader F A) (one two : A → Reader F B) → Takes least first → (p : Place) →

@@ -5,7 +5,7 @@ use Rattle.elmore_delay.proofs.RcLemmas.{rc-tree, parent-read}
 use Rattle.ginneken_lists.specs.Pairs.{candidates}
 use Rattle.buffer_plan.specs.Picked.{sites_of}
 use Rattle.buffer_plan.specs.Gathered.{pairs_in, pairs_at}
-use Rattle.buffer_plan.proofs.Gathering.{marks-kept, gathered-put, own-is, steps-hung}
+use Rattle.buffer_plan.proofs.Gathering.{marks-kept, gathered-put, own-is, steps-hung, hung-in-steps}
 use Rattle.buffer_plan.proofs.Small.{hanging-pairs}
 use Rattle.buffer_plan.proofs.TakenLemmas.{taken-small, taken-range, taken-marked}
 use Rattle.buffer_plan.proofs.hanging.hang.Goals as goal
@@ -26,7 +26,7 @@ returns-in_err-upper-clause-steps g c =
     let lists = c.args.lists.now.items in
     let steps = steps-hung (sites_of l) c.args.node 0 (length c.args.library.now.kinds) (length c.args.tree.now.nodes) 0 c.args.trail.now lists
     c.in_ok-below.below (pairs_at lists 0) c.requires.lists c.requires.later c.requires.later (c.in_ok-below.ensures ∙ c.take.ensures.list) refl
-    (ap (λ (lib : LibraryView). length lib.kinds) c.requires.library) (ap (λ (t : TreeView). length t.nodes) c.requires.tree) (omega arith) in
+    (ap (λ (lib : LibraryView). length lib.kinds) c.requires.ours.library_is) (ap (λ (t : TreeView). length t.nodes) c.requires.ours.tree_is) (omega arith) in
     omega (arith, steps, c.in_err-upper.ensures.steps)
 
 pub join-requires-clause-own_range : goal.join-requires-clause-own_range
@@ -56,25 +56,20 @@ join-requires-clause-own_marks g c =
 
 pub returns-in_err-joined-clause-steps : goal.returns-in_err-joined-clause-steps
 returns-in_err-joined-clause-steps g c =
-    let l = c.args.loading.now in
-    let lists = c.args.lists.now.items in
-    let earlier = c.parent-parent.ensures.earlier c.requires.later in
-    let kinds = ap (λ (lib : LibraryView). length lib.kinds) c.requires.library in
-    let steps = steps-hung (sites_of l) c.args.node c.parent-parent.result (length c.args.library.now.kinds) (length c.args.tree.now.nodes) (length c.in_ok-upper.upper) c.args.trail.now lists
-    c.in_ok-below.below (pairs_in c.take-own.result) c.requires.lists c.requires.later earlier (c.in_ok-below.ensures ∙ c.take.ensures.list)
-    (own-is lists c.take.new.lists.items c.args.node c.parent-parent.result (pairs_in c.take-own.result) c.take.ensures.taken c.take-own.ensures.list earlier)
-    kinds (ap (λ (t : TreeView). length t.nodes) c.requires.tree) c.in_ok-upper.ensures.short in
-    omega (arith, steps, c.in_ok-upper.ensures.steps, c.in_err-joined.ensures.steps)
+    hung-in-steps c.args.steps.now c.in_ok-upper.upper (sites_of c.args.loading.now) c.args.node c.args.trail.now c.args.lists.now.items c.requires.lists c.requires.later
+    (c.parent-parent.ensures.earlier c.requires.later) (c.in_ok-below.ensures ∙ c.take.ensures.list) c.take.ensures.taken c.take-own.ensures.list
+    (ap (λ (lib : LibraryView). length lib.kinds) c.requires.ours.library_is) (ap (λ (t : TreeView). length t.nodes) c.requires.ours.tree_is)
+    c.in_ok-upper.ensures.short c.in_ok-upper.ensures.steps c.in_err-joined.ensures.steps
 
 pub returns-clause-lists : goal.returns-clause-lists
 returns-clause-lists g c =
     let l = c.args.loading.now in
     let lists = c.args.lists.now.items in
     let earlier = c.parent-parent.ensures.earlier c.requires.later in
-    let kinds = ap (λ (lib : LibraryView). length lib.kinds) c.requires.library in
+    let kinds = ap (λ (lib : LibraryView). length lib.kinds) c.requires.ours.library_is in
     gathered-put (sites_of l) c.args.node c.parent-parent.result c.args.trail.now c.raised.new.trail c.join.new.trail lists c.take.new.lists.items c.take-own.new.lists.items
     c.in_ok-below.below (pairs_in c.take-own.result) c.in_ok-upper.upper c.in_ok-joined.joined (rc-tree l c.requires.loading) c.requires.later
-    (parent-read l c.args.tree.now c.args.node c.parent-parent.result c.requires.tree c.parent-parent.ensures.parent) c.requires.lists
+    (parent-read l c.args.tree.now c.args.node c.parent-parent.result c.requires.ours.tree_is c.parent-parent.ensures.parent) c.requires.lists
     c.take.ensures.taken c.take-own.ensures.taken (c.in_ok-below.ensures ∙ c.take.ensures.list)
     (own-is lists c.take.new.lists.items c.args.node c.parent-parent.result (pairs_in c.take-own.result) c.take.ensures.taken c.take-own.ensures.list earlier)
     (record {
@@ -89,12 +84,7 @@ returns-clause-lists g c =
 
 pub returns-clause-steps : goal.returns-clause-steps
 returns-clause-steps g c =
-    let l = c.args.loading.now in
-    let lists = c.args.lists.now.items in
-    let earlier = c.parent-parent.ensures.earlier c.requires.later in
-    let kinds = ap (λ (lib : LibraryView). length lib.kinds) c.requires.library in
-    let steps = steps-hung (sites_of l) c.args.node c.parent-parent.result (length c.args.library.now.kinds) (length c.args.tree.now.nodes) (length c.in_ok-upper.upper) c.args.trail.now lists
-    c.in_ok-below.below (pairs_in c.take-own.result) c.requires.lists c.requires.later earlier (c.in_ok-below.ensures ∙ c.take.ensures.list)
-    (own-is lists c.take.new.lists.items c.args.node c.parent-parent.result (pairs_in c.take-own.result) c.take.ensures.taken c.take-own.ensures.list earlier)
-    kinds (ap (λ (t : TreeView). length t.nodes) c.requires.tree) c.in_ok-upper.ensures.short in
-    omega (arith, steps, c.in_ok-upper.ensures.steps, c.in_ok-joined.ensures.steps)
+    hung-in-steps c.args.steps.now c.in_ok-upper.upper (sites_of c.args.loading.now) c.args.node c.args.trail.now c.args.lists.now.items c.requires.lists c.requires.later
+    (c.parent-parent.ensures.earlier c.requires.later) (c.in_ok-below.ensures ∙ c.take.ensures.list) c.take.ensures.taken c.take-own.ensures.list
+    (ap (λ (lib : LibraryView). length lib.kinds) c.requires.ours.library_is) (ap (λ (t : TreeView). length t.nodes) c.requires.ours.tree_is)
+    c.in_ok-upper.ensures.short c.in_ok-upper.ensures.steps c.in_ok-joined.ensures.steps

@@ -5,7 +5,7 @@ use Rattle.ginneken_lists.specs.Candidates.{no_later}
 use Rattle.ginneken_lists.specs.StoredPairs.{pair_of}
 use Rattle.ginneken_lists.specs.declared.stored.Stored.{Stored}
 use Rattle.ginneken_lists.proofs.StoredLemmas.{sight, all_of}
-use Rattle.ginneken_lists.proofs.MergeLemmas.{AreGoing, going-none, goes-first, goes-second, goes-both, merged-all_left, merged-all_right, merged-joins}
+use Rattle.ginneken_lists.proofs.MergeLemmas.{AreGoing, are-read, going-none, goes-first, goes-second, goes-both, merged-all_left, merged-all_right, merged-joins}
 use Rattle.ginneken_lists.proofs.merging.merge.Goals as goal
 
 pub loop-before-init : goal.loop-before-init
@@ -16,72 +16,30 @@ loop-before-init g c =
 
 pub loop-before-preserved-then-is_later : goal.loop-before-preserved-then-is_later
 loop-before-preserved-then-is_later g c =
-    let o = c.read-first.result in
-    let other = c.read-second.result in
     let now = c.loop-before in
     goes-second c.args.trail.now now.trail c.both.new.self c.args.left.now c.args.right.now now.merged.items c.push.new.self.items now.before now.beside c.args.steps.now
-    o other c.joined.result c.in_ok-mark.mark now.steps c.read-second.new.steps now.invariant
-    (record {
-      ahead = c.loop-before-test.true;
-      apart = c.if-beside-right.false;
-      first = c.read-first.ensures.pair;
-      second = c.read-second.ensures.pair;
-      left_marks = c.requires.left_marks;
-      right_marks = c.requires.right_marks;
-      grows = c.in_ok-mark.ensures.kept;
-      named = c.in_ok-mark.ensures.both;
-      fits = c.in_ok-mark.ensures.mark;
-      seen = c.joined.ensures.seen;
-      mark_is = c.joined.ensures.mark;
-      after_is = omega (arith, c.read-first.ensures.steps, c.read-second.ensures.steps);
-    })
-    c.in_ok-push.ensures.items (not-true (no_later (sight o).time (sight other).time) (sym c.is_later.ensures ∙ c.if-is_later.true))
+    c.read-first.result c.read-second.result c.joined.result c.in_ok-mark.mark now.steps c.read-second.new.steps now.invariant
+    (are-read c.loop-before-test.true c.if-beside-right.false c.read-first.ensures.pair c.read-second.ensures.pair c.requires.left_marks c.requires.right_marks
+    c.in_ok-mark.ensures.kept c.in_ok-mark.ensures.both c.in_ok-mark.ensures.mark c.joined.ensures.seen c.joined.ensures.mark c.read-first.ensures.steps c.read-second.ensures.steps)
+    c.in_ok-push.ensures.items (not-true (no_later (sight c.read-first.result).time (sight c.read-second.result).time) (sym c.is_later.ensures ∙ c.if-is_later.true))
 
 pub loop-before-preserved-then-is_later-2 : goal.loop-before-preserved-then-is_later-2
 loop-before-preserved-then-is_later-2 g c =
-    let o = c.read-first.result in
-    let other = c.read-second.result in
     let now = c.loop-before in
     goes-first c.args.trail.now now.trail c.both.new.self c.args.left.now c.args.right.now now.merged.items c.push.new.self.items now.before now.beside c.args.steps.now
-    o other c.joined.result c.in_ok-mark.mark now.steps c.read-second.new.steps now.invariant
-    (record {
-      ahead = c.loop-before-test.true;
-      apart = c.if-beside-right.false;
-      first = c.read-first.ensures.pair;
-      second = c.read-second.ensures.pair;
-      left_marks = c.requires.left_marks;
-      right_marks = c.requires.right_marks;
-      grows = c.in_ok-mark.ensures.kept;
-      named = c.in_ok-mark.ensures.both;
-      fits = c.in_ok-mark.ensures.mark;
-      seen = c.joined.ensures.seen;
-      mark_is = c.joined.ensures.mark;
-      after_is = omega (arith, c.read-first.ensures.steps, c.read-second.ensures.steps);
-    })
-    c.in_ok-push.ensures.items (not-false (no_later (sight o).time (sight other).time) (sym c.is_later.ensures ∙ c.if-is_later.false)) (not-true (no_later (sight other).time (sight o).time) (sym c.is_later-in-loop-before.ensures ∙ c.if-is_later-2.true))
+    c.read-first.result c.read-second.result c.joined.result c.in_ok-mark.mark now.steps c.read-second.new.steps now.invariant
+    (are-read c.loop-before-test.true c.if-beside-right.false c.read-first.ensures.pair c.read-second.ensures.pair c.requires.left_marks c.requires.right_marks
+    c.in_ok-mark.ensures.kept c.in_ok-mark.ensures.both c.in_ok-mark.ensures.mark c.joined.ensures.seen c.joined.ensures.mark c.read-first.ensures.steps c.read-second.ensures.steps)
+    c.in_ok-push.ensures.items (not-false (no_later (sight c.read-first.result).time (sight c.read-second.result).time) (sym c.is_later.ensures ∙ c.if-is_later.false)) (not-true (no_later (sight c.read-second.result).time (sight c.read-first.result).time) (sym c.is_later-in-loop-before.ensures ∙ c.if-is_later-2.true))
 
 pub loop-before-preserved : goal.loop-before-preserved
 loop-before-preserved g c =
-    let o = c.read-first.result in
-    let other = c.read-second.result in
     let now = c.loop-before in
     goes-both c.args.trail.now now.trail c.both.new.self c.args.left.now c.args.right.now now.merged.items c.push.new.self.items now.before now.beside c.args.steps.now
-    o other c.joined.result c.in_ok-mark.mark now.steps c.read-second.new.steps now.invariant
-    (record {
-      ahead = c.loop-before-test.true;
-      apart = c.if-beside-right.false;
-      first = c.read-first.ensures.pair;
-      second = c.read-second.ensures.pair;
-      left_marks = c.requires.left_marks;
-      right_marks = c.requires.right_marks;
-      grows = c.in_ok-mark.ensures.kept;
-      named = c.in_ok-mark.ensures.both;
-      fits = c.in_ok-mark.ensures.mark;
-      seen = c.joined.ensures.seen;
-      mark_is = c.joined.ensures.mark;
-      after_is = omega (arith, c.read-first.ensures.steps, c.read-second.ensures.steps);
-    })
-    c.in_ok-push.ensures.items (not-false (no_later (sight o).time (sight other).time) (sym c.is_later.ensures ∙ c.if-is_later.false)) (not-false (no_later (sight other).time (sight o).time) (sym c.is_later-in-loop-before.ensures ∙ c.if-is_later-2.false))
+    c.read-first.result c.read-second.result c.joined.result c.in_ok-mark.mark now.steps c.read-second.new.steps now.invariant
+    (are-read c.loop-before-test.true c.if-beside-right.false c.read-first.ensures.pair c.read-second.ensures.pair c.requires.left_marks c.requires.right_marks
+    c.in_ok-mark.ensures.kept c.in_ok-mark.ensures.both c.in_ok-mark.ensures.mark c.joined.ensures.seen c.joined.ensures.mark c.read-first.ensures.steps c.read-second.ensures.steps)
+    c.in_ok-push.ensures.items (not-false (no_later (sight c.read-first.result).time (sight c.read-second.result).time) (sym c.is_later.ensures ∙ c.if-is_later.false)) (not-false (no_later (sight c.read-second.result).time (sight c.read-first.result).time) (sym c.is_later-in-loop-before.ensures ∙ c.if-is_later-2.false))
 
 pub returns-then-beside-right : goal.returns-then-beside-right
 returns-then-beside-right g c =

@@ -5,7 +5,7 @@ use Rattle.elmore_delay.specs.FromLeaves.{less}
 use Rattle.ginneken_lists.specs.Candidates.{no_later, driven_time}
 use Rattle.ginneken_lists.specs.StoredPairs.{pair_of, time_of}
 use Rattle.ginneken_lists.proofs.StoredLemmas.{sight, stored-rising, in-range}
-use Rattle.ginneken_lists.proofs.Driving.{Leads, leads-last, leads-stays, leads-new, leads-ends, leads-driven}
+use Rattle.ginneken_lists.proofs.Driving.{Leads, no_later-as, leads-last, leads-stays, leads-new, leads-ends, leads-driven}
 use Rattle.ginneken_lists.proofs.offering.best_driven.Goals as goal
 
 pub driving_delay-least-requires : goal.driving_delay-least-requires
@@ -69,37 +69,28 @@ returns-then-is_later g c =
 
 pub loop-at-preserved-then-is_later-2 : goal.loop-at-preserved-then-is_later-2
 loop-at-preserved-then-is_later-2 g c =
-    let items = c.args.pairs.now in
-    let r = c.args.r in
-    let best = c.loop-at.best in
     let at : ℕ = c.loop-at.at - 1 in
     let least = c.loop-at.auto.at in
     let more = c.loop-at-test.true in
-    let later : no_later (driven_time r (sight best)) (driven_time r (sight c.read-pair.result)) ≡ false =
-    ap (λ (t : Option ℤ). no_later t (driven_time r (sight c.read-pair.result))) (sym c.loop-at.invariant.latest)
-    ∙ ap (no_later (time_of c.loop-at.most)) (sym c.driven_time-time.ensures)
-    ∙ not-true (no_later (time_of c.loop-at.most) (time_of c.driven_time-time.result)) (sym c.is_later-in-loop-at.ensures ∙ c.if-is_later-2.true) in
+    let later = no_later-as c.loop-at.invariant.latest c.driven_time-time.ensures
+    (not-true (no_later (time_of c.loop-at.most) (time_of c.driven_time-time.result)) (sym c.is_later-in-loop-at.ensures ∙ c.if-is_later-2.true)) in
     record {
-      leads = leads-stays r items best c.read-pair.result at c.loop-at.at c.loop-at.invariant.leads (omega arith) (omega arith) c.read-pair.ensures.pair later;
+      leads = leads-stays c.args.r c.args.pairs.now c.loop-at.best c.read-pair.result at c.loop-at.at c.loop-at.invariant.leads (omega arith) (omega arith)
+          c.read-pair.ensures.pair later;
       latest = c.loop-at.invariant.latest;
       steps = omega (arith, c.read-pair.ensures.steps, c.loop-at.invariant.steps);
     }
 
 pub loop-at-preserved : goal.loop-at-preserved
 loop-at-preserved g c =
-    let items = c.args.pairs.now in
-    let r = c.args.r in
-    let best = c.loop-at.best in
     let at : ℕ = c.loop-at.at - 1 in
     let least = c.loop-at.auto.at in
     let more = c.loop-at-test.true in
-    let early : no_later (driven_time r (sight best)) (driven_time r (sight c.read-pair.result)) ≡ true =
-    ap (λ (t : Option ℤ). no_later t (driven_time r (sight c.read-pair.result))) (sym c.loop-at.invariant.latest)
-    ∙ ap (no_later (time_of c.loop-at.most)) (sym c.driven_time-time.ensures)
-    ∙ not-false (no_later (time_of c.loop-at.most) (time_of c.driven_time-time.result)) (sym c.is_later-in-loop-at.ensures ∙ c.if-is_later-2.false) in
+    let early = no_later-as c.loop-at.invariant.latest c.driven_time-time.ensures
+    (not-false (no_later (time_of c.loop-at.most) (time_of c.driven_time-time.result)) (sym c.is_later-in-loop-at.ensures ∙ c.if-is_later-2.false)) in
     record {
-      leads = leads-new r items best c.read-pair.result at c.loop-at.at (stored-rising items c.requires.list.rising) c.loop-at.invariant.leads (omega arith) (omega arith)
-          c.read-pair.ensures.pair early;
+      leads = leads-new c.args.r c.args.pairs.now c.loop-at.best c.read-pair.result at c.loop-at.at (stored-rising c.args.pairs.now c.requires.list.rising)
+          c.loop-at.invariant.leads (omega arith) (omega arith) c.read-pair.ensures.pair early;
       latest = c.driven_time-time.ensures;
       steps = omega (arith, c.read-pair.ensures.steps, c.loop-at.invariant.steps);
     }

@@ -37,9 +37,9 @@ loop-preserved g c =
           ∙ sym (several-next item _ _ c.loop.design.adjustments _ _ c.in_ok-adjustment.adjustment more
           (subst (λ (s : Shape). adjustment s place ≡ Ok (c.in_ok-adjustment.adjustment, after)) shape (c.in_ok-adjustment.ensures.reads tells)))
           ∙ c.loop.invariant.reads tells;
-      faults = c.in_ok-adjustment.ensures.faults ∙ c.loop.invariant.faults;
-      origin = c.adjustment.ensures.origin ∙ c.loop.invariant.origin;
-      onward = λ bytes read. c.in_ok-adjustment.ensures.onward bytes (c.loop.invariant.onward bytes read);
+      faults = c.in_ok-adjustment.ensures.moves.counts ∙ c.loop.invariant.faults;
+      origin = c.adjustment.ensures.moves.same ∙ c.loop.invariant.origin;
+      onward = λ bytes read. c.in_ok-adjustment.ensures.moves.onward bytes (c.loop.invariant.onward bytes read);
       frame = ap (λ (d : DesignView). d.frame) pushed ∙ c.loop.invariant.frame;
       nets = ap (λ (d : DesignView). d.nets) pushed ∙ c.loop.invariant.nets;
       count = ap length adjustments ∙ length_push c.loop.design.adjustments c.in_ok-adjustment.adjustment ∙ ap (λ (n : ℕ). n + 1) c.loop.invariant.count;

@@ -22,10 +22,10 @@ loop-layer-preserved g c =
       count = length-set c.loop-layer.numbers c.loop-layer.layer c.in_ok-numbers.field-0 ∙ c.loop-layer.invariant.count;
       reads = λ tells. by_layer-next c.args.layers c.args.most c.loop-layer.layer c.loop-layer.numbers start place after c.in_ok-numbers.field-0
           c.loop-layer-test.true within (c.loop-layer.invariant.reads tells) (c.in_ok-numbers.ensures.reads tells);
-      faults = c.in_ok-numbers.ensures.faults ∙ c.loop-layer.invariant.faults;
-      origin = c.natural.ensures.origin ∙ c.loop-layer.invariant.origin;
-      onward = λ bytes read. c.in_ok-numbers.ensures.onward bytes (c.loop-layer.invariant.onward bytes read);
-      most = All-set (λ (n : ℕ). n ≤ c.args.most) c.loop-layer.numbers c.loop-layer.layer c.in_ok-numbers.field-0 c.in_ok-numbers.ensures.high c.loop-layer.invariant.most;
+      faults = c.in_ok-numbers.ensures.moves.counts ∙ c.loop-layer.invariant.faults;
+      origin = c.natural.ensures.moves.same ∙ c.loop-layer.invariant.origin;
+      onward = λ bytes read. c.in_ok-numbers.ensures.moves.onward bytes (c.loop-layer.invariant.onward bytes read);
+      most = All-set (λ (n : ℕ). n ≤ c.args.most) c.loop-layer.numbers c.loop-layer.layer c.in_ok-numbers.field-0 c.in_ok-numbers.ensures.most c.loop-layer.invariant.most;
       others = others-next c.loop-layer.numbers c.loop-layer.layer c.in_ok-numbers.field-0 within c.loop-layer.invariant.count c.loop-layer.invariant.others;
     }
 

@@ -32,9 +32,9 @@ loop-preserved g c =
           ∙ sym (several-next item _ _ c.loop.design.nets _ _ c.in_ok-net.net more
           (subst (λ (f : Frame). net f c.loop.design.nets (g.S.TokenSource.place c.loop.source) ≡ Ok (c.in_ok-net.net, g.S.TokenSource.place c.net.new.source)) c.loop.invariant.frame (c.in_ok-net.ensures.reads tells)))
           ∙ c.loop.invariant.reads tells;
-      faults = c.in_ok-net.ensures.faults ∙ c.loop.invariant.faults;
-      origin = c.net.ensures.origin ∙ c.loop.invariant.origin;
-      onward = λ bytes read. c.in_ok-net.ensures.onward bytes (c.loop.invariant.onward bytes read);
+      faults = c.in_ok-net.ensures.moves.counts ∙ c.loop.invariant.faults;
+      origin = c.net.ensures.moves.same ∙ c.loop.invariant.origin;
+      onward = λ bytes read. c.in_ok-net.ensures.moves.onward bytes (c.loop.invariant.onward bytes read);
       frame = ap (λ (d : DesignView). d.frame) pushed ∙ c.loop.invariant.frame;
       adjustments = ap (λ (d : DesignView). d.adjustments) pushed ∙ c.loop.invariant.adjustments;
       count = ap length nets ∙ length_push c.loop.design.nets c.in_ok-net.net ∙ ap (λ (n : ℕ). n + 1) c.loop.invariant.count;

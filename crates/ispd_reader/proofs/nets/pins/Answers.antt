@@ -25,9 +25,9 @@ loop-preserved g c =
       reads = λ tells.
           ap (λ (pins : List ℕ). several item (c.args.count - (c.loop.counter + 1)) pins (g.S.TokenSource.place c.pin.new.source)) pushed
           ∙ sym (several-next item _ _ c.loop.pins _ _ c.in_ok-pin.pin more (c.in_ok-pin.ensures.reads tells)) ∙ c.loop.invariant.reads tells;
-      faults = c.in_ok-pin.ensures.faults ∙ c.loop.invariant.faults;
-      origin = c.pin.ensures.origin ∙ c.loop.invariant.origin;
-      onward = λ bytes read. c.in_ok-pin.ensures.onward bytes (c.loop.invariant.onward bytes read);
+      faults = c.in_ok-pin.ensures.moves.counts ∙ c.loop.invariant.faults;
+      origin = c.pin.ensures.moves.same ∙ c.loop.invariant.origin;
+      onward = λ bytes read. c.in_ok-pin.ensures.moves.onward bytes (c.loop.invariant.onward bytes read);
       count = ap length pushed ∙ (length_push c.loop.pins c.in_ok-pin.pin ∙ ap (λ (n : ℕ). n + 1) c.loop.invariant.count);
       cells = subst (All (λ (n : ℕ). n < cells_of c.args.design.now.frame.shape)) (sym pushed)
           (All-push (λ (n : ℕ). n < cells_of c.args.design.now.frame.shape) c.loop.pins c.in_ok-pin.pin c.loop.invariant.cells c.in_ok-pin.ensures.cell);

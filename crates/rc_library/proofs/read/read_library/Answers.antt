@@ -1,11 +1,18 @@
 use Rattle.std.proofs.Common.{rules}
-use Rattle.rc_library.proofs.ReadLemmas.{says-read}
+use Rattle.gr_io.specs.declared.shelf.Slot.TheVariants as slot
+use Rattle.gr_base.specs.Limits.{most_bytes}
+use Rattle.gr_text.specs.Reading.{value_of}
+use Rattle.gr_text.specs.Reads.{Says}
+use Rattle.gr_text.proofs.SaysLemmas.{from-start, says-value}
+use Rattle.rc_library.specs.LibraryText.{library, library_of}
 use Rattle.gr_text.proofs.UnreadLemmas.{fault-unread}
 use Rattle.rc_library.proofs.read.read_library.Goals as goal
 
 pub returns-clause-says : goal.returns-clause-says
+unfolding library_of
 returns-clause-says g c tells =
-    says-read c.args.design.now c.in_ok-tokens.tokens (g.S.Shelf.left c.args.shelf.now) c.in_ok-tokens.ensures c.read.result (c.read.ensures.reads tells)
+    from-start slot.Library most_bytes c.in_ok-tokens.tokens (g.S.Shelf.left c.args.shelf.now) c.in_ok-tokens.ensures
+    (λ place. Says (value_of (library c.args.design.now place)) c.read.result) (says-value _ c.read.result (c.read.ensures.reads tells))
 
 pub returns-clause-rest_unread : goal.returns-clause-rest_unread
 returns-clause-rest_unread g c =

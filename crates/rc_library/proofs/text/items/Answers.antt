@@ -48,8 +48,8 @@ loop-preserved g c =
           (ap (λ (v : ℕ). keyword v place) (sym c.version.ensures) ∙ c.in_ok-keyword.ensures.reads tells) c.in_default.not-End
           (c.in_ok-item.ensures.reads tells))
           ∙ c.loop.invariant.reads tells;
-      faults = c.in_ok-item.ensures.faults ∙ c.in_ok-keyword.ensures.faults ∙ c.loop.invariant.faults;
-      origin = c.in_ok-item.ensures.origin ∙ c.in_ok-keyword.ensures.origin ∙ c.loop.invariant.origin;
-      onward = λ bytes read. c.in_ok-item.ensures.onward bytes (c.in_ok-keyword.ensures.onward bytes (c.loop.invariant.onward bytes read));
+      faults = c.in_ok-item.ensures.moves.counts ∙ c.in_ok-keyword.ensures.moves.counts ∙ c.loop.invariant.faults;
+      origin = c.in_ok-item.ensures.moves.same ∙ c.in_ok-keyword.ensures.moves.same ∙ c.loop.invariant.origin;
+      onward = λ bytes read. c.in_ok-item.ensures.moves.onward bytes (c.in_ok-keyword.ensures.moves.onward bytes (c.loop.invariant.onward bytes read));
       like = IsLike-then c.args.gathered.now c.loop.gathered c.item.new.gathered c.loop.invariant.like c.in_ok-item.ensures.like;
     }

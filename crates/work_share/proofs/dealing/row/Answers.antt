@@ -61,23 +61,9 @@ loop-place-preserved c =
     (cutting-more c.args.number c.loop-place.place c.args.owners.now.items c.loop-place.owners.items c.loop-place.passes.items c.index_mut.result.now c.pass.new.owner c.pass.result c.loop-place.invariant c.requires.number
     (omega (arith, len, before, same, less)) c.index_mut.ensures.value p.same p.owner p.known p.bare)
 
-pub returns-clause-same : goal.returns-clause-same
-returns-clause-same c = c.loop-place.invariant.same
-
-pub returns-clause-cut : goal.returns-clause-cut
-returns-clause-cut c =
-    let len = c.len-place-end.ensures in
-    let before = c.args.owners.now.ok.0 in
+pub returns : goal.returns
+returns c =
     let same = length-stocks c.args.owners.now.items c.loop-place.owners.items c.loop-place.invariant.same in
-    let past = c.loop-place-test.false in
-    let end = c.loop-place.auto.place-end in
-    (cutting-last c.args.number c.loop-place.place c.args.owners.now.items c.loop-place.owners.items c.loop-place.passes.items c.loop-place.invariant (omega (arith, len, before, same, past, end))).0
-
-pub returns-clause-row : goal.returns-clause-row
-returns-clause-row c =
-    let len = c.len-place-end.ensures in
-    let before = c.args.owners.now.ok.0 in
-    let same = length-stocks c.args.owners.now.items c.loop-place.owners.items c.loop-place.invariant.same in
-    let past = c.loop-place-test.false in
-    let end = c.loop-place.auto.place-end in
-    (cutting-last c.args.number c.loop-place.place c.args.owners.now.items c.loop-place.owners.items c.loop-place.passes.items c.loop-place.invariant (omega (arith, len, before, same, past, end))).1
+    let last = cutting-last c.args.number c.loop-place.place c.args.owners.now.items c.loop-place.owners.items c.loop-place.passes.items c.loop-place.invariant
+    (omega (arith, c.len-place-end.ensures, c.args.owners.now.ok.0, same, c.loop-place-test.false, c.loop-place.auto.place-end)) in
+    record { same = c.loop-place.invariant.same; cut = last.0; row = last.1 }

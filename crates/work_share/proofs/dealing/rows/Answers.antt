@@ -21,23 +21,9 @@ loop-number-preserved c =
     subst (λ (l : List (Vec Pass)). AreCutting (c.loop-number.number + 1) c.args.owners.now.items c.row.new.owners.items l) (sym c.in_ok-push.ensures.items)
     (rows-more c.loop-number.number c.args.owners.now.items c.loop-number.owners.items c.row.new.owners.items c.loop-number.rows.items c.in_ok-row.field-0 c.loop-number.invariant r.same r.cut r.row)
 
-pub returns-clause-same : goal.returns-clause-same
-returns-clause-same c = c.loop-number.invariant.same
-
-pub returns-clause-cut : goal.returns-clause-cut
-returns-clause-cut c =
-    let len = c.len-number-end.ensures in
-    let before = c.args.owners.now.ok.0 in
+pub returns : goal.returns
+returns c =
     let same = length-stocks c.args.owners.now.items c.loop-number.owners.items c.loop-number.invariant.same in
-    let past = c.loop-number-test.false in
-    let end = c.loop-number.auto.number-end in
-    (rows-last c.loop-number.number c.args.owners.now.items c.loop-number.owners.items c.loop-number.rows.items c.loop-number.invariant (omega (arith, len, before, same, past, end))).0
-
-pub returns-clause-rows : goal.returns-clause-rows
-returns-clause-rows c =
-    let len = c.len-number-end.ensures in
-    let before = c.args.owners.now.ok.0 in
-    let same = length-stocks c.args.owners.now.items c.loop-number.owners.items c.loop-number.invariant.same in
-    let past = c.loop-number-test.false in
-    let end = c.loop-number.auto.number-end in
-    (rows-last c.loop-number.number c.args.owners.now.items c.loop-number.owners.items c.loop-number.rows.items c.loop-number.invariant (omega (arith, len, before, same, past, end))).1
+    let last = rows-last c.loop-number.number c.args.owners.now.items c.loop-number.owners.items c.loop-number.rows.items c.loop-number.invariant
+    (omega (arith, c.len-number-end.ensures, c.args.owners.now.ok.0, same, c.loop-number-test.false, c.loop-number.auto.number-end)) in
+    record { same = c.loop-number.invariant.same; cut = last.0; rows = last.1 }

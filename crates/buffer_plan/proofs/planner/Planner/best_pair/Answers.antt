@@ -18,13 +18,13 @@ hang_all-requires-clause-lists g c =
 
 pub returns-in_err-hang_all-clause-steps : goal.returns-in_err-hang_all-clause-steps
 returns-in_err-hang_all-clause-steps g c =
-    let long = ap (λ (t : TreeView). length t.nodes) c.requires.tree in
+    let long = ap (λ (t : TreeView). length t.nodes) c.requires.ours.tree_is in
     let some = c.driver-driver.ensures.loading.tree.rooted in
     plan-steps_part (length c.args.library.now.kinds) (length c.args.tree.now.nodes) c.args.steps.now c.hang_all.new.steps (omega arith) c.in_err-hang_all.ensures.steps
 
 pub returns-in_err-pairs-clause-steps : goal.returns-in_err-pairs-clause-steps
 returns-in_err-pairs-clause-steps g c =
-    let long = ap (λ (t : TreeView). length t.nodes) c.requires.tree in
+    let long = ap (λ (t : TreeView). length t.nodes) c.requires.ours.tree_is in
     let some = c.driver-driver.ensures.loading.tree.rooted in
     plan-steps_part (length c.args.library.now.kinds) (length c.args.tree.now.nodes) c.args.steps.now c.hang_all.new.steps (omega arith) c.in_ok-hang_all.ensures.steps
 
@@ -51,8 +51,8 @@ returns-clause-steps g c =
     let l = c.args.loading.now in
     let nodes : ℕ = length c.args.tree.now.nodes in
     let kinds : ℕ = length c.args.library.now.kinds in
-    let long = ap (λ (t : TreeView). length t.nodes) c.requires.tree in
-    let same = ap (λ (lib : LibraryView). length lib.kinds) c.requires.library in
+    let long = ap (λ (t : TreeView). length t.nodes) c.requires.ours.tree_is in
+    let same = ap (λ (lib : LibraryView). length lib.kinds) c.requires.ours.library_is in
     let some = c.driver-driver.ensures.loading.tree.rooted in
     let few = gathered-few (sites_of l) 1 0 c.hang_all.new.trail c.hang_all.new.lists.items c.in_ok-hang_all.ensures.lists (omega arith) in
     let is = ap (λ (pairs : List Pair). length pairs) (c.in_ok-pairs.ensures ∙ c.take.ensures.list) in

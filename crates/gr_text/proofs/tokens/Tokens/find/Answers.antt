@@ -1,9 +1,7 @@
-use Rattle.std.proofs.Common.{◌≡◌, ◌++◌, subst, ap, ◌∙◌, true, false, Ok, Err}
+use Rattle.std.proofs.Common.{◌≡◌, ◌++◌, ap, ◌∙◌, true, false, Ok}
 use Rattle.std.proofs.lemmas.Result.{err_from_is_err_and}
-use Rattle.gr_io.specs.declared.shelf.Slot.{Slot}
 use Rattle.gr_text.specs.Streams.{Stream}
-use Rattle.gr_text.specs.Steps.{TakesToken}
-use Rattle.gr_text.proofs.FindLemmas.{find-next, find-little, find-cut, find-end, find-past, word-cut, blanks-cut, blanks-end}
+use Rattle.gr_text.proofs.FindLemmas.{find-next, find-little, find-cut, find-end, find-past, taken-at, word-cut, blanks-cut, blanks-end}
 use Rattle.gr_text.proofs.tokens.Tokens.find.Goals as goal
 
 pub returns-in_err-more-clause-token : goal.returns-in_err-more-clause-token
@@ -27,9 +25,6 @@ returns-in_err-take_word-clause-token g c =
     λ told.
     let gives : c.seek.result ≡ Ok true = c.in_ok-more.was ∙ ap Ok c.if-not-more.false in
     let p = err_from_is_err_and c.from_residual-in_err-take_word.result c.from_residual-in_err-take_word.ensures.1 in
-    let P : Slot → Type 0 = λ slot. TakesToken c.seek.new.self.room c.seek.new.self.number
-    (c.seek.new.self.pending ++ g.S.Shelf.left c.seek.new.shelf slot) (Err c.in_err-take_word.field-0.0) c.take_word.new.self
-    (g.S.Shelf.left c.take_word.new.shelf slot) in
     rw (p.1, p.2)
     (find-cut c.args.self.now c.seek.new.self c.take_word.new.self
     (c.args.self.now.pending ++ g.S.Shelf.left c.args.shelf.now c.args.self.now.slot)
@@ -38,7 +33,7 @@ returns-in_err-take_word-clause-token g c =
     (rw gives at (c.seek.ensures.skipped told))
     (rw gives at c.seek.ensures.sought)
     c.in_err-take_word.ensures.counted
-    (subst P c.seek.ensures.slot (c.in_err-take_word.ensures.token told)))
+    (taken-at c.seek.new.self c.take_word.new.self (g.S.Shelf.left c.seek.new.shelf) (g.S.Shelf.left c.take_word.new.shelf) _ _ _ c.seek.ensures.slot (c.in_err-take_word.ensures.token told)))
 
 pub returns-clause-token : goal.returns-clause-token
 returns-clause-token g c =
@@ -76,10 +71,7 @@ returns-in_err-take_word-clause-on g c =
     λ told.
     let gives : c.seek.result ≡ Ok true = c.in_ok-more.was ∙ ap Ok c.if-not-more.false in
     let p = err_from_is_err_and c.from_residual-in_err-take_word.result c.from_residual-in_err-take_word.ensures.1 in
-    let P : Slot → Type 0 = λ slot. TakesToken c.seek.new.self.room c.seek.new.self.number
-    (c.seek.new.self.pending ++ g.S.Shelf.left c.seek.new.shelf slot) (Err c.in_err-take_word.field-0.0) c.take_word.new.self
-    (g.S.Shelf.left c.take_word.new.shelf slot) in
     rw (p.1, p.2)
     (word-cut _ _ _ _ c.take_word.new.self _ _ _ c.in_err-take_word.field-0.0
     (rw gives at (c.seek.ensures.skipped told))
-    (subst P c.seek.ensures.slot (c.in_err-take_word.ensures.token told)))
+    (taken-at c.seek.new.self c.take_word.new.self (g.S.Shelf.left c.seek.new.shelf) (g.S.Shelf.left c.take_word.new.shelf) _ _ _ c.seek.ensures.slot (c.in_err-take_word.ensures.token told)))
