@@ -1,0 +1,322 @@
+#!/usr/bin/env python3
+"""Replays the histories of rounds: reference/replay.py [--times N] [--share N] [DESIGN LIBRARY ROUNDS ..]
+
+Each design (made ones where none is named) is routed by 1, 2, 4, 8 and 16 workers, each N times (20 where nothing is
+said), by the program round_histories, which tells the history of its book. Each history is gone through entry by
+entry with a book and plans that were written apart from the proved code:
+
+- each reply is what a book of one caller answers at that point;
+- marks are those of caller 0, claims and releases those of the workers;
+- in round 0 each routed net is claimed once, for a pattern plan at any demand; in each later round each net on an
+  edge over its capacity is released once and then claimed by the same worker, until it is booked, for plans of that
+  round's margin, twice with room within capacity and then at any demand, and no other net is;
+- each claim's tree is the plan over the demand and the marks of the first `front` entries, among which are all of
+  its worker's own (of random designs each tree, of others one in `--share`);
+- the rounds end where no net is due, or where no more were asked for;
+- the chosen part of the history ends with the first mark of least overflow, and the routes that were written are
+  those that are booked there.
+"""
+import argparse
+import os
+import random
+import subprocess
+import sys
+import tempfile
+
+import compare
+from design import cell, edge, place, read_design, way
+from route import Book, maze_plan, pattern_plan
+from solution import solution_text
+from workers import WORKERS, library, run
+
+HERE = os.path.dirname(os.path.abspath(__file__))
+PROGRAM = os.path.join(HERE, "..", "crates", "round_histories", "out", "round_histories")
+# The words of made designs, and the rounds of each: the first has room, the second is crowded.
+MADE = (("7 24 24 6 1200", 3), ("11 12 12 4 700", 4))
+MARGIN = 4
+SLACKS = (0, 0, None)
+TIMEOUT = 600
+
+
+class Wrong(Exception):
+    """A rule that a history breaks."""
+
+
+def check(holds, what):
+    if not holds:
+        raise Wrong(what)
+
+
+class Entry:
+    """A line of a history: `NUMBER REPLY CALL`."""
+
+    def __init__(self, d, line):
+        words = iter(line.split())
+        self.number = int(next(words))
+        self.reply = next(words)
+        self.told = None
+        if self.reply == "full":
+            low, name, demand = int(next(words)), next(words), int(next(words))
+            self.told = (low, name), demand
+        elif self.reply == "marked":
+            self.told = int(next(words))
+        self.call = next(words)
+        if self.call != "mark":
+            self.net = int(next(words))
+        if self.call == "claim":
+            self.read_claim(d, words)
+
+    def read_claim(self, d, words):
+        check(next(words) == "front", "form")
+        self.front = int(next(words))
+        kind = next(words)
+        self.margin = None if kind == "pattern" else int(next(words))
+        self.slack = None if next(words) == "any" else int(next(words))
+        check(next(words) == "tree", "form")
+        cells = [int(word) for word in words]
+        self.nodes = list(zip(cells[::2], cells[1::2]))
+        check(len({c for c, _ in self.nodes}) == len(self.nodes), "a tree has a cell twice")
+        self.edges = {edge(*pair) for pair in self.nodes[1:]}
+
+
+class Replay:
+    """A book to which the entries of a history are added one after another, and taken back."""
+
+    def __init__(self, d):
+        self.book = Book(d)
+        self.done = []
+
+    def add(self, entry):
+        """Adds an entry by the reply that it has; the answer is what is added, to be taken back."""
+        book, gain = self.book, None
+        if entry.reply == "claimed":
+            book.claim(entry.net, entry.edges, None)
+            gain = "booked", entry.net
+        elif entry.reply == "released":
+            gain = "freed", entry.net, book.booked[entry.net]
+            book.release(entry.net)
+        elif entry.reply == "marked":
+            gain = "marked", dict(book.marks)
+            book.mark()
+        self.done.append((entry, gain))
+
+    def back(self):
+        """Takes the last entry back, and gives it."""
+        entry, gain = self.done.pop()
+        if gain is None:
+            return entry
+        if gain[0] == "booked":
+            self.book.release(gain[1])
+        elif gain[0] == "freed":
+            self.book.claim(gain[1], gain[2], None)
+        else:
+            self.book.marks = gain[1]
+        return entry
+
+    def plan_at(self, entry):
+        """The edges of a claim's plan over the first entries, as many as its front says."""
+        later = []
+        while len(self.done) > entry.front:
+            later.append(self.back())
+        if entry.margin is None:
+            edges = pattern_plan(self.book, entry.net)
+        else:
+            edges = maze_plan(self.book, entry.net, entry.margin)
+        for other in reversed(later):
+            self.add(other)
+        return edges
+
+
+def first_full(d, book, entry):
+    """The first edge of a claim's tree without room, and its demand; None where there is none."""
+    for pair in entry.nodes[1:]:
+        e = edge(*pair)
+        if way(d, e) == "Up":
+            continue
+        demand = book.demand.get(e, 0)
+        if demand + compare.route.need(d, entry.net, e) > compare.route.capacity(d, e) + entry.slack:
+            return (e[0], way(d, e)), demand
+    return None
+
+
+def reply_of(d, book, entry):
+    """What a book answers, and what it tells."""
+    if entry.call == "mark":
+        return "marked", sum(book.overs())
+    if entry.call == "release":
+        return ("released" if entry.net in book.booked else "not-booked"), None
+    if entry.net in book.booked:
+        return "taken", None
+    full = None if entry.slack is None else first_full(d, book, entry)
+    return ("claimed", None) if full is None else ("full", full)
+
+
+def check_tree(d, entry):
+    pins = [cell(d, *pin) for pin in d.nets[entry.net].pins]
+    check(entry.nodes[0] == (pins[0], pins[0]), "a tree doesn't start at its driver")
+    seen = set()
+    for at, (c, parent) in enumerate(entry.nodes):
+        check(at == 0 or parent in seen, "a node hangs on a later one")
+        check(at == 0 or sum(abs(a - b) for a, b in zip(place(d, c), place(d, parent))) == 1, "cells are apart")
+        seen.add(c)
+    check(seen.issuperset(pins), "a pin is left out")
+
+
+class Rounds:
+    """The rules of the rounds, entry by entry."""
+
+    def __init__(self, d, workers, rounds, share):
+        self.d, self.workers, self.rounds, self.share = d, workers, rounds, share
+        self.replay = Replay(d)
+        self.round, self.due, self.trying, self.own, self.marks = 0, set(d.routed()), {}, {}, []
+        self.over = False
+
+    def go(self, at, entry):
+        check(not self.over, "an entry behind the end")
+        check(reply_of(self.d, self.replay.book, entry) == (entry.reply, entry.told), "a reply")
+        if entry.call == "mark":
+            self.mark(entry)
+        else:
+            check(1 <= entry.number <= self.workers, "the number of a worker")
+            self.release(entry) if entry.call == "release" else self.claim(at, entry)
+        self.replay.add(entry)
+        if entry.call == "mark":
+            self.begin_round()
+        self.own[entry.number] = at + 1
+
+    def mark(self, entry):
+        check(entry.number == 0, "the number of a mark")
+        check(not self.due and not self.trying, "a round ends before all its nets are done")
+        self.marks.append((entry.told, len(self.replay.done) + 1))
+
+    def begin_round(self):
+        self.due = set(self.replay.book.victims())
+        self.over = self.round == self.rounds or not self.due
+        self.round += 1
+
+    def release(self, entry):
+        check(self.round > 0 and entry.number not in self.trying, "a release out of turn")
+        check(entry.net in self.due, "a net that isn't due")
+        self.due.remove(entry.net)
+        self.trying[entry.number] = entry.net, 0
+
+    def claim(self, at, entry):
+        if self.round == 0:
+            check(entry.net in self.due, "a net that isn't due")
+            self.due.remove(entry.net)
+            check(entry.margin is None and entry.slack is None and entry.reply == "claimed", "a first claim")
+        else:
+            net, tries = self.trying.pop(entry.number, (None, 0))
+            check(net == entry.net, "a claim out of turn")
+            check(entry.margin == MARGIN * self.round and entry.slack == SLACKS[tries], "a claim's kind or slack")
+            check(entry.reply in ("claimed", "full"), "a claim's reply")
+            if entry.reply == "full":
+                self.trying[entry.number] = net, tries + 1
+        check(self.own.get(entry.number, 0) <= entry.front <= at, "a front")
+        check_tree(self.d, entry)
+        if at % self.share == 0:
+            check(self.replay.plan_at(entry) == entry.edges, "a plan")
+
+    def end(self, chosen, routes):
+        check(self.over, "the rounds have no end")
+        least = min(self.marks)
+        check(chosen == least[1], "the chosen part")
+        while len(self.replay.done) > chosen:
+            self.replay.back()
+        check(solution_text(self.d, self.replay.book.booked) == routes, "the routes")
+
+
+def told(program, design, paths, rounds, workers):
+    """The routes, the history's lines and the length of the chosen part of a run."""
+    line = f"run route {design} {paths} {rounds} --workers {workers}\n"
+    done = subprocess.run([program], input=line.encode(), capture_output=True, check=True, timeout=TIMEOUT)
+    lines = done.stdout.split(b"\n")
+    check(lines[-1] == b"" and lines[-2].startswith(b"chosen "), "a run has no history")
+    first = max(at for at, text in enumerate(lines) if text.startswith(b"status "))
+    check(lines[first] == b"status 0", "status")
+    routes = b"".join(text + b"\n" for text in lines[:first])
+    return routes, [text.decode() for text in lines[first + 1 : -2]], int(lines[-2].split()[1])
+
+
+def replayed(program, design, paths, rounds, workers, share):
+    """How many entries a run has, how often another worker's entry stands between two of a turn, and its overflow."""
+    with open(design, "rb") as file:
+        d = read_design(file.read())
+    routes, lines, chosen = told(program, design, paths, rounds, workers)
+    replay = Rounds(d, workers, rounds, share)
+    met = 0
+    for at, line in enumerate(lines):
+        entry = Entry(d, line)
+        met += entry.call == "claim" and entry.front < at
+        replay.go(at, entry)
+    replay.end(chosen, routes)
+    return len(lines), met, min(replay.marks)[0]
+
+
+def made(folder):
+    """The made designs with their libraries and rounds."""
+    for words, rounds in MADE:
+        _, text, _ = run("make", *words.split())
+        yield *put(folder, words.replace(" ", "_"), text), str(rounds)
+
+
+def put(folder, name, text):
+    """The paths of a design with this text and of a library for it."""
+    design = os.path.join(folder, name)
+    with open(design, "wb") as file:
+        file.write(text)
+    with open(design + ".library", "w", encoding="ascii") as file:
+        file.write(library(read_design(text).L))
+    return design, design + ".library"
+
+
+def random_designs(folder, count):
+    """Small random designs, each of whose plans is compared."""
+    for seed in range(count):
+        yield *put(folder, f"random_{seed}", compare.design(random.Random(seed))), "4"
+
+
+def tried(program, design, paths, rounds, times, share):
+    """Replays runs by each number of workers; the count of those that break a rule."""
+    faults = 0
+    for workers in WORKERS:
+        entries, met, overflows = 0, 0, []
+        for _ in range(times):
+            try:
+                count, beside, overflow = replayed(program, design, paths, int(rounds), workers, share)
+            except Wrong as wrong:
+                faults += 1
+                print(f"{design}, {workers} workers: {wrong}")
+                continue
+            entries, met = entries + count, met + beside
+            overflows.append(overflow)
+        if overflows:
+            print(f"{os.path.basename(design)}, {rounds} rounds, {workers} workers: {len(overflows)} runs, "
+                  f"{entries} entries, {met} claims behind others' entries, "
+                  f"overflow {min(overflows)} to {max(overflows)}", flush=True)
+    return faults
+
+
+def main():
+    parser = argparse.ArgumentParser(description=__doc__, formatter_class=argparse.RawDescriptionHelpFormatter)
+    parser.add_argument("--program", default=PROGRAM)
+    parser.add_argument("--times", type=int, default=20)
+    parser.add_argument("--share", type=int, default=50)
+    parser.add_argument("--random", type=int, default=20, help="how many random designs")
+    parser.add_argument("names", nargs="*", help="DESIGN LIBRARY ROUNDS, again and again")
+    words = parser.parse_args()
+    if len(words.names) % 3:
+        parser.error("DESIGN LIBRARY ROUNDS stand together")
+    faults = 0
+    with tempfile.TemporaryDirectory() as folder:
+        named = [tuple(words.names[at : at + 3]) for at in range(0, len(words.names), 3)]
+        for design, paths, rounds in named or made(folder):
+            faults += tried(words.program, design, paths, rounds, words.times, words.share)
+        for design, paths, rounds in () if named else random_designs(folder, words.random):
+            faults += tried(words.program, design, paths, rounds, 1, 1)
+    print(f"{faults} faults")
+    return 1 if faults else 0
+
+
+if __name__ == "__main__":
+    sys.exit(main())
