@@ -1,16 +1,17 @@
-//! A few calls by one thread.
+//! A few calls by one thread with two passes.
 ghost use Rattle.std.specs.Prelude.{◌≡◌, IsTrue};
 ghost use Rattle.book_state.specs.Books.{nets_of};
 ghost use Rattle.gr_base.specs.Grid.{has_edge};
 ghost use Rattle.grid_demand.specs.Tables.{capacity_of};
 ghost use Rattle.book_rows.specs.Rows.{AreOfTwo, first_edge};
 
-use crate::calls::claim;
+use crate::calls::reply_to;
 use crate::closing::closed;
 use crate::designs::made;
+use crate::steps::{Step, Which};
 use book_state::Replica;
 use gr_base::{Design, Edge, RouteTree, Way};
-use std::alloc::Global;
+use std::alloc::{AllocError, Global};
 use std::io;
 use std::marker::Brand;
 use std::sync::Wait;
@@ -24,6 +25,7 @@ pub(crate) const EDGE: Edge = Edge {
 
 /// Prints what the calls answer.
 pub(crate) fn show<R: Wait + Print>(rt: &R, alloc: Global) -> io::Result<()> {
+    println!(rt; "one thread")?;
     let (design, tree, blank) = made(alloc, 2)?;
     play::<Brand, R>(rt, alloc, &design, &tree, blank)
 }
@@ -42,92 +44,115 @@ fn play<N: BookName, R: Wait + Print>(
     requires two { N.passes ≡ 2 }
 {
     let (book, mut passes) = blank.begin::<N>(alloc)?;
-    let Some(mut one) = passes.pop() else {
-        return Ok(());
-    };
-    let Some(mut zero) = passes.pop() else {
-        return Ok(());
-    };
-    println!(rt; "one thread")?;
-    claims(rt, alloc, &book, &mut zero, &mut one, tree)?;
-    sync(rt, alloc, &book, &mut zero, design)?;
-    marks(rt, &book, &mut zero, &mut one)?;
-    passes.push(zero)?;
-    passes.push(one)?;
-    told(rt, &closed(book, passes, 2)?)
+    game(rt, alloc, &book, &mut passes, design, tree)?;
+    tell(rt, &closed(book, passes, 2)?)
 }
 
-/// Pass 0 claims a, then pass 1 claims b.
-fn claims<N: BookName, R: Wait + Print>(
+/// The calls of both passes.
+fn game<N: BookName, R: Wait + Print>(
+    rt: &R,
+    alloc: Global,
+    book: &TrackBook<N>,
+    passes: &mut [Pass<N>],
+    design: &Design,
+    tree: &RouteTree,
+) -> io::Result<()>
+    requires { AreOfTwo N.capacity design.now tree.now }
+{
+    let Some((one, others)) = passes.split_last_mut() else {
+        return Ok(());
+    };
+    let Some(zero) = others.first_mut() else {
+        return Ok(());
+    };
+    by_turns(rt, alloc, book, zero, one, design, tree)
+}
+
+/// Pass 0 claims a, pass 1 claims b, pass 0 follows the book, pass 1 releases b, pass 0 marks, and
+/// both meet.
+fn by_turns<N: BookName, R: Wait + Print>(
     rt: &R,
     alloc: Global,
     book: &TrackBook<N>,
     zero: &mut Pass<N>,
     one: &mut Pass<N>,
+    design: &Design,
     tree: &RouteTree,
+) -> io::Result<()>
+    requires { AreOfTwo N.capacity design.now tree.now }
+{
+    call(rt, alloc, book, zero, tree, Step::Claim(Which::A, Some(0)))?;
+    call(rt, alloc, book, one, tree, Step::Claim(Which::B, Some(0)))?;
+    sync(rt, alloc, book, zero, design)?;
+    call(rt, alloc, book, one, tree, Step::Release(Which::B))?;
+    know(rt, book, zero)?;
+    call(rt, alloc, book, zero, tree, Step::Mark)?;
+    know(rt, book, one)?;
+    book.meet(rt, zero, one);
+    println!(rt; "they meet")?;
+    know(rt, book, zero)?;
+    know(rt, book, one)
+}
+
+/// A call, and what its pass knows then.
+fn call<N: BookName, R: Wait + Print>(
+    rt: &R,
+    alloc: Global,
+    book: &TrackBook<N>,
+    pass: &mut Pass<N>,
+    tree: &RouteTree,
+    step: Step,
 ) -> io::Result<()>
     requires nets { nets_of N.capacity ≡ 2 }
     requires shape { tree.now.shape ≡ N.capacity.shape }
 {
-    let reply = claim(rt, alloc, book, zero, tree, 0)?;
-    println!(rt; "pass 0 claims a: {reply:?}, known {}", zero.known())?;
-    let reply = claim(rt, alloc, book, one, tree, 1)?;
-    println!(rt; "pass 1 claims b: {reply:?}, known {}", one.known())
+    let reply = reply_to(rt, alloc, book, pass, tree, step)?;
+    println!(rt; "pass {} {}: {reply:?}", pass.number(), step.told())
 }
 
-/// Pass 0 follows the book with a new replica.
+/// The pass follows the book with a new replica.
 fn sync<N: BookName, R: Wait + Print>(
     rt: &R,
     alloc: Global,
     book: &TrackBook<N>,
-    zero: &mut Pass<N>,
+    pass: &mut Pass<N>,
     design: &Design,
 ) -> io::Result<()>
     requires design { capacity_of design.now ≡ N.capacity }
     requires edge { IsTrue (has_edge N.capacity.shape first_edge) }
 {
-    let mut replica = Replica::new(alloc, design)?;
-    book.sync(rt, zero, &mut replica)?;
-    println!(rt;
-        "pass 0 syncs: front {}, demand is {}",
-        replica.front(),
-        replica.loads().demand(EDGE)
-    )
+    let (front, demand) = synced(rt, alloc, book, pass, design)?;
+    println!(rt; "a replica syncs: front {front}, demand {demand}")
 }
 
-/// Pass 1 releases b, then pass 0 marks, and both meet.
-fn marks<N: BookName, R: Wait + Print>(
+/// The replica's front, and its demand on the edge.
+fn synced<N: BookName, R: Wait>(
     rt: &R,
+    alloc: Global,
     book: &TrackBook<N>,
-    zero: &mut Pass<N>,
-    one: &mut Pass<N>,
-) -> io::Result<()>
-    requires { nets_of N.capacity ≡ 2 }
+    pass: &mut Pass<N>,
+    design: &Design,
+) -> Result<(u64, u64), AllocError>
+    requires design { capacity_of design.now ≡ N.capacity }
+    requires edge { IsTrue (has_edge N.capacity.shape first_edge) }
 {
-    let reply = book.release(rt, one, 1)?;
-    println!(rt; "pass 1 releases b: {reply:?}")?;
+    let mut replica = Replica::new(alloc, design)?;
+    book.sync(rt, pass, &mut replica)?;
+    Ok((replica.front(), replica.loads().demand(EDGE)))
+}
+
+/// How much a pass knows, and how much there is to be known.
+fn know<N: BookName, R: Print>(rt: &R, book: &TrackBook<N>, pass: &mut Pass<N>) -> io::Result<()> {
     println!(rt;
-        "front of pass 0: {}, known {}",
-        book.front(zero),
-        zero.known()
-    )?;
-    let reply = book.mark(rt, zero)?;
-    println!(rt; "pass 0 marks: {reply:?}, front {}", book.front(zero))?;
-    println!(rt;
-        "known of pass 0: {}, of pass 1: {}",
-        zero.known(),
-        one.known()
-    )?;
-    book.meet(rt, zero, one);
-    println!(rt;
-        "they meet: known of pass 0: {}, of pass 1: {}",
-        zero.known(),
-        one.known()
+        "pass {} knows {}, front {}",
+        pass.number(),
+        pass.known(),
+        book.front(pass)
     )
 }
 
 /// The closed book's entries.
-fn told<R: Print>(rt: &R, closed: &ClosedBook) -> io::Result<()> {
+fn tell<R: Print>(rt: &R, closed: &ClosedBook) -> io::Result<()> {
     let history = closed.state().history();
     println!(rt; "closed: {} entries", history.len())?;
     for at in 0..history.len() {

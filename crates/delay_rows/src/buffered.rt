@@ -5,7 +5,6 @@ ghost use Rattle.elmore_delay.specs.Placements.{NamesKinds};
 ghost use Rattle.route_evaluator.specs.NetTrees.{IsNetRoute};
 ghost use Rattle.report_text.specs.BufferTexts.{IsPlanFor};
 
-use crate::given::Given;
 use elmore_delay::{Loading, Placement, Plan, Plans, delay_to, required};
 use gr_base::{Design, NodeIndex, RouteTree, Routes};
 use gr_text::Text;
@@ -22,16 +21,29 @@ struct Planned {
 
 /// The text of buffers at the cells that these words name, and a line with the delay to the last
 /// node.
-pub(crate) fn told(alloc: Global, given: &Given, words: &str) -> anyhow::Result<Text> {
-    let design = given.design(alloc)?;
-    let library = given.library(alloc, &design)?;
-    let tree = given.tree(alloc, &design)?;
-    let planned = plan_of(alloc, &design, &library, &tree, words)?;
-    let mut told = text_of(alloc, &design, &library, tree, planned.plan)?;
-    told.put(b"delay ")?;
-    told.put_number(planned.delay)?;
-    told.put(b"\n")?;
+pub(crate) fn told(
+    alloc: Global,
+    design: &Design,
+    library: &Library,
+    tree: RouteTree,
+    words: &str,
+) -> Result<Text, AllocError>
+    requires library { IsLibraryOf design.now library.now }
+    requires nets { length design.now.nets ≡ 1 }
+    requires tree { IsNetRoute design.now 0 tree }
+{
+    let planned = plan_of(alloc, design, library, &tree, words)?;
+    let delay = planned.delay;
+    let mut told = text_of(alloc, design, library, tree, planned.plan)?;
+    put_delay(&mut told, delay)?;
     Ok(told)
+}
+
+/// Puts the line of the delay at the end of the text.
+fn put_delay(told: &mut Text, delay: i128) -> Result<(), AllocError> {
+    told.put(b"delay ")?;
+    told.put_number(delay)?;
+    told.put(b"\n")
 }
 
 /// The plan of buffers at these cells.

@@ -5,14 +5,24 @@ ghost use Rattle.gr_io.specs.Texts.{is_reached};
 ghost use Rattle.rc_library.specs.Libraries.{IsLibraryOf};
 ghost use Rattle.route_evaluator.specs.NetTrees.{IsNetRoute};
 
+use crate::{buffered, nodes};
 use anyhow::bail;
 use gr_base::{Design, RouteTree};
 use gr_io::{MemoryShelf, Shelf, Slot};
+use gr_text::Text;
 use ispd_reader::read_design;
 use rc_library::{Library, read_library};
 use route_evaluator::tree_of;
 use route_reader::read_solution;
 use std::alloc::Global;
+
+/// What a line asks for.
+#[derive(Clone, Copy)]
+pub(crate) enum Asked<'a> {
+    /// The text of buffers at these cells.
+    Buffers(&'a str),
+    Nodes,
+}
 
 /// The texts of a design, of its routes and of a library.
 #[derive(Debug, Drop)]
@@ -32,8 +42,41 @@ impl Given {
         }
     }
 
+    /// The text of buffers that the words ask for, or of nodes where there are none.
+    pub(crate) fn told(&self, alloc: Global, asked: Asked<'_>) -> anyhow::Result<Text> {
+        let design = self.design(alloc)?;
+        self.told_of(alloc, &design, asked)
+    }
+
+    fn told_of(&self, alloc: Global, design: &Design, asked: Asked<'_>) -> anyhow::Result<Text>
+        requires one { length design.now.nets ≡ 1 }
+        requires routed { IsTrue (is_routed design.now 0) }
+    {
+        let library = self.library(alloc, design)?;
+        self.told_with(alloc, design, &library, asked)
+    }
+
+    fn told_with(
+        &self,
+        alloc: Global,
+        design: &Design,
+        library: &Library,
+        asked: Asked<'_>,
+    ) -> anyhow::Result<Text>
+        requires one { length design.now.nets ≡ 1 }
+        requires routed { IsTrue (is_routed design.now 0) }
+        requires library { IsLibraryOf design.now library.now }
+    {
+        let tree = self.tree(alloc, design)?;
+        let told = match asked {
+            Asked::Buffers(words) => buffered::told(alloc, design, library, tree, words)?,
+            Asked::Nodes => nodes::told(alloc, design, library, &tree)?,
+        };
+        Ok(told)
+    }
+
     /// The design, which has one net, and that routed.
-    pub(crate) fn design(&self, alloc: Global) -> anyhow::Result<Design>
+    fn design(&self, alloc: Global) -> anyhow::Result<Design>
         ensures one { IfOk result (λ design. length design.nets ≡ 1) }
         ensures routed { IfOk result (λ design. IsTrue (is_routed design 0)) }
     {
@@ -49,7 +92,7 @@ impl Given {
     }
 
     /// The library, read for the design.
-    pub(crate) fn library(&self, alloc: Global, design: &Design) -> anyhow::Result<Library>
+    fn library(&self, alloc: Global, design: &Design) -> anyhow::Result<Library>
         ensures { IfOk result (IsLibraryOf design.now) }
     {
         let mut shelf = reached(alloc, Slot::Library, &self.library)?;
@@ -58,7 +101,7 @@ impl Given {
     }
 
     /// The tree of the net's edges.
-    pub(crate) fn tree(&self, alloc: Global, design: &Design) -> anyhow::Result<RouteTree>
+    fn tree(&self, alloc: Global, design: &Design) -> anyhow::Result<RouteTree>
         requires { IsTrue (is_routed design.now 0) }
         ensures { IfOk result (IsNetRoute design.now 0) }
     {

@@ -14,7 +14,7 @@ mod buffered;
 mod given;
 mod nodes;
 
-use crate::given::Given;
+use crate::given::{Asked, Given};
 use gr_io::{HostSink, write_whole};
 use gr_text::Text;
 use std::alloc::Global;
@@ -26,8 +26,8 @@ fn carry_out(alloc: Global, given: &mut Given, line: &str) -> anyhow::Result<Tex
         "design" => given.design = String::from_str(alloc, rest)?,
         "route" => given.route = String::from_str(alloc, rest)?,
         "library" => given.library = String::from_str(alloc, rest)?,
-        "buffers" => return buffered::told(alloc, given, rest),
-        "nodes" => return nodes::told(alloc, given),
+        "buffers" => return given.told(alloc, Asked::Buffers(rest)),
+        "nodes" => return given.told(alloc, Asked::Nodes),
         _ => return echoed(alloc, line),
     }
     Ok(Text::new(alloc))

@@ -3,24 +3,14 @@ ghost use Rattle.std.specs.Prelude.{◌<◌, length};
 ghost use Rattle.rc_library.specs.Libraries.{IsLibraryOf};
 ghost use Rattle.route_evaluator.specs.NetTrees.{IsNetRoute};
 
-use crate::given::Given;
 use elmore_delay::{Loading, Wants};
 use gr_base::{Design, NodeIndex, RouteTree};
 use gr_text::Text;
 use rc_library::Library;
 use std::alloc::{AllocError, Global};
 
-/// The lines of the nodes of the net's tree.
-pub(crate) fn told(alloc: Global, given: &Given) -> anyhow::Result<Text> {
-    let design = given.design(alloc)?;
-    let library = given.library(alloc, &design)?;
-    let tree = given.tree(alloc, &design)?;
-    let told = nodes_of(alloc, &design, &library, &tree)?;
-    Ok(told)
-}
-
 /// A line for each node, by number.
-fn nodes_of(
+pub(crate) fn told(
     alloc: Global,
     design: &Design,
     library: &Library,

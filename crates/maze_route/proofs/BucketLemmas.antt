@@ -31,20 +31,27 @@ relink-at slots after place other old new slot re is =
           (slot, (read ∙ ap (λ b. if b then Some new else slice_get slots other) test ∙ is, (refl, refl)))
     ]
 
+set-back : (xs : List Slot) (place : ℕ) (old new : Slot) → slice_get xs place ≡ Some old → slice_set (slice_set xs place new) place old ≡ xs
+set-back [] place old new is = refl
+set-back (x ∷ xs) zero old new is = ap (λ (y : Slot). y ∷ xs) (sym (same_Some x old is))
+set-back (x ∷ xs) (suc place) old new is = ap (λ (ys : List Slot). x ∷ ys) (set-back xs place old new is)
+
+-- the slot is given its old link back
+relink-swap : (slots after : List Slot) (place : ℕ) (old new : Slot) → IsRelink slots after place old new → IsRelink after slots place new old
+relink-swap slots after place old new re =
+    let read = ap (λ (xs : List Slot). slice_get xs place) re.set ∙ slice_get-set slots place place new (slice_get_within slots place old re.at) in
+    let test : (place == place) ≡ true = grind (arith, nat_tests) in
+    record {
+      at = read ∙ ap (λ b. if b then Some new else slice_get slots place) test;
+      set = sym (set-back slots place old new re.at) ∙ ap (λ (xs : List Slot). slice_set xs place old) (sym re.set);
+      key = sym re.key;
+      cell = sym re.cell;
+      taken = sym re.taken;
+    }
+
 pub relink-back : (slots after : List Slot) (place other : ℕ) (old new slot : Slot) → IsRelink slots after place old new → slice_get after other ≡ Some slot →
     (as_slot : Slot) × ((slice_get slots other ≡ Some as_slot) × ((as_slot.key ≡ slot.key) × (as_slot.taken ≡ slot.taken)))
-relink-back slots after place other old new slot re is =
-    let below = slice_get_within slots place old re.at in
-    let read = ap (λ (xs : List Slot). slice_get xs other) re.set ∙ slice_get-set slots place other new below in
-    elim (cases_eq other place) [
-      | inl same ↦
-          let test : (other == place) ≡ true = grind (arith, nat_tests) in
-          let e : new ≡ slot = same_Some new slot (sym (read ∙ ap (λ b. if b then Some new else slice_get slots other) test) ∙ is) in
-          (old, (ap (λ (n : ℕ). slice_get slots n) same ∙ re.at, (sym re.key ∙ ap (λ (s : Slot). s.key) e, sym re.taken ∙ ap (λ (s : Slot). s.taken) e)))
-      | inr apart ↦
-          let test : (other == place) ≡ false = grind (arith, nat_tests) in
-          (slot, (sym (read ∙ ap (λ b. if b then Some new else slice_get slots other) test) ∙ is, (refl, refl)))
-    ]
+relink-back slots after place other old new slot re is = relink-at after slots place other new old slot (relink-swap slots after place old new re) is
 
 pub relink-of : (slots after : List Slot) (place other last bucket : ℕ) (old new : Slot) → IsRelink slots after place old new → IsOf slots last bucket other → IsOf after last bucket other
 relink-of slots after place other last bucket old new re of =

@@ -1,5 +1,5 @@
 -- A walk of bounded cost leads to each cell of a window.
-use Rattle.std.proofs.Common.{◌≡◌, ℕ, suc, zero, ◌+◌, ◌-◌, ◌*◌, ◌<◌, ◌≤◌, inl, inr, Bool, true, Option, Some, None, IsSome, IsTrue, refl, sym, ap, subst, ◌∙◌, arith}
+use Rattle.std.proofs.Common.{◌≡◌, ℕ, suc, zero, ◌⊎◌, ◌+◌, ◌-◌, ◌*◌, ◌<◌, ◌≤◌, inl, inr, Bool, true, Option, Some, None, IsSome, IsTrue, refl, sym, ap, subst, ◌∙◌, arith}
 use Rattle.std.proofs.lemmas.Bool.{cases_lt, both_ways}
 use Rattle.cost_rules.specs.Prices.{layer_of, ArePrices}
 use Rattle.gr_base.specs.declared.grid.Cell.{Cell}
@@ -13,7 +13,7 @@ use Rattle.gr_base.proofs.GridLemmas.{number-place, place-inside, place-number, 
 use Rattle.maze_route.specs.Search.{most_distance}
 use Rattle.maze_route.specs.Steps.{size_of, cell_in, pane_graph}
 use Rattle.maze_route.specs.Walks.{Graph, Reaches, Starts, Goes_on}
-use Rattle.maze_route.specs.Windows.{IsPassable}
+use Rattle.maze_route.specs.Windows.{IsPassable, SomeLayerGoes}
 use Rattle.maze_route.specs.declared.pane.Pane.{Pane}
 use Rattle.maze_route.proofs.PaneLemmas.{place-cell}
 use Rattle.maze_route.proofs.SpotLemmas.{few-each}
@@ -130,95 +130,87 @@ link-line p t ways price n q r way prices goes inside is short =
 abbrev at : ℕ → ℕ → ℕ → Cell
 at x y layer = record { x = x; y = y; layer = layer }
 
--- along a row, along a column, and up or down
-move-east : (p : Pane) (t : TreeView) (ways : ℕ → Way → Bool) (price : Edge → Option ℕ) (x y layer to : ℕ) → ArePrices p.grid ways price → IsTrue (ways layer East) →
-    IsInside p.shape (at x y layer) → IsInside p.shape (at to y layer) → Link (pane_graph p t price) (number_of p.shape (at x y layer)) (number_of p.shape (at to y layer)) line_cost
-move-east p t ways price x y layer to prices goes q_in r_in =
-    let few = few-each p.shape (at x y layer) q_in in
-    let few_to = few-each p.shape (at to y layer) r_in in
-    let a = few.0 in
-    let b = few_to.0 in
-    elim (cases_lt x to) [
-      | inl less ↦ (link-line p t ways price (to - x) (at x y layer) (at to y layer) East prices goes r_in (same_cell (at to y layer) (far (to - x) (at x y layer) East) (omega arith) refl refl) (omega arith)).0
-      | inr more ↦ (link-line p t ways price (x - to) (at to y layer) (at x y layer) East prices goes q_in (same_cell (at x y layer) (far (x - to) (at to y layer) East) (omega arith) refl refl) (omega arith)).1
+-- the place's number along a way, and the place with another one
+abbrev number_on : Cell → Way → ℕ
+number_on q East = q.x
+number_on q North = q.y
+number_on q Up = q.layer
+
+abbrev along : Cell → ℕ → Way → Cell
+along q to East = at to q.y q.layer
+along q to North = at q.x to q.layer
+along q to Up = at q.x q.y to
+
+along-far : (q : Cell) (to : ℕ) (way : Way) → number_on q way ≤ to → along q to way ≡ far (to - number_on q way) q way
+along-far q to East more = same_cell (along q to East) (far (to - q.x) q East) (omega arith) refl refl
+along-far q to North more = same_cell (along q to North) (far (to - q.y) q North) refl (omega arith) refl
+along-far q to Up more = same_cell (along q to Up) (far (to - q.layer) q Up) refl refl (omega arith)
+
+far-along : (q : Cell) (to : ℕ) (way : Way) → to ≤ number_on q way → q ≡ far (number_on q way - to) (along q to way) way
+far-along q to East less = same_cell q (far (q.x - to) (along q to East) East) (omega arith) refl refl
+far-along q to North less = same_cell q (far (q.y - to) (along q to North) North) refl (omega arith) refl
+far-along q to Up less = same_cell q (far (q.layer - to) (along q to Up) Up) refl refl (omega arith)
+
+few-along : (s : Shape) (q : Cell) (to : ℕ) (way : Way) → IsInside s q → IsInside s (along q to way) → (number_on q way < 8388608) × (to < 8388608)
+few-along s q to East inside to_in = ((few-each s q inside).0, (few-each s (along q to East) to_in).0)
+few-along s q to North inside to_in = ((few-each s q inside).1.0, (few-each s (along q to North) to_in).1.0)
+few-along s q to Up inside to_in = ((few-each s q inside).1.1, (few-each s (along q to Up) to_in).1.1)
+
+-- along a row, along a column, or up or down
+move : (p : Pane) (t : TreeView) (ways : ℕ → Way → Bool) (price : Edge → Option ℕ) (q : Cell) (to : ℕ) (way : Way) → ArePrices p.grid ways price → IsTrue (ways q.layer way) →
+    IsTrue (ways (along q to way).layer way) → IsInside p.shape q → IsInside p.shape (along q to way) →
+    Link (pane_graph p t price) (number_of p.shape q) (number_of p.shape (along q to way)) line_cost
+move p t ways price q to way prices goes goes_to q_in r_in =
+    let few = few-along p.shape q to way q_in r_in in
+    let own = few.0 in
+    let other = few.1 in
+    elim (cases_lt (number_on q way) to) [
+      | inl less ↦ (link-line p t ways price (to - number_on q way) q (along q to way) way prices goes r_in (along-far q to way (omega arith)) (omega arith)).0
+      | inr more ↦ (link-line p t ways price (number_on q way - to) (along q to way) q way prices goes_to q_in (far-along q to way more) (omega arith)).1
     ]
 
-move-north : (p : Pane) (t : TreeView) (ways : ℕ → Way → Bool) (price : Edge → Option ℕ) (x y layer to : ℕ) → ArePrices p.grid ways price → IsTrue (ways layer North) →
-    IsInside p.shape (at x y layer) → IsInside p.shape (at x to layer) → Link (pane_graph p t price) (number_of p.shape (at x y layer)) (number_of p.shape (at x to layer)) line_cost
-move-north p t ways price x y layer to prices goes q_in r_in =
-    let few = few-each p.shape (at x y layer) q_in in
-    let few_to = few-each p.shape (at x to layer) r_in in
-    let a = few.1.0 in
-    let b = few_to.1.0 in
-    elim (cases_lt y to) [
-      | inl less ↦ (link-line p t ways price (to - y) (at x y layer) (at x to layer) North prices goes r_in (same_cell (at x to layer) (far (to - y) (at x y layer) North) refl (omega arith) refl) (omega arith)).0
-      | inr more ↦ (link-line p t ways price (y - to) (at x to layer) (at x y layer) North prices goes q_in (same_cell (at x y layer) (far (y - to) (at x to layer) North) refl (omega arith) refl) (omega arith)).1
-    ]
+-- the place on another level, and with another number along the way
+abbrev beyond_level : Cell → ℕ → ℕ → Way → Cell
+beyond_level q level to way = along (along q level Up) to way
 
-move-up : (p : Pane) (t : TreeView) (ways : ℕ → Way → Bool) (price : Edge → Option ℕ) (x y layer to : ℕ) → ArePrices p.grid ways price →
-    IsInside p.shape (at x y layer) → IsInside p.shape (at x y to) → Link (pane_graph p t price) (number_of p.shape (at x y layer)) (number_of p.shape (at x y to)) line_cost
-move-up p t ways price x y layer to prices q_in r_in =
-    let few = few-each p.shape (at x y layer) q_in in
-    let few_to = few-each p.shape (at x y to) r_in in
-    let a = few.1.1 in
-    let b = few_to.1.1 in
-    elim (cases_lt layer to) [
-      | inl less ↦ (link-line p t ways price (to - layer) (at x y layer) (at x y to) Up prices (prices.up layer) r_in (same_cell (at x y to) (far (to - layer) (at x y layer) Up) refl refl (omega arith)) (omega arith)).0
-      | inr more ↦ (link-line p t ways price (layer - to) (at x y to) (at x y layer) Up prices (prices.up to) q_in (same_cell (at x y layer) (far (layer - to) (at x y to) Up) refl refl (omega arith)) (omega arith)).1
-    ]
-
--- to some cell of another column, in the same row
-to-column : (p : Pane) (t : TreeView) (ways : ℕ → Way → Bool) (price : Edge → Option ℕ) (x y layer to : ℕ) → ArePrices p.grid ways price → IsPassable p.grid ways p.window →
-    IsInside p.shape (at x y layer) → to < p.shape.columns →
-    (level : ℕ) × (IsInside p.shape (at to y level) × Link (pane_graph p t price) (number_of p.shape (at x y layer)) (number_of p.shape (at to y level)) (2 * line_cost))
-to-column p t ways price x y layer to prices passable q_in column =
-    let graph = pane_graph p t price in
-    let a = number_of p.shape (at x y layer) in
+-- up or down to a level that goes the way, and then along it, or nowhere where the place is the same
+to-tile : (p : Pane) (t : TreeView) (ways : ℕ → Way → Bool) (price : Edge → Option ℕ) (q : Cell) (to : ℕ) (way : Way) → ArePrices p.grid ways price → IsInside p.shape q →
+    ((level : ℕ) → level < p.shape.layers → IsInside p.shape (beyond_level q level to way)) → ((level : ℕ) → (beyond_level q level to way).layer ≡ level) →
+    SomeLayerGoes p.grid ways way ⊎ (beyond_level q q.layer to way ≡ q) →
+    (level : ℕ) × (IsInside p.shape (beyond_level q level to way) × Link (pane_graph p t price) (number_of p.shape q) (number_of p.shape (beyond_level q level to way)) (2 * line_cost))
+to-tile p t ways price q to way prices q_in inside stays (inl goes) =
+    let level = goes.layer in
     let fits = p.fits in
-    elim (cases_lt p.window.x0 p.window.x1) [
-      | inl wide ↦
-          let goes = passable.east wide in
-          let inside_x : IsInside p.shape (at x y goes.layer) = record { column = q_in.column; row = q_in.row; layer = omega (arith, goes.inside, fits.layers) } in
-          let inside_to : IsInside p.shape (at to y goes.layer) = record { column = column; row = q_in.row; layer = omega (arith, goes.inside, fits.layers) } in (
-            goes.layer,
-            (
-              inside_to,
-              link-more graph a (number_of p.shape (at x y goes.layer)) (number_of p.shape (at to y goes.layer)) line_cost line_cost (2 * line_cost)
-                  (move-up p t ways price x y layer goes.layer prices q_in inside_x) (move-east p t ways price x y goes.layer to prices goes.goes inside_x inside_to) (omega arith),
-            ),
-          )
-      | inr narrow ↦
-          let own = q_in.column in
-          let same : to ≡ x = omega (arith, fits.columns, own) in
-          let P : ℕ → Type 0 = λ n. IsInside p.shape (at n y layer) in
-          (layer, (subst P (sym same) q_in, link-none graph a (number_of p.shape (at to y layer)) (2 * line_cost) (sym (ap (λ (n : ℕ). number_of p.shape (at n y layer)) same))))
-    ]
+    let below : level < p.shape.layers = omega (arith, goes.inside, fits.layers) in
+    let level_in : IsInside p.shape (along q level Up) = record { column = q_in.column; row = q_in.row; layer = below } in
+    let goes_to : IsTrue (ways (beyond_level q level to way).layer way) = ap (λ (n : ℕ). ways n way) (stays level) ∙ goes.goes in
+    let up = move p t ways price q level Up prices (prices.up q.layer) (prices.up level) q_in level_in in
+    let on = move p t ways price (along q level Up) to way prices goes.goes goes_to level_in (inside level below) in (
+      level,
+      (
+        inside level below,
+        link-more (pane_graph p t price) (number_of p.shape q) (number_of p.shape (along q level Up)) (number_of p.shape (beyond_level q level to way)) line_cost line_cost (2 * line_cost) up on (omega arith),
+      ),
+    )
+to-tile p t ways price q to way prices q_in inside stays (inr same) =
+    let P : Cell → Type 0 = λ c. IsInside p.shape c in
+    let number = ap (λ (c : Cell). number_of p.shape c) (sym same) in
+    (q.layer, (subst P (sym same) q_in, link-none (pane_graph p t price) (number_of p.shape q) (number_of p.shape (beyond_level q q.layer to way)) (2 * line_cost) number))
 
-to-row : (p : Pane) (t : TreeView) (ways : ℕ → Way → Bool) (price : Edge → Option ℕ) (x y layer to : ℕ) → ArePrices p.grid ways price → IsPassable p.grid ways p.window →
-    IsInside p.shape (at x y layer) → to < p.shape.rows →
-    (level : ℕ) × (IsInside p.shape (at x to level) × Link (pane_graph p t price) (number_of p.shape (at x y layer)) (number_of p.shape (at x to level)) (2 * line_cost))
-to-row p t ways price x y layer to prices passable q_in row =
-    let graph = pane_graph p t price in
-    let a = number_of p.shape (at x y layer) in
-    let fits = p.fits in
-    elim (cases_lt p.window.y0 p.window.y1) [
-      | inl tall ↦
-          let goes = passable.north tall in
-          let inside_y : IsInside p.shape (at x y goes.layer) = record { column = q_in.column; row = q_in.row; layer = omega (arith, goes.inside, fits.layers) } in
-          let inside_to : IsInside p.shape (at x to goes.layer) = record { column = q_in.column; row = row; layer = omega (arith, goes.inside, fits.layers) } in (
-            goes.layer,
-            (
-              inside_to,
-              link-more graph a (number_of p.shape (at x y goes.layer)) (number_of p.shape (at x to goes.layer)) line_cost line_cost (2 * line_cost)
-                  (move-up p t ways price x y layer goes.layer prices q_in inside_y) (move-north p t ways price x y goes.layer to prices goes.goes inside_y inside_to) (omega arith),
-            ),
-          )
-      | inr flat ↦
-          let own = q_in.row in
-          let same : to ≡ y = omega (arith, fits.rows, own) in
-          let P : ℕ → Type 0 = λ n. IsInside p.shape (at x n layer) in
-          (layer, (subst P (sym same) q_in, link-none graph a (number_of p.shape (at x to layer)) (2 * line_cost) (sym (ap (λ (n : ℕ). number_of p.shape (at x n layer)) same))))
-    ]
+-- another tile of the row or the column is there only where the window is more than one tile wide or high
+to-column : (p : Pane) (ways : ℕ → Way → Bool) (q : Cell) (to : ℕ) → IsPassable p.grid ways p.window → IsInside p.shape q → to < p.shape.columns →
+    SomeLayerGoes p.grid ways East ⊎ (beyond_level q q.layer to East ≡ q)
+to-column p ways q to passable q_in column = elim (cases_lt p.window.x0 p.window.x1) [
+  | inl wide ↦ inl (passable.east wide)
+  | inr narrow ↦ inr (same_cell (beyond_level q q.layer to East) q (omega (arith, p.fits.columns, q_in.column)) refl refl)
+]
+
+to-row : (p : Pane) (ways : ℕ → Way → Bool) (q : Cell) (to : ℕ) → IsPassable p.grid ways p.window → IsInside p.shape q → to < p.shape.rows →
+    SomeLayerGoes p.grid ways North ⊎ (beyond_level q q.layer to North ≡ q)
+to-row p ways q to passable q_in row = elim (cases_lt p.window.y0 p.window.y1) [
+  | inl tall ↦ inl (passable.north tall)
+  | inr flat ↦ inr (same_cell (beyond_level q q.layer to North) q refl (omega (arith, p.fits.rows, q_in.row)) refl)
+]
 
 -- from a source a walk of bounded cost leads to each cell of the window
 pub reach-cell : (p : Pane) (t : TreeView) (ways : ℕ → Way → Bool) (price : Edge → Option ℕ) (m n : ℕ) → ArePrices p.grid ways price → IsPassable p.grid ways p.window →
@@ -230,9 +222,10 @@ reach-cell p t ways price m n prices passable m_in n_in source =
     let r = place_at s n in
     let q_in = place-inside s m m_in in
     let r_in = place-inside s n n_in in
-    let one = to-column p t ways price q.x q.y q.layer r.x prices passable q_in r_in.column in
-    let two = to-row p t ways price r.x q.y one.0 r.y prices passable one.1.0 r_in.row in
-    let three = move-up p t ways price r.x r.y two.0 r.layer prices two.1.0 r_in in
+    let one = to-tile p t ways price q r.x East prices q_in (λ level below. record { column = r_in.column; row = q_in.row; layer = below }) (λ level. refl) (to-column p ways q r.x passable q_in r_in.column) in
+    let two = to-tile p t ways price (at r.x q.y one.0) r.y North prices one.1.0 (λ level below. record { column = r_in.column; row = r_in.row; layer = below }) (λ level. refl)
+    (to-row p ways (at r.x q.y one.0) r.y passable one.1.0 r_in.row) in
+    let three = move p t ways price (at r.x r.y two.0) r.layer Up prices (prices.up two.0) (prices.up r.layer) two.1.0 r_in in
     let a = number_of s (at q.x q.y q.layer) in
     let b = number_of s (at r.x q.y one.0) in
     let c = number_of s (at r.x r.y two.0) in

@@ -15,6 +15,8 @@ use Rattle.maze_route.specs.declared.pane.Aim.{Aim}
 use Rattle.maze_route.specs.declared.pane.Pane.{Pane}
 use Rattle.maze_route.specs.declared.pane.Spot.{Spot}
 use Rattle.maze_route.specs.declared.pane.Step.{Step}
+use Rattle.maze_route.specs.declared.side.Side.{Side}
+use Rattle.maze_route.specs.declared.side.Side.TheVariants.{Behind, Ahead}
 
 -- how many cells the window has
 abbrev pub size_of : Pane → ℕ
@@ -64,6 +66,11 @@ ahead_of s n way = if has_room s (place_at s n) way then Some (n + stride s way)
 
 abbrev pub behind_of : Shape → ℕ → Way → Option ℕ
 behind_of s n way = if has_room_behind (place_at s n) way then Some (n - stride s way) else None
+
+-- the neighbour on a side
+abbrev pub beside : Shape → ℕ → Side → Option ℕ
+beside s n (Behind way) = behind_of s n way
+beside s n (Ahead way) = ahead_of s n way
 
 -- how many steps lie between a place and a box at least
 abbrev pub steps_to : Aim → Cell → ℕ

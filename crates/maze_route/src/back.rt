@@ -2,11 +2,12 @@ ghost use Rattle.std.specs.Prelude.{◌≡◌, ℕ, ◌<◌, length, Option, Som
 ghost use Rattle.gr_base.specs.declared.grid.Edge.{Edge};
 ghost use Rattle.maze_route.specs.Backs.{closer_of, either_of, first_closer, IsNear, IsWalkBack};
 ghost use Rattle.maze_route.specs.Labels.{label_at};
-ghost use Rattle.maze_route.specs.Steps.{size_of, IsSpot};
+ghost use Rattle.maze_route.specs.Steps.{size_of, beside, step_to, IsSpot};
 
 use crate::front::Labels;
 use crate::pane::{Aim, Pane, Reached, Spot, Step};
-use crate::steps::{ahead, behind};
+use crate::side::Side;
+use crate::steps::step_beside;
 use cost_rules::Costs;
 use gr_base::{Cells, RouteTree, Way};
 use std::alloc::{AllocError, Global};
@@ -21,6 +22,25 @@ fn closer(labels: &Labels, left: u64, step: Option<Step>) -> Option<Step>
         Some(label) if label.checked_add(step.cost) == Some(left) => Some(step),
         _ => None,
     }
+}
+
+/// The step to the neighbour on a side, likewise.
+fn closer_beside<C: Costs>(
+    costs: &C,
+    pane: Pane,
+    aim: Aim,
+    labels: &Labels,
+    spot: Spot,
+    left: u64,
+    side: Side,
+) -> Option<Step>
+    requires grid { C.grid costs.now ≡ pane.grid }
+    requires spot { IsSpot pane spot }
+    requires size { length labels.now.costs.items ≡ size_of pane }
+    ensures { result ≡ closer_of (label_at labels.now.costs.items) left
+        (step_to pane (C.price costs.now) aim spot.local (beside pane.shape spot.local side)) }
+{
+    closer(labels, left, step_beside(costs, pane, aim, spot, side))
 }
 
 /// The first of two steps that is there.
@@ -49,12 +69,36 @@ fn step_back<C: Costs>(
     ensures { let label = label_at labels.now.costs.items in
         result ≡ first_closer pane (C.price costs.now) aim label spot.local left }
 {
-    let below = closer(labels, left, behind(costs, pane, aim, spot, Way::Up));
-    let south = closer(labels, left, behind(costs, pane, aim, spot, Way::North));
-    let west = closer(labels, left, behind(costs, pane, aim, spot, Way::East));
-    let east = closer(labels, left, ahead(costs, pane, aim, spot, Way::East));
-    let north = closer(labels, left, ahead(costs, pane, aim, spot, Way::North));
-    let above = closer(labels, left, ahead(costs, pane, aim, spot, Way::Up));
+    let below = closer_beside(costs, pane, aim, labels, spot, left, Side::Behind(Way::Up));
+    let south = closer_beside(
+        costs,
+        pane,
+        aim,
+        labels,
+        spot,
+        left,
+        Side::Behind(Way::North),
+    );
+    let west = closer_beside(
+        costs,
+        pane,
+        aim,
+        labels,
+        spot,
+        left,
+        Side::Behind(Way::East),
+    );
+    let east = closer_beside(costs, pane, aim, labels, spot, left, Side::Ahead(Way::East));
+    let north = closer_beside(
+        costs,
+        pane,
+        aim,
+        labels,
+        spot,
+        left,
+        Side::Ahead(Way::North),
+    );
+    let above = closer_beside(costs, pane, aim, labels, spot, left, Side::Ahead(Way::Up));
     either(
         below,
         either(south, either(west, either(east, either(north, above)))),

@@ -11,6 +11,7 @@ mod pane;
 mod places;
 mod queue;
 mod search;
+mod side;
 mod slot;
 mod steps;
 mod walk;

@@ -2,7 +2,7 @@ ghost use Rattle.std.specs.Prelude.{◌≡◌, ℕ, ◌+◌, ◌^◌, ◌<◌, �
 ghost use Rattle.cost_rules.specs.Formulas.{most_cost};
 ghost use Rattle.gr_base.specs.declared.grid.Edge.{Edge};
 ghost use Rattle.maze_route.specs.Labels.{label_at};
-ghost use Rattle.maze_route.specs.Steps.{size_of, rest_of, IsSpot, pane_graph, ahead_of, behind_of, step_to};
+ghost use Rattle.maze_route.specs.Steps.{size_of, rest_of, IsSpot, pane_graph, beside, step_to};
 ghost use Rattle.maze_route.specs.Windows.{TreeLiesIn};
 ghost use Rattle.maze_route.specs.Search.{most_distance, is_above, HasSources, IsSearching, is_marked, CanReach, Finds};
 ghost use Rattle.maze_route.specs.Handing.{IsLow, IsReach, HandsOn};
@@ -10,7 +10,8 @@ ghost use Rattle.maze_route.specs.Handing.{IsLow, IsReach, HandsOn};
 use crate::front::{Front, Labels};
 use crate::pane::{Aim, Pane, Spot, Step};
 use crate::queue::BucketQueue;
-use crate::steps::{ahead, behind, distance_to, has_ahead, has_behind};
+use crate::side::Side;
+use crate::steps::{cell_beside, distance_to, step_beside};
 use cost_rules::Costs;
 use gr_base::{RouteTree, Way};
 use std::alloc::{AllocError, Global};
@@ -82,46 +83,30 @@ fn is_low(labels: &Labels, cell: u32, from: u64) -> bool
     }
 }
 
-/// Whether no step lowers the label of the next cell against the way. Where there is none the
-/// answer says nothing.
-fn is_low_behind(labels: &Labels, pane: Pane, spot: Spot, from: u64, way: Way) -> bool
+/// Whether no step lowers the label of the neighbour. Where there is none the answer says nothing.
+fn is_low_beside(labels: &Labels, pane: Pane, spot: Spot, from: u64, side: Side) -> bool
     requires spot { IsSpot pane spot }
     requires from { from ≤ most_distance }
     requires size { length labels.now.costs.items ≡ size_of pane }
-    ensures { IsTrue result → (to : ℕ) → behind_of pane.shape spot.local way ≡ Some to →
+    ensures { IsTrue result → (to : ℕ) → beside pane.shape spot.local side ≡ Some to →
         IsLow labels.now.costs.items from to }
 {
-    if !has_behind(spot.place, way) {
-        return false;
+    match cell_beside(pane, spot, side) {
+        Some(cell) => is_low(labels, cell, from),
+        None => false,
     }
-    is_low(labels, spot.local - pane.shape.stride(way), from)
 }
 
-/// Whether no step lowers the label of the next cell along the way. Where there is none the answer
-/// says nothing.
-fn is_low_ahead(labels: &Labels, pane: Pane, spot: Spot, from: u64, way: Way) -> bool
-    requires spot { IsSpot pane spot }
-    requires from { from ≤ most_distance }
-    requires size { length labels.now.costs.items ≡ size_of pane }
-    ensures { IsTrue result → (to : ℕ) → ahead_of pane.shape spot.local way ≡ Some to →
-        IsLow labels.now.costs.items from to }
-{
-    if !has_ahead(pane.shape, spot.place, way) {
-        return false;
-    }
-    is_low(labels, spot.local + pane.shape.stride(way), from)
-}
-
-/// Hands a cell's label on to the next cell against the way. The edge's cost is asked for only where
-/// it can matter.
-fn hand_back<C: Costs>(
+/// Hands a cell's label on to the neighbour on a side. The edge's cost is asked for only where it can
+/// matter.
+fn hand<C: Costs>(
     costs: &C,
     pane: Pane,
     aim: Aim,
     front: &mut Front,
     spot: Spot,
     from: u64,
-    way: Way,
+    side: Side,
 ) -> Result<(), AllocError>
     requires grid { C.grid costs.now ≡ pane.grid }
     requires spot { IsSpot pane spot }
@@ -129,41 +114,14 @@ fn hand_back<C: Costs>(
     requires size { length front.old.labels.costs.items ≡ size_of pane }
     requires key { front.old.queue.last ≤ from + rest_of pane aim spot.local }
     ensures done { OnOk result (IsReach from
-        (step_to pane (C.price costs.now) aim spot.local (behind_of pane.shape spot.local way)) front.old front.new) }
+        (step_to pane (C.price costs.now) aim spot.local (beside pane.shape spot.local side)) front.old front.new) }
     ensures size { length front.new.labels.costs.items ≡ length front.old.labels.costs.items }
     ensures last { front.new.queue.last ≡ front.old.queue.last }
 {
-    if is_low_behind(&front.labels, pane, spot, from, way) {
+    if is_low_beside(&front.labels, pane, spot, from, side) {
         return Ok(());
     }
-    reach(front, from, behind(costs, pane, aim, spot, way))?;
-    Ok(())
-}
-
-/// Hands a cell's label on to the next cell along the way, likewise.
-fn hand_on<C: Costs>(
-    costs: &C,
-    pane: Pane,
-    aim: Aim,
-    front: &mut Front,
-    spot: Spot,
-    from: u64,
-    way: Way,
-) -> Result<(), AllocError>
-    requires grid { C.grid costs.now ≡ pane.grid }
-    requires spot { IsSpot pane spot }
-    requires from { from ≤ most_distance }
-    requires size { length front.old.labels.costs.items ≡ size_of pane }
-    requires key { front.old.queue.last ≤ from + rest_of pane aim spot.local }
-    ensures done { OnOk result (IsReach from
-        (step_to pane (C.price costs.now) aim spot.local (ahead_of pane.shape spot.local way)) front.old front.new) }
-    ensures size { length front.new.labels.costs.items ≡ length front.old.labels.costs.items }
-    ensures last { front.new.queue.last ≡ front.old.queue.last }
-{
-    if is_low_ahead(&front.labels, pane, spot, from, way) {
-        return Ok(());
-    }
-    reach(front, from, ahead(costs, pane, aim, spot, way))?;
+    reach(front, from, step_beside(costs, pane, aim, spot, side))?;
     Ok(())
 }
 
@@ -183,12 +141,20 @@ fn settle<C: Costs>(
     requires key { front.old.queue.last ≤ from + rest_of pane aim spot.local }
     ensures { OnOk result (HandsOn pane (C.price costs.now) aim spot.local from front.old front.new) }
 {
-    hand_back(costs, pane, aim, front, spot, from, Way::Up)?;
-    hand_back(costs, pane, aim, front, spot, from, Way::North)?;
-    hand_back(costs, pane, aim, front, spot, from, Way::East)?;
-    hand_on(costs, pane, aim, front, spot, from, Way::East)?;
-    hand_on(costs, pane, aim, front, spot, from, Way::North)?;
-    hand_on(costs, pane, aim, front, spot, from, Way::Up)?;
+    hand(costs, pane, aim, front, spot, from, Side::Behind(Way::Up))?;
+    hand(
+        costs,
+        pane,
+        aim,
+        front,
+        spot,
+        from,
+        Side::Behind(Way::North),
+    )?;
+    hand(costs, pane, aim, front, spot, from, Side::Behind(Way::East))?;
+    hand(costs, pane, aim, front, spot, from, Side::Ahead(Way::East))?;
+    hand(costs, pane, aim, front, spot, from, Side::Ahead(Way::North))?;
+    hand(costs, pane, aim, front, spot, from, Side::Ahead(Way::Up))?;
     Ok(())
 }
 

@@ -2,14 +2,15 @@ ghost use Rattle.std.specs.Prelude.{◌≡◌, ◌^◌, ◌<◌, ◌≤◌, IsTr
 ghost use Rattle.cost_rules.specs.Formulas.{most_cost};
 ghost use Rattle.gr_base.specs.Grid.{IsInside, beyond, has_room};
 ghost use Rattle.gr_base.specs.Limits.{most_cells};
-ghost use Rattle.maze_route.specs.Steps.{IsSpot, has_room_behind, before, ahead_of, behind_of, steps_to, step_to};
+ghost use Rattle.maze_route.specs.Steps.{IsSpot, has_room_behind, before, ahead_of, behind_of, beside, size_of, steps_to, step_to};
 
 use crate::pane::{Aim, Pane, Spot, Step};
+use crate::side::Side;
 use cost_rules::Costs;
 use gr_base::{Cell, Edge, Shape, Way};
 
 /// Whether the shape has a cell next to this one along the way.
-pub(crate) fn has_ahead(shape: Shape, place: Cell, way: Way) -> bool
+fn has_ahead(shape: Shape, place: Cell, way: Way) -> bool
     requires { IsInside shape place }
     ensures { result ≡ has_room shape place way }
 {
@@ -21,7 +22,7 @@ pub(crate) fn has_ahead(shape: Shape, place: Cell, way: Way) -> bool
 }
 
 /// Whether there is a cell next to this one against the way.
-pub(crate) fn has_behind(place: Cell, way: Way) -> bool
+fn has_behind(place: Cell, way: Way) -> bool
     ensures { result ≡ has_room_behind place way }
 {
     match way {
@@ -88,7 +89,7 @@ pub(crate) fn distance_to(aim: Aim, place: Cell) -> u64
 }
 
 /// The step to the next cell along the way, if there is one.
-pub(crate) fn ahead<C: Costs>(costs: &C, pane: Pane, aim: Aim, spot: Spot, way: Way) -> Option<Step>
+fn ahead<C: Costs>(costs: &C, pane: Pane, aim: Aim, spot: Spot, way: Way) -> Option<Step>
     requires grid { C.grid costs.now ≡ pane.grid }
     requires spot { IsSpot pane spot }
     ensures step { result ≡ step_to pane (C.price costs.now) aim spot.local (ahead_of pane.shape spot.local way) }
@@ -113,13 +114,7 @@ pub(crate) fn ahead<C: Costs>(costs: &C, pane: Pane, aim: Aim, spot: Spot, way: 
 }
 
 /// The step to the next cell against the way, if there is one.
-pub(crate) fn behind<C: Costs>(
-    costs: &C,
-    pane: Pane,
-    aim: Aim,
-    spot: Spot,
-    way: Way,
-) -> Option<Step>
+fn behind<C: Costs>(costs: &C, pane: Pane, aim: Aim, spot: Spot, way: Way) -> Option<Step>
     requires grid { C.grid costs.now ≡ pane.grid }
     requires spot { IsSpot pane spot }
     ensures step { result ≡ step_to pane (C.price costs.now) aim spot.local (behind_of pane.shape spot.local way) }
@@ -139,4 +134,48 @@ pub(crate) fn behind<C: Costs>(
         cost,
         rest: distance_to(aim, one_back(spot.place, way)),
     })
+}
+
+/// The number of the neighbour on a side, if there is one.
+pub(crate) fn cell_beside(pane: Pane, spot: Spot, side: Side) -> Option<u32>
+    requires spot { IsSpot pane spot }
+    ensures cell { result ≡ beside pane.shape spot.local side }
+    ensures inside { IfSome result (λ cell. cell < size_of pane) }
+{
+    match side {
+        Side::Behind(way) => {
+            if has_behind(spot.place, way) {
+                Some(spot.local - pane.shape.stride(way))
+            } else {
+                None
+            }
+        }
+        Side::Ahead(way) => {
+            if has_ahead(pane.shape, spot.place, way) {
+                Some(spot.local + pane.shape.stride(way))
+            } else {
+                None
+            }
+        }
+    }
+}
+
+/// The step to the neighbour on a side, if there is one.
+pub(crate) fn step_beside<C: Costs>(
+    costs: &C,
+    pane: Pane,
+    aim: Aim,
+    spot: Spot,
+    side: Side,
+) -> Option<Step>
+    requires grid { C.grid costs.now ≡ pane.grid }
+    requires spot { IsSpot pane spot }
+    ensures step { result ≡ step_to pane (C.price costs.now) aim spot.local (beside pane.shape spot.local side) }
+    ensures cost { IfSome result (λ s. s.cost ≤ most_cost) }
+    ensures rest { IfSome result (λ s. s.rest < 2 ^ 35) }
+{
+    match side {
+        Side::Behind(way) => behind(costs, pane, aim, spot, way),
+        Side::Ahead(way) => ahead(costs, pane, aim, spot, way),
+    }
 }

@@ -73,8 +73,7 @@ fn gather_ways(
     edges: &[Edge],
 ) -> Result<(), AllocError>
     requires { All (λ e. IsTrue (has_edge shape e)) edges.now }
-    ensures runs { OnOk result (runs.new.items ≡ runs_of shape (set_of edges.now)) }
-    ensures inside { OnOk result (All (LiesInside shape) runs.new.items) }
+    ensures { OnOk result (runs.new.items ≡ runs_of shape (set_of edges.now)) }
 {
     runs.clear();
     push_way(runs, lows, shape, edges, Way::East)?;

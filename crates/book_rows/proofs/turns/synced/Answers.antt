@@ -4,7 +4,7 @@ use Rattle.gr_base.specs.Grid.{has_edge}
 use Rattle.gr_base.specs.declared.grid.Shape.{Shape}
 use Rattle.grid_demand.specs.LoadSums.{LoadsView}
 use Rattle.book_rows.specs.Rows.{first_edge}
-use Rattle.book_rows.proofs.turns.sync.Goals as goal
+use Rattle.book_rows.proofs.turns.synced.Goals as goal
 
 pub demand-requires-clause-edge : goal.demand-requires-clause-edge
 demand-requires-clause-edge g c =

@@ -1,0 +1,7 @@
+use Rattle.maze_route.specs.Steps.{beside}
+use Rattle.maze_route.proofs.StepLemmas.{step-within}
+use Rattle.maze_route.proofs.back.closer_beside.Goals as goal
+
+pub closer-requires : goal.closer-requires
+closer-requires g c =
+    step-within c.args.pane (g.C.Costs.price c.args.costs.now) c.args.aim c.args.spot.local _ (beside c.args.pane.shape c.args.spot.local c.args.side) c.step_beside.result c.step_beside.ensures.step c.requires.size
