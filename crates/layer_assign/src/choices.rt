@@ -10,7 +10,7 @@ ghost use Rattle.layer_assign.specs.Chosen.{is_near, holds_pins, may_precede, Ar
 
 use crate::limbs::{best_layer, limb_of};
 use crate::runs::{choose_on_run, is_run};
-use crate::span::{Limb, Span};
+use crate::span::{Limb, Span, Workings};
 use crate::spans::{next_span, spans_of};
 use crate::tables::write_best;
 use cost_rules::Costs;
@@ -28,6 +28,7 @@ pub(crate) fn choose_layers<C: Costs>(
     node: u32,
     least: &mut Vec<u64>,
     choices: &mut Vec<u32>,
+    workings: &mut Workings,
 )
     requires grid { C.grid costs.now ≡ shape }
     requires flat { IsFlat shape flat.now.shape }
@@ -50,10 +51,12 @@ pub(crate) fn choose_layers<C: Costs>(
     let base = pins[node as usize];
     let above = pins[parent as usize];
     if is_run(parent, node, above, joined[parent as usize]) {
-        choose_on_run(costs, shape, flat, base, node, least, choices);
+        choose_on_run(costs, shape, flat, base, node, least, choices, workings);
         return;
     }
-    choose_by_span(costs, shape, flat, base, above, node, least, choices);
+    choose_by_span(
+        costs, shape, flat, base, above, node, least, choices, workings,
+    );
 }
 
 /// Chooses the best layer of one node's edge for each span that its parent's tile may have before,
@@ -69,6 +72,7 @@ fn choose_by_span<C: Costs>(
     node: u32,
     least: &mut Vec<u64>,
     choices: &mut Vec<u32>,
+    workings: &mut Workings,
 )
     requires grid { C.grid costs.now ≡ shape }
     requires flat { IsFlat shape flat.now.shape }
@@ -83,7 +87,7 @@ fn choose_by_span<C: Costs>(
     ensures { Chooses shape (C.ways costs.now) (C.price costs.now) flat.now node base above
         least.old.items least.new.items choices.old.items choices.new.items }
 {
-    let limb = limb_of(costs, shape, flat, least, node, base);
+    limb_of(costs, shape, flat, least, node, base, &mut workings.limb);
     let mut wires = [None; 16];
     let parent = flat.parent(node);
     let mut next = None;
@@ -94,7 +98,15 @@ fn choose_by_span<C: Costs>(
             continue;
         }
         choose_layer(
-            costs, shape, &limb, &mut wires, parent, node, span, least, choices,
+            costs,
+            shape,
+            &workings.limb,
+            &mut wires,
+            parent,
+            node,
+            span,
+            least,
+            choices,
         );
     }
 }

@@ -83,6 +83,7 @@ fn first_least<C: Costs>(
             node,
             &mut room.least,
             &mut room.choices,
+            &mut room.workings,
         );
         room.joined[flat.parent(node) as usize] = true;
     }

@@ -1,7 +1,7 @@
 ghost use Rattle.std.specs.Prelude.{◌≡◌, IfOk, OnOk, replicate};
 ghost use Rattle.layer_assign.specs.Assignments.{tile_count};
 
-use crate::span::Span;
+use crate::span::{Span, Workings};
 use gr_base::{NodeIndex, Shape};
 use std::alloc::{AllocError, Global};
 use std::marker::Model;
@@ -20,6 +20,7 @@ pub struct LayerRoom {
     pub(crate) choices: Vec<u32>,
     /// Whether an edge has joined each node's tile.
     pub(crate) joined: Vec<bool>,
+    pub(crate) workings: Workings,
     /// The span of each node's tile at last.
     pub(crate) whole: Vec<Span>,
     /// How many nodes the raised tree had just after each node's tile was added.
@@ -37,6 +38,7 @@ impl LayerRoom {
             least: Vec::new(alloc),
             choices: Vec::new(alloc),
             joined: Vec::new(alloc),
+            workings: Workings::new(),
             whole: Vec::new(alloc),
             ends: Vec::new(alloc),
         })
