@@ -11,7 +11,7 @@ ghost use Rattle.layer_assign.specs.Chosen.{is_near, holds_pins, may_precede, Ar
 use crate::limbs::{best_layer, limb_of};
 use crate::runs::{choose_on_run, is_run};
 use crate::span::{Limb, Span, Workings};
-use crate::spans::{next_span, spans_of};
+use crate::spans::{next_span, span_number, spans_of};
 use crate::tables::write_best;
 use cost_rules::Costs;
 use gr_base::{RouteTree, Shape};
@@ -62,7 +62,8 @@ pub(crate) fn choose_layers<C: Costs>(
 /// Chooses the best layer of one node's edge for each span that its parent's tile may have before,
 /// whatever edges this tile has.
 ///
-/// Spans go from narrow to wide, since a span's cost is read where it is as wide or wider.
+/// Spans go from narrow to wide, since a span's cost is read where it is as wide or wider. Those
+/// before that of the pins hold it no more.
 fn choose_by_span<C: Costs>(
     costs: &C,
     shape: Shape,
@@ -80,6 +81,7 @@ fn choose_by_span<C: Costs>(
     requires node { node < length flat.now.nodes }
     requires layer { (layer : ℕ) × IsTrue (may_take shape (C.ways costs.now) flat.now node layer) }
     requires base { IsWithin shape.layers base }
+    requires above { IsWithin shape.layers above }
     requires costs { HasRows shape.layers (length flat.now.nodes) least.old.items }
     requires choices { HasRows shape.layers (length flat.now.nodes) choices.old.items }
     requires own { IsSmall shape.layers least.old.items node }
@@ -90,8 +92,8 @@ fn choose_by_span<C: Costs>(
     limb_of(costs, shape, flat, least, node, base, &mut workings.limb);
     let mut wires = [None; 16];
     let parent = flat.parent(node);
-    let mut next = None;
-    for _ in 0..spans_of(shape) {
+    let mut next = above;
+    for _ in span_number(shape, above)..spans_of(shape) {
         let span = next;
         next = next_span(shape, span);
         if !may_precede(parent, node, above, span) {
