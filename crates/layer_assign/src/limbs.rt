@@ -11,8 +11,7 @@ ghost use Rattle.layer_assign.specs.Tables.{HasRows, IsSmall, IsLimb, AreWires, 
 
 use crate::runs::{a_climb_more, offer_on};
 use crate::span::{Best, Limb, Span};
-use crate::spans::widened;
-use crate::tables::{better_of, place_in};
+use crate::tables::{better_of, entry_with};
 use cost_rules::Costs;
 use gr_base::{Edge, RouteTree, Shape};
 
@@ -37,7 +36,7 @@ fn below_on<C: Costs>(
     if !costs.goes(layer, edge.way) {
         return None;
     }
-    Some(least[place_in(shape, node, widened(base, layer))])
+    Some(entry_with(shape, least, node, base, layer))
 }
 
 /// Puts down the limb of a node, where its tile has a span without its own edge.
@@ -121,7 +120,7 @@ fn best_with<C: Costs>(
     let Some(below) = limb.below[layer as usize] else {
         return best;
     };
-    let rest = below + least[place_in(shape, parent, widened(span, layer))];
+    let rest = below + entry_with(shape, least, parent, span, layer);
     if is_at_most(best, rest + 1) {
         return best;
     }

@@ -1,13 +1,13 @@
 ghost use Rattle.std.specs.Prelude.{◌≡◌, ℕ, ◌+◌, ◌*◌, ◌<◌, ◌≤◌, Option, [], length, OnOk, IsSome};
 ghost use Rattle.gr_base.specs.Limits.{most_cells};
 ghost use Rattle.layer_assign.specs.declared.span.Span.{Span as SpanView};
-ghost use Rattle.layer_assign.specs.Spans.{IsWithin, climb, span_number, spans_of};
+ghost use Rattle.layer_assign.specs.Spans.{IsWithin, widened, climb, span_number, spans_of};
 ghost use Rattle.layer_assign.specs.Choices.{entry};
 ghost use Rattle.layer_assign.specs.Tables.{HasRows, better};
 ghost use Rattle.layer_assign.specs.Chosen.{Writes};
 
 use crate::span::{Best, Span};
-use crate::spans::{climb, next_span, span_number, spans_of};
+use crate::spans::{climb, next_span, span_number, spans_of, widened};
 use gr_base::Shape;
 use std::alloc::AllocError;
 
@@ -18,6 +18,23 @@ pub(crate) fn place_in(shape: Shape, node: u32, span: Option<Span>) -> usize
     ensures { result ≡ node * spans_of shape.layers + span_number shape.layers span }
 {
     node as usize * spans_of(shape) + span_number(shape, span)
+}
+
+/// The entry of a table of costs for a node, and a span with one more layer.
+pub(crate) fn entry_with(
+    shape: Shape,
+    costs: &[u64],
+    node: u32,
+    span: Option<Span>,
+    layer: u32,
+) -> u64
+    requires node { node < most_cells }
+    requires span { IsWithin shape.layers span }
+    requires layer { layer < shape.layers }
+    requires row { node * spans_of shape.layers + spans_of shape.layers ≤ length costs.now }
+    ensures { result ≡ entry shape.layers costs.now node (widened span layer) }
+{
+    costs[place_in(shape, node, widened(span, layer))]
 }
 
 /// Of two offers the first, unless the second costs less.

@@ -1,5 +1,6 @@
-ghost use Rattle.std.specs.Prelude.{◌≡◌, ℕ, ◌<◌, ◌≤◌, ◌*◌, length, Option, Some, slice_index, All, IfOk, OnOk, IsSome, IsTrue, if◌then◌else◌};
+ghost use Rattle.std.specs.Prelude.{◌≡◌, ℕ, ◌+◌, ◌<◌, ◌≤◌, ◌*◌, length, Option, Some, slice_index, All, IfOk, OnOk, IsSome, IsTrue, if◌then◌else◌};
 ghost use Rattle.gr_base.specs.Grid.{cells_of};
+ghost use Rattle.gr_base.specs.Limits.{most_cells};
 ghost use Rattle.gr_base.specs.NodeIndexes.{Indexes};
 ghost use Rattle.gr_base.specs.Trees.{IsTree, holds};
 ghost use Rattle.layer_assign.specs.declared.span.Span.{Span as SpanView};
@@ -57,6 +58,16 @@ pub(crate) fn grow_spans(spans: &mut Vec<Option<Span>>, flat: &RouteTree, node: 
     spans[node as usize] = widened(spans[node as usize], layer);
 }
 
+/// The choice for a node and a span.
+fn choice_at(shape: Shape, choices: &[u32], node: u32, span: Option<Span>) -> u32
+    requires node { node < most_cells }
+    requires span { IsWithin shape.layers span }
+    requires row { node * spans_of shape.layers + spans_of shape.layers ≤ length choices.now }
+    ensures { result ≡ entry shape.layers choices.now node span }
+{
+    choices[place_in(shape, node, span)]
+}
+
 /// The layers that choices lead to: each node's for the span that its parent's tile has before.
 pub(crate) fn follow(
     alloc: Global,
@@ -80,7 +91,7 @@ pub(crate) fn follow(
     layers.push(0)?;
     for node in 1..flat.len() {
         let span = spans[flat.parent(node) as usize];
-        let layer = choices[place_in(shape, node, span)];
+        let layer = choice_at(shape, choices, node, span);
         grow_spans(spans, flat, node, layer);
         layers.push(layer)?;
     }
