@@ -21,7 +21,7 @@ use Rattle.layer_assign.proofs.ChoiceLemmas.{offered, limb-cost, offer-limb, bes
 use Rattle.layer_assign.proofs.Elimination.{widened-within}
 use Rattle.layer_assign.proofs.FlatLemmas.{some_edge}
 use Rattle.layer_assign.proofs.Problems.{may-below}
-use Rattle.layer_assign.proofs.TableLemmas.{same_span, number-wider, number-within, entry-set_same, entry-set_other}
+use Rattle.layer_assign.proofs.TableLemmas.{same_span, narrow-out, number-wider, number-within, entry-set_same, entry-set_other}
 
 -- the choices of a node for the spans that are settled
 pub record Choosing (g : Shape) (ways : ℕ → Way → Bool) (price : Edge → Option ℕ) (t : TreeView) (node : ℕ) (base above : Option Span) (old before new after : List ℕ) (settled : Option Span → Bool) : Type 0 where
@@ -115,6 +115,23 @@ choosing-none g ways price t node base above old before settled rows choices non
   costs = rows;
   choices = choices;
   each = λ s within now. absurd (both_ways (settled s) (none s) now);
+  left = λ s within later. refl;
+  unchosen = λ s within later. refl;
+  others = λ u s other within. refl;
+  kept = λ u s other within. refl;
+}
+
+-- the spans before that of the pins can't come before
+pub choosing-start : (g : Shape) (ways : ℕ → Way → Bool) (price : Edge → Option ℕ) (t : TreeView) (node : ℕ) (base above : Option Span) (old before : List ℕ) (number : ℕ) →
+    HasRows g.layers (length t.nodes) old → HasRows g.layers (length t.nodes) before → number ≡ span_number g.layers above → IsWithin g.layers above →
+    Choosing g ways price t node base above old before old before (numbered_below g.layers number)
+choosing-start g ways price t node base above old before number rows choices is inside = record {
+  costs = rows;
+  choices = choices;
+  each = λ s within now.
+      let lt : span_number g.layers s < number = grind (arith, nat_tests) in
+      let narrow = narrow-out g.layers above s inside within (omega arith) in
+      inr (record { never = rw narrow refl; cost = refl; choice = refl });
   left = λ s within later. refl;
   unchosen = λ s within later. refl;
   others = λ u s other within. refl;
@@ -227,7 +244,8 @@ all-single layers number parent node all next early (Some s) within later =
     let high = within.high in
     let at : (parent + 1 == node) ≡ true = grind (arith, nat_tests) in
     let wide : (s.low == s.high) ≡ false = grind (arith, nat_tests) in
-    rw at (rw wide refl)
+    let some : (parent == 0) ≡ false = grind (arith, nat_tests) in
+    rw at (rw some (rw wide refl))
 
 -- the entries that are read for a span are those from before
 pub still_small : (g : Shape) (ways : ℕ → Way → Bool) (price : Edge → Option ℕ) (t : TreeView) (node up : ℕ) (base above : Option Span) (old before new after : List ℕ) (number : ℕ) (s : Option Span) (layer : ℕ) →

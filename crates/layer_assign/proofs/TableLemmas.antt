@@ -8,6 +8,7 @@ use Rattle.std.proofs.lemmas.Nat.{div-mul-add, mod-mul-add, mul-add-lt}
 use Rattle.gr_base.specs.declared.grid.Shape.{Shape}
 use Rattle.gr_base.proofs.GridLemmas.{some_layers}
 use Rattle.layer_assign.specs.declared.span.Span.{Span}
+use Rattle.layer_assign.specs.Chosen.{holds_pins}
 use Rattle.layer_assign.specs.Spans.{widened, IsSpan, IsWithin, triangle, span_number, spans_of, next_span, span_at}
 use Rattle.layer_assign.specs.Choices.{entry}
 use Rattle.layer_assign.specs.Tables.{HasRows}
@@ -120,6 +121,24 @@ same_span layers None None first second same = refl
 same_span layers None (Some t) first second same = absurd (omega arith)
 same_span layers (Some s) None first second same = absurd (omega arith)
 same_span layers (Some s) (Some t) first second same = same_of layers s t first second same
+
+-- a span that comes before another by number doesn't hold it
+pub narrow-out : (layers : ℕ) (f s : Option Span) → IsWithin layers f → IsWithin layers s → span_number layers s < span_number layers f → holds_pins f s ≡ false
+narrow-out layers None s first second less = absurd (omega arith)
+narrow-out layers (Some f) None first second less = refl
+narrow-out layers (Some f) (Some s) first second less =
+    let ordered = first.ordered in
+    let high = first.high in
+    let other_ordered = second.ordered in
+    let other_high = second.high in
+    elim (cases_order s.low f.low) [
+      | inl low ↦
+          let rows : triangle (layers - 1 - s.low) ≡ triangle (layers - 1 - f.low) = ap (λ (k : ℕ). triangle (layers - 1 - k)) low in
+          let short : s.high < f.high = omega arith in
+          grind (arith, nat_tests)
+      | inr (inl under) ↦ let below = triangle-below (layers - 1 - f.low) (layers - 1 - s.low) (omega arith) in absurd (omega arith)
+      | inr (inr over) ↦ grind (arith, nat_tests)
+    ]
 
 -- a wider span has no less a number
 pub number-wider : (layers : ℕ) (s : Option Span) (l : ℕ) → IsWithin layers s → l < layers → span_number layers s ≤ span_number layers (widened s l)

@@ -10,8 +10,8 @@ ghost use Rattle.layer_assign.specs.Chosen.{is_near, holds_pins, may_precede, Ar
 
 use crate::limbs::{best_layer, limb_of};
 use crate::runs::{choose_on_run, is_run};
-use crate::span::{Limb, Span};
-use crate::spans::{next_span, spans_of};
+use crate::span::{Limb, Span, Workings};
+use crate::spans::{next_span, span_number, spans_of};
 use crate::tables::write_best;
 use cost_rules::Costs;
 use gr_base::{RouteTree, Shape};
@@ -28,6 +28,7 @@ pub(crate) fn choose_layers<C: Costs>(
     node: u32,
     least: &mut Vec<u64>,
     choices: &mut Vec<u32>,
+    workings: &mut Workings,
 )
     requires grid { C.grid costs.now ≡ shape }
     requires flat { IsFlat shape flat.now.shape }
@@ -50,16 +51,19 @@ pub(crate) fn choose_layers<C: Costs>(
     let base = pins[node as usize];
     let above = pins[parent as usize];
     if is_run(parent, node, above, joined[parent as usize]) {
-        choose_on_run(costs, shape, flat, base, node, least, choices);
+        choose_on_run(costs, shape, flat, base, node, least, choices, workings);
         return;
     }
-    choose_by_span(costs, shape, flat, base, above, node, least, choices);
+    choose_by_span(
+        costs, shape, flat, base, above, node, least, choices, workings,
+    );
 }
 
 /// Chooses the best layer of one node's edge for each span that its parent's tile may have before,
 /// whatever edges this tile has.
 ///
-/// Spans go from narrow to wide, since a span's cost is read where it is as wide or wider.
+/// Spans go from narrow to wide, since a span's cost is read where it is as wide or wider. Those
+/// before that of the pins hold it no more.
 fn choose_by_span<C: Costs>(
     costs: &C,
     shape: Shape,
@@ -69,6 +73,7 @@ fn choose_by_span<C: Costs>(
     node: u32,
     least: &mut Vec<u64>,
     choices: &mut Vec<u32>,
+    workings: &mut Workings,
 )
     requires grid { C.grid costs.now ≡ shape }
     requires flat { IsFlat shape flat.now.shape }
@@ -76,6 +81,7 @@ fn choose_by_span<C: Costs>(
     requires node { node < length flat.now.nodes }
     requires layer { (layer : ℕ) × IsTrue (may_take shape (C.ways costs.now) flat.now node layer) }
     requires base { IsWithin shape.layers base }
+    requires above { IsWithin shape.layers above }
     requires costs { HasRows shape.layers (length flat.now.nodes) least.old.items }
     requires choices { HasRows shape.layers (length flat.now.nodes) choices.old.items }
     requires own { IsSmall shape.layers least.old.items node }
@@ -83,18 +89,26 @@ fn choose_by_span<C: Costs>(
     ensures { Chooses shape (C.ways costs.now) (C.price costs.now) flat.now node base above
         least.old.items least.new.items choices.old.items choices.new.items }
 {
-    let limb = limb_of(costs, shape, flat, least, node, base);
+    limb_of(costs, shape, flat, least, node, base, &mut workings.limb);
     let mut wires = [None; 16];
     let parent = flat.parent(node);
-    let mut next = None;
-    for _ in 0..spans_of(shape) {
+    let mut next = above;
+    for _ in span_number(shape, above)..spans_of(shape) {
         let span = next;
         next = next_span(shape, span);
         if !may_precede(parent, node, above, span) {
             continue;
         }
         choose_layer(
-            costs, shape, &limb, &mut wires, parent, node, span, least, choices,
+            costs,
+            shape,
+            &workings.limb,
+            &mut wires,
+            parent,
+            node,
+            span,
+            least,
+            choices,
         );
     }
 }
@@ -119,14 +133,15 @@ fn holds_pins(pins: Option<Span>, span: Option<Span>) -> bool
     }
 }
 
-/// Whether a span may be that of a tile's pins and its own edge, which node 0 doesn't have.
+/// Whether a span may be that of a tile's pins and its own edge. Node 0 has no edge.
 fn is_near(parent: u32, pins: Option<Span>, span: Option<Span>) -> bool
     ensures { result ≡ is_near parent pins span }
 {
     match (pins, span) {
         (None, None) => parent == 0,
-        (None, Some(span)) => span.low == span.high,
+        (None, Some(span)) => parent != 0 && span.low == span.high,
         (Some(_), None) => false,
+        (Some(pins), Some(span)) if parent == 0 => span.low == pins.low && span.high == pins.high,
         (Some(pins), Some(span)) => span.low == pins.low || span.high == pins.high,
     }
 }

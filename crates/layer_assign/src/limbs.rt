@@ -11,8 +11,7 @@ ghost use Rattle.layer_assign.specs.Tables.{HasRows, IsSmall, IsLimb, AreWires, 
 
 use crate::runs::{a_climb_more, offer_on};
 use crate::span::{Best, Limb, Span};
-use crate::spans::widened;
-use crate::tables::{better_of, place_in};
+use crate::tables::{better_of, entry_with};
 use cost_rules::Costs;
 use gr_base::{Edge, RouteTree, Shape};
 
@@ -37,10 +36,10 @@ fn below_on<C: Costs>(
     if !costs.goes(layer, edge.way) {
         return None;
     }
-    Some(least[place_in(shape, node, widened(base, layer))])
+    Some(entry_with(shape, least, node, base, layer))
 }
 
-/// The limb of a node, where its tile has a span without its own edge.
+/// Puts down the limb of a node, where its tile has a span without its own edge.
 pub(crate) fn limb_of<C: Costs>(
     costs: &C,
     shape: Shape,
@@ -48,7 +47,8 @@ pub(crate) fn limb_of<C: Costs>(
     least: &[u64],
     node: u32,
     base: Option<Span>,
-) -> Limb
+    limb: &mut Limb,
+)
     requires grid { C.grid costs.now ≡ shape }
     requires flat { IsFlat shape flat.now.shape }
     requires later { 0 < node }
@@ -56,17 +56,16 @@ pub(crate) fn limb_of<C: Costs>(
     requires base { IsWithin shape.layers base }
     requires rows { HasRows shape.layers (length flat.now.nodes) least.now }
     requires small { IsSmall shape.layers least.now node }
-    ensures limb { IsLimb shape (C.price costs.now) result }
-    ensures costs { (layer : ℕ) → layer < shape.layers → priced shape (C.price costs.now) result layer
+    ensures limb { IsLimb shape (C.price costs.now) limb.new }
+    ensures costs { (layer : ℕ) → layer < shape.layers → priced shape (C.price costs.now) limb.new layer
         ≡ limb_cost shape (C.price costs.now) flat.now least.now node base layer }
     ensures tree { IsTree flat.now }
 {
     let edge = flat.edge_to_parent(node).unwrap();
-    let mut below = [None; 16];
     for layer in 0..shape.layers() {
-        below[layer as usize] = below_on(costs, shape, least, node, edge, base, layer);
+        limb.below[layer as usize] = below_on(costs, shape, least, node, edge, base, layer);
     }
-    Limb { edge, below }
+    limb.edge = edge;
 }
 
 /// What a limb's edge costs on a layer that goes its way. It's priced once.
@@ -121,7 +120,7 @@ fn best_with<C: Costs>(
     let Some(below) = limb.below[layer as usize] else {
         return best;
     };
-    let rest = below + least[place_in(shape, parent, widened(span, layer))];
+    let rest = below + entry_with(shape, least, parent, span, layer);
     if is_at_most(best, rest + 1) {
         return best;
     }
@@ -191,20 +190,24 @@ fn cost_unless<C: Costs>(
     Some(wire + below)
 }
 
-/// What a limb costs on each layer but those on which a climb from a lower layer costs no more.
-pub(crate) fn run_costs<C: Costs>(costs: &C, shape: Shape, limb: &Limb) -> [Option<u64>; 16]
+/// Puts down what a limb costs on each layer but those on which a climb from a lower layer costs no
+/// more.
+pub(crate) fn run_costs<C: Costs>(
+    costs: &C,
+    shape: Shape,
+    limb: &Limb,
+    thin: &mut [Option<u64>; 16],
+)
     requires grid { C.grid costs.now ≡ shape }
     requires limb { IsLimb shape (C.price costs.now) limb.now }
-    ensures thins { Thins shape.layers (priced shape (C.price costs.now) limb.now) (number_in result) }
+    ensures thins { Thins shape.layers (priced shape (C.price costs.now) limb.now) (number_in thin.new) }
     ensures most { (layer : ℕ) → layer < shape.layers →
-        IfSome (number_in result layer) (λ cost. cost ≤ 2 ^ 50 + most_cost) }
+        IfSome (number_in thin.new layer) (λ cost. cost ≤ 2 ^ 50 + most_cost) }
 {
-    let mut thin = [None; 16];
     let mut best = None;
     for layer in 0..shape.layers() {
         let seen = a_climb_more(best);
         thin[layer as usize] = cost_unless(costs, shape, limb, seen, layer);
-        best = better_of(seen, offer_on(&thin, layer));
+        best = better_of(seen, offer_on(thin, layer));
     }
-    thin
 }

@@ -10,7 +10,7 @@ ghost use Rattle.layer_assign.specs.Chosen.{Chooses};
 ghost use Rattle.layer_assign.specs.Runs.{is_run, offer_on, a_climb_more, best_from};
 
 use crate::limbs::{limb_of, run_costs};
-use crate::span::{Best, Span};
+use crate::span::{Best, Span, Workings};
 use crate::spans::widened;
 use crate::tables::{better_of, write_best};
 use cost_rules::{Costs, VIA_COST};
@@ -38,6 +38,7 @@ pub(crate) fn choose_on_run<C: Costs>(
     node: u32,
     least: &mut Vec<u64>,
     choices: &mut Vec<u32>,
+    workings: &mut Workings,
 )
     requires grid { C.grid costs.now ≡ shape }
     requires flat { IsFlat shape flat.now.shape }
@@ -54,14 +55,14 @@ pub(crate) fn choose_on_run<C: Costs>(
     ensures { Chooses shape (C.ways costs.now) (C.price costs.now) flat.now node base None
         least.old.items least.new.items choices.old.items choices.new.items }
 {
-    let limb = limb_of(costs, shape, flat, least, node, base);
-    let limbs = run_costs(costs, shape, &limb);
+    limb_of(costs, shape, flat, least, node, base, &mut workings.limb);
+    run_costs(costs, shape, &workings.limb, &mut workings.limbs);
+    bests_above(shape, &workings.limbs, &mut workings.above);
     let parent = flat.parent(node);
-    let above = bests_above(shape, &limbs);
     let mut below = None;
     for layer in 0..shape.layers() {
-        below = better_of(a_climb_more(below), offer_on(&limbs, layer));
-        let best = better_of(below, above[layer as usize]);
+        below = better_of(a_climb_more(below), offer_on(&workings.limbs, layer));
+        let best = better_of(below, workings.above[layer as usize]);
         write_best(
             shape,
             parent,
@@ -74,21 +75,19 @@ pub(crate) fn choose_on_run<C: Costs>(
     }
 }
 
-/// For each layer the best of the layers above it, as it sees them.
-fn bests_above(shape: Shape, limbs: &[Option<u64>; 16]) -> [Option<Best>; 16]
+/// Puts down for each layer the best of the layers above it, as it sees them.
+fn bests_above(shape: Shape, limbs: &[Option<u64>; 16], above: &mut [Option<Best>; 16])
     requires { (other : ℕ) → other < shape.layers →
         IfSome (number_in limbs.now other) (λ cost. cost ≤ 2 ^ 50 + most_cost) }
-    ensures { (layer : ℕ) → layer < shape.layers → slice_get result layer ≡
+    ensures { (layer : ℕ) → layer < shape.layers → slice_get above.new layer ≡
         Some (a_climb_more (best_from (number_in limbs.now) (layer + 1) (shape.layers - (layer + 1)))) }
 {
-    let mut above = [None; 16];
     let mut best = None;
     for layer in (0..shape.layers()).rev() {
         let seen = a_climb_more(best);
         above[layer as usize] = seen;
         best = better_of(offer_on(limbs, layer), seen);
     }
-    above
 }
 
 /// A layer with what the limb costs on it.

@@ -13,7 +13,7 @@ use crate::net_costs::NetCosts;
 use cost_rules::CostRule;
 use gr_base::{Design, RouteTree};
 use grid_demand::{Capacity, Loads};
-use layer_assign::{assign, raise};
+use layer_assign::{LayerRoom, assign, raise};
 use std::alloc::{AllocError, Global};
 
 /// The pattern plan of a routed net over the loads of a design, in which no wire edge has a demand
@@ -65,6 +65,7 @@ fn plan_tree(
     let pins = design.net(net).pins.as_slice();
     let flat = flat_tree(alloc, design, &costs, pins)?;
     let shape = capacity.shape();
-    let layers = assign(alloc, &costs, shape, &flat, pins)?;
-    raise(alloc, shape, &flat, &layers, pins)
+    let mut room = LayerRoom::new(alloc, shape)?;
+    let layers = assign(alloc, &costs, shape, &flat, pins, &mut room)?;
+    raise(alloc, shape, &flat, &layers, pins, &mut room)
 }

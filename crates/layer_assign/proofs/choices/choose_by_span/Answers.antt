@@ -1,31 +1,27 @@
-use Rattle.std.proofs.Common.{◌≡◌, ℕ, ◌+◌, false, nat_lt, refl, sym, ap, ◌∙◌, arith}
+use Rattle.std.proofs.Common.{◌≡◌, ℕ, ◌+◌, false, nat_lt, sym, ap, ◌∙◌, arith}
 use Rattle.std.proofs.lemmas.Bool.Decides.{nat_tests}
+use Rattle.gr_base.proofs.GridLemmas.{some_layers}
 use Rattle.layer_assign.specs.Spans.{widened, span_number, span_at}
 use Rattle.layer_assign.specs.Chosen.{may_precede}
 use Rattle.layer_assign.specs.Assignments.{parent_of}
 use Rattle.layer_assign.specs.Tables.{priced, offer, best_below}
 use Rattle.layer_assign.proofs.ChoiceLemmas.{no-wires}
-use Rattle.layer_assign.proofs.Choosing.{choosing-none, choosing-skip, choosing-turn, choosing-done, numbered_below, adds-number, all-numbered, still_small, finds, prices-at}
+use Rattle.layer_assign.proofs.Choosing.{choosing-start, choosing-skip, choosing-turn, choosing-done, numbered_below, adds-number, all-numbered, still_small, finds, prices-at}
 use Rattle.layer_assign.proofs.Elimination.{widened-within}
 use Rattle.layer_assign.proofs.FlatLemmas.{few, parent-at}
-use Rattle.layer_assign.proofs.TableLemmas.{turn-within, turn-numbered, turn-next}
+use Rattle.layer_assign.proofs.TableLemmas.{span_at-number, turn-within, turn-numbered, turn-next}
 use Rattle.layer_assign.proofs.choices.choose_by_span.Goals as goal
-
-none-below : (n : ℕ) → nat_lt n 0 ≡ false
-none-below n = grind (arith, nat_tests)
 
 not-below : (n m : ℕ) → n ≡ m → nat_lt n m ≡ false
 not-below n m same = grind (arith, nat_tests)
 
 pub loop-init : goal.loop-init
-unfolding span_at
 loop-init g c = record {
-  next = refl;
+  next = sym (ap (span_at c.args.shape.layers) c.span_number-counter.ensures.number ∙ span_at-number c.args.shape.layers c.args.above (some_layers c.args.shape) c.requires.above);
   so_far =
-      choosing-none c.args.shape (g.C.Costs.ways c.args.costs.now) (g.C.Costs.price c.args.costs.now) c.args.flat.now c.args.node c.args.base c.args.above
-      c.args.least.now.items c.args.choices.now.items (numbered_below c.args.shape.layers 0) c.requires.costs c.requires.choices
-      (λ s. none-below (span_number c.args.shape.layers s));
-  wires = no-wires c.args.shape (g.C.Costs.price c.args.costs.now) c.limb_of-limb.result.edge 16;
+      choosing-start c.args.shape (g.C.Costs.ways c.args.costs.now) (g.C.Costs.price c.args.costs.now) c.args.flat.now c.args.node c.args.base c.args.above
+      c.args.least.now.items c.args.choices.now.items c.span_number-counter.result c.requires.costs c.requires.choices c.span_number-counter.ensures.number c.requires.above;
+  wires = no-wires c.args.shape (g.C.Costs.price c.args.costs.now) c.limb_of.new.limb.edge 16;
 }
 
 pub next_span-next-requires : goal.next_span-next-requires
@@ -68,10 +64,10 @@ choose_layer-requires-clause-some g c =
     let below = c.loop-test.true in
     let found =
     finds c.args.shape (g.C.Costs.ways c.args.costs.now) (g.C.Costs.price c.args.costs.now) c.args.flat.now c.args.node c.parent-parent.result c.args.base c.args.above c.args.least.now.items
-    c.args.choices.now.items c.loop.least.items c.loop.choices.items c.deref.result.now c.loop.counter c.loop.next (priced c.args.shape (g.C.Costs.price c.args.costs.now) c.limb_of-limb.result)
+    c.args.choices.now.items c.loop.least.items c.loop.choices.items c.deref.result.now c.loop.counter c.loop.next (priced c.args.shape (g.C.Costs.price c.args.costs.now) c.limb_of.new.limb)
     (prices-at (g.C.Costs.grid c.args.costs.now) c.args.shape (g.C.Costs.ways c.args.costs.now) (g.C.Costs.price c.args.costs.now) c.requires.grid (g.met.C.Costs.prices c.args.costs.now))
     c.requires.flat c.parent-parent.ensures.tree c.requires.later c.requires.node (sym (parent-at c.args.flat.now c.args.node c.parent-parent.result c.parent-parent.ensures.parent))
-    c.deref.ensures.value c.limb_of-limb.ensures.costs c.loop.invariant.so_far (turn-within c.args.shape c.loop.next c.loop.counter c.loop.invariant.next)
+    c.deref.ensures.value c.limb_of.ensures.costs c.loop.invariant.so_far (turn-within c.args.shape c.loop.next c.loop.counter c.loop.invariant.next)
     (turn-numbered c.args.shape c.loop.next c.loop.counter c.loop.invariant.next (omega (arith, c.spans_of-end.ensures.count))) c.requires.layer in
     found.some
 
@@ -107,12 +103,12 @@ loop-preserved g c =
           choosing-turn c.args.shape (g.C.Costs.ways c.args.costs.now) (g.C.Costs.price c.args.costs.now) c.args.flat.now c.args.node c.parent-parent.result c.args.base c.args.above
           c.args.least.now.items c.args.choices.now.items c.loop.least.items c.loop.choices.items c.choose_layer.new.least.items c.choose_layer.new.choices.items
           (numbered_below c.args.shape.layers c.loop.counter) (numbered_below c.args.shape.layers (c.loop.counter + 1))
-          c.loop.next (best_below (offer c.args.shape (priced c.args.shape (g.C.Costs.price c.args.costs.now) c.limb_of-limb.result) c.loop.least.items c.parent-parent.result c.loop.next) c.args.shape.layers) up node (omega arith) within
+          c.loop.next (best_below (offer c.args.shape (priced c.args.shape (g.C.Costs.price c.args.costs.now) c.limb_of.new.limb) c.loop.least.items c.parent-parent.result c.loop.next) c.args.shape.layers) up node (omega arith) within
           (adds-number c.args.shape.layers c.loop.counter c.loop.next within number) c.choose_layer.ensures.writes
           (finds c.args.shape (g.C.Costs.ways c.args.costs.now) (g.C.Costs.price c.args.costs.now) c.args.flat.now c.args.node c.parent-parent.result c.args.base c.args.above c.args.least.now.items
-          c.args.choices.now.items c.loop.least.items c.loop.choices.items c.deref.result.now c.loop.counter c.loop.next (priced c.args.shape (g.C.Costs.price c.args.costs.now) c.limb_of-limb.result)
+          c.args.choices.now.items c.loop.least.items c.loop.choices.items c.deref.result.now c.loop.counter c.loop.next (priced c.args.shape (g.C.Costs.price c.args.costs.now) c.limb_of.new.limb)
           (prices-at (g.C.Costs.grid c.args.costs.now) c.args.shape (g.C.Costs.ways c.args.costs.now) (g.C.Costs.price c.args.costs.now) c.requires.grid (g.met.C.Costs.prices c.args.costs.now))
-          c.requires.flat c.parent-parent.ensures.tree c.requires.later node up c.deref.ensures.value c.limb_of-limb.ensures.costs c.loop.invariant.so_far within number c.requires.layer)
+          c.requires.flat c.parent-parent.ensures.tree c.requires.later node up c.deref.ensures.value c.limb_of.ensures.costs c.loop.invariant.so_far within number c.requires.layer)
           c.loop.invariant.so_far;
       wires = c.choose_layer.ensures.wires;
     }

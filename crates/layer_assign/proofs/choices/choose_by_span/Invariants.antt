@@ -9,5 +9,5 @@ invariant-loop g l = record {
   next : l.next ≡ span_at l.shape.layers l.counter;
   so_far : Choosing l.shape (g.C.Costs.ways l.costs) (g.C.Costs.price l.costs) l.flat l.node l.fn.base l.fn.above l.fn.least.items l.fn.choices.items
       l.least.items l.choices.items (numbered_below l.shape.layers l.counter);
-  wires : AreWires l.shape (g.C.Costs.price l.costs) l.limb.edge l.wires;
+  wires : AreWires l.shape (g.C.Costs.price l.costs) l.workings.limb.edge l.wires;
 }

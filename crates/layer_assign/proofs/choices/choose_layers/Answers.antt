@@ -40,6 +40,12 @@ pub choose_by_span-requires-clause-base : goal.choose_by_span-requires-clause-ba
 choose_by_span-requires-clause-base g c =
     subst (λ (s : Option Span). IsWithin c.args.shape.layers s) (growing-at c.args.pins.now c.args.node) (c.requires.within c.args.node c.requires.node)
 
+pub choose_by_span-requires-clause-above : goal.choose_by_span-requires-clause-above
+choose_by_span-requires-clause-above g c =
+    let many = c.requires.node in
+    let early = c.parent-parent.ensures.earlier c.requires.later in
+    subst (λ (s : Option Span). IsWithin c.args.shape.layers s) (growing-at c.args.pins.now c.parent-parent.result) (c.requires.within c.parent-parent.result (omega arith))
+
 pub returns : goal.returns
 returns g c =
     let pins = c.args.pins.now in

@@ -22,12 +22,12 @@ below_on-requires-clause-row g c = row-within c.args.shape.layers (length c.args
 pub loop-layer-preserved : goal.loop-layer-preserved
 loop-layer-preserved g c =
     let f : ℕ → Option ℕ = λ layer. if g.C.Costs.ways c.args.costs.now layer c.unwrap-edge.result.way then Some (entry c.args.shape.layers c.args.least.now c.args.node (widened c.args.base layer)) else None in
-    let count : length c.loop-layer.below ≡ 16 = c.loop-layer.invariant.count in
+    let count : length c.loop-layer.limb.below ≡ 16 = c.loop-layer.invariant.count in
     let lt = c.loop-layer-test.true in
-    let below : c.loop-layer.layer < length c.loop-layer.below = omega (arith, c.layers-layer-end.ensures.most) in
+    let below : c.loop-layer.layer < length c.loop-layer.limb.below = omega (arith, c.layers-layer-end.ensures.most) in
     record {
-      count = length-set c.loop-layer.below c.loop-layer.layer c.below_on.result ∙ count;
-      below = get-set_more c.loop-layer.below f c.loop-layer.layer c.below_on.result below c.below_on.ensures c.loop-layer.invariant.below;
+      count = length-set c.loop-layer.limb.below c.loop-layer.layer c.below_on.result ∙ count;
+      below = get-set_more c.loop-layer.limb.below f c.loop-layer.layer c.below_on.result below c.below_on.ensures c.loop-layer.invariant.below;
     }
 
 pub returns : goal.returns
@@ -36,7 +36,7 @@ returns g c =
     let ways = g.C.Costs.ways c.args.costs.now in
     let price = g.C.Costs.price c.args.costs.now in
     let flat = c.args.flat.now in
-    let limb : Limb = record { edge = c.unwrap-edge.result; below = c.loop-layer.below } in
+    let limb : Limb = record { edge = c.unwrap-edge.result; below = c.loop-layer.limb.below } in
     let prices = prices-at (g.C.Costs.grid c.args.costs.now) shape ways price c.requires.grid (g.met.C.Costs.prices c.args.costs.now) in
     let up = sym c.edge_to_parent.ensures.edge ∙ c.unwrap-edge.ensures in
     let inside : IsTrue (has_edge flat.shape limb.edge) = subst (λ (o : Option Edge). IfSome o (λ e. IsTrue (has_edge flat.shape e))) c.unwrap-edge.ensures c.edge_to_parent.ensures.inside in

@@ -1,4 +1,4 @@
-use Rattle.std.proofs.Common.{refl, arith}
+use Rattle.std.proofs.Common.{arith}
 use Rattle.layer_assign.specs.Runs.{best_up_to}
 use Rattle.layer_assign.specs.Tables.{number_in, priced}
 use Rattle.layer_assign.proofs.RunLemmas.{up_to-small, costs-less}
@@ -6,7 +6,7 @@ use Rattle.layer_assign.proofs.ThinLemmas.{thinning-none, thinning-more}
 use Rattle.layer_assign.proofs.limbs.run_costs.Goals as goal
 
 pub loop-layer-init : goal.loop-layer-init
-loop-layer-init g c = thinning-none (priced c.args.shape (g.C.Costs.price c.args.costs.now) c.args.limb.now) _ refl
+loop-layer-init g c = thinning-none (priced c.args.shape (g.C.Costs.price c.args.costs.now) c.args.limb.now) _ c.told-thin
 
 pub a_climb_more-seen-requires : goal.a_climb_more-seen-requires
 a_climb_more-seen-requires g c =

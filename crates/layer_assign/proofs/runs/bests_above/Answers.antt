@@ -1,4 +1,4 @@
-use Rattle.std.proofs.Common.{◌≡◌, ℕ, ◌+◌, ◌-◌, ◌<◌, inl, inr, Option, Some, length, set, slice_get, refl, sym, ap, subst, ◌∙◌, arith}
+use Rattle.std.proofs.Common.{◌≡◌, ℕ, ◌+◌, ◌-◌, ◌<◌, inl, inr, Option, Some, length, set, slice_get, sym, ap, subst, ◌∙◌, arith}
 use Rattle.std.proofs.lemmas.Bool.{cases_eq}
 use Rattle.std.proofs.lemmas.List.{length-set}
 use Rattle.layer_assign.specs.declared.span.Best.{Best}
@@ -16,7 +16,7 @@ loop-layer-init c =
     let all = c.layers-layer.ensures.layers in
     let none : c.args.shape.layers - c.layers-layer.result ≡ 0 = omega (arith, all) in
     record {
-      count = refl;
+      count = c.told-above;
       most = omega (arith, all);
       above = λ k from below. absurd (omega (arith, all));
       best = sym (ap (best_from limbs c.layers-layer.result) none);

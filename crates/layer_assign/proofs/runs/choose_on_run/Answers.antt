@@ -54,8 +54,8 @@ a_climb_more-requires g c =
     let test = c.loop-layer-test.true in
     let few = few_layers c.args.shape in
     let inside : c.loop-layer.layer < layers = omega (arith, c.layers-layer-end.ensures.layers) in
-    let limbs = number_in c.run_costs-limbs.result in
-    let small : AreSmall limbs layers 1125899907891200 = c.run_costs-limbs.ensures.most in
+    let limbs = number_in c.run_costs.new.thin in
+    let small : AreSmall limbs layers 1125899907891200 = c.run_costs.ensures.most in
     costs-less c.loop-layer.below (best_up_to limbs c.loop-layer.layer) c.loop-layer.layer (omega arith) c.loop-layer.invariant.below
     (up_to-small limbs layers 1125899907891200 c.loop-layer.layer (omega arith) small)
 
@@ -63,14 +63,14 @@ pub write_best-requires-clause-some : goal.write_best-requires-clause-some
 write_best-requires-clause-some g c =
     let inside : c.loop-layer.layer < c.args.shape.layers = let e = c.loop-layer-test.true in omega (arith, c.layers-layer-end.ensures.layers) in
     let found = run-finds c.args.shape (g.C.Costs.ways c.args.costs.now) (g.C.Costs.price c.args.costs.now) c.args.flat.now c.args.node c.parent-parent.result c.args.base c.args.least.now.items c.deref.result.now c.loop-layer.layer
-    (priced c.args.shape (g.C.Costs.price c.args.costs.now) c.limb_of-limb.result) (prices-at (g.C.Costs.grid c.args.costs.now) c.args.shape (g.C.Costs.ways c.args.costs.now) (g.C.Costs.price c.args.costs.now) c.requires.grid (g.met.C.Costs.prices c.args.costs.now))
+    (priced c.args.shape (g.C.Costs.price c.args.costs.now) c.limb_of.new.limb) (prices-at (g.C.Costs.grid c.args.costs.now) c.args.shape (g.C.Costs.ways c.args.costs.now) (g.C.Costs.price c.args.costs.now) c.requires.grid (g.met.C.Costs.prices c.args.costs.now))
     c.requires.flat c.parent-parent.ensures.tree (let e = c.requires.early in let n = c.requires.next in omega arith) c.requires.node
-    (sym (parent-at c.args.flat.now c.args.node c.parent-parent.result c.parent-parent.ensures.parent)) c.deref.ensures.value c.limb_of-limb.ensures.costs
+    (sym (parent-at c.args.flat.now c.args.node c.parent-parent.result c.parent-parent.ensures.parent)) c.deref.ensures.value c.limb_of.ensures.costs
     c.requires.climbs inside c.requires.layer c.better_of-best.result
-    (run-best (number_in c.run_costs-limbs.result) c.bests_above-above.result c.loop-layer.layer c.args.shape.layers c.loop-layer.below c.a_climb_more.result c.offer_on.result
+    (run-best (number_in c.run_costs.new.thin) c.bests_above.new.above c.loop-layer.layer c.args.shape.layers c.loop-layer.below c.a_climb_more.result c.offer_on.result
     c.better_of-below.result c.better_of-best.result inside c.loop-layer.invariant.below c.a_climb_more.ensures c.offer_on.ensures c.better_of-below.ensures
-    (c.bests_above-above.ensures c.loop-layer.layer inside) c.better_of-best.ensures
-    ∙ thin-best (priced c.args.shape (g.C.Costs.price c.args.costs.now) c.limb_of-limb.result) (number_in c.run_costs-limbs.result) c.loop-layer.layer c.args.shape.layers c.run_costs-limbs.ensures.thins) in
+    (c.bests_above.ensures c.loop-layer.layer inside) c.better_of-best.ensures
+    ∙ thin-best (priced c.args.shape (g.C.Costs.price c.args.costs.now) c.limb_of.new.limb) (number_in c.run_costs.new.thin) c.loop-layer.layer c.args.shape.layers c.run_costs.ensures.thins) in
     found.some
 
 pub loop-layer-preserved : goal.loop-layer-preserved
@@ -79,14 +79,14 @@ loop-layer-preserved g c =
     let next = c.requires.next in
     let node = c.requires.node in
     let found = run-finds c.args.shape (g.C.Costs.ways c.args.costs.now) (g.C.Costs.price c.args.costs.now) c.args.flat.now c.args.node c.parent-parent.result c.args.base c.args.least.now.items c.deref.result.now c.loop-layer.layer
-    (priced c.args.shape (g.C.Costs.price c.args.costs.now) c.limb_of-limb.result) (prices-at (g.C.Costs.grid c.args.costs.now) c.args.shape (g.C.Costs.ways c.args.costs.now) (g.C.Costs.price c.args.costs.now) c.requires.grid (g.met.C.Costs.prices c.args.costs.now))
+    (priced c.args.shape (g.C.Costs.price c.args.costs.now) c.limb_of.new.limb) (prices-at (g.C.Costs.grid c.args.costs.now) c.args.shape (g.C.Costs.ways c.args.costs.now) (g.C.Costs.price c.args.costs.now) c.requires.grid (g.met.C.Costs.prices c.args.costs.now))
     c.requires.flat c.parent-parent.ensures.tree (let e = c.requires.early in let n = c.requires.next in omega arith) c.requires.node
-    (sym (parent-at c.args.flat.now c.args.node c.parent-parent.result c.parent-parent.ensures.parent)) c.deref.ensures.value c.limb_of-limb.ensures.costs
+    (sym (parent-at c.args.flat.now c.args.node c.parent-parent.result c.parent-parent.ensures.parent)) c.deref.ensures.value c.limb_of.ensures.costs
     c.requires.climbs inside c.requires.layer c.better_of-best.result
-    (run-best (number_in c.run_costs-limbs.result) c.bests_above-above.result c.loop-layer.layer c.args.shape.layers c.loop-layer.below c.a_climb_more.result c.offer_on.result
+    (run-best (number_in c.run_costs.new.thin) c.bests_above.new.above c.loop-layer.layer c.args.shape.layers c.loop-layer.below c.a_climb_more.result c.offer_on.result
     c.better_of-below.result c.better_of-best.result inside c.loop-layer.invariant.below c.a_climb_more.ensures c.offer_on.ensures c.better_of-below.ensures
-    (c.bests_above-above.ensures c.loop-layer.layer inside) c.better_of-best.ensures
-    ∙ thin-best (priced c.args.shape (g.C.Costs.price c.args.costs.now) c.limb_of-limb.result) (number_in c.run_costs-limbs.result) c.loop-layer.layer c.args.shape.layers c.run_costs-limbs.ensures.thins) in
+    (c.bests_above.ensures c.loop-layer.layer inside) c.better_of-best.ensures
+    ∙ thin-best (priced c.args.shape (g.C.Costs.price c.args.costs.now) c.limb_of.new.limb) (number_in c.run_costs.new.thin) c.loop-layer.layer c.args.shape.layers c.run_costs.ensures.thins) in
     let within : IsWithin c.args.shape.layers (widened None c.loop-layer.layer) = record { ordered = omega arith; high = omega arith } in
     let P : Option Span → Type 0 =
     λ r. Writes c.args.shape.layers c.parent-parent.result c.args.node r c.better_of-best.result c.loop-layer.least.items c.write_best.new.least.items
@@ -96,8 +96,8 @@ loop-layer-preserved g c =
       below =
           c.better_of-below.ensures ∙
           ap (λ (o : Option Best). better o c.offer_on.result) (c.a_climb_more.ensures ∙ ap (λ (o : Option Best). a_climb_more o) c.loop-layer.invariant.below) ∙
-          ap (λ (o : Option Best). better (a_climb_more (best_up_to (number_in c.run_costs-limbs.result) c.loop-layer.layer)) o) c.offer_on.ensures ∙
-          sym (up_to-more (number_in c.run_costs-limbs.result) c.loop-layer.layer);
+          ap (λ (o : Option Best). better (a_climb_more (best_up_to (number_in c.run_costs.new.thin) c.loop-layer.layer)) o) c.offer_on.ensures ∙
+          sym (up_to-more (number_in c.run_costs.new.thin) c.loop-layer.layer);
       so_far =
           choosing-turn c.args.shape (g.C.Costs.ways c.args.costs.now) (g.C.Costs.price c.args.costs.now) c.args.flat.now c.args.node c.parent-parent.result c.args.base None
           c.args.least.now.items c.args.choices.now.items c.loop-layer.least.items c.loop-layer.choices.items c.write_best.new.least.items c.write_best.new.choices.items

@@ -1,35 +1,32 @@
-use Rattle.std.proofs.Common.{◌≡◌, ℕ, length, get_or, add-one, ap, ◌∙◌, arith}
+use Rattle.std.proofs.Common.{ℕ, length, add-one, ap, ◌∙◌, arith}
 use Rattle.layer_assign.specs.Spans.{growing}
 use Rattle.layer_assign.specs.Choices.{entry}
-use Rattle.layer_assign.proofs.FlatLemmas.{few, few_layers, parent-at}
+use Rattle.layer_assign.proofs.FlatLemmas.{few, parent-at}
 use Rattle.layer_assign.proofs.Following.{span-inside, following-more}
-use Rattle.layer_assign.proofs.TableLemmas.{place-within, place-small}
+use Rattle.layer_assign.proofs.TableLemmas.{row-within}
 use Rattle.layer_assign.proofs.tiles.follow.Goals as goal
 
-pub offset_bounds-choices-place_in : goal.offset_bounds-choices-place_in
-offset_bounds-choices-place_in c =
-    let e = c.parent.ensures.earlier c.loop-node.invariant.later in
-    let lt = c.loop-node-test.true in
-    let long = c.len-node-end.ensures.len in
-    let so_far = c.loop-node.invariant.so_far in
-    let found =
-    span-inside c.args.shape.layers (length c.args.flat.now.nodes) c.loop-node.spans.items c.parent.result c.index-span.result.now so_far.spans_count (omega arith)
-    c.index-span.ensures so_far.within in
+pub choice_at-layer-requires-clause-node : goal.choice_at-layer-requires-clause-node
+choice_at-layer-requires-clause-node c =
     let many = few c.args.flat.now c.len-node-end.ensures.tree in
-    let small = place-small c.args.shape.layers c.loop-node.node c.index-span.result.now (few_layers c.args.shape) (omega arith) found.1 in
-    omega (arith, small, c.place_in.ensures)
+    let lt = c.loop-node-test.true in
+    let long = c.len-node-end.ensures.len in
+    omega arith
 
-pub bounds-choices-place_in : goal.bounds-choices-place_in
-bounds-choices-place_in c =
+pub choice_at-layer-requires-clause-span : goal.choice_at-layer-requires-clause-span
+choice_at-layer-requires-clause-span c =
     let e = c.parent.ensures.earlier c.loop-node.invariant.later in
     let lt = c.loop-node-test.true in
     let long = c.len-node-end.ensures.len in
     let so_far = c.loop-node.invariant.so_far in
-    let found =
-    span-inside c.args.shape.layers (length c.args.flat.now.nodes) c.loop-node.spans.items c.parent.result c.index-span.result.now so_far.spans_count (omega arith)
-    c.index-span.ensures so_far.within in
-    let below = place-within c.args.shape.layers (length c.args.flat.now.nodes) c.loop-node.node c.index-span.result.now c.args.choices.now c.requires.rows (omega arith) found.1 in
-    omega (arith, below, c.place_in.ensures)
+    (span-inside c.args.shape.layers (length c.args.flat.now.nodes) c.loop-node.spans.items c.parent.result c.index-span.result.now so_far.spans_count (omega arith)
+    c.index-span.ensures so_far.within).1
+
+pub choice_at-layer-requires-clause-row : goal.choice_at-layer-requires-clause-row
+choice_at-layer-requires-clause-row c =
+    let lt = c.loop-node-test.true in
+    let long = c.len-node-end.ensures.len in
+    row-within c.args.shape.layers (length c.args.flat.now.nodes) c.loop-node.node c.args.choices.now c.requires.rows (omega arith)
 
 pub loop-node-preserved : goal.loop-node-preserved
 loop-node-preserved c =
@@ -41,8 +38,8 @@ loop-node-preserved c =
     span-inside c.args.shape.layers (length c.args.flat.now.nodes) c.loop-node.spans.items c.parent.result c.index-span.result.now so_far.spans_count (omega arith)
     c.index-span.ensures so_far.within in
     let up = parent-at c.args.flat.now c.loop-node.node c.parent.result c.parent.ensures.parent in
-    let x = get_or c.args.choices.now c.place_in.result 0 in
-    let is : x ≡ entry c.args.shape.layers c.args.choices.now c.loop-node.node c.index-span.result.now = ap (λ (k : ℕ). get_or c.args.choices.now k 0) c.place_in.ensures in
+    let x = c.choice_at-layer.result in
+    let is = c.choice_at-layer.ensures in
     let small = c.requires.below c.loop-node.node c.index-span.result.now c.loop-node.invariant.later (omega arith) found.1 in
     record {
       later = omega arith;
