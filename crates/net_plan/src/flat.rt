@@ -15,12 +15,13 @@ use crate::pin_tiles::distinct_tiles;
 use cost_rules::Costs;
 use gr_base::{Design, RouteTree, Shape};
 use std::alloc::{AllocError, Global};
-use steiner_topology::{Tile, topology};
+use steiner_topology::{Tile, TopologyRoom, topology};
 
 /// What flat trees are made with, kept from net to net. What it holds between two calls means nothing.
 #[derive(Debug, Drop)]
 pub(crate) struct FlatRoom {
     pub(crate) tiles: Vec<Tile>,
+    pub(crate) topologies: TopologyRoom,
     pub(crate) joining: JoinRoom,
 }
 
@@ -31,6 +32,7 @@ impl FlatRoom {
     {
         Ok(FlatRoom {
             tiles: Vec::new(alloc),
+            topologies: TopologyRoom::new(alloc),
             joining: JoinRoom::new(alloc, flattened(shape))?,
         })
     }
@@ -58,7 +60,9 @@ pub(crate) fn flat_tree(
 {
     distinct_tiles(design.frame().shape, pins, &mut room.tiles)?;
     let costs = FlatCosts::new(costs);
-    tree_of_tiles(alloc, &costs, costs.shape, &room.tiles, &mut room.joining)
+    let topologies = &mut room.topologies;
+    let joining = &mut room.joining;
+    tree_of_tiles(alloc, &costs, costs.shape, &room.tiles, topologies, joining)
 }
 
 /// The flat tree of tiles, of which the first is the driver's, on a grid of one layer: it starts
@@ -69,18 +73,21 @@ fn tree_of_tiles<C: Costs>(
     costs: &C,
     shape: Shape,
     tiles: &[Tile],
-    room: &mut JoinRoom,
+    topologies: &mut TopologyRoom,
+    joining: &mut JoinRoom,
 ) -> Result<RouteTree, AllocError>
     requires grid { C.grid costs.now ≡ shape }
     requires flat { IsFlat shape (C.price costs.now) }
     requires some { 0 < length tiles.now }
     requires few { length tiles.now < 2 ^ 31 }
     requires inside { All (IsTileIn shape) tiles.now }
-    requires room { cells_of shape ≤ length room.old.index }
+    requires room { cells_of shape ≤ length joining.old.index }
     ensures tree { IfOk result (λ t. t ≡ tree_of shape (C.price costs.now) (topology_of tiles.now)) }
     ensures tiles { IfOk result (λ t. All (λ tile. IsTrue (holds t (cell_of_tile shape tile))) tiles.now) }
-    ensures room { length room.new.index ≡ length room.old.index }
+    ensures room { length joining.new.index ≡ length joining.old.index }
 {
-    let topology = topology(alloc, tiles)?;
-    tree_of(alloc, costs, shape, &topology, room)
+    let topology = topology(alloc, tiles, topologies)?;
+    let tree = tree_of(alloc, costs, shape, &topology, joining)?;
+    topologies.give_back(topology);
+    Ok(tree)
 }
