@@ -103,3 +103,7 @@ or-true false b is = is
 -- a tree that gains a walk has its cells
 pub held-walk : (t new : TreeView) (walk : List ℕ) (cell : ℕ) → AddsCells t walk new → is_among walk cell ≡ true → holds new cell ≡ true
 held-walk t new walk cell adds among = adds cell ∙ or-true (holds t cell) (is_among walk cell) among
+
+-- and it keeps its own
+pub held-kept : (t new : TreeView) (walk : List ℕ) (cell : ℕ) → AddsCells t walk new → holds t cell ≡ true → holds new cell ≡ true
+held-kept t new walk cell adds held = adds cell ∙ (rw held refl)

@@ -4,10 +4,11 @@ use Rattle.std.proofs.lemmas.Bool.Decides.{nat_tests}
 use Rattle.std.proofs.lemmas.List.{take_more, take_all}
 use Rattle.std.proofs.lemmas.List.Elements.{All-from_get_or}
 use Rattle.std.proofs.lemmas.List.Sums.{fold_push}
-use Rattle.gr_base.specs.Trees.{TreeView, holds}
+use Rattle.gr_base.specs.Trees.{TreeView, node_of, holds}
 use Rattle.gr_base.specs.declared.grid.Edge.{Edge}
 use Rattle.gr_base.specs.declared.grid.Shape.{Shape}
 use Rattle.steiner_topology.specs.Spanning.{IsTopology}
+use Rattle.steiner_topology.specs.Tile.{Tile}
 use Rattle.steiner_topology.specs.Topology.{point, place_of, parent_of}
 use Rattle.steiner_topology.specs.declared.point.Point.{Point}
 use Rattle.net_plan.specs.FlatTrees.{cell_of_tile, with_point, first_tile, tree_of, HoldsHandled}
@@ -23,6 +24,16 @@ pub record HasGrown (flat : Shape) (price : Edge → Option ℕ) (points : List 
 or-end : (b : Bool) → (b || false) ≡ true → b ≡ true
 or-end true is = refl
 or-end false is = is
+
+-- a tree of one cell
+abbrev one_cell : Shape → ℕ → TreeView
+one_cell flat cell = record { shape = flat; nodes = node_of cell 0 ∷ [] }
+
+-- the tree with which the code starts is that of point 0's tile
+pub tree-first : (flat : Shape) (points : List Point) (tile : Tile) (cell : ℕ) (t : TreeView) → t ≡ one_cell flat cell → cell ≡ cell_of_tile flat tile →
+    tile ≡ place_of points 0 → t ≡ first_tile flat points
+tree-first flat points tile cell t is cell_is tile_is =
+    is ∙ ap (one_cell flat) (cell_is ∙ ap (λ (p : Tile). cell_of_tile flat p) tile_is)
 
 -- the first tree holds point 0's tile
 pub grown-first : (flat : Shape) (price : Edge → Option ℕ) (points : List Point) (order : List ℕ) (t : TreeView) → t ≡ first_tile flat points →

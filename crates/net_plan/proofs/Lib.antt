@@ -7,6 +7,7 @@ pub mod CutLemmas
 pub mod TileLemmas
 pub mod PointLemmas
 pub mod GrowLemmas
+pub mod JoinLemmas
 pub mod FlatLemmas
 pub mod PlanLemmas
 pub mod MazeLemmas

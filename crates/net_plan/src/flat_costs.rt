@@ -26,14 +26,9 @@ impl<'a> FlatCosts<'a> {
         ensures formula { result.costs.now.rule.now.formula ≡ costs.now.rule.now.formula }
         ensures net { result.costs.now.net ≡ costs.now.net }
     {
-        let grid = costs.capacity.shape();
         FlatCosts {
             costs,
-            shape: Shape {
-                columns: grid.columns,
-                rows: grid.rows,
-                layers: 1,
-            },
+            shape: flattened(costs.capacity.shape()),
         }
     }
 
@@ -89,6 +84,17 @@ impl Costs for FlatCosts<'_> {
             least = lesser(least, cost);
         }
         least
+    }
+}
+
+/// The grid of the same tiles with one layer.
+pub(crate) fn flattened(shape: Shape) -> Shape
+    ensures { IsFlattened shape result }
+{
+    Shape {
+        columns: shape.columns,
+        rows: shape.rows,
+        layers: 1,
     }
 }
 

@@ -4,13 +4,16 @@
 
 mod flat;
 mod flat_costs;
+mod join;
 mod maze;
 mod net_costs;
 mod order;
 mod pattern;
 mod pin_tiles;
+mod planner;
 mod window;
 
 pub use maze::maze_plan;
 pub use pattern::pattern_plan;
+pub use planner::Planner;
 pub use window::maze_window;

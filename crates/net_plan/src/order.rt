@@ -1,25 +1,31 @@
-ghost use Rattle.std.specs.Prelude.{◌≡◌, ◌<◌, length, IfOk, IfSome};
+ghost use Rattle.std.specs.Prelude.{◌≡◌, ◌<◌, length, IfSome, OnOk};
 ghost use Rattle.steiner_topology.specs.Spanning.{IsTopology};
 ghost use Rattle.net_plan.specs.Orders.{is_marked, is_due, next_due, order_of};
 
-use std::alloc::{AllocError, Global};
+use std::alloc::AllocError;
 use steiner_topology::Topology;
 
-/// The points of a topology but point 0, in the order in which they are joined to a tree: again and
-/// again the least-numbered one that hasn't been handled and whose parent has. Point 0 counts as
-/// handled. It takes time in the square of the number of points. The only error is want of memory.
-pub(crate) fn order_of(alloc: Global, topology: &Topology) -> Result<Vec<u32>, AllocError>
-    ensures order { IfOk result (λ order. order.items ≡ order_of topology.now) }
+/// Puts the points of a topology but point 0, in the order in which they are joined to a tree, in
+/// place of what `order` holds: again and again the least-numbered one that hasn't been handled and
+/// whose parent has. Point 0 counts as handled. It takes time in the square of the number of points.
+/// The only error is want of memory.
+pub(crate) fn order_of(
+    topology: &Topology,
+    order: &mut Vec<u32>,
+    handled: &mut Vec<bool>,
+) -> Result<(), AllocError>
+    ensures order { OnOk result (order.new.items ≡ order_of topology.now) }
     ensures tree { IsTopology topology.now }
 {
-    let mut handled = vec![in alloc; false; topology.len() as usize]?;
+    handled.clear();
+    handled.resize(topology.len() as usize, false)?;
     handled[0] = true;
-    let mut order = Vec::with_capacity(alloc, handled.len())?;
-    while let Some(point) = next_due(topology, &handled) {
+    order.clear();
+    while let Some(point) = next_due(topology, handled) {
         handled[point as usize] = true;
         order.push(point)?;
     }
-    Ok(order)
+    Ok(())
 }
 
 /// The least-numbered point that is due.

@@ -10,10 +10,11 @@ ghost use Rattle.net_plan.specs.Prices.{HasBoundedDemand};
 
 use crate::flat::flat_tree;
 use crate::net_costs::NetCosts;
+use crate::planner::Planner;
 use cost_rules::CostRule;
 use gr_base::{Design, RouteTree};
 use grid_demand::{Capacity, Loads};
-use layer_assign::{LayerRoom, assign, raise};
+use layer_assign::{assign, raise};
 use std::alloc::{AllocError, Global};
 
 /// The pattern plan of a routed net over the loads of a design, in which no wire edge has a demand
@@ -25,6 +26,7 @@ use std::alloc::{AllocError, Global};
 /// want of memory.
 pub fn pattern_plan(
     alloc: Global,
+    planner: &mut Planner,
     design: &Design,
     capacity: &Capacity,
     loads: &Loads,
@@ -41,31 +43,30 @@ pub fn pattern_plan(
     ensures routes { (wanted : Net) → slice_get design.now.nets net ≡ Some wanted →
         IfOk result (IsRouteOf design.now.frame.shape wanted) }
 {
-    plan_tree(alloc, design, capacity, loads, net, rule)
+    let costs = NetCosts::new(design, capacity, loads, net, rule);
+    planner.plan_by(alloc, design, &costs)
 }
 
-/// The same tree.
-fn plan_tree(
-    alloc: Global,
-    design: &Design,
-    capacity: &Capacity,
-    loads: &Loads,
-    net: u32,
-    rule: &CostRule,
-) -> Result<RouteTree, AllocError>
-    requires net { IsTrue (is_routed design.now net) }
-    requires capacity { capacity.now ≡ capacity_of design.now }
-    requires loads { loads.now.shape ≡ design.now.frame.shape }
-    requires demand { HasBoundedDemand loads.now }
-    ensures plan { IfOk result (IsPattern capacity.now loads.now rule.now.formula net (pins_at design.now net)) }
-    ensures routes { (wanted : Net) → slice_get design.now.nets net ≡ Some wanted →
-        IfOk result (IsRouteOf design.now.frame.shape wanted) }
-{
-    let costs = NetCosts::new(design, capacity, loads, net, rule);
-    let pins = design.net(net).pins.as_slice();
-    let flat = flat_tree(alloc, design, &costs, pins)?;
-    let shape = capacity.shape();
-    let mut room = LayerRoom::new(alloc, shape)?;
-    let layers = assign(alloc, &costs, shape, &flat, pins, &mut room)?;
-    raise(alloc, shape, &flat, &layers, pins, &mut room)
+impl Planner {
+    /// The pattern plan of a routed net by what edges cost it.
+    fn plan_by(
+        &mut self,
+        alloc: Global,
+        design: &Design,
+        costs: &NetCosts<'_>,
+    ) -> Result<RouteTree, AllocError>
+        requires net { IsTrue (is_routed design.now costs.now.net) }
+        requires capacity { costs.now.capacity.now ≡ capacity_of design.now }
+        ensures plan { let costs = costs.now in IfOk result (IsPattern costs.capacity.now costs.loads.now
+            costs.rule.now.formula costs.net (pins_at design.now costs.net)) }
+        ensures routes { (wanted : Net) → slice_get design.now.nets costs.now.net ≡ Some wanted →
+            IfOk result (IsRouteOf design.now.frame.shape wanted) }
+    {
+        let pins = design.net(costs.net).pins.as_slice();
+        let shape = costs.capacity.shape();
+        self.fit(alloc, shape)?;
+        let flat = flat_tree(alloc, design, costs, pins, &mut self.flat)?;
+        let layers = assign(alloc, costs, shape, &flat, pins, &mut self.layers)?;
+        raise(alloc, shape, &flat, &layers, pins, &mut self.layers)
+    }
 }

@@ -1,33 +1,33 @@
-ghost use Rattle.std.specs.Prelude.{◌≡◌, ◌<◌, ◌≤◌, All, length, IfOk};
+ghost use Rattle.std.specs.Prelude.{◌≡◌, ◌<◌, ◌≤◌, All, length, OnOk};
 ghost use Rattle.std.specs.List.{list_any};
 ghost use Rattle.gr_base.specs.Grid.{cells_of};
-ghost use Rattle.net_plan.specs.FlatTrees.{IsTileIn, is_tile, distinct_tiles};
+ghost use Rattle.net_plan.specs.FlatTrees.{IsTileIn, cell_of_tile, is_tile, distinct_tiles};
 
 use gr_base::Shape;
-use std::alloc::{AllocError, Global};
+use std::alloc::AllocError;
 use steiner_topology::Tile;
 
-/// The distinct tiles of cells, in the order of first appearance. It takes time in the product of
-/// cells and tiles. The only error is want of memory.
+/// Puts the distinct tiles of cells, in the order of first appearance, in place of what a list holds.
+/// It takes time in the product of cells and tiles. The only error is want of memory.
 pub(crate) fn distinct_tiles(
-    alloc: Global,
     shape: Shape,
     cells: &[u32],
-) -> Result<Vec<Tile>, AllocError>
+    tiles: &mut Vec<Tile>,
+) -> Result<(), AllocError>
     requires { All (λ cell. cell < cells_of shape) cells.now }
-    ensures tiles { IfOk result (λ tiles. tiles.items ≡ distinct_tiles shape cells.now) }
-    ensures inside { IfOk result (λ tiles. All (IsTileIn shape) tiles.items) }
-    ensures few { IfOk result (λ tiles. length tiles.items ≤ length cells.now) }
+    ensures tiles { OnOk result (tiles.new.items ≡ distinct_tiles shape cells.now) }
+    ensures inside { OnOk result (All (IsTileIn shape) tiles.new.items) }
+    ensures few { OnOk result (length tiles.new.items ≤ length cells.now) }
 {
-    let mut tiles = Vec::with_capacity(alloc, cells.len())?;
+    tiles.clear();
     for &cell in cells {
         let place = shape.place_of(cell);
         let tile = (place.x, place.y);
-        if !has_tile(&tiles, tile) {
+        if !has_tile(tiles, tile) {
             tiles.push(tile)?;
         }
     }
-    Ok(tiles)
+    Ok(())
 }
 
 /// Whether one of some tiles is this one.
@@ -37,4 +37,13 @@ fn has_tile(tiles: &[Tile], tile: Tile) -> bool
     tiles
         .iter()
         .any(|other| tile.0 == other.0 && tile.1 == other.1)
+}
+
+/// The cell of a tile on a grid of one layer.
+pub(crate) fn cell_of_tile(shape: Shape, tile: Tile) -> u32
+    requires { IsTileIn shape tile }
+    ensures cell { result ≡ cell_of_tile shape tile }
+    ensures inside { result < cells_of shape }
+{
+    shape.cell_of(tile.0, tile.1, 0)
 }

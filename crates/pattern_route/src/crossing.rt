@@ -1,4 +1,4 @@
-ghost use Rattle.std.specs.Prelude.{◌≡◌, ◌≢◌, ◌+◌, ◌++◌, IfOk, if◌then◌else◌, nat_lt};
+ghost use Rattle.std.specs.Prelude.{◌≡◌, ◌≢◌, ◌+◌, ◌++◌, OnOk, if◌then◌else◌, nat_lt};
 ghost use Rattle.gr_base.specs.Grid.{gap};
 ghost use Rattle.gr_base.specs.declared.grid.Cell.{Cell};
 ghost use Rattle.pattern_route.specs.Steps.{toward};
@@ -8,8 +8,8 @@ ghost use Rattle.pattern_route.specs.Lines.{across, span_of, leaving, arriving, 
 use crate::leg::{cost_along, one_toward, push_along, step_along};
 use crate::line::{Axis, Crossing, Line, Span, Sweep};
 use cost_rules::Costs;
-use gr_base::{Cell, Cells, Shape};
-use std::alloc::{AllocError, Global};
+use gr_base::{Cell, Shape};
+use std::alloc::AllocError;
 
 impl Axis {
     fn across(self) -> Axis
@@ -226,23 +226,20 @@ pub(crate) fn least_with<C: Costs>(costs: &C, shape: Shape, found: Crossing, spa
     least_after(costs, shape, sweep, cheaper_at(costs, shape, found, sweep))
 }
 
-/// The walk by a crossing.
-pub(crate) fn walk_of(alloc: Global, shape: Shape, crossing: Crossing) -> Result<Cells, AllocError>
+/// Puts the walk by a crossing in place of what a list holds. The only error is want of memory.
+pub(crate) fn put_walk(
+    cells: &mut Vec<u32>,
+    shape: Shape,
+    crossing: Crossing,
+) -> Result<(), AllocError>
     requires fits { SpanFits shape crossing.span }
     requires between { IsBetween crossing.span.start crossing.at crossing.span.end }
-    ensures { IfOk result (λ cells. cells ≡ walk_at shape crossing) }
+    ensures { OnOk result (cells.new.items ≡ walk_at shape crossing) }
 {
     let span = crossing.span;
-    let mut cells = Cells::new(alloc);
+    cells.clear();
     cells.push(span.leaving().cell(shape, span.start))?;
-    push_along(&mut cells, shape, span.leaving(), span.start, crossing.at)?;
-    push_along(
-        &mut cells,
-        shape,
-        span.crossing(crossing.at),
-        span.from,
-        span.to,
-    )?;
-    push_along(&mut cells, shape, span.arriving(), crossing.at, span.end)?;
-    Ok(cells)
+    push_along(cells, shape, span.leaving(), span.start, crossing.at)?;
+    push_along(cells, shape, span.crossing(crossing.at), span.from, span.to)?;
+    push_along(cells, shape, span.arriving(), crossing.at, span.end)
 }

@@ -7,7 +7,7 @@ ghost use Rattle.pattern_route.specs.Lines.{IsOn, place_on, along, leg_cost, lin
 
 use crate::line::{Axis, Line};
 use cost_rules::Costs;
-use gr_base::{Cells, Edge, Shape, Way};
+use gr_base::{Edge, Shape, Way};
 use std::alloc::AllocError;
 
 impl Line {
@@ -82,7 +82,7 @@ pub(crate) fn cost_along<C: Costs>(costs: &C, shape: Shape, line: Line, from: u3
 
 /// Adds the cells along a line from one place to another, without the first.
 pub(crate) fn push_along(
-    cells: &mut Cells,
+    cells: &mut Vec<u32>,
     shape: Shape,
     line: Line,
     from: u32,
@@ -90,7 +90,7 @@ pub(crate) fn push_along(
 ) -> Result<(), AllocError>
     requires from { IsOn shape line from }
     requires to { IsOn shape line to }
-    ensures { OnOk result (cells.new ≡ cells.old ++ along shape line from to) }
+    ensures { OnOk result (cells.new.items ≡ cells.old.items ++ along shape line from to) }
 {
     let mut at = from;
     while at != to {

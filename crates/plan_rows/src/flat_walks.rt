@@ -21,7 +21,8 @@ fn the_first_least_walk_is_taken(rt: HostRuntime) -> Result<(), Fail> {
             high: 3,
             cost,
         };
-        let walk = pattern(rt.alloc(), &costs, shape, a, b)?;
+        let mut walk = Vec::new(rt.alloc());
+        pattern(&costs, shape, a, b, &mut walk)?;
         assert_eq!(rt; walk.as_slice(), cells);
     }
     Ok(())

@@ -3,7 +3,7 @@ use crate::own_rule::flat_by_cases;
 use cost_rules::{CostRule, Formula, first_cost};
 use gr_base::{Design, RouteTree};
 use grid_demand::Capacity;
-use net_plan::{maze_plan, pattern_plan};
+use net_plan::{Planner, maze_plan, pattern_plan};
 use std::alloc::Global;
 use std::test::Fail;
 
@@ -15,7 +15,16 @@ fn pattern(alloc: Global, design: &Design) -> Result<RouteTree, Fail> {
     if design.nets() == 0 || !design.routed(0) {
         return Err(Fail::from("a routed net"));
     }
-    Ok(pattern_plan(alloc, design, &capacity, &loads, 0, &rule)?)
+    let mut planner = Planner::new(alloc, design)?;
+    Ok(pattern_plan(
+        alloc,
+        &mut planner,
+        design,
+        &capacity,
+        &loads,
+        0,
+        &rule,
+    )?)
 }
 
 /// Its maze plan with this margin and by this rule.

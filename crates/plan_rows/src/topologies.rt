@@ -1,6 +1,6 @@
 use std::alloc::{AllocError, Global};
 use std::test::Fail;
-use steiner_topology::{Point, Tile, Topology, topology};
+use steiner_topology::{Point, Tile, Topology, TopologyRoom, topology};
 
 /// The topology's points, by its methods.
 fn points_of(alloc: Global, topology: &Topology) -> Result<Vec<Point>, AllocError> {
@@ -116,9 +116,10 @@ const ROWS: [Row; 8] = [
 
 #[test]
 fn points_parents_and_ties_are_those_of_the_rule(rt: HostRuntime) -> Result<(), Fail> {
+    let mut room = TopologyRoom::new(rt.alloc());
     for (tiles, expected, length) in ROWS {
         assert!(rt; !tiles.is_empty() && tiles.len() <= 7);
-        let topology = topology(rt.alloc(), tiles)?;
+        let topology = topology(rt.alloc(), tiles, &mut room)?;
         let points = points_of(rt.alloc(), &topology)?;
         assert_eq!(rt; points.len(), expected.len());
         for (point, &(tile, parent)) in points.iter().zip(expected) {
@@ -132,7 +133,9 @@ fn points_parents_and_ties_are_those_of_the_rule(rt: HostRuntime) -> Result<(), 
 #[test]
 fn tiles_at_the_ends_of_their_type_have_a_topology(rt: HostRuntime) -> Result<(), Fail> {
     let last = u32::MAX;
-    let topology = topology(rt.alloc(), &[(0, 0), (last, 0), (0, last), (last, last)])?;
+    let mut room = TopologyRoom::new(rt.alloc());
+    let tiles = [(0, 0), (last, 0), (0, last), (last, last)];
+    let topology = topology(rt.alloc(), &tiles, &mut room)?;
     let points = points_of(rt.alloc(), &topology)?;
     assert_eq!(rt; length_of(&points), 3 * u64::from(last));
     Ok(())

@@ -2,7 +2,7 @@ ghost use Rattle.std.specs.Prelude.{◌<◌, ◌≤◌, ◌^◌, length};
 
 use crate::draws::Draws;
 use std::alloc::{AllocError, Global};
-use steiner_topology::{Topology, topology};
+use steiner_topology::{Topology, TopologyRoom, topology};
 
 /// The length of a topology, as a number that wraps.
 fn wirelength(net: &Topology) -> u64 {
@@ -29,13 +29,16 @@ fn tiles(alloc: Global, draws: &mut Draws) -> Result<Vec<(u32, u32)>, AllocError
 /// The sum of the lengths of so many topologies.
 pub(crate) fn sum(alloc: Global, count: u32) -> Result<u64, AllocError> {
     let mut draws = Draws::new();
+    let mut room = TopologyRoom::new(alloc);
     let mut sum: u64 = 0;
     for _ in 0..count {
         let tiles = tiles(alloc, &mut draws)?;
         if tiles.is_empty() || tiles.len() > 20 {
             continue;
         }
-        sum = sum.wrapping_add(wirelength(&topology(alloc, &tiles)?));
+        let topology = topology(alloc, &tiles, &mut room)?;
+        sum = sum.wrapping_add(wirelength(&topology));
+        room.give_back(topology);
     }
     Ok(sum)
 }

@@ -42,10 +42,11 @@ pub(crate) fn sum(alloc: Global, side: u32, count: u32) -> Result<u64, AllocErro
         return Ok(0);
     };
     let costs = Uneven { shape };
+    let mut walk = Vec::new(alloc);
     let mut sum: u64 = 0;
     for _ in 0..count {
-        let walk = pattern(alloc, &costs, shape, 0, shape.cells() - 1)?;
-        sum = sum.wrapping_add(walk.as_slice().len() as u64);
+        pattern(&costs, shape, 0, shape.cells() - 1, &mut walk)?;
+        sum = sum.wrapping_add(walk.len() as u64);
     }
     Ok(sum)
 }

@@ -1,20 +1,26 @@
-ghost use Rattle.std.specs.Prelude.{◌≡◌, ◌+◌, ◌*◌, ◌<◌, ◌≤◌, ◌^◌, length, map, take, fold, All, IfOk};
+ghost use Rattle.std.specs.Prelude.{◌≡◌, ◌+◌, ◌*◌, ◌<◌, ◌≤◌, ◌^◌, length, map, take, fold, All, IfOk, OnOk};
 ghost use Rattle.steiner_topology.specs.Joins.{AreInside, joins_of};
 ghost use Rattle.steiner_topology.specs.Topology.{with_pair, loose_points, topology_of, wirelength, tiles_of};
 ghost use Rattle.steiner_topology.specs.Spanning.{IsTopology, IsSpanningTree, IsShortest, IsLeast, total_span};
 
 use crate::branch::handle;
-use crate::children::child_lists;
+use crate::children::{Children, put_child_lists};
 use crate::point::{Join, Point, Tile};
 use crate::prim::joins_of;
+use crate::room::TopologyRoom;
 use crate::tree::Topology;
 use std::alloc::{AllocError, Global};
+use std::mem;
 
 /// The topology of the tiles, of which the first is the driver's: Prim's tree, then for each point
 /// in the order of joining a point more where its way to its parent can be shared with that of
 /// another neighbour of the parent. Takes time in the square of the number of tiles. The only
 /// error is want of memory.
-pub fn topology(alloc: Global, tiles: &[Tile]) -> Result<Topology, AllocError>
+pub fn topology(
+    alloc: Global,
+    tiles: &[Tile],
+    room: &mut TopologyRoom,
+) -> Result<Topology, AllocError>
     requires some { 0 < length tiles.now }
     requires few { length tiles.now < 2 ^ 31 }
     ensures exact { IfOk result (λ t. t ≡ topology_of tiles.now) }
@@ -31,45 +37,60 @@ pub fn topology(alloc: Global, tiles: &[Tile]) -> Result<Topology, AllocError>
     ensures shortest { IfOk result (IsShortest tiles.now) }
     ensures least { length tiles.now ≡ 3 → IfOk result (IsLeast tiles.now) }
 {
-    build(alloc, tiles)
+    joins_of(tiles, &mut room.nearest, &mut room.joins)?;
+    let points = mem::replace(&mut room.points, Vec::new(alloc));
+    build(alloc, tiles, &room.joins, points, &mut room.children)
 }
 
-fn build(alloc: Global, tiles: &[Tile]) -> Result<Topology, AllocError>
+/// The same, where Prim's tree is known. The points are put in place of those that the list holds.
+fn build(
+    alloc: Global,
+    tiles: &[Tile],
+    joins: &[Join],
+    mut points: Vec<Point>,
+    children: &mut Vec<Children>,
+) -> Result<Topology, AllocError>
     requires some { 0 < length tiles.now }
     requires few { length tiles.now < 2 ^ 31 }
+    requires joins { joins.now ≡ joins_of tiles.now }
     ensures { IfOk result (λ t. t ≡ topology_of tiles.now) }
 {
-    let joins = joins_of(alloc, tiles)?;
-    let mut points = joined_points(alloc, tiles, &joins)?;
-    let mut children = child_lists(alloc, &points)?;
-    for &join in &joins {
-        handle(&mut points, &mut children, join)?;
+    put_joined_points(tiles, joins, &mut points)?;
+    put_child_lists(alloc, &points, children)?;
+    for &join in joins {
+        handle(&mut points, children, join)?;
     }
     Ok(Topology::from_points(points))
 }
 
-/// The tiles as points, hung by the pairs.
-fn joined_points(alloc: Global, tiles: &[Tile], joins: &[Join]) -> Result<Vec<Point>, AllocError>
+/// Puts the tiles as points, hung by the pairs, in place of what a list holds.
+fn put_joined_points(
+    tiles: &[Tile],
+    joins: &[Join],
+    points: &mut Vec<Point>,
+) -> Result<(), AllocError>
     requires few { length tiles.now < 2 ^ 31 }
     requires inside { All (AreInside tiles.now) joins.now }
-    ensures { IfOk result (λ points. points.items ≡ fold with_pair (loose_points tiles.now) joins.now) }
+    ensures { OnOk result (points.new.items ≡ fold with_pair (loose_points tiles.now) joins.now) }
 {
-    let mut points = loose_points(alloc, tiles)?;
+    put_loose_points(tiles, points)?;
     for join in joins {
         points[join.point as usize].parent = join.parent;
     }
-    Ok(points)
+    Ok(())
 }
 
-/// The tiles as points, each its own parent, with room for as many points more.
-fn loose_points(alloc: Global, tiles: &[Tile]) -> Result<Vec<Point>, AllocError>
+/// Puts the tiles as points, each its own parent, in place of what a list holds, with room for as
+/// many points more.
+fn put_loose_points(tiles: &[Tile], points: &mut Vec<Point>) -> Result<(), AllocError>
     requires few { length tiles.now < 2 ^ 31 }
-    ensures { IfOk result (λ points. points.items ≡ loose_points tiles.now) }
+    ensures { OnOk result (points.new.items ≡ loose_points tiles.now) }
 {
-    let mut points = Vec::with_capacity(alloc, 2 * tiles.len())?;
+    points.clear();
+    points.reserve(2 * tiles.len())?;
     for parent in 0..tiles.len() as u32 {
         let tile = tiles[parent as usize];
         points.push(Point { tile, parent })?;
     }
-    Ok(points)
+    Ok(())
 }

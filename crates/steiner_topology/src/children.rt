@@ -1,4 +1,4 @@
-ghost use Rattle.std.specs.Prelude.{◌≡◌, ◌+◌, ◌<◌, ◌^◌, [], vec_len, length, replicate, All, IfOk, OnOk};
+ghost use Rattle.std.specs.Prelude.{◌≡◌, ◌+◌, ◌<◌, ◌^◌, [], vec_len, length, replicate, All, OnOk};
 ghost use Rattle.steiner_topology.specs.Children.{AreChildren, lists_of, without, unlisted, listed, branch_listed};
 
 use crate::point::Point;
@@ -8,33 +8,37 @@ use std::alloc::{AllocError, Global};
 /// The numbers of a point's children. Few points have more than four.
 pub type Children = SmallVec<u32, 4>;
 
-/// The list of each point's children, with room for as many lists more. The only error is want of
-/// memory.
-pub fn child_lists(alloc: Global, points: &[Point]) -> Result<Vec<Children>, AllocError>
+/// Puts the list of each point's children in place of the lists that there are. The only error is
+/// want of memory.
+pub fn put_child_lists(
+    alloc: Global,
+    points: &[Point],
+    children: &mut Vec<Children>,
+) -> Result<(), AllocError>
     requires parents { All (λ p. p.parent < length points.now) points.now }
     requires few { length points.now < 2 ^ 31 }
-    ensures { IfOk result (λ lists. AreChildren points.now (lists_of lists.items)) }
+    ensures { OnOk result (AreChildren points.now (lists_of children.new.items)) }
 {
-    let mut children = empty_lists(alloc, points.len(), 2 * points.len())?;
+    put_empty_lists(alloc, points.len(), children)?;
     for child in 0..points.len() as u32 {
         let parent = points[child as usize].parent;
         if parent == child {
             continue;
         }
-        list(&mut children, parent, child)?;
+        list(children, parent, child)?;
     }
-    Ok(children)
+    Ok(())
 }
 
-/// So many empty lists, with room for some number of them.
-fn empty_lists(alloc: Global, count: usize, room: usize) -> Result<Vec<Children>, AllocError>
-    ensures { IfOk result (λ lists. lists_of lists.items ≡ replicate count []) }
+/// Puts so many empty lists in place of those that there are.
+fn put_empty_lists(alloc: Global, count: usize, lists: &mut Vec<Children>) -> Result<(), AllocError>
+    ensures { OnOk result (lists_of lists.new.items ≡ replicate count []) }
 {
-    let mut lists = Vec::with_capacity(alloc, room)?;
+    lists.clear();
     for _ in 0..count {
         lists.push(SmallVec::new(alloc))?;
     }
-    Ok(lists)
+    Ok(())
 }
 
 /// Moves `lower` and `j` from the lists of `upper` and of `i`, their parents so far, to that of a

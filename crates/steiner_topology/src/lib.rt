@@ -7,9 +7,11 @@ mod build;
 mod children;
 mod point;
 mod prim;
+mod room;
 mod tile;
 mod tree;
 
 pub use build::topology;
 pub use point::{Join, Point, Tile};
+pub use room::TopologyRoom;
 pub use tree::Topology;

@@ -1,44 +1,50 @@
-ghost use Rattle.std.specs.Prelude.{◌≡◌, ◌+◌, ◌<◌, ◌≤◌, ◌^◌, None, [], vec_len, length, map, fold, IfOk, IfSome, All};
+ghost use Rattle.std.specs.Prelude.{◌≡◌, ◌+◌, ◌<◌, ◌≤◌, ◌^◌, None, [], vec_len, length, map, fold, IfSome, OnOk, All};
 ghost use Rattle.steiner_topology.specs.Joins.{span, is_before, sooner, AreInside, nearest_pairs, offered, joins_of};
 
 use crate::point::{Join, Tile};
 use crate::tile::distance;
-use std::alloc::{AllocError, Global};
+use std::alloc::AllocError;
 
-/// Prim's tree: each point but point 0, in the order of joining, with its parent. Of all pairs of
-/// a point that isn't joined and one that is, the first is joined, by distance, then by point,
-/// then by parent. The only error is want of memory.
+/// Puts Prim's tree in place of what `joins` holds: each point but point 0, in the order of joining,
+/// with its parent. Of all pairs of a point that isn't joined and one that is, the first is joined,
+/// by distance, then by point, then by parent. `nearest` is room for a pair for each point. The only
+/// error is want of memory.
 ///
 /// R. C. Prim, Shortest connection networks and some generalizations, 1957.
-pub fn joins_of(alloc: Global, tiles: &[Tile]) -> Result<Vec<Join>, AllocError>
+pub fn joins_of(
+    tiles: &[Tile],
+    nearest: &mut Vec<Option<Join>>,
+    joins: &mut Vec<Join>,
+) -> Result<(), AllocError>
     requires some { 0 < length tiles.now }
     requires few { length tiles.now < 2 ^ 31 }
-    ensures joins { IfOk result (λ joins. joins.items ≡ joins_of tiles.now) }
-    ensures inside { IfOk result (λ joins. All (AreInside tiles.now) joins.items) }
-    ensures len { IfOk result (λ joins. vec_len joins < length tiles.now) }
+    ensures joins { OnOk result (joins.new.items ≡ joins_of tiles.now) }
+    ensures inside { OnOk result (All (AreInside tiles.now) joins.new.items) }
+    ensures len { OnOk result (vec_len joins.new < length tiles.now) }
 {
-    let mut nearest = first_pairs(alloc, tiles)?;
-    let mut joins = Vec::with_capacity(alloc, tiles.len())?;
-    while let Some(join) = soonest(tiles, &nearest) {
+    put_first_pairs(tiles, nearest)?;
+    joins.clear();
+    while let Some(join) = soonest(tiles, nearest) {
         joins.push(join)?;
         nearest[join.point as usize] = None;
-        offer(tiles, &mut nearest, join.point);
+        offer(tiles, nearest, join.point);
     }
-    Ok(joins)
+    Ok(())
 }
 
-/// The pair of each point with point 0, and None at point 0, which is joined.
-fn first_pairs(alloc: Global, tiles: &[Tile]) -> Result<Vec<Option<Join>>, AllocError>
+/// Puts the pair of each point with point 0, and None at point 0, which is joined, in place of what
+/// a list holds.
+fn put_first_pairs(tiles: &[Tile], pairs: &mut Vec<Option<Join>>) -> Result<(), AllocError>
     requires some { 0 < length tiles.now }
     requires few { length tiles.now < 2 ^ 31 }
-    ensures { IfOk result (λ pairs. pairs.items ≡ nearest_pairs tiles.now []) }
+    ensures { OnOk result (pairs.new.items ≡ nearest_pairs tiles.now []) }
 {
-    let mut pairs = Vec::with_capacity(alloc, tiles.len())?;
+    pairs.clear();
     pairs.push(None)?;
     for point in 1..tiles.len() as u32 {
         pairs.push(Some(Join { point, parent: 0 }))?;
     }
-    Ok(pairs)
+    Ok(())
 }
 
 /// The pair that comes first.

@@ -31,6 +31,11 @@ impl Topology {
         Topology { points }
     }
 
+    /// The list that the points stand in.
+    pub(crate) fn into_points(self) -> Vec<Point> {
+        self.points
+    }
+
     /// How many points there are: the tiles, and the points where branches meet.
     pub fn len(&self) -> u32
         ensures len { result ≡ length self.now }

@@ -21,7 +21,7 @@ tree_of_tiles-requires-clause-flat g c =
 
 pub tree_of_tiles-requires-clause-some : goal.tree_of_tiles-requires-clause-some
 tree_of_tiles-requires-clause-some g c =
-    subst (λ (tiles : List Tile). 0 < length tiles) (sym (c.deref.ensures.value ∙ c.in_ok-tiles.ensures.tiles))
+    subst (λ (tiles : List Tile). 0 < length tiles) (sym (c.deref.ensures.value ∙ c.in_ok-distinct_tiles.ensures.tiles))
     (distinct-some c.frame.result.now.shape c.args.pins.now c.requires.some)
 
 pub returns-clause-tree : goal.returns-clause-tree
@@ -33,7 +33,7 @@ returns-clause-tree g c =
     let shapes = ap (λ (x : CapacityView). x.shape) (c.new-costs.ensures.capacity ∙ c.requires.capacity) in
     let given_shape = ap (λ (x : CapacityView). x.shape) c.requires.capacity in
     let frame_shape = ap (λ (f : Frame). f.shape) c.frame.ensures.frame in
-    let tiles = c.deref.ensures.value ∙ c.in_ok-tiles.ensures.tiles ∙ ap (λ (s : Shape). distinct_tiles s c.args.pins.now) frame_shape in
+    let tiles = c.deref.ensures.value ∙ c.in_ok-distinct_tiles.ensures.tiles ∙ ap (λ (s : Shape). distinct_tiles s c.args.pins.now) frame_shape in
     let same = same-flat_price costs.capacity.now given.capacity.now costs.loads.now given.loads.now costs.rule.now.formula given.rule.now.formula costs.net given.net
     c.new-costs.ensures.capacity c.new-costs.ensures.loads c.new-costs.ensures.formula c.new-costs.ensures.net in
     let price = price_of given.capacity.now given.loads.now given.rule.now.formula given.net in
@@ -49,7 +49,7 @@ returns-clause-tiles g c =
     let grid = c.args.design.now.frame.shape in
     let shapes = ap (λ (x : CapacityView). x.shape) (c.new-costs.ensures.capacity ∙ c.requires.capacity) in
     let frame_shape = ap (λ (f : Frame). f.shape) c.frame.ensures.frame in
-    let tiles = c.deref.ensures.value ∙ c.in_ok-tiles.ensures.tiles ∙ ap (λ (s : Shape). distinct_tiles s c.args.pins.now) frame_shape in
+    let tiles = c.deref.ensures.value ∙ c.in_ok-distinct_tiles.ensures.tiles ∙ ap (λ (s : Shape). distinct_tiles s c.args.pins.now) frame_shape in
     if-then {P = λ t. All (λ tile. IsTrue (holds t (cell_of_tile flat tile))) c.deref.result.now} c.tree_of_tiles.result
     (λ t all. flat-tiles grid flat c.args.pins.now c.deref.result.now t (subst (λ (s : Shape). IsFlattened s flat) shapes c.new-costs.result.flattened)
     c.requires.pins tiles all)

@@ -25,12 +25,12 @@ pushed-all g line at to cells all same so_far =
 pub loop-at-preserved : goal.loop-at-preserved
 loop-at-preserved c = (
   next-on-line c.args.shape c.args.line c.loop-at.at c.args.to c.one_toward-at.result c.one_toward-at.ensures c.loop-at-test.true (c.loop-at.invariant.0) c.requires.to,
-  pushed-more c.args.shape c.args.line c.loop-at.at c.args.to c.one_toward-at.result c.loop-at.cells c.push.new.self
-      (c.args.cells.now ++ along c.args.shape c.args.line c.args.from c.args.to) c.one_toward-at.ensures c.loop-at-test.true (c.loop-at.invariant.1)
-      (c.in_ok-push.ensures.ok ∙ ap (λ cell. c.loop-at.cells ++ cell ∷ []) c.cell.ensures),
+  pushed-more c.args.shape c.args.line c.loop-at.at c.args.to c.one_toward-at.result c.loop-at.cells.items c.push.new.self.items
+      (c.args.cells.now.items ++ along c.args.shape c.args.line c.args.from c.args.to) c.one_toward-at.ensures c.loop-at-test.true (c.loop-at.invariant.1)
+      (c.in_ok-push.ensures.items ∙ ap (λ cell. c.loop-at.cells.items ++ cell ∷ []) c.cell.ensures),
 )
 
 pub returns : goal.returns
 returns c =
-    pushed-all c.args.shape c.args.line c.loop-at.at c.args.to c.loop-at.cells
-    (c.args.cells.now ++ along c.args.shape c.args.line c.args.from c.args.to) c.loop-at-test.false (c.loop-at.invariant.1)
+    pushed-all c.args.shape c.args.line c.loop-at.at c.args.to c.loop-at.cells.items
+    (c.args.cells.now.items ++ along c.args.shape c.args.line c.args.from c.args.to) c.loop-at-test.false (c.loop-at.invariant.1)

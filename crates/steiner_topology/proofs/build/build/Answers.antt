@@ -1,6 +1,8 @@
-use Rattle.std.proofs.Common.{◌≤◌, length, fold, ap, ◌∙◌, arith}
-use Rattle.steiner_topology.specs.Joins.{joins_of}
+use Rattle.std.proofs.Common.{◌≤◌, List, length, fold, All, sym, ap, subst, ◌∙◌, arith}
+use Rattle.steiner_topology.specs.declared.point.Join.{Join}
+use Rattle.steiner_topology.specs.Joins.{AreInside, joins_of}
 use Rattle.steiner_topology.specs.Topology.{with_pair, loose_points}
+use Rattle.steiner_topology.proofs.JoinLemmas.{joins_of-inside}
 use Rattle.steiner_topology.proofs.LawLemmas.{prim-inside, standing, join-inside, handled-more, handled-all}
 use Rattle.steiner_topology.proofs.build.build.Goals as goal
 
@@ -9,8 +11,8 @@ handle-requires-clause-inside c =
     let tiles = c.args.tiles.now in
     let stands = standing tiles c.loop-join.points.items c.loop-join.join-index c.requires.some c.loop-join.invariant.handled in
     let many = stands.many in
-    let below = join-inside tiles c.deref-join-items.result.now c.loop-join.join-index (record { point = 0; parent = 0 })
-    (c.deref-join-items.ensures.value ∙ c.in_ok-joins.ensures.joins) c.loop-join-test.true in
+    let below = join-inside tiles c.args.joins.now c.loop-join.join-index (record { point = 0; parent = 0 })
+    c.requires.joins c.loop-join-test.true in
     let kept = c.loop-join.points.ok.0 in
     omega arith
 
@@ -32,25 +34,25 @@ pub loop-join-preserved : goal.loop-join-preserved
 loop-join-preserved c = record {
   handled =
       c.in_ok-handle.ensures.points ∙
-      handled-more c.args.tiles.now c.loop-join.points.items c.deref-join-items.result.now c.loop-join.join-index (record { point = 0; parent = 0 })
-      (c.deref-join-items.ensures.value ∙ c.in_ok-joins.ensures.joins) c.loop-join-test.true c.loop-join.invariant.handled;
+      handled-more c.args.tiles.now c.loop-join.points.items c.args.joins.now c.loop-join.join-index (record { point = 0; parent = 0 })
+      c.requires.joins c.loop-join-test.true c.loop-join.invariant.handled;
   children = c.in_ok-handle.ensures.children;
 }
 
-pub child_lists-requires-clause-parents : goal.child_lists-requires-clause-parents
-child_lists-requires-clause-parents c =
+pub put_child_lists-requires-clause-parents : goal.put_child_lists-requires-clause-parents
+put_child_lists-requires-clause-parents c =
     let tiles = c.args.tiles.now in
-    let are = c.deref-2.ensures.value ∙ c.in_ok-points.ensures ∙
-    ap (fold with_pair (loose_points tiles)) (c.deref.ensures.value ∙ c.in_ok-joins.ensures.joins) in
-    let inside = prim-inside tiles c.deref-2.result.now c.requires.some are in
+    let are = c.deref.ensures.value ∙ c.in_ok-put_joined_points.ensures ∙
+    ap (fold with_pair (loose_points tiles)) c.requires.joins in
+    let inside = prim-inside tiles c.deref.result.now c.requires.some are in
     inside.1
 
-pub child_lists-requires-clause-few : goal.child_lists-requires-clause-few
-child_lists-requires-clause-few c =
+pub put_child_lists-requires-clause-few : goal.put_child_lists-requires-clause-few
+put_child_lists-requires-clause-few c =
     let tiles = c.args.tiles.now in
-    let are = c.deref-2.ensures.value ∙ c.in_ok-points.ensures ∙
-    ap (fold with_pair (loose_points tiles)) (c.deref.ensures.value ∙ c.in_ok-joins.ensures.joins) in
-    let inside = prim-inside tiles c.deref-2.result.now c.requires.some are in
+    let are = c.deref.ensures.value ∙ c.in_ok-put_joined_points.ensures ∙
+    ap (fold with_pair (loose_points tiles)) c.requires.joins in
+    let inside = prim-inside tiles c.deref.result.now c.requires.some are in
     let size = inside.0 in
     let few = c.requires.few in
     omega arith
@@ -72,7 +74,11 @@ pub returns : goal.returns
 returns c =
     let tiles = c.args.tiles.now in
     let done : length (joins_of tiles) ≤ c.loop-join.join-index =
-    let size = ap length (c.deref-join-items.ensures.value ∙ c.in_ok-joins.ensures.joins) in
+    let size = ap length c.requires.joins in
     let last = c.loop-join-test.false in
     omega arith in
     c.from_points.ensures ∙ handled-all tiles c.loop-join.points.items c.loop-join.join-index done c.loop-join.invariant.handled
+
+pub put_joined_points-requires-clause-inside : goal.put_joined_points-requires-clause-inside
+put_joined_points-requires-clause-inside c =
+    subst (λ (joins : List Join). All (AreInside c.args.tiles.now) joins) (sym c.requires.joins) (joins_of-inside c.args.tiles.now)

@@ -1,9 +1,10 @@
 use Rattle.std.proofs.Common.{◌≡◌, ◌*◌, ◌<◌, ◌≤◌, Result, Ok, Err, IfOk, List, length, take, sym, subst}
 use Rattle.std.specs.declared.alloc.AllocError.{AllocError}
+use Rattle.steiner_topology.specs.Tile.{Tile}
 use Rattle.steiner_topology.specs.declared.point.Point.{Point}
 use Rattle.steiner_topology.specs.Joins.{joins_of}
 use Rattle.steiner_topology.specs.Topology.{topology_of, wirelength, tiles_of}
-use Rattle.steiner_topology.specs.Spanning.{IsTopology, IsShortest, IsLeast, total_span}
+use Rattle.steiner_topology.specs.Spanning.{IsTopology, IsSpanningTree, IsShortest, IsLeast, total_span}
 use Rattle.steiner_topology.proofs.LawLemmas.{topology_of-tree, topology_of-tiles, length-topology_of, topology_of-prim, topology_of-shortest}
 use Rattle.steiner_topology.proofs.JoinLemmas.{length-joins_of}
 use Rattle.steiner_topology.proofs.SpanningLemmas.{joins_of-spans}
@@ -45,6 +46,12 @@ returns-clause-least c =
     let tiles = c.args.tiles.now in
     λ three. on_ok c.build.result (topology_of tiles) (IsLeast tiles) c.build.ensures (topology_of-least tiles three)
 
+-- Prim's tree spans the tiles
+prim : (tiles : List Tile) → 0 < length tiles → IsSpanningTree tiles (joins_of tiles)
+prim tiles some = record { spans = joins_of-spans tiles; few = length-joins_of tiles some }
+
+pub returns-in_err-joins_of-clause-prim_tree : goal.returns-in_err-joins_of-clause-prim_tree
+returns-in_err-joins_of-clause-prim_tree c = prim c.args.tiles.now c.requires.some
+
 pub returns-clause-prim_tree : goal.returns-clause-prim_tree
-returns-clause-prim_tree c =
-    record { spans = joins_of-spans c.args.tiles.now; few = length-joins_of c.args.tiles.now c.requires.some }
+returns-clause-prim_tree c = prim c.args.tiles.now c.requires.some

@@ -8,11 +8,11 @@ use Rattle.steiner_topology.proofs.prim.joins_of.Goals as goal
 pub loop-join-init : goal.loop-join-init
 loop-join-init c =
     let tiles = c.args.tiles.now in
-    let pairs = c.in_ok-nearest.ensures in
-    let none = c.in_ok-joins.ensures.items in
+    let pairs = c.in_ok-put_first_pairs.ensures in
+    let none = c.clear.ensures.items in
     record {
       nearest = pairs ∙ ap (nearest_pairs tiles) (sym none);
-      rest = ap (λ (n : ℕ). joins_after n tiles c.in_ok-joins.joins.items) (ap open_count pairs ∙ open_count-first tiles c.requires.some) ∙
+      rest = ap (λ (n : ℕ). joins_after n tiles c.clear.new.self.items) (ap open_count pairs ∙ open_count-first tiles c.requires.some) ∙
           ap (λ (xs : List Join). joins_after (length tiles - 1) tiles xs) none;
     }
 
@@ -47,7 +47,7 @@ offer-requires-clause-parent c =
     found.1.inside
 
 -- what the turn leaves in the pairs
-after_turn : (c : goal.After-nearest-in-Some-4-1) →
+after_turn : (c : goal.After-nearest-in-Some-1) →
     Joined c.args.tiles.now c.loop-join.joins.items c.loop-join.nearest.items c.in-Some.join
     (take c.loop-join.nearest.len (c.offer.new.pairs ++ drop (length c.offer.new.pairs) (set c.loop-join.nearest.items c.in-Some.join.point None)))
 after_turn c =

@@ -1,6 +1,6 @@
 use Rattle.std.proofs.Common.{◌≡◌, take, fold, length}
 use Rattle.steiner_topology.specs.Topology.{with_pair, loose_points}
-use Rattle.steiner_topology.proofs.build.joined_points.Given as goal
+use Rattle.steiner_topology.proofs.build.put_joined_points.Given as goal
 
 abbrev pub invariant-loop-join : goal.invariant-loop-join
 invariant-loop-join l = record {

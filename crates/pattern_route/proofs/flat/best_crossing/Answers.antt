@@ -1,16 +1,14 @@
-use Rattle.std.proofs.Common.{◌≡◌, ℕ, List, ◌∷◌, map, Option, sym, ap, subst, ◌∙◌}
-use Rattle.std.specs.Prelude.{IfOk}
+use Rattle.std.proofs.Common.{◌≡◌, ℕ, List, ◌∷◌, map, Option, sym, ap, ◌∙◌}
 use Rattle.gr_base.specs.declared.grid.Cell.{Cell}
 use Rattle.gr_base.specs.declared.grid.Edge.{Edge}
 use Rattle.gr_base.specs.declared.grid.Shape.{Shape}
-use Rattle.gr_base.specs.Grid.{place_at}
 use Rattle.pattern_route.specs.declared.line.Axis.TheVariants.{Columns, Rows}
 use Rattle.pattern_route.specs.declared.line.Span.{Span}
 use Rattle.pattern_route.specs.Steps.{onward}
-use Rattle.pattern_route.specs.Walks.{by_column, by_row, walk_cost, least_of, first_least, flat_walk, flat_walks}
+use Rattle.pattern_route.specs.Walks.{by_column, by_row, walk_cost, least_of, first_least, flat_walks}
 use Rattle.pattern_route.specs.Lines.{span_of, walk_at, walks_by}
 use Rattle.pattern_route.proofs.ChoiceLemmas.{least_of-append}
-use Rattle.pattern_route.proofs.flat.least_walk.Goals as goal
+use Rattle.pattern_route.proofs.flat.best_crossing.Goals as goal
 
 -- the first least walk by a column, or by a row, is the flat walk
 flat-chosen : (g : Shape) (price : Edge → Option ℕ) (a b : Cell) (columns rows : Span) (column best : List ℕ) →
@@ -24,19 +22,10 @@ flat-chosen g price a b columns rows column best is_columns is_rows by_columns b
     ap (λ (s : Span). least_of cost (first_least cost (walks_by g (span_of Columns a b))) (walks_by g s)) is_rows ∙
     sym (least_of-append cost (by_column g a b a.x) (map (by_column g a b) (onward a.x b.x)) (map (by_row g a b) (a.y ∷ onward a.y b.y)))
 
-pub returns : goal.returns
-returns g c =
+pub returns-clause-first : goal.returns-clause-first
+returns-clause-first g c =
     let shape = c.args.shape in
     let price = g.C.Costs.price c.args.costs.now in
-    let cost : List ℕ → ℕ = walk_cost shape price in
-    let from = c.place_of-from.ensures.place in
-    let to = c.place_of-to.ensures.place in
-    let chosen =
-    flat-chosen shape price c.place_of-from.result c.place_of-to.result c.new.result c.new-2.result
-    (walk_at shape c.least_crossing-by_column.result) (walk_at shape c.least_with-best.result) c.new.ensures c.new-2.ensures
-    c.least_crossing-by_column.ensures.least c.least_with-best.ensures.least in
-    let walk : walk_at shape c.least_with-best.result ≡ flat_walk shape price c.args.a c.args.b =
-    chosen ∙ ap (λ (a : Cell). first_least cost (flat_walks shape a c.place_of-to.result)) from ∙
-    ap (λ (b : Cell). first_least cost (flat_walks shape (place_at shape c.args.a) b)) to in
-    let P : List ℕ → Type 0 = λ w. IfOk c.walk_of.result (λ cells. cells ≡ w) in
-    subst P walk c.walk_of.ensures
+    flat-chosen shape price c.args.from c.args.to c.new.result c.new-2.result
+    (walk_at shape c.least_crossing-by_column.result) (walk_at shape c.least_with.result) c.new.ensures c.new-2.ensures
+    c.least_crossing-by_column.ensures.least c.least_with.ensures.least

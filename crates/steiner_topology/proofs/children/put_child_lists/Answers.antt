@@ -2,7 +2,7 @@ use Rattle.std.proofs.Common.{List, ℕ, ◌+◌, length, sym, subst, arith}
 use Rattle.steiner_topology.specs.Topology.{point, parent_of}
 use Rattle.steiner_topology.specs.Children.{lists_of}
 use Rattle.steiner_topology.proofs.ChildLemmas.{Hold, child_below, child-own, child-listed}
-use Rattle.steiner_topology.proofs.children.child_lists.Goals as goal
+use Rattle.steiner_topology.proofs.children.put_child_lists.Goals as goal
 
 pub loop-child-preserved-then-parent-child : goal.loop-child-preserved-then-parent-child
 loop-child-preserved-then-parent-child c =

@@ -3,7 +3,7 @@ use Rattle.std.proofs.lemmas.List.FromFn.{map-range_with_len_more}
 use Rattle.steiner_topology.specs.declared.point.Point.{Point}
 use Rattle.steiner_topology.specs.Tile.{tile_at}
 use Rattle.steiner_topology.specs.Topology.{point}
-use Rattle.steiner_topology.proofs.build.loose_points.Goals as goal
+use Rattle.steiner_topology.proofs.build.put_loose_points.Goals as goal
 
 pub loop-parent-preserved : goal.loop-parent-preserved
 loop-parent-preserved c =

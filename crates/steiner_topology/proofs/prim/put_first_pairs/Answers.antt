@@ -3,7 +3,7 @@ use Rattle.std.specs.List.{range_with_len}
 use Rattle.steiner_topology.specs.Joins.{pair}
 use Rattle.steiner_topology.specs.declared.point.Join.{Join}
 use Rattle.steiner_topology.proofs.JoinLemmas.{nearest_pairs-first, nearest_pairs-push}
-use Rattle.steiner_topology.proofs.prim.first_pairs.Goals as goal
+use Rattle.steiner_topology.proofs.prim.put_first_pairs.Goals as goal
 
 pub loop-point-preserved : goal.loop-point-preserved
 loop-point-preserved c =

@@ -1,0 +1,46 @@
+ghost use Rattle.std.specs.Prelude.{◌≡◌, ◌≤◌, length, IfOk, OnOk};
+ghost use Rattle.layer_assign.specs.Assignments.{tile_count};
+
+use crate::flat::FlatRoom;
+use gr_base::{Design, Shape};
+use layer_assign::LayerRoom;
+use std::alloc::{AllocError, Global};
+
+/// What pattern plans are made with. It serves net after net and keeps its memory; what it holds
+/// between two plans means nothing. It also serves designs of other grids, for which it makes its
+/// memory anew.
+#[derive(Debug, Drop)]
+pub struct Planner {
+    pub(crate) shape: Shape,
+    pub(crate) flat: FlatRoom,
+    pub(crate) layers: LayerRoom,
+    pub(crate) ghost fits: { tile_count shape ≤ length flat.joining.index },
+    pub(crate) ghost layered: { tile_count shape ≤ layers },
+}
+
+impl Planner {
+    /// A planner for the nets of a design. The only error is want of memory.
+    pub fn new(alloc: Global, design: &Design) -> Result<Planner, AllocError> {
+        Planner::of_grid(alloc, design.frame().shape)
+    }
+
+    fn of_grid(alloc: Global, shape: Shape) -> Result<Planner, AllocError>
+        ensures { IfOk result (λ planner. planner.shape ≡ shape) }
+    {
+        Ok(Planner {
+            shape,
+            flat: FlatRoom::new(alloc, shape)?,
+            layers: LayerRoom::new(alloc, shape)?,
+        })
+    }
+
+    /// Makes the memory anew where it isn't that of the grid. The only error is want of memory.
+    pub(crate) fn fit(&mut self, alloc: Global, shape: Shape) -> Result<(), AllocError>
+        ensures { OnOk result (self.new.shape ≡ shape) }
+    {
+        if self.shape != shape {
+            *self = Planner::of_grid(alloc, shape)?;
+        }
+        Ok(())
+    }
+}

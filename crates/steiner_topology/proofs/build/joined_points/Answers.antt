@@ -1,9 +1,0 @@
-use Rattle.std.proofs.Common.{ap, ◌∙◌, length}
-use Rattle.steiner_topology.proofs.TopologyLemmas.{length-loose}
-use Rattle.steiner_topology.proofs.build.joined_points.Goals as goal
-
-pub loop-join-init : goal.loop-join-init
-loop-join-init c = record {
-  so_far = c.in_ok-points.ensures;
-  size = ap length c.in_ok-points.ensures ∙ length-loose c.args.tiles.now;
-}

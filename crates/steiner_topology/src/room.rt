@@ -1,0 +1,31 @@
+use crate::children::Children;
+use crate::point::{Join, Point};
+use crate::tree::Topology;
+use std::alloc::Global;
+
+/// What topologies are made with, kept from net to net. What it holds between two calls means
+/// nothing.
+#[derive(Debug, Drop)]
+pub struct TopologyRoom {
+    pub(crate) nearest: Vec<Option<Join>>,
+    pub(crate) joins: Vec<Join>,
+    pub(crate) children: Vec<Children>,
+    pub(crate) points: Vec<Point>,
+}
+
+impl TopologyRoom {
+    /// Room that takes no memory yet.
+    pub fn new(alloc: Global) -> TopologyRoom {
+        TopologyRoom {
+            nearest: Vec::new(alloc),
+            joins: Vec::new(alloc),
+            children: Vec::new(alloc),
+            points: Vec::new(alloc),
+        }
+    }
+
+    /// Takes the memory of a topology that is no longer wanted.
+    pub fn give_back(&mut self, topology: Topology) {
+        self.points = topology.into_points();
+    }
+}
