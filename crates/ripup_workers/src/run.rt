@@ -15,6 +15,7 @@ use crate::worker::Worker;
 use book_state::Replica;
 use cost_rules::{Going, Sight};
 use gr_base::Design;
+use net_plan::Planner;
 use round_core::routed_nets;
 use std::alloc::{AllocError, Global};
 use std::sync::Wait;
@@ -62,7 +63,12 @@ fn callers<N: BookName>(
     let coordinator = Coordinator { pass: first };
     while let Some(pass) = rest.next() {
         let replica = Replica::new(alloc, design)?;
-        workers.push_reserved(Worker { pass, replica });
+        let planner = Planner::new(alloc, design)?;
+        workers.push_reserved(Worker {
+            pass,
+            replica,
+            planner,
+        });
     }
     Ok((coordinator, workers))
 }

@@ -15,16 +15,16 @@ ghost use Rattle.ripup_workers.specs.Working.{HasAttempted};
 
 use crate::gate::{Gate, Stop};
 use crate::worker::Worker;
-use book_state::{PlanKind, Reply};
+use book_state::{PlanKind, Replica, Reply};
 use cost_rules::CostRule;
 use gr_base::{Design, RouteTree};
 use grid_demand::{Capacity, Loads};
 use maze_route::Window;
-use net_plan::{maze_plan, maze_window, pattern_plan};
+use net_plan::{Planner, maze_plan, maze_window, pattern_plan};
 use std::alloc::{AllocError, Global};
 use std::sync::Wait;
 use std::thread::Threads;
-use track_book::{BookName, TrackBook};
+use track_book::{BookName, Pass, TrackBook};
 
 /// By how many tiles the window of a net's pins grows on each side with each round.
 const MARGIN: u32 = 4;
@@ -101,7 +101,12 @@ fn kind_of(round: u32) -> PlanKind
 
 impl Wish<'_> {
     /// The net's plan over loads.
-    fn plan(&self, capacity: &Capacity, loads: &Loads) -> Result<RouteTree, AllocError>
+    fn plan(
+        &self,
+        planner: &mut Planner,
+        capacity: &Capacity,
+        loads: &Loads,
+    ) -> Result<RouteTree, AllocError>
         requires capacity { capacity.now ≡ capacity_of self.now.design.now }
         requires loads { loads.now.shape ≡ self.now.design.now.frame.shape }
         requires demand { HasBoundedDemand loads.now }
@@ -111,6 +116,7 @@ impl Wish<'_> {
         match self.kind {
             PlanKind::Pattern => pattern_plan(
                 self.alloc,
+                planner,
                 self.design,
                 capacity,
                 loads,
@@ -229,7 +235,7 @@ impl<N: BookName, R: Threads + Wait + Sync, G: Gate> Ground<'_, N, R, G> {
             worker.new.pass.seen wish.now.net wish.now.kind) }
     {
         worker.sync(self.rt, self.book)?;
-        self.plan(wish, worker)
+        self.plan(wish, &worker.pass, &worker.replica, &mut worker.planner)
     }
 
     /// The same, where `tree` is the net's plan over the first `front` entries. Where nothing was added
@@ -257,20 +263,26 @@ impl<N: BookName, R: Threads + Wait + Sync, G: Gate> Ground<'_, N, R, G> {
         if still && read == front {
             return Ok(tree);
         }
-        self.plan(wish, worker)
+        self.plan(wish, &worker.pass, &worker.replica, &mut worker.planner)
     }
 
-    /// The net's plan over all that the worker knows, for which its replica stands.
-    fn plan(&self, wish: &Wish<'_>, worker: &Worker<N>) -> Result<RouteTree, AllocError>
+    /// The net's plan over all that the pass has seen, for which the replica stands.
+    fn plan(
+        &self,
+        wish: &Wish<'_>,
+        pass: &Pass<N>,
+        replica: &Replica,
+        planner: &mut Planner,
+    ) -> Result<RouteTree, AllocError>
         requires design { HasCapacity wish.now.design.now N.capacity }
-        requires stands { StandsFor N.capacity worker.now.pass.seen worker.now.replica }
+        requires stands { StandsFor N.capacity pass.now.seen replica.now }
         ensures { IfOk result (IsPlanFor wish.now.design.now wish.now.rule.now.formula
-            worker.now.pass.seen wish.now.net wish.now.kind) }
+            pass.now.seen wish.now.net wish.now.kind) }
     {
-        let number = worker.pass.number();
+        let number = pass.number();
         self.gate
             .pass(self.rt, number, Stop::Search { net: wish.net });
-        wish.plan(self.book.capacity(), worker.replica.loads())
+        wish.plan(planner, self.book.capacity(), replica.loads())
     }
 }
 
