@@ -14,6 +14,7 @@ use crate::team::Member;
 use crate::turn::attempt;
 use crate::work::work;
 use crate::worker::Worker;
+use net_plan::Planner;
 use std::alloc::{AllocError, Global};
 use std::sync::Wait;
 use std::thread::{Threads, for_each_mut};
@@ -149,6 +150,7 @@ fn attempt_rest<N: BookName, R: Threads + Wait + Sync, G: Gate>(
         (HasAttemptedOver asked.now.design.now asked.now.rule.now.formula round nets.now
         worker.old.pass worker.new.pass) }
 {
+    let mut planner = Planner::new(alloc, asked.design)?;
     for &net in nets {
         attempt(
             rt,
@@ -160,6 +162,7 @@ fn attempt_rest<N: BookName, R: Threads + Wait + Sync, G: Gate>(
             gate,
             net,
             worker,
+            &mut planner,
         )?;
     }
     Ok(())

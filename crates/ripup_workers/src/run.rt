@@ -15,7 +15,6 @@ use crate::worker::Worker;
 use book_state::Replica;
 use cost_rules::{Going, Sight};
 use gr_base::Design;
-use net_plan::Planner;
 use round_core::routed_nets;
 use std::alloc::{AllocError, Global};
 use std::sync::Wait;
@@ -63,12 +62,7 @@ fn callers<N: BookName>(
     let coordinator = Coordinator { pass: first };
     while let Some(pass) = rest.next() {
         let replica = Replica::new(alloc, design)?;
-        let planner = Planner::new(alloc, design)?;
-        workers.push_reserved(Worker {
-            pass,
-            replica,
-            planner,
-        });
+        workers.push_reserved(Worker { pass, replica });
     }
     Ok((coordinator, workers))
 }

@@ -15,7 +15,7 @@ ghost use Rattle.ripup_workers.specs.Working.{HasAttempted};
 
 use crate::gate::{Gate, Stop};
 use crate::worker::Worker;
-use book_state::{PlanKind, Replica, Reply};
+use book_state::{PlanKind, Reply};
 use cost_rules::CostRule;
 use gr_base::{Design, RouteTree};
 use grid_demand::{Capacity, Loads};
@@ -24,7 +24,7 @@ use net_plan::{Planner, maze_plan, maze_window, pattern_plan};
 use std::alloc::{AllocError, Global};
 use std::sync::Wait;
 use std::thread::Threads;
-use track_book::{BookName, Pass, TrackBook};
+use track_book::{BookName, TrackBook};
 
 /// By how many tiles the window of a net's pins grows on each side with each round.
 const MARGIN: u32 = 4;
@@ -62,6 +62,7 @@ pub(crate) fn attempt<N: BookName, R: Threads + Wait + Sync, G: Gate>(
     gate: &G,
     net: u32,
     worker: &mut Worker<N>,
+    planner: &mut Planner,
 ) -> Result<(), AllocError>
     requires capacity { N.capacity ≡ capacity_of design.now }
     requires round { round ≤ most_rounds }
@@ -80,10 +81,10 @@ pub(crate) fn attempt<N: BookName, R: Threads + Wait + Sync, G: Gate>(
     };
     let ground = Ground { rt, book, gate };
     if round == 0 {
-        return ground.claim_first(&wish, worker);
+        return ground.claim_first(&wish, worker, planner);
     }
     worker.release(rt, book, net)?;
-    ground.claim_until_got(&wish, worker)
+    ground.claim_until_got(&wish, worker, planner)
 }
 
 /// How plans are made in a round.
@@ -148,30 +149,40 @@ impl Wish<'_> {
 
 impl<N: BookName, R: Threads + Wait + Sync, G: Gate> Ground<'_, N, R, G> {
     /// Claims the net for its plan at any demand.
-    fn claim_first(&self, wish: &Wish<'_>, worker: &mut Worker<N>) -> Result<(), AllocError>
+    fn claim_first(
+        &self,
+        wish: &Wish<'_>,
+        worker: &mut Worker<N>,
+        planner: &mut Planner,
+    ) -> Result<(), AllocError>
         requires design { HasCapacity wish.now.design.now N.capacity }
         requires kind { wish.now.kind ≡ PlanKind.Pattern }
         ensures { (t : Setting) → IsOver wish.now.design.now wish.now.rule.now.formula t →
             OnOk result (HasLed t 0 Rests Rests (wish.now.net ∷ []) worker.old.pass worker.new.pass) }
     {
-        let tree = self.search(wish, worker)?;
+        let tree = self.search(wish, worker, planner)?;
         self.claim(wish, tree, None, worker)?;
         Ok(())
     }
 
     /// Claims the net until a claim isn't answered `Full`.
-    fn claim_until_got(&self, wish: &Wish<'_>, worker: &mut Worker<N>) -> Result<(), AllocError>
+    fn claim_until_got(
+        &self,
+        wish: &Wish<'_>,
+        worker: &mut Worker<N>,
+        planner: &mut Planner,
+    ) -> Result<(), AllocError>
         requires { HasCapacity wish.now.design.now N.capacity }
         ensures { (t : Setting) (round : ℕ) → IsOver wish.now.design.now wish.now.rule.now.formula t →
             0 < round → wish.now.kind ≡ kind_of round →
             OnOk result (HasLed t round (Claiming wish.now.net slacks_of_turn) Rests []
             worker.old.pass worker.new.pass) }
     {
-        let tree = self.search(wish, worker)?;
-        let Some(tree) = self.claim_within(wish, tree, worker)? else {
+        let tree = self.search(wish, worker, planner)?;
+        let Some(tree) = self.claim_within(wish, tree, worker, planner)? else {
             return Ok(());
         };
-        let Some(tree) = self.claim_within(wish, tree, worker)? else {
+        let Some(tree) = self.claim_within(wish, tree, worker, planner)? else {
             return Ok(());
         };
         self.claim(wish, tree, None, worker)?;
@@ -185,6 +196,7 @@ impl<N: BookName, R: Threads + Wait + Sync, G: Gate> Ground<'_, N, R, G> {
         wish: &Wish<'_>,
         tree: RouteTree,
         worker: &mut Worker<N>,
+        planner: &mut Planner,
     ) -> Result<Option<RouteTree>, AllocError>
         requires design { HasCapacity wish.now.design.now N.capacity }
         requires plan { IsPlanFor wish.now.design.now wish.now.rule.now.formula
@@ -201,7 +213,7 @@ impl<N: BookName, R: Threads + Wait + Sync, G: Gate> Ground<'_, N, R, G> {
         if !is_full(reply) {
             return Ok(None);
         }
-        let next = self.search_again(wish, same, front, worker)?;
+        let next = self.search_again(wish, same, front, worker, planner)?;
         Ok(Some(next))
     }
 
@@ -227,7 +239,12 @@ impl<N: BookName, R: Threads + Wait + Sync, G: Gate> Ground<'_, N, R, G> {
     }
 
     /// The net's plan over what the book holds now, all of which the worker comes to know.
-    fn search(&self, wish: &Wish<'_>, worker: &mut Worker<N>) -> Result<RouteTree, AllocError>
+    fn search(
+        &self,
+        wish: &Wish<'_>,
+        worker: &mut Worker<N>,
+        planner: &mut Planner,
+    ) -> Result<RouteTree, AllocError>
         requires { HasCapacity wish.now.design.now N.capacity }
         ensures learnt { (t : Setting) → IsOver wish.now.design.now wish.now.rule.now.formula t →
             OnOk result (HasFollowed t worker.old.pass worker.new.pass) }
@@ -235,7 +252,7 @@ impl<N: BookName, R: Threads + Wait + Sync, G: Gate> Ground<'_, N, R, G> {
             worker.new.pass.seen wish.now.net wish.now.kind) }
     {
         worker.sync(self.rt, self.book)?;
-        self.plan(wish, &worker.pass, &worker.replica, &mut worker.planner)
+        self.plan(wish, worker, planner)
     }
 
     /// The same, where `tree` is the net's plan over the first `front` entries. Where nothing was added
@@ -246,6 +263,7 @@ impl<N: BookName, R: Threads + Wait + Sync, G: Gate> Ground<'_, N, R, G> {
         tree: RouteTree,
         front: u64,
         worker: &mut Worker<N>,
+        planner: &mut Planner,
     ) -> Result<RouteTree, AllocError>
         requires design { HasCapacity wish.now.design.now N.capacity }
         requires planned { WasPlanned wish.now.design.now wish.now.rule.now.formula wish.now.net wish.now.kind
@@ -256,33 +274,32 @@ impl<N: BookName, R: Threads + Wait + Sync, G: Gate> Ground<'_, N, R, G> {
             worker.new.pass.seen wish.now.net wish.now.kind) }
     {
         let Some(window) = wish.window() else {
-            return self.search(wish, worker);
+            return self.search(wish, worker, planner);
         };
         let read = worker.replica.front();
         let still = worker.sync_beside(self.rt, self.book, window)?;
         if still && read == front {
             return Ok(tree);
         }
-        self.plan(wish, &worker.pass, &worker.replica, &mut worker.planner)
+        self.plan(wish, worker, planner)
     }
 
-    /// The net's plan over all that the pass has seen, for which the replica stands.
+    /// The net's plan over all that the worker knows, for which its replica stands.
     fn plan(
         &self,
         wish: &Wish<'_>,
-        pass: &Pass<N>,
-        replica: &Replica,
+        worker: &Worker<N>,
         planner: &mut Planner,
     ) -> Result<RouteTree, AllocError>
         requires design { HasCapacity wish.now.design.now N.capacity }
-        requires stands { StandsFor N.capacity pass.now.seen replica.now }
+        requires stands { StandsFor N.capacity worker.now.pass.seen worker.now.replica }
         ensures { IfOk result (IsPlanFor wish.now.design.now wish.now.rule.now.formula
-            pass.now.seen wish.now.net wish.now.kind) }
+            worker.now.pass.seen wish.now.net wish.now.kind) }
     {
-        let number = pass.number();
+        let number = worker.pass.number();
         self.gate
             .pass(self.rt, number, Stop::Search { net: wish.net });
-        wish.plan(planner, self.book.capacity(), replica.loads())
+        wish.plan(planner, self.book.capacity(), worker.replica.loads())
     }
 }
 

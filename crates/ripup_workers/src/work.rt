@@ -12,6 +12,7 @@ use crate::turn::attempt;
 use crate::worker::Worker;
 use cost_rules::CostRule;
 use gr_base::Design;
+use net_plan::Planner;
 use std::alloc::{AllocError, Global};
 use std::sync::Wait;
 use std::thread::Threads;
@@ -42,11 +43,23 @@ pub(crate) fn work<N: BookName, R: Threads + Wait + Sync, G: Gate>(
         OnOk result (HasWorked t round hand.old.taken hand.new.taken worker.old.pass worker.new.pass) }
 {
     let known = worker.pass.known();
+    let mut planner = Planner::new(alloc, design)?;
     for _ in rt.forever() {
         let Some(net) = share.take(hand) else {
             break;
         };
-        attempt(rt, alloc, design, rule, round, book, gate, net, worker)?;
+        attempt(
+            rt,
+            alloc,
+            design,
+            rule,
+            round,
+            book,
+            gate,
+            net,
+            worker,
+            &mut planner,
+        )?;
     }
     let grown = known <= worker.pass.known();
     prove!(grown);

@@ -9,18 +9,15 @@ ghost use Rattle.track_book.specs.Passes.{IsPass, IsAnswered, HasLearnt};
 use book_state::{Call, Claim, PlanKind, Replica, Reply};
 use gr_base::RouteTree;
 use maze_route::Window;
-use net_plan::Planner;
 use std::alloc::AllocError;
 use std::sync::Wait;
 use track_book::{BookName, Pass, TrackBook};
 
-/// One worker: its pass, a replica that stands for a first part of what the pass has seen, and what
-/// it makes pattern plans with.
+/// One worker: its pass, and a replica that stands for a first part of what the pass has seen.
 #[derive(Drop)]
 pub(crate) struct Worker<N: BookName> {
     pub(crate) pass: Pass<N>,
     pub(crate) replica: Replica,
-    pub(crate) planner: Planner,
     ghost stands: { StandsFor N.capacity (take replica.front pass.seen) replica },
 }
 
