@@ -41,10 +41,23 @@ impl RouteTree {
         requires { cell < cells_of shape }
         ensures tree { IfOk result (λ t. t ≡ record { shape = shape; nodes = node_of cell 0 ∷ [] }) }
     {
-        Ok(RouteTree {
-            shape,
-            nodes: vec![in alloc; Node { cell, parent: 0 }]?,
-        })
+        RouteTree::start_with_room(alloc, shape, cell, 1)
+    }
+
+    /// A tree of one node, which takes no more memory until it has so many nodes. The only error is
+    /// want of memory.
+    pub fn start_with_room(
+        alloc: Global,
+        shape: Shape,
+        cell: u32,
+        room: usize,
+    ) -> Result<RouteTree, AllocError>
+        requires { cell < cells_of shape }
+        ensures tree { IfOk result (λ t. t ≡ record { shape = shape; nodes = node_of cell 0 ∷ [] }) }
+    {
+        let mut nodes = Vec::with_capacity(alloc, room)?;
+        nodes.push(Node { cell, parent: 0 })?;
+        Ok(RouteTree { shape, nodes })
     }
 
     /// The grid that the tree lies in. Its clauses also say what holds of every tree.

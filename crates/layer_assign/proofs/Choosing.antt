@@ -227,7 +227,8 @@ all-single layers number parent node all next early (Some s) within later =
     let high = within.high in
     let at : (parent + 1 == node) ≡ true = grind (arith, nat_tests) in
     let wide : (s.low == s.high) ≡ false = grind (arith, nat_tests) in
-    rw at (rw wide refl)
+    let some : (parent == 0) ≡ false = grind (arith, nat_tests) in
+    rw at (rw some (rw wide refl))
 
 -- the entries that are read for a span are those from before
 pub still_small : (g : Shape) (ways : ℕ → Way → Bool) (price : Edge → Option ℕ) (t : TreeView) (node up : ℕ) (base above : Option Span) (old before new after : List ℕ) (number : ℕ) (s : Option Span) (layer : ℕ) →

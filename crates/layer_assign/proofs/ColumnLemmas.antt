@@ -1,23 +1,25 @@
 -- The cells of a tile are hung one over another.
-use Rattle.std.proofs.Common.{◌≡◌, ℕ, ◌+◌, ◌*◌, ◌/◌, ◌%◌, ◌<◌, ◌≤◌, inl, inr, Bool, true, false, ◌&&◌, ◌||◌, ◌==◌, nat_lt, nat_le, List, [], ◌∷◌, ◌++◌, Option, Some, None, is_some, Result, Ok, Err, OnOk, refl, sym, ap, subst, ◌∙◌, arith}
+use Rattle.std.proofs.Common.{◌≡◌, ℕ, ◌+◌, ◌*◌, ◌/◌, ◌%◌, ◌<◌, ◌≤◌, inl, inr, Bool, true, false, ◌&&◌, ◌||◌, ◌==◌, nat_lt, nat_le, List, [], ◌∷◌, ◌++◌, length, Option, Some, None, is_some, Result, Ok, Err, OnOk, refl, sym, ap, subst, ◌∙◌, arith}
 use Rattle.std.proofs.lemmas.Bool.{cases_Bool, cases_eq, eqb-true, eq-eqb, both_ways}
 use Rattle.std.proofs.lemmas.Bool.Decides.{nat_tests}
+use Rattle.std.proofs.lemmas.List.{append-nil, append_assoc}
 use Rattle.std.proofs.lemmas.Nat.{div-add-mod', mod_below, div_below}
 use Rattle.std.specs.Option.{option_to_list}
-use Rattle.gr_base.specs.Grid.{number_of, place_at, AreNeighbours, edge_at, edge_of, steps_between}
+use Rattle.gr_base.specs.Grid.{cells_of, number_of, place_at, AreNeighbours, edge_at, edge_of, steps_between}
 use Rattle.gr_base.specs.EdgeSets.{is_way, is_edge, set_of}
-use Rattle.gr_base.specs.Trees.{TreeView, cell_at, node_with, holds, edges_of, walk_edges, Begins, AddsCells, AddsEdges}
+use Rattle.gr_base.specs.Trees.{TreeView, cell_at, node_with, holds, edges_of, walk_edges, IsTree, IsWalkTo, Begins, AddsCells, AddsEdges}
 use Rattle.gr_base.specs.declared.grid.Cell.{Cell}
 use Rattle.gr_base.specs.declared.grid.Edge.{Edge}
 use Rattle.gr_base.specs.declared.grid.Shape.{Shape}
 use Rattle.gr_base.specs.declared.grid.Way.TheVariants.{Up}
 use Rattle.gr_base.specs.declared.tree.Node.{Node}
 use Rattle.gr_base.proofs.GridLemmas.{edge-beyond, place-number, some_columns}
-use Rattle.gr_base.proofs.TreeLemmas.{some_from, node_with-at, cell_at-within, cell_at-append, read-cell}
+use Rattle.gr_base.proofs.TreeLemmas.{some_from, node_with-at, cell_at-within, cell_at-append, cell-only, read-cell}
 use Rattle.gr_base.proofs.TreeEdges.{edge_of-swap}
 use Rattle.layer_assign.specs.declared.span.Span.{Span}
 use Rattle.layer_assign.specs.Assignments.{tile_count, tile_of, level_of, cell_on}
 use Rattle.layer_assign.specs.Raised.{in_column, is_via_of, Grows}
+use Rattle.layer_assign.specs.Raising.{IsEarly}
 use Rattle.layer_assign.proofs.FlatLemmas.{tile-on, level-on, node-at}
 
 pub iff : (b c : Bool) → (b ≡ true → c ≡ true) → (c ≡ true → b ≡ true) → b ≡ c
@@ -140,6 +142,8 @@ grows-none t cells edges none no_edges = record {
   first = refl;
   cells_are = λ c. same (holds t c) (cells c) (none c);
   edges_are = λ e. same (edges_of t e) (edges e) (no_edges e);
+  added = [];
+  nodes = sym (append-nil t.nodes);
 }
   where
     same : (p q : Bool) → q ≡ false → p ≡ (p || q)
@@ -157,6 +161,8 @@ grows-then a b d first second cells one two edges before after cells_join edges_
   edges_are = λ e.
       after.edges_are e ∙ ap (λ (p : Bool). p || two e) (before.edges_are e) ∙ or_assoc (edges_of a e) (one e) (two e)
       ∙ ap (λ (p : Bool). edges_of a e || p) (edges_join e);
+  added = before.added ++ after.added;
+  nodes = after.nodes ∙ ap (λ (ns : List Node). ns ++ after.added) before.nodes ∙ append_assoc a.nodes before.added after.added;
 }
 
 -- a tree that holds a cell has a first node
@@ -168,6 +174,40 @@ first_kept old new cell held begins =
     let root = read-cell old.nodes 0 at.0 at.1 in
     ap (λ (ns : List Node). cell_at ns 0) begins.nodes ∙ cell_at-append old.nodes begins.added 0 at.0.cell root ∙ sym root
 
+-- each cell of a tree is among its nodes, and those among the first so many are cells of it
+pub held-early : (t : TreeView) (cell count : ℕ) → holds t cell ≡ true → count ≡ length t.nodes → IsEarly t count cell
+held-early t cell count held is =
+    let found = some_from (node_with t.nodes cell) held in
+    let at = node_with-at t.nodes cell found.0 found.1 in
+    let within = cell_at-within t.nodes found.0 cell at in
+    record { node = found.0; before = omega arith; cell_is = at }
+
+pub early-held : (t : TreeView) (cell count : ℕ) → IsTree t → IsEarly t count cell → holds t cell ≡ true
+early-held t cell count tree early = ap (λ (o : Option ℕ). is_some o) (cell-only t.shape t.nodes early.node cell tree.hanging early.cell_is)
+
+-- a new cell and a neighbour in the tree are a walk to it
+pub walk-one : (t : TreeView) (cell on : ℕ) → cell < cells_of t.shape → holds t cell ≡ false → holds t on ≡ true → AreNeighbours t.shape cell on → IsWalkTo t (cell ∷ on ∷ [])
+walk-one t cell on inside outside held near = (
+  record {
+    inside = inside;
+    outside = outside;
+    once = elim (cases_Bool (on == cell)) [
+      | inl same ↦ absurd (both_ways _ outside (ap (λ (c : ℕ). holds t c) (sym (eqb-true on cell same)) ∙ held))
+      | inr apart ↦ rw apart refl
+    ];
+    neighbours = near;
+  },
+  held,
+)
+
+-- and they stay there
+pub early-still : (old now : TreeView) (cells : ℕ → Bool) (edges : Edge → Bool) (count cell : ℕ) → Grows old now cells edges → IsEarly old count cell → IsEarly now count cell
+early-still old now cells edges count cell grows early = record {
+  node = early.node;
+  before = early.before;
+  cell_is = ap (λ (ns : List Node). cell_at ns early.node) grows.nodes ∙ cell_at-append old.nodes grows.added early.node cell early.cell_is;
+}
+
 -- a walk of one step adds its first cell
 pub hung : (old new : TreeView) (cell on : ℕ) → is_some (node_with old.nodes on) ≡ true → Begins old new → AddsCells old (cell ∷ on ∷ []) new → AddsEdges old (cell ∷ on ∷ []) new →
     Grows old new (λ other. cell == other) (set_of (walk_edges old.shape (cell ∷ on ∷ [])))
@@ -176,6 +216,8 @@ hung old new cell on held begins cells edges = record {
   first = first_kept old new on held begins;
   cells_are = λ other. cells other ∙ only (holds old other) (cell == other) (on == other) (λ same. ap (λ (c : ℕ). holds old c) (sym (eqb-true on other same)) ∙ held);
   edges_are = λ e. edges e;
+  added = begins.added;
+  nodes = begins.nodes;
 }
   where
     only : (h p q : Bool) → (q ≡ true → h ≡ true) → (h || (p || (q || false))) ≡ (h || p)
@@ -380,6 +422,8 @@ spread-all g old mid new tile layer s inside above below on up down =
           (ap (λ (p : Bool). p || in_column g tile (layer + 1) (s.high + 1) c) (column-join g tile s.low layer (layer + 1) c above (omega arith))
           ∙ column-join g tile s.low (layer + 1) (s.high + 1) c (omega arith) (omega arith));
       edges_are = all.edges_are;
+      added = all.added;
+      nodes = all.nodes;
     }
   where
     swapped : (p q : Bool) → (p || q) ≡ (q || p)

@@ -131,13 +131,14 @@ near-same : (f : Option Span) → is_near 0 f f ≡ true
 near-same None = refl
 near-same (Some f) = grind (arith, nat_tests)
 
-near-widened : (layers parent : ℕ) (f : Option Span) (l : ℕ) → IsWithin layers f → is_near parent f (widened f l) ≡ true
-near-widened layers parent None l within = grind (arith, nat_tests)
-near-widened layers parent (Some f) l within =
+near-widened : (layers parent : ℕ) (f : Option Span) (l : ℕ) → IsWithin layers f → 0 < parent → is_near parent f (widened f l) ≡ true
+near-widened layers parent None l within later = grind (arith, nat_tests)
+near-widened layers parent (Some f) l within later =
     let ordered = within.ordered in
+    let other : (parent == 0) ≡ false = grind (arith, nat_tests) in
     elim (cases_lt l f.low) [
-      | inl below ↦ let high : max f.high l ≡ f.high = omega arith in rw high (plain (min f.low l == f.low) f.high)
-      | inr above ↦ let low : min f.low l ≡ f.low = omega arith in rw low (first f.low (max f.high l == f.high))
+      | inl below ↦ let high : max f.high l ≡ f.high = omega arith in rw other (rw high (plain (min f.low l == f.low) f.high))
+      | inr above ↦ let low : min f.low l ≡ f.low = omega arith in rw other (rw low (first f.low (max f.high l == f.high)))
     ]
   where
     plain : (b : Bool) (n : ℕ) → (b || (n == n)) ≡ true
@@ -153,7 +154,7 @@ near-first p a (suc u) sound inside =
     let is : span p a (suc u) (suc (suc u)) ≡ widened (p.base (suc u)) (a (suc u)) =
     span-more p a (suc u) (suc u) (ends-own p (suc u) (omega arith)) ∙
     ap (λ (s : Option Span). widened s (a (suc u))) (span-base p a (suc u) (suc u) sound inside (omega arith)) in
-    subst (λ (s : Option Span). is_near (suc u) (p.base (suc u)) s ≡ true) (sym is) (near-widened p.layers (suc u) (p.base (suc u)) (a (suc u)) (sound.within (suc u)))
+    subst (λ (s : Option Span). is_near (suc u) (p.base (suc u)) s ≡ true) (sym is) (near-widened p.layers (suc u) (p.base (suc u)) (a (suc u)) (sound.within (suc u)) (omega arith))
 
 -- a span holds the layers of the pins that it began with
 holds-same : (f : Option Span) → holds_pins f f ≡ true

@@ -1,20 +1,23 @@
 -- A tree that is raised, tile by tile.
-use Rattle.std.proofs.Common.{◌≡◌, ◌≢◌, ℕ, suc, zero, ◌+◌, ◌<◌, inl, inr, Bool, true, false, ◌&&◌, ◌||◌, ◌==◌, not, List, [], ◌∷◌, length, set, Option, unwrap_or, refl, sym, ap, subst, ◌∙◌, arith}
+use Rattle.std.proofs.Common.{◌≡◌, ◌≢◌, ℕ, suc, zero, ◌+◌, ◌<◌, ◌≤◌, inl, inr, Bool, true, false, ◌&&◌, ◌||◌, ◌==◌, nat_lt, not, List, [], ◌∷◌, length, set, Option, unwrap_or, refl, sym, ap, subst, ◌∙◌, arith}
 use Rattle.std.proofs.lemmas.Bool.{cases_Bool, cases_eq, both_ways}
 use Rattle.std.proofs.lemmas.Bool.Decides.{nat_tests}
+use Rattle.std.proofs.lemmas.List.{length-append}
 use Rattle.std.proofs.lemmas.List.Folds.{list_any-append}
 use Rattle.std.specs.List.{list_any, range_with_len}
 use Rattle.gr_base.specs.Trees.{TreeView, holds, IsTree}
+use Rattle.gr_base.specs.declared.grid.Edge.{Edge}
 use Rattle.gr_base.specs.declared.grid.Shape.{Shape}
+use Rattle.gr_base.specs.declared.tree.Node.{Node}
 use Rattle.gr_base.proofs.TreeLemmas.{cell-only}
 use Rattle.layer_assign.specs.declared.span.Span.{Span}
 use Rattle.layer_assign.specs.Assignments.{IsFlat, cell_on, tile_at}
 use Rattle.layer_assign.specs.Raised.{in_column, is_via_of, is_wire_of, Grows}
-use Rattle.layer_assign.specs.Raising.{any_below, is_done, IsIn, IsRaised}
+use Rattle.layer_assign.specs.Raising.{any_below, end_of, is_done, IsEarly, IsIn, IsRaised, AreEnds}
 use Rattle.layer_assign.proofs.Sums.{range-more}
 use Rattle.layer_assign.proofs.FlatLemmas.{tile-on}
 use Rattle.layer_assign.proofs.PinLemmas.{tile-held, tile-apart}
-use Rattle.layer_assign.proofs.ColumnLemmas.{column-parts, column-in}
+use Rattle.layer_assign.proofs.ColumnLemmas.{column-parts, column-in, held_new, held-early, early-still}
 use Rattle.layer_assign.proofs.LinkLemmas.{tile-inside}
 use Rattle.layer_assign.proofs.TableLemmas.{get-set_same, get-set_other}
 
@@ -72,11 +75,32 @@ any-range P (suc n) =
     ∙ ap (λ (b : Bool). list_any P (range_with_len 0 n) || b) (or_false (P n)) ∙ ap (λ (b : Bool). b || P n) (any-range P n)
 
 -- marks
-pub done-set : (done : List Bool) (p : ℕ) → p < length done → is_done (set done p true) p ≡ true
-done-set done p below = ap (λ (o : Option Bool). unwrap_or o false) (get-set_same done p true below)
+pub end-set : (ends : List ℕ) (p count : ℕ) → p < length ends → end_of (set ends p count) p ≡ count
+end-set ends p count below = ap (λ (o : Option ℕ). unwrap_or o 0) (get-set_same ends p count below)
 
-pub done-kept : (done : List Bool) (p u : ℕ) → u ≢ p → is_done (set done p true) u ≡ is_done done u
-done-kept done p u other = ap (λ (o : Option Bool). unwrap_or o false) (get-set_other done p u true other)
+pub end-kept : (ends : List ℕ) (p u count : ℕ) → u ≢ p → end_of (set ends p count) u ≡ end_of ends u
+end-kept ends p u count other = ap (λ (o : Option ℕ). unwrap_or o 0) (get-set_other ends p u count other)
+
+pub done-set : (ends : List ℕ) (p count : ℕ) → p < length ends → 0 < count → is_done (set ends p count) p ≡ true
+done-set ends p count below some = ap (λ (n : ℕ). nat_lt 0 n) (end-set ends p count below) ∙ marked count some
+  where
+    marked : (n : ℕ) → 0 < n → nat_lt 0 n ≡ true
+    marked n lt = grind (arith, nat_tests)
+
+pub done-kept : (ends : List ℕ) (p u count : ℕ) → u ≢ p → is_done (set ends p count) u ≡ is_done ends u
+done-kept ends p u count other = ap (λ (n : ℕ). nat_lt 0 n) (end-kept ends p u count other)
+
+-- a tree with a tile that is done has nodes, and goes on having them
+pub done-some : (g : Shape) (t : TreeView) (spans : ℕ → Span) (ends : List ℕ) (node : ℕ) (old new : TreeView) (cells : ℕ → Bool) (edges : Edge → Bool) →
+    AreEnds g t spans ends old → is_done ends node ≡ true → Grows old new cells edges → 0 < length new.nodes
+done-some g t spans ends node old new cells edges are is grows =
+    let some = marked (end_of ends node) is in
+    let most = are.most node in
+    let long = ap (λ (ns : List Node). length ns) grows.nodes ∙ length-append old.nodes grows.added in
+    omega (arith, some, most, long)
+  where
+    marked : (n : ℕ) → nat_lt 0 n ≡ true → 0 < n
+    marked n is = grind (arith, nat_tests)
 
 -- what is done of a tree of tiles
 abbrev pub column_of : Shape → TreeView → (ℕ → Span) → ℕ → ℕ → Bool
@@ -176,37 +200,71 @@ left_false : (p q : Bool) → p ≡ false → (p && q) ≡ false
 left_false p q is = rw is refl
 
 -- the step from a node up to its parent
-pub raised-up : (g : Shape) (t : TreeView) (a : ℕ → ℕ) (spans : ℕ → Span) (first : Option ℕ) (done : List Bool) (node parent : ℕ) (old new : TreeView) →
-    IsRaised g t a spans first (is_done done) node old → node < length t.nodes → parent < node → length done ≡ length t.nodes → is_done done node ≡ true → is_done done parent ≡ false →
+pub raised-up : (g : Shape) (t : TreeView) (a : ℕ → ℕ) (spans : ℕ → Span) (first : Option ℕ) (done : List ℕ) (node parent count : ℕ) (old new : TreeView) →
+    IsRaised g t a spans first (is_done done) node old → 0 < count → node < length t.nodes → parent < node → length done ≡ length t.nodes → is_done done node ≡ true → is_done done parent ≡ false →
     Grows old new (in_column g (tile_at t parent) (spans parent).low ((spans parent).high + 1)) (λ e. is_wire_of g t a node e || is_via_of g (tile_at t parent) (spans parent) e) →
-    IsRaised g t a spans first (is_done (set done parent true)) parent new
-raised-up g t a spans first done node parent old new raised below up long is open_is grows =
-    raised-more g t a spans first (is_done done) (is_done (set done parent true)) node parent old new node parent raised below (omega arith) open_is (done-set done parent (omega arith))
-    (λ u other. done-kept done parent u other)
+    IsRaised g t a spans first (is_done (set done parent count)) parent new
+raised-up g t a spans first done node parent count old new raised some below up long is open_is grows =
+    raised-more g t a spans first (is_done done) (is_done (set done parent count)) node parent old new node parent raised below (omega arith) open_is (done-set done parent count (omega arith) some)
+    (λ u other. done-kept done parent u count other)
     (and_false (is_done done node) (not (node == node)) (same_not node))
-    (and_right (is_done (set done parent true) node) (not (node == parent)) (done-kept done parent node (λ e. omega arith) ∙ is) (not_same node parent (λ e. omega arith)))
+    (and_right (is_done (set done parent count) node) (not (node == parent)) (done-kept done parent node count (λ e. omega arith) ∙ is) (not_same node parent (λ e. omega arith)))
     (λ u other.
     elim (cases_eq u parent) [
       | inl same ↦
           let open_u : is_done done u ≡ false = ap (is_done done) same ∙ open_is in
           let test : not (u == parent) ≡ false = ap (λ (k : ℕ). not (u == k)) (sym same) ∙ same_not u in
-          and_false (is_done (set done parent true) u) (not (u == parent)) test ∙ sym (left_false (is_done done u) (not (u == node)) open_u)
+          and_false (is_done (set done parent count) u) (not (u == parent)) test ∙ sym (left_false (is_done done u) (not (u == node)) open_u)
       | inr apart ↦
-          ap (λ (b : Bool). b && not (u == parent)) (done-kept done parent u apart)
+          ap (λ (b : Bool). b && not (u == parent)) (done-kept done parent u count apart)
           ∙ ap (λ (b : Bool). is_done done u && b) (not_same u parent apart ∙ sym (not_same u node other))
     ]) grows
 
 -- the step from a node's parent down to it
-pub raised-down : (g : Shape) (t : TreeView) (a : ℕ → ℕ) (spans : ℕ → Span) (first : Option ℕ) (done : List Bool) (node : ℕ) (old new : TreeView) →
-    IsRaised g t a spans first (is_done done) 0 old → 0 < node → node < length t.nodes → length done ≡ length t.nodes → is_done done node ≡ false →
+pub raised-down : (g : Shape) (t : TreeView) (a : ℕ → ℕ) (spans : ℕ → Span) (first : Option ℕ) (done : List ℕ) (node count : ℕ) (old new : TreeView) →
+    IsRaised g t a spans first (is_done done) 0 old → 0 < count → 0 < node → node < length t.nodes → length done ≡ length t.nodes → is_done done node ≡ false →
     Grows old new (in_column g (tile_at t node) (spans node).low ((spans node).high + 1)) (λ e. is_wire_of g t a node e || is_via_of g (tile_at t node) (spans node) e) →
-    IsRaised g t a spans first (is_done (set done node true)) 0 new
-raised-down g t a spans first done node old new raised later below long open_is grows =
-    raised-more g t a spans first (is_done done) (is_done (set done node true)) 0 0 old new node node raised below below open_is (done-set done node (omega arith))
-    (λ u other. done-kept done node u other)
+    IsRaised g t a spans first (is_done (set done node count)) 0 new
+raised-down g t a spans first done node count old new raised some later below long open_is grows =
+    raised-more g t a spans first (is_done done) (is_done (set done node count)) 0 0 old new node node raised below below open_is (done-set done node count (omega arith) some)
+    (λ u other. done-kept done node u count other)
     (left_false (is_done done node) (not (node == 0)) open_is)
-    (and_right (is_done (set done node true) node) (not (node == 0)) (done-set done node (omega arith)) (not_same node 0 (λ e. omega arith)))
-    (λ u other. ap (λ (b : Bool). b && not (u == 0)) (done-kept done node u other)) grows
+    (and_right (is_done (set done node count) node) (not (node == 0)) (done-set done node count (omega arith) some) (not_same node 0 (λ e. omega arith)))
+    (λ u other. ap (λ (b : Bool). b && not (u == 0)) (done-kept done node u count other)) grows
+
+-- one more tile is done
+pub ends-more : (g : Shape) (t : TreeView) (spans : ℕ → Span) (ends : List ℕ) (to : ℕ) (old new : TreeView) (edges : Edge → Bool) → IsFlat g t.shape → IsTree t →
+    length ends ≡ length t.nodes → to < length t.nodes → Grows old new (in_column g (tile_at t to) (spans to).low ((spans to).high + 1)) edges →
+    AreEnds g t spans ends old → AreEnds g t spans (set ends to (length new.nodes)) new
+ends-more g t spans ends to old new edges flat tree count below grows are = record {
+  most = λ node.
+      elim (cases_eq node to) [
+        | inl same ↦ let e = ap (λ (k : ℕ). end_of (set ends to (length new.nodes)) k) same ∙ end-set ends to (length new.nodes) (omega arith) in omega (arith, e)
+        | inr other ↦ let e = end-kept ends to node (length new.nodes) other in let most = are.most node in omega (arith, e, most, long)
+      ];
+  early = λ node layer lt is inside.
+      elim (cases_eq node to) [
+        | inl same ↦
+            let end : length new.nodes ≡ end_of (set ends to (length new.nodes)) node =
+            sym (ap (λ (k : ℕ). end_of (set ends to (length new.nodes)) k) same ∙ end-set ends to (length new.nodes) (omega arith)) in
+            let here = subst (λ (k : ℕ). IsIn (spans k) layer) same inside in
+            let high = here.high in
+            let within = column-in g (tile_at t to) (spans to).low ((spans to).high + 1) layer (tile-inside g t to flat tree below) here.low (omega arith) in
+            let held = held_new old new cells edges (cell_on g (tile_at t to) layer) grows within in
+            subst (λ (k : ℕ). IsEarly new k (cell_on g (tile_at t node) layer)) end
+            (subst (λ (k : ℕ). IsEarly new (length new.nodes) (cell_on g (tile_at t k) layer)) (sym same) (held-early new (cell_on g (tile_at t to) layer) (length new.nodes) held refl))
+        | inr other ↦
+            let kept = done-kept ends to node (length new.nodes) other in
+            subst (λ (k : ℕ). IsEarly new k (cell_on g (tile_at t node) layer)) (sym (end-kept ends to node (length new.nodes) other))
+            (early-still old new cells edges (end_of ends node) (cell_on g (tile_at t node) layer) grows (are.early node layer lt (sym kept ∙ is) inside))
+      ];
+}
+  where
+    cells : ℕ → Bool
+    cells = in_column g (tile_at t to) (spans to).low ((spans to).high + 1)
+
+    long : length old.nodes ≤ length new.nodes
+    long = let e = ap (λ (ns : List Node). length ns) grows.nodes ∙ length-append old.nodes grows.added in omega (arith, e)
 
 -- all tiles are done
 pub raised-all : (g : Shape) (t : TreeView) (a : ℕ → ℕ) (spans : ℕ → Span) (first : Option ℕ) (done : ℕ → Bool) (r : TreeView) →

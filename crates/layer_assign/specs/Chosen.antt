@@ -1,5 +1,5 @@
 -- What the choice of one node's layers writes into the tables.
-use Rattle.std.specs.Prelude.{◌≡◌, ◌≢◌, ◌⊎◌, ℕ, ◌+◌, Bool, true, false, ◌&&◌, ◌||◌, ◌==◌, nat_le, not, List, ◌*◌, ◌<◌, length, Option, Some, None, get_or, slice_set}
+use Rattle.std.specs.Prelude.{◌≡◌, ◌≢◌, ◌⊎◌, ℕ, ◌+◌, Bool, true, false, ◌&&◌, ◌||◌, ◌==◌, nat_le, not, List, ◌*◌, ◌<◌, length, Option, Some, None, get_or, slice_set, if◌then◌else◌}
 use Rattle.gr_base.specs.Trees.{TreeView}
 use Rattle.gr_base.specs.declared.grid.Edge.{Edge}
 use Rattle.gr_base.specs.declared.grid.Shape.{Shape}
@@ -17,12 +17,14 @@ onward_cost g price t costs node base s layer =
     wire_cost g price t node layer + entry g.layers costs node (widened base layer)
     + entry g.layers costs (parent_of t node) (widened s layer)
 
--- a span ends, above or below, where a first one does; of no layers it is one layer, or none in node 0's tile
+-- a span is a first one in node 0's tile; elsewhere it ends, above or below, where a first one does, or is one layer
+-- where there is none
 abbrev pub is_near : ℕ → Option Span → Option Span → Bool
 is_near parent None None = parent == 0
-is_near parent None (Some s) = s.low == s.high
+is_near parent None (Some s) = not (parent == 0) && (s.low == s.high)
 is_near parent (Some f) None = false
-is_near parent (Some f) (Some s) = (s.low == f.low) || (s.high == f.high)
+is_near parent (Some f) (Some s) =
+    if parent == 0 then (s.low == f.low) && (s.high == f.high) else (s.low == f.low) || (s.high == f.high)
 
 -- a span holds the layers of a first one
 abbrev pub holds_pins : Option Span → Option Span → Bool

@@ -1,5 +1,5 @@
 -- The edges and cells of the tree that is raised from an assignment.
-use Rattle.std.specs.Prelude.{◌≡◌, ℕ, ◌<◌, Bool, false, ◌&&◌, ◌||◌, ◌==◌, nat_lt, nat_le, List, length, Option, Some, None, unwrap_or, slice_index}
+use Rattle.std.specs.Prelude.{◌≡◌, ℕ, ◌<◌, Bool, false, ◌&&◌, ◌||◌, ◌==◌, nat_lt, nat_le, List, ◌++◌, length, Option, Some, None, unwrap_or, slice_index}
 use Rattle.std.specs.List.{list_any, range_with_len}
 use Rattle.std.specs.Option.{option_map}
 use Rattle.gr_base.specs.Grid.{on_layer}
@@ -9,6 +9,7 @@ use Rattle.gr_base.specs.Trees.{TreeView, cell_at, holds, edges_of}
 use Rattle.gr_base.specs.declared.grid.Edge.{Edge}
 use Rattle.gr_base.specs.declared.grid.Shape.{Shape}
 use Rattle.gr_base.specs.declared.grid.Way.TheVariants.{Up}
+use Rattle.gr_base.specs.declared.tree.Node.{Node}
 use Rattle.layer_assign.specs.declared.span.Span.{Span}
 use Rattle.layer_assign.specs.Spans.{span_of}
 use Rattle.layer_assign.specs.Assignments.{tile_of, level_of, tile_at, met}
@@ -44,9 +45,11 @@ pub record AreLayers (g : Shape) (t : TreeView) (layers : List ℕ) : Type 0 whe
   pub nodes : length layers ≡ length t.nodes
   pub below : (node : ℕ) → 0 < node → node < length t.nodes → slice_index layers node < g.layers
 
--- the tree has these cells and edges besides those that it had, and its first node as before
+-- the tree has these cells and edges besides those that it had, and its nodes as before with more behind them
 pub record Grows (old new : TreeView) (cells : ℕ → Bool) (edges : Edge → Bool) : Type 0 where
   pub shape : new.shape ≡ old.shape
   pub first : cell_at new.nodes 0 ≡ cell_at old.nodes 0
   pub cells_are : (cell : ℕ) → holds new cell ≡ (holds old cell || cells cell)
   pub edges_are : (e : Edge) → edges_of new e ≡ (edges_of old e || edges e)
+  pub added : List Node
+  pub nodes : new.nodes ≡ old.nodes ++ added

@@ -1,5 +1,5 @@
 -- What stands while a tree is raised tile by tile.
-use Rattle.std.specs.Prelude.{◌≡◌, ℕ, zero, suc, ◌+◌, ◌<◌, ◌≤◌, ◌⊎◌, Bool, false, ◌&&◌, ◌||◌, ◌==◌, not, List, length, Option, Some, unwrap_or, slice_get}
+use Rattle.std.specs.Prelude.{◌≡◌, ℕ, zero, suc, ◌+◌, ◌<◌, ◌≤◌, ◌⊎◌, Bool, true, false, ◌&&◌, ◌||◌, ◌==◌, nat_lt, not, List, length, Option, Some, unwrap_or, slice_get}
 use Rattle.gr_base.specs.Trees.{TreeView, cell_at, holds, edges_of}
 use Rattle.gr_base.specs.declared.grid.Edge.{Edge}
 use Rattle.gr_base.specs.declared.grid.Shape.{Shape}
@@ -13,9 +13,19 @@ abbrev pub any_below : (ℕ → Bool) → ℕ → Bool
 any_below f zero = false
 any_below f (suc n) = any_below f n || f n
 
+-- how many nodes the raised tree had just after the tile of a node was added, and 0 before
+abbrev pub end_of : List ℕ → ℕ → ℕ
+end_of ends node = unwrap_or (slice_get ends node) 0
+
 -- the node's tile is done
-abbrev pub is_done : List Bool → ℕ → Bool
-is_done done node = unwrap_or (slice_get done node) false
+abbrev pub is_done : List ℕ → ℕ → Bool
+is_done ends node = nat_lt 0 (end_of ends node)
+
+-- the cell is that of one of the first so many nodes
+pub record IsEarly (t : TreeView) (count cell : ℕ) : Type 0 where
+  pub node : ℕ
+  pub before : node < count
+  pub cell_is : cell_at t.nodes node ≡ Some cell
 
 -- no cell of the tile is in the tree
 abbrev pub IsFree : TreeView → ℕ → Type 0
@@ -47,6 +57,12 @@ pub record IsRaised (g : Shape) (t : TreeView) (a : ℕ → ℕ) (spans : ℕ �
   pub edges_are : (e : Edge) → edges_of r e ≡
       (any_below (λ node. done node && is_via_of g (tile_at t node) (spans node) e) (length t.nodes)
       || any_below (λ node. (done node && not (node == left)) && is_wire_of g t a node e) (length t.nodes))
+
+-- the cells of each tile that is done are among the nodes that the tree had just after it was added
+pub record AreEnds (g : Shape) (t : TreeView) (spans : ℕ → Span) (ends : List ℕ) (r : TreeView) : Type 0 where
+  pub most : (node : ℕ) → end_of ends node ≤ length r.nodes
+  pub early : (node layer : ℕ) → node < length t.nodes → is_done ends node ≡ true → IsIn (spans node) layer →
+      IsEarly r (end_of ends node) (cell_on g (tile_at t node) layer)
 
 -- the tree has the cells of a span of a cell's tile, and their via edges, and starts at the cell
 pub record IsColumn (g : Shape) (cell : ℕ) (s : Span) (r : TreeView) : Type 0 where

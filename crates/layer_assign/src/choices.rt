@@ -119,14 +119,15 @@ fn holds_pins(pins: Option<Span>, span: Option<Span>) -> bool
     }
 }
 
-/// Whether a span may be that of a tile's pins and its own edge, which node 0 doesn't have.
+/// Whether a span may be that of a tile's pins and its own edge. Node 0 has no edge.
 fn is_near(parent: u32, pins: Option<Span>, span: Option<Span>) -> bool
     ensures { result ≡ is_near parent pins span }
 {
     match (pins, span) {
         (None, None) => parent == 0,
-        (None, Some(span)) => span.low == span.high,
+        (None, Some(span)) => parent != 0 && span.low == span.high,
         (Some(_), None) => false,
+        (Some(pins), Some(span)) if parent == 0 => span.low == pins.low && span.high == pins.high,
         (Some(pins), Some(span)) => span.low == pins.low || span.high == pins.high,
     }
 }

@@ -1,35 +1,39 @@
-ghost use Rattle.std.specs.Prelude.{◌≡◌, ◌≢◌, ◌∷◌, [], ℕ, ◌+◌, ◌*◌, ◌<◌, ◌≤◌, false, ◌&&◌, ◌||◌, ◌==◌, Some, OnOk, IsTrue};
+ghost use Rattle.std.specs.Prelude.{◌≡◌, ◌≢◌, ◌∷◌, [], ℕ, ◌+◌, ◌*◌, ◌<◌, ◌≤◌, false, ◌&&◌, ◌||◌, ◌==◌, Some, length, OnOk, IsTrue};
 ghost use Rattle.gr_base.specs.Grid.{cells_of, AreNeighbours};
 ghost use Rattle.gr_base.specs.EdgeSets.{is_way, set_of};
-ghost use Rattle.gr_base.specs.Trees.{cell_at, holds, walk_edges};
+ghost use Rattle.gr_base.specs.Trees.{cell_at, holds, walk_edges, IsTree};
 ghost use Rattle.gr_base.specs.declared.grid.Way.TheVariants.{Up};
 ghost use Rattle.layer_assign.specs.Assignments.{tile_count, cell_on};
 ghost use Rattle.layer_assign.specs.Raised.{in_column, is_via_of, Grows};
+ghost use Rattle.layer_assign.specs.Raising.{IsEarly};
 
 use crate::span::Span;
 use gr_base::{RouteTree, Shape};
 use std::alloc::AllocError;
 
-/// Hangs one cell on a neighbour in the tree.
-pub(crate) fn hang(tree: &mut RouteTree, cell: u32, on: u32) -> Result<(), AllocError>
+/// Hangs one cell on a neighbour among the first `end` nodes of the tree.
+pub(crate) fn hang(tree: &mut RouteTree, end: u32, cell: u32, on: u32) -> Result<(), AllocError>
     requires inside { cell < cells_of tree.old.shape }
     requires outside { holds tree.old cell ≡ false }
-    requires on { IsTrue (holds tree.old on) }
+    requires end { end ≤ length tree.old.nodes }
+    requires on { IsEarly tree.old end on }
     requires near { AreNeighbours tree.old.shape cell on }
     ensures { OnOk result (Grows tree.old tree.new (λ other. cell == other)
         (set_of (walk_edges tree.old.shape (cell ∷ on ∷ [])))) }
 {
-    let parent = last_node_at(tree, on);
+    let parent = last_node_at(tree, end, on);
     tree.hang(parent, &[cell, on])
 }
 
-/// The node of one of a tree's cells. It looks at the nodes from the last one back, since a cell is
-/// mostly hung on one that was added just before.
-fn last_node_at(tree: &RouteTree, cell: u32) -> u32
-    requires { IsTrue (holds tree.now cell) }
-    ensures { cell_at tree.now.nodes result ≡ Some cell }
+/// The node of a cell among the first `end` nodes of a tree. It looks at these from the last one
+/// back: a cell is hung on one of its tile or of the tile before, of which that is the last node.
+fn last_node_at(tree: &RouteTree, end: u32, cell: u32) -> u32
+    requires end { end ≤ length tree.now.nodes }
+    requires early { IsEarly tree.now end cell }
+    ensures cell { cell_at tree.now.nodes result ≡ Some cell }
+    ensures tree { IsTree tree.now }
 {
-    let mut node = tree.len() - 1;
+    let mut node = end - 1;
     while tree.cell(node) != cell {
         node -= 1;
     }
@@ -60,8 +64,10 @@ pub(crate) fn rise(tree: &mut RouteTree, tile: u32, from: u32, to: u32) -> Resul
 {
     let shape = tree.shape();
     for layer in from..to {
+        let end = tree.len();
         hang(
             tree,
+            end,
             cell_at_level(shape, tile, layer + 1),
             cell_at_level(shape, tile, layer),
         )?;
@@ -82,8 +88,10 @@ pub(crate) fn sink(tree: &mut RouteTree, tile: u32, from: u32, to: u32) -> Resul
 {
     let shape = tree.shape();
     for layer in (to..from).rev() {
+        let end = tree.len();
         hang(
             tree,
+            end,
             cell_at_level(shape, tile, layer),
             cell_at_level(shape, tile, layer + 1),
         )?;

@@ -1,10 +1,11 @@
-ghost use Rattle.std.specs.Prelude.{◌≡◌, ℕ, ◌<◌, length, slice_index, IfOk};
+ghost use Rattle.std.specs.Prelude.{◌≡◌, ℕ, ◌<◌, ◌≤◌, length, slice_index, IfOk};
 ghost use Rattle.gr_base.specs.Trees.{IsTree};
-ghost use Rattle.layer_assign.specs.Assignments.{IsFlat, IsAssignment, IsLeast, IsFirst, HasLayers, ArePins};
+ghost use Rattle.layer_assign.specs.Assignments.{IsFlat, tile_count, IsAssignment, IsLeast, IsFirst, HasLayers, ArePins};
 ghost use Rattle.layer_assign.specs.Answers.{IsFirstLeast};
 
 use crate::choices::choose_layers;
 use crate::layers::Layers;
+use crate::room::{LayerRoom, refill};
 use crate::spans::spans_of;
 use crate::tables::climbs;
 use crate::tiles::{follow, pin_spans};
@@ -28,11 +29,13 @@ pub fn assign<C: Costs>(
     shape: Shape,
     flat: &RouteTree,
     pins: &[u32],
+    room: &mut LayerRoom,
 ) -> Result<Layers, AllocError>
     requires grid { C.grid costs.now ≡ shape }
     requires flat { IsFlat shape flat.now.shape }
     requires pins { ArePins shape flat.now pins.now }
     requires layers { HasLayers shape (C.ways costs.now) flat.now }
+    requires room { tile_count shape ≤ room.old }
     ensures nodes { IfOk result (λ layers. length layers ≡ length flat.now.nodes) }
     ensures assignment { IfOk result (λ layers. IsAssignment shape (C.ways costs.now) flat.now
         (λ node. slice_index layers node)) }
@@ -40,8 +43,9 @@ pub fn assign<C: Costs>(
         IsLeast shape (C.ways costs.now) (C.price costs.now) flat.now pins.now (λ node. slice_index layers node)) }
     ensures first { IfOk result (λ layers.
         IsFirst shape (C.ways costs.now) (C.price costs.now) flat.now pins.now (λ node. slice_index layers node)) }
+    ensures room { room.new ≡ room.old }
 {
-    let numbers = first_least(alloc, costs, shape, flat, pins)?;
+    let numbers = first_least(alloc, costs, shape, flat, pins, room)?;
     Ok(Layers { numbers })
 }
 
@@ -52,31 +56,35 @@ fn first_least<C: Costs>(
     shape: Shape,
     flat: &RouteTree,
     pins: &[u32],
+    room: &mut LayerRoom,
 ) -> Result<Vec<u32>, AllocError>
     requires grid { C.grid costs.now ≡ shape }
     requires flat { IsFlat shape flat.now.shape }
     requires pins { ArePins shape flat.now pins.now }
     requires layers { HasLayers shape (C.ways costs.now) flat.now }
-    ensures { IfOk result (λ layers.
+    requires room { tile_count shape ≤ room.old }
+    ensures least { IfOk result (λ layers.
         IsFirstLeast shape (C.ways costs.now) (C.price costs.now) flat.now pins.now layers.items) }
+    ensures room { room.new ≡ room.old }
 {
-    let mut spans = pin_spans(alloc, shape, flat, pins)?;
+    room.index.extend(flat, 0);
+    pin_spans(shape, flat, pins, &room.index, &mut room.spans)?;
     let nodes = flat.len();
-    let mut least = climbs(alloc, shape, nodes)?;
-    let mut choices = vec![in alloc; 0; nodes as usize * spans_of(shape)]?;
-    let mut joined = vec![in alloc; false; nodes as usize]?;
+    climbs(shape, nodes, &mut room.least)?;
+    refill(&mut room.choices, 0, nodes as usize * spans_of(shape))?;
+    refill(&mut room.joined, false, nodes as usize)?;
     for node in (1..nodes).rev() {
         choose_layers(
             costs,
             shape,
             flat,
-            &spans,
-            &joined,
+            &room.spans,
+            &room.joined,
             node,
-            &mut least,
-            &mut choices,
+            &mut room.least,
+            &mut room.choices,
         );
-        joined[flat.parent(node) as usize] = true;
+        room.joined[flat.parent(node) as usize] = true;
     }
-    follow(alloc, shape, flat, &mut spans, &choices)
+    follow(alloc, shape, flat, &mut room.spans, &room.choices)
 }

@@ -1,4 +1,4 @@
-ghost use Rattle.std.specs.Prelude.{◌≡◌, ℕ, ◌+◌, ◌*◌, ◌<◌, ◌≤◌, Option, length, IfOk, IsSome};
+ghost use Rattle.std.specs.Prelude.{◌≡◌, ℕ, ◌+◌, ◌*◌, ◌<◌, ◌≤◌, Option, [], length, OnOk, IsSome};
 ghost use Rattle.gr_base.specs.Limits.{most_cells};
 ghost use Rattle.layer_assign.specs.declared.span.Span.{Span as SpanView};
 ghost use Rattle.layer_assign.specs.Spans.{IsWithin, climb, span_number, spans_of};
@@ -9,7 +9,7 @@ ghost use Rattle.layer_assign.specs.Chosen.{Writes};
 use crate::span::{Best, Span};
 use crate::spans::{climb, next_span, span_number, spans_of};
 use gr_base::Shape;
-use std::alloc::{AllocError, Global};
+use std::alloc::AllocError;
 
 /// Where a table has the entry of a node and a span.
 pub(crate) fn place_in(shape: Shape, node: u32, span: Option<Span>) -> usize
@@ -57,32 +57,34 @@ pub(crate) fn write_best(
 }
 
 /// What it costs to climb each span, for each node.
-pub(crate) fn climbs(alloc: Global, shape: Shape, nodes: u32) -> Result<Vec<u64>, AllocError>
+pub(crate) fn climbs(shape: Shape, nodes: u32, costs: &mut Vec<u64>) -> Result<(), AllocError>
     requires some { 0 < nodes }
     requires few { nodes ≤ most_cells }
-    ensures rows { IfOk result (λ costs. HasRows shape.layers nodes costs.items) }
-    ensures climbs { IfOk result (λ costs. (node : ℕ) → (s : Option SpanView) → node < nodes → IsWithin shape.layers s →
-        entry shape.layers costs.items node s ≡ climb s) }
+    ensures rows { OnOk result (HasRows shape.layers nodes costs.new.items) }
+    ensures climbs { OnOk result ((node : ℕ) → (s : Option SpanView) → node < nodes → IsWithin shape.layers s →
+        entry shape.layers costs.new.items node s ≡ climb s) }
 {
     let spans = spans_of(shape);
-    let mut costs = climb_row(alloc, shape, nodes as usize * spans)?;
+    costs.clear();
+    costs.reserve(nodes as usize * spans)?;
+    climb_row(shape, costs)?;
     for _ in 1..nodes {
         costs.extend_from_within(..spans)?;
     }
-    Ok(costs)
+    Ok(())
 }
 
-/// What it costs to climb each span, with room for so many costs.
-fn climb_row(alloc: Global, shape: Shape, room: usize) -> Result<Vec<u64>, AllocError>
-    ensures row { IfOk result (λ costs. HasRows shape.layers 1 costs.items) }
-    ensures climbs { IfOk result (λ costs. (s : Option SpanView) → IsWithin shape.layers s →
-        entry shape.layers costs.items 0 s ≡ climb s) }
+/// What it costs to climb each span, in an empty list.
+fn climb_row(shape: Shape, costs: &mut Vec<u64>) -> Result<(), AllocError>
+    requires { costs.old.items ≡ [] }
+    ensures row { OnOk result (HasRows shape.layers 1 costs.new.items) }
+    ensures climbs { OnOk result ((s : Option SpanView) → IsWithin shape.layers s →
+        entry shape.layers costs.new.items 0 s ≡ climb s) }
 {
-    let mut costs = Vec::with_capacity(alloc, room)?;
     let mut span = None;
     for _ in 0..spans_of(shape) {
         costs.push(climb(span))?;
         span = next_span(shape, span);
     }
-    Ok(costs)
+    Ok(())
 }

@@ -1,40 +1,45 @@
 ghost use Rattle.std.specs.Prelude.{◌≡◌, ℕ, ◌<◌, ◌≤◌, ◌*◌, length, Option, Some, slice_index, All, IfOk, OnOk, IsSome, IsTrue, if◌then◌else◌};
 ghost use Rattle.gr_base.specs.Grid.{cells_of};
+ghost use Rattle.gr_base.specs.NodeIndexes.{Indexes};
 ghost use Rattle.gr_base.specs.Trees.{IsTree, holds};
 ghost use Rattle.layer_assign.specs.declared.span.Span.{Span as SpanView};
 ghost use Rattle.layer_assign.specs.Spans.{widened, growing, span_of, span_in, span_by, IsWithin, spans_of};
-ghost use Rattle.layer_assign.specs.Assignments.{tile_of, level_of, tile_at, parent_of, ends_at, pin_layers, met, ArePins};
+ghost use Rattle.layer_assign.specs.Assignments.{tile_count, tile_of, level_of, tile_at, parent_of, ends_at, pin_layers, met, ArePins};
 ghost use Rattle.layer_assign.specs.Raised.{AreLayers};
 ghost use Rattle.layer_assign.specs.Choices.{entry, FollowsFrom};
 ghost use Rattle.layer_assign.specs.Tables.{HasRows};
 
 use crate::layers::Layers;
+use crate::room::refill;
 use crate::span::Span;
 use crate::spans::widened;
 use crate::tables::place_in;
-use gr_base::{RouteTree, Shape};
+use gr_base::{NodeIndex, RouteTree, Shape};
 use std::alloc::{AllocError, Global};
 
 /// The span of the pins of each node's tile.
 pub(crate) fn pin_spans(
-    alloc: Global,
     shape: Shape,
     flat: &RouteTree,
     pins: &[u32],
-) -> Result<Vec<Option<Span>>, AllocError>
+    index: &NodeIndex,
+    spans: &mut Vec<Option<Span>>,
+) -> Result<(), AllocError>
     requires pins { ArePins shape flat.now pins.now }
-    ensures count { IfOk result (λ spans. length spans.items ≡ length flat.now.nodes) }
-    ensures spans { IfOk result (λ spans. (node : ℕ) → node < length flat.now.nodes →
-        growing spans.items node ≡ span_of (pin_layers shape pins.now (tile_at flat.now node))) }
+    requires index { Indexes index.now flat.now.nodes }
+    requires tiles { tile_count shape ≤ length index.now }
+    ensures count { OnOk result (length spans.new.items ≡ length flat.now.nodes) }
+    ensures spans { OnOk result ((node : ℕ) → node < length flat.now.nodes →
+        growing spans.new.items node ≡ span_of (pin_layers shape pins.now (tile_at flat.now node))) }
     ensures tree { IsTree flat.now }
 {
     let tiles = shape.columns() * shape.rows();
-    let mut spans = vec![in alloc; None; flat.len() as usize]?;
+    refill(spans, None, flat.len() as usize)?;
     for pin in pins {
-        let node = flat.node_at(*pin % tiles).unwrap() as usize;
+        let node = index.node_at(flat, *pin % tiles).unwrap() as usize;
         spans[node] = widened(spans[node], *pin / tiles);
     }
-    Ok(spans)
+    Ok(())
 }
 
 /// The tiles of a node and its parent with the layer of the node's edge.
@@ -82,39 +87,43 @@ pub(crate) fn follow(
     Ok(layers)
 }
 
-/// The span of the layers that meet in each node's tile.
+/// The span of the layers that meet in each node's tile. `spans` is for those that grow so far.
 pub(crate) fn met_spans(
-    alloc: Global,
     shape: Shape,
     flat: &RouteTree,
     layers: &Layers,
     pins: &[u32],
-) -> Result<Vec<Span>, AllocError>
+    index: &NodeIndex,
+    spans: &mut Vec<Option<Span>>,
+    whole: &mut Vec<Span>,
+) -> Result<(), AllocError>
     requires pins { ArePins shape flat.now pins.now }
     requires layers { AreLayers shape flat.now layers.now }
-    ensures count { IfOk result (λ spans. length spans.items ≡ length flat.now.nodes) }
-    ensures spans { IfOk result (λ spans. (node : ℕ) → node < length flat.now.nodes →
-        Some (span_in spans.items node) ≡ span_of (met shape flat.now pins.now
+    requires index { Indexes index.now flat.now.nodes }
+    requires tiles { tile_count shape ≤ length index.now }
+    ensures count { OnOk result (length whole.new.items ≡ length flat.now.nodes) }
+    ensures spans { OnOk result ((node : ℕ) → node < length flat.now.nodes →
+        Some (span_in whole.new.items node) ≡ span_of (met shape flat.now pins.now
         (λ other. slice_index layers.now other) node)) }
     ensures tree { IsTree flat.now }
 {
-    let mut spans = pin_spans(alloc, shape, flat, pins)?;
+    pin_spans(shape, flat, pins, index, spans)?;
     for node in 1..flat.len() {
-        grow_spans(&mut spans, flat, node, layers.layer(node));
+        grow_spans(spans, flat, node, layers.layer(node));
     }
-    whole_spans(alloc, &spans)
+    whole_spans(spans, whole)
 }
 
 /// The spans of tiles that all have one.
-fn whole_spans(alloc: Global, spans: &[Option<Span>]) -> Result<Vec<Span>, AllocError>
+fn whole_spans(spans: &[Option<Span>], whole: &mut Vec<Span>) -> Result<(), AllocError>
     requires { (node : ℕ) → node < length spans.now → IsSome (growing spans.now node) }
-    ensures count { IfOk result (λ whole. length whole.items ≡ length spans.now) }
-    ensures spans { IfOk result (λ whole. (node : ℕ) → node < length spans.now →
-        Some (span_in whole.items node) ≡ growing spans.now node) }
+    ensures count { OnOk result (length whole.new.items ≡ length spans.now) }
+    ensures spans { OnOk result ((node : ℕ) → node < length spans.now →
+        Some (span_in whole.new.items node) ≡ growing spans.now node) }
 {
-    let mut whole = Vec::with_capacity(alloc, spans.len())?;
+    whole.clear();
     for span in spans {
         whole.push(span.unwrap())?;
     }
-    Ok(whole)
+    Ok(())
 }

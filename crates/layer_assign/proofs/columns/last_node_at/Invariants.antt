@@ -1,11 +1,11 @@
-use Rattle.std.proofs.Common.{◌<◌, ◌≤◌, length, unwrap_or}
-use Rattle.gr_base.specs.Trees.{node_with}
+use Rattle.std.proofs.Common.{◌<◌, ◌+◌, length}
+use Rattle.layer_assign.specs.Raising.{IsEarly}
 use Rattle.layer_assign.proofs.columns.last_node_at.Given as goal
 
 abbrev pub invariant-loop-node : goal.invariant-loop-node
 invariant-loop-node l = record {
   inside : l.node < length l.tree.nodes;
-  earlier : unwrap_or (node_with l.tree.nodes l.cell) 0 ≤ l.node;
+  early : IsEarly l.tree (l.node + 1) l.cell;
 }
 
 abbrev pub decreases-loop-node : goal.decreases-loop-node

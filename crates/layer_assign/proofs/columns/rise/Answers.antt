@@ -1,5 +1,5 @@
 use Rattle.std.proofs.Common.{◌+◌, arith}
-use Rattle.layer_assign.proofs.ColumnLemmas.{risen-none, risen-more, rise-outside, rise-on, near_up, at-shape}
+use Rattle.layer_assign.proofs.ColumnLemmas.{held-early, risen-none, risen-more, rise-outside, rise-on, near_up, at-shape}
 use Rattle.layer_assign.proofs.columns.rise.Goals as goal
 
 pub loop-layer-init : goal.loop-layer-init
@@ -19,9 +19,10 @@ hang-requires-clause-outside c =
 
 pub hang-requires-clause-on : goal.hang-requires-clause-on
 hang-requires-clause-on c =
-    rise-on c.args.tree.now c.loop-layer.tree c.args.tile c.args.from c.loop-layer.layer c.cell_at_level-in-loop-layer.result c.requires.tile c.loop-layer.invariant.above
+    held-early c.loop-layer.tree c.cell_at_level-in-loop-layer.result c.len-end.result
+    (rise-on c.args.tree.now c.loop-layer.tree c.args.tile c.args.from c.loop-layer.layer c.cell_at_level-in-loop-layer.result c.requires.tile c.loop-layer.invariant.above
     (at-shape c.args.tree.now.shape c.shape-shape.result c.args.tile c.loop-layer.layer c.cell_at_level-in-loop-layer.result c.shape-shape.ensures.shape c.cell_at_level-in-loop-layer.ensures.cell)
-    c.requires.on c.loop-layer.invariant.so_far
+    c.requires.on c.loop-layer.invariant.so_far) c.len-end.ensures.len
 
 pub hang-requires-clause-near : goal.hang-requires-clause-near
 hang-requires-clause-near c =

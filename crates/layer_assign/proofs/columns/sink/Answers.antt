@@ -1,5 +1,5 @@
 use Rattle.std.proofs.Common.{◌≡◌, ℕ, ◌+◌, ◌-◌, sym, subst, arith}
-use Rattle.layer_assign.proofs.ColumnLemmas.{Sunk, sunk-none, sunk-more, sink-outside, sink-on, near_down, at-shape}
+use Rattle.layer_assign.proofs.ColumnLemmas.{held-early, Sunk, sunk-none, sunk-more, sink-outside, sink-on, near_down, at-shape}
 use Rattle.layer_assign.proofs.columns.sink.Goals as goal
 
 pub loop-layer-init : goal.loop-layer-init
@@ -26,9 +26,10 @@ hang-requires-clause-on c =
     let h = c.loop-layer.invariant.above in
     let l = c.loop-layer.layer - 1 in
     let one : l + 1 ≡ c.loop-layer.layer = omega arith in
-    sink-on c.args.tree.now c.loop-layer.tree c.args.tile c.args.from l c.cell_at_level-in-loop-layer.result c.requires.tile (omega arith)
+    held-early c.loop-layer.tree c.cell_at_level-in-loop-layer.result c.len-end.result
+    (sink-on c.args.tree.now c.loop-layer.tree c.args.tile c.args.from l c.cell_at_level-in-loop-layer.result c.requires.tile (omega arith)
     (at-shape c.args.tree.now.shape c.shape-shape.result c.args.tile (l + 1) c.cell_at_level-in-loop-layer.result c.shape-shape.ensures.shape c.cell_at_level-in-loop-layer.ensures.cell)
-    c.requires.on (subst (λ (k : ℕ). Sunk c.args.tree.now.shape c.args.tree.now c.loop-layer.tree c.args.tile c.args.from k) (sym one) c.loop-layer.invariant.so_far)
+    c.requires.on (subst (λ (k : ℕ). Sunk c.args.tree.now.shape c.args.tree.now c.loop-layer.tree c.args.tile c.args.from k) (sym one) c.loop-layer.invariant.so_far)) c.len-end.ensures.len
 
 pub hang-requires-clause-near : goal.hang-requires-clause-near
 hang-requires-clause-near c =

@@ -1,30 +1,39 @@
-use Rattle.std.proofs.Common.{◌≡◌, ℕ, inl, inr, Bool, true, false, length, set, get_or, Option, unwrap_or, refl, sym, ap, subst, ◌∙◌, arith}
+use Rattle.std.proofs.Common.{◌≡◌, ℕ, ◌<◌, ◌≤◌, inl, inr, true, false, nat_lt, List, length, set, get_or, Option, unwrap_or, refl, sym, ap, subst, ◌∙◌, arith}
 use Rattle.std.proofs.lemmas.Bool.{cases_eq}
+use Rattle.std.proofs.lemmas.Bool.Decides.{nat_tests}
 use Rattle.std.proofs.lemmas.List.{length-set}
 use Rattle.std.proofs.lemmas.Option.{slice_get_read}
 use Rattle.gr_base.specs.Trees.{cell_at, holds}
 use Rattle.gr_base.specs.declared.grid.Shape.{Shape}
 use Rattle.layer_assign.specs.Spans.{span_in}
 use Rattle.layer_assign.specs.Assignments.{cell_on, tile_at}
-use Rattle.layer_assign.specs.Raising.{is_done, IsIn}
+use Rattle.layer_assign.specs.Raising.{end_of, is_done, IsEarly, IsIn, IsRaised, AreEnds}
 use Rattle.layer_assign.proofs.FlatLemmas.{parent-at}
-use Rattle.layer_assign.proofs.RaisingLemmas.{raised-free, raised-on, raised-down, raised-all, done-set, done-kept, grows-at}
+use Rattle.layer_assign.proofs.RaisingLemmas.{column_of, raised-free, raised-down, raised-all, done-set, done-kept, done-some, ends-more, grows-at}
 use Rattle.layer_assign.proofs.raised.raise_others.Goals as goal
+
+-- a tile without an end isn't done
+not_done : (ends : List ℕ) (node end : ℕ) → node < length ends → end ≡ get_or ends node end → end ≤ 0 → is_done ends node ≡ false
+not_done ends node end below read none =
+    let at = slice_get_read ends (length ends) node end refl below read in
+    ap (λ (o : Option ℕ). nat_lt 0 (unwrap_or o 0)) at ∙ zero_end end none
+  where
+    zero_end : (n : ℕ) → n ≤ 0 → nat_lt 0 n ≡ false
+    zero_end n none = let e : n ≡ 0 = omega arith in ap (λ (k : ℕ). nat_lt 0 k) e
 
 pub visit-requires-clause-on : goal.visit-requires-clause-on
 visit-requires-clause-on c =
-    let g = c.args.tree.now.shape in
     let t = c.args.flat.now in
     let a : ℕ → ℕ = λ node. get_or c.args.layers.now node 0 in
     let later = c.loop-node.invariant.later in
     let lt = c.loop-node-test.true in
     let long = c.len-node-end.ensures.len in
-    let early = c.parent.ensures.earlier later in
-    let up = parent-at t c.loop-node.node c.parent.result c.parent.ensures.parent in
+    let early = c.parent-parent.ensures.earlier later in
+    let up = parent-at t c.loop-node.node c.parent-parent.result c.parent-parent.ensures.parent in
     let inside = subst (λ (p : ℕ). IsIn (span_in c.args.spans.now p) (a c.loop-node.node)) up (c.requires.spans.above c.loop-node.node later (omega arith)) in
-    subst (λ (s : Shape). holds c.loop-node.tree (cell_on s (tile_at t c.parent.result) (a c.loop-node.node)) ≡ true) (sym c.loop-node.invariant.raised.shape)
-    (raised-on g t a (span_in c.args.spans.now) (cell_at c.args.tree.now.nodes 0) (is_done c.loop-node.done.items) 0 c.loop-node.tree c.parent.result (a c.loop-node.node)
-    c.requires.flat c.len-node-end.ensures.tree c.loop-node.invariant.raised (omega arith) (c.loop-node.invariant.before c.parent.result early) inside)
+    let cell : Shape → ℕ = λ s. cell_on s (tile_at t c.parent-parent.result) (a c.loop-node.node) in
+    subst (λ (s : Shape). IsEarly c.loop-node.tree (end_of c.loop-node.ends.items c.parent-parent.result) (cell s)) (sym c.loop-node.invariant.raised.shape)
+    (c.loop-node.invariant.ends.early c.parent-parent.result (a c.loop-node.node) (omega arith) (c.loop-node.invariant.before c.parent-parent.result early) inside)
 
 pub visit-requires-clause-free : goal.visit-requires-clause-free
 visit-requires-clause-free c = λ layer below.
@@ -33,12 +42,38 @@ visit-requires-clause-free c = λ layer below.
     let a : ℕ → ℕ = λ node. get_or c.args.layers.now node 0 in
     let lt = c.loop-node-test.true in
     let long = c.len-node-end.ensures.len in
-    let marks : length c.loop-node.done.items ≡ length t.nodes = c.loop-node.invariant.marks in
-    let read = slice_get_read c.loop-node.done.items (length c.loop-node.done.items) c.loop-node.node c.index.result.now refl (omega arith) c.index.ensures in
-    let open_is : is_done c.loop-node.done.items c.loop-node.node ≡ false = ap (λ (o : Option Bool). unwrap_or o false) read ∙ c.if-index.false in
+    let marks : length c.loop-node.ends.items ≡ length t.nodes = c.loop-node.invariant.marks in
+    let open_is = not_done c.loop-node.ends.items c.loop-node.node c.index.result.now (omega arith) c.index.ensures c.if-index-gt0.false in
     subst (λ (s : Shape). holds c.loop-node.tree (cell_on s (tile_at t c.loop-node.node) layer) ≡ false) (sym c.loop-node.invariant.raised.shape)
-    (raised-free g t a (span_in c.args.spans.now) (cell_at c.args.tree.now.nodes 0) (is_done c.loop-node.done.items) 0 c.loop-node.tree c.loop-node.node layer
+    (raised-free g t a (span_in c.args.spans.now) (cell_at c.args.tree.now.nodes 0) (is_done c.loop-node.ends.items) 0 c.loop-node.tree c.loop-node.node layer
     c.requires.flat c.len-node-end.ensures.tree c.loop-node.invariant.raised (omega arith) open_is)
+
+-- and one with an end is
+yet_done : (ends : List ℕ) (node end : ℕ) → node < length ends → end ≡ get_or ends node end → 0 < end → is_done ends node ≡ true
+yet_done ends node end below read some =
+    let at = slice_get_read ends (length ends) node end refl below read in
+    ap (λ (o : Option ℕ). nat_lt 0 (unwrap_or o 0)) at ∙ some_end end some
+  where
+    some_end : (n : ℕ) → 0 < n → nat_lt 0 n ≡ true
+    some_end n some = grind (arith, nat_tests)
+
+pub loop-node-preserved-then-index-gt0 : goal.loop-node-preserved-then-index-gt0
+loop-node-preserved-then-index-gt0 c =
+    let lt = c.loop-node-test.true in
+    let size = c.len-node-end.ensures.len in
+    let long : length c.loop-node.ends.items ≡ length c.args.flat.now.nodes = c.loop-node.invariant.marks in
+    let done = yet_done c.loop-node.ends.items c.loop-node.node c.index.result.now (omega arith) c.index.ensures c.if-index-gt0.true in
+    record {
+      later = omega arith;
+      marks = long;
+      before = λ u less.
+          elim (cases_eq u c.loop-node.node) [
+            | inl same ↦ ap (λ (k : ℕ). is_done c.loop-node.ends.items k) same ∙ done
+            | inr apart ↦ c.loop-node.invariant.before u (omega arith)
+          ];
+      raised = c.loop-node.invariant.raised;
+      ends = c.loop-node.invariant.ends;
+    }
 
 pub loop-node-preserved : goal.loop-node-preserved
 loop-node-preserved c =
@@ -47,22 +82,32 @@ loop-node-preserved c =
     let a : ℕ → ℕ = λ node. get_or c.args.layers.now node 0 in
     let later = c.loop-node.invariant.later in
     let lt = c.loop-node-test.true in
-    let long = c.len-node-end.ensures.len in
-    let marks : length c.loop-node.done.items ≡ length t.nodes = c.loop-node.invariant.marks in
-    let read = slice_get_read c.loop-node.done.items (length c.loop-node.done.items) c.loop-node.node c.index.result.now refl (omega arith) c.index.ensures in
-    let open_is : is_done c.loop-node.done.items c.loop-node.node ≡ false = ap (λ (o : Option Bool). unwrap_or o false) read ∙ c.if-index.false in
+    let size = c.len-node-end.ensures.len in
+    let node = c.loop-node.node in
+    let spans = span_in c.args.spans.now in
+    let old = c.loop-node.ends.items in
+    let long : length old ≡ length t.nodes = c.loop-node.invariant.marks in
+    let open_is = not_done old node c.index.result.now (omega arith) c.index.ensures c.if-index-gt0.false in
+    let marked = c.in_ok-visit.ensures.ends in
+    let count = length c.visit.new.tree.nodes in
+    let grows = grows-at g c.loop-node.tree.shape t a spans c.loop-node.tree c.visit.new.tree node node c.loop-node.invariant.raised.shape c.in_ok-visit.ensures.grows in
+    let some = done-some g t spans old 0 c.loop-node.tree c.visit.new.tree (λ cell. column_of g t spans cell node) _ c.loop-node.invariant.ends (c.loop-node.invariant.before 0 later) grows in
     record {
       later = omega arith;
-      marks = length-set c.loop-node.done.items c.loop-node.node true ∙ marks;
+      marks = ap (λ (xs : List ℕ). length xs) marked ∙ length-set old node count ∙ long;
       before = λ u less.
-          elim (cases_eq u c.loop-node.node) [
-            | inl same ↦ ap (λ (k : ℕ). is_done (set c.loop-node.done.items c.loop-node.node true) k) same ∙ done-set c.loop-node.done.items c.loop-node.node (omega arith)
-            | inr apart ↦ done-kept c.loop-node.done.items c.loop-node.node u apart ∙ c.loop-node.invariant.before u (omega arith)
-          ];
+          subst (λ (xs : List ℕ). is_done xs u ≡ true) (sym marked)
+          (elim (cases_eq u node) [
+            | inl same ↦ ap (λ (k : ℕ). is_done (set old node count) k) same ∙ done-set old node count (omega arith) some
+            | inr apart ↦ done-kept old node u count apart ∙ c.loop-node.invariant.before u (omega arith)
+          ]);
       raised =
-          raised-down g t a (span_in c.args.spans.now) (cell_at c.args.tree.now.nodes 0) c.loop-node.done.items c.loop-node.node c.loop-node.tree c.visit.new.tree
-          c.loop-node.invariant.raised later (omega arith) marks open_is
-          (grows-at g c.loop-node.tree.shape t a (span_in c.args.spans.now) c.loop-node.tree c.visit.new.tree c.loop-node.node c.loop-node.node c.loop-node.invariant.raised.shape c.in_ok-visit.ensures);
+          subst (λ (xs : List ℕ). IsRaised g t a spans (cell_at c.args.tree.now.nodes 0) (is_done xs) 0 c.visit.new.tree) (sym marked)
+          (raised-down g t a spans (cell_at c.args.tree.now.nodes 0) old node count c.loop-node.tree c.visit.new.tree
+          c.loop-node.invariant.raised some later (omega arith) long open_is grows);
+      ends =
+          subst (λ (xs : List ℕ). AreEnds g t spans xs c.visit.new.tree) (sym marked)
+          (ends-more g t spans old node c.loop-node.tree c.visit.new.tree _ c.requires.flat c.len-node-end.ensures.tree long (omega arith) grows c.loop-node.invariant.ends);
     }
 
 pub returns : goal.returns
@@ -72,5 +117,5 @@ returns c =
     let a : ℕ → ℕ = λ node. get_or c.args.layers.now node 0 in
     let end = c.loop-node-test.false in
     let long = c.len-node-end.ensures.len in
-    raised-all g t a (span_in c.args.spans.now) (cell_at c.args.tree.now.nodes 0) (is_done c.loop-node.done.items) c.loop-node.tree c.loop-node.invariant.raised
+    raised-all g t a (span_in c.args.spans.now) (cell_at c.args.tree.now.nodes 0) (is_done c.loop-node.ends.items) c.loop-node.tree c.loop-node.invariant.raised
     (λ u lt. c.loop-node.invariant.before u (omega arith))

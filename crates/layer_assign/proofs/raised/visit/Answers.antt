@@ -8,7 +8,6 @@ use Rattle.layer_assign.specs.Spans.{span_in}
 use Rattle.layer_assign.specs.Assignments.{IsFlat, cell_on, tile_at}
 use Rattle.layer_assign.specs.Raised.{in_column, is_wire_of, is_via_of, Grows}
 use Rattle.layer_assign.specs.Raising.{Links}
-use Rattle.layer_assign.proofs.ColumnLemmas.{on_ok-one}
 use Rattle.layer_assign.proofs.FlatLemmas.{tile-at}
 use Rattle.layer_assign.proofs.LinkLemmas.{link-near, link-wire}
 use Rattle.layer_assign.proofs.raised.visit.Goals as goal
@@ -39,6 +38,8 @@ visited g t a old new edge from to at_from at_to at_layer s span flat tree later
           all.edges_are e
           ∙ ap (λ (p : Rattle.std.proofs.Common.Bool). Rattle.gr_base.specs.Trees.edges_of old e || (p || is_via_of g (tile_at t to) span e))
           (link-wire g t a edge from to e flat tree later below inside links);
+      added = all.added;
+      nodes = all.nodes;
     }
 
 pub enter-requires-clause-near : goal.enter-requires-clause-near
@@ -48,12 +49,10 @@ enter-requires-clause-near c =
     (link-near c.args.tree.now.shape c.args.flat.now c.args.edge c.args.from c.args.to (get_or c.args.layers.now c.args.edge 0) c.requires.flat c.cell.ensures.tree c.requires.later c.requires.edge
     (c.requires.layers.below c.args.edge c.requires.later c.requires.edge) c.requires.links)
 
-pub returns : goal.returns
-returns c =
+pub returns-clause-grows : goal.returns-clause-grows
+returns-clause-grows c =
     let t = c.args.flat.now in
-    on_ok-one c.enter.result _ _ c.enter.ensures
-    (λ grows.
     visited c.args.tree.now.shape t (λ node. get_or c.args.layers.now node 0) c.args.tree.now c.enter.new.tree c.args.edge c.args.from c.args.to c.cell.result c.cell-2.result c.layer.result
     c.span_of_node.result (span_in c.args.spans.now c.args.to) c.requires.flat c.cell.ensures.tree c.requires.later c.requires.edge
     (c.requires.layers.below c.args.edge c.requires.later c.requires.edge) c.requires.links c.layer.ensures (tile-at t c.args.to c.cell-2.result c.cell-2.ensures.cell)
-    (tile-at t c.args.from c.cell.result c.cell.ensures.cell) (sym c.span_of_node.ensures) grows)
+    (tile-at t c.args.from c.cell.result c.cell.ensures.cell) (sym c.span_of_node.ensures) c.in_ok-enter.ensures

@@ -34,7 +34,7 @@ climbs-at g nodes n xs is count node s below within =
 
 pub loop-init : goal.loop-init
 unfolding span_at
-loop-init c = record { span = refl; costs = c.in_ok-costs.ensures.items }
+loop-init c = record { span = refl; costs = c.requires }
 
 pub climb-requires : goal.climb-requires
 climb-requires c =

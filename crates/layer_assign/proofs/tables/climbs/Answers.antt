@@ -53,10 +53,10 @@ first-part xs n = let none : n - 0 ≡ n = omega arith in ap (λ (k : ℕ). take
 pub loop-init : goal.loop-init
 loop-init c = record {
   some = omega arith;
-  rows = c.in_ok-costs.ensures.row;
+  rows = c.in_ok-climb_row.ensures.row;
   climbs = λ node s lt within.
       let same : 0 ≡ node = omega arith in
-      subst (λ (k : ℕ). entry c.args.shape.layers c.in_ok-costs.costs.items k s ≡ climb s) same (c.in_ok-costs.ensures.climbs s within);
+      subst (λ (k : ℕ). entry c.args.shape.layers c.climb_row.new.costs.items k s ≡ climb s) same (c.in_ok-climb_row.ensures.climbs s within);
 }
 
 pub extend_from_within-requires-clause-in_bounds : goal.extend_from_within-requires-clause-in_bounds

@@ -1,14 +1,11 @@
-use Rattle.std.proofs.Common.{ℕ, ◌<◌, if◌then◌else◌, Option, Result, Ok, Err, IfOk, IsSome, List, length, get_or, add-one, sym, ap, subst, ◌∙◌, arith}
+use Rattle.std.proofs.Common.{ℕ, ◌<◌, if◌then◌else◌, Option, IsSome, List, length, get_or, add-one, sym, ap, subst, ◌∙◌, arith}
 use Rattle.layer_assign.specs.declared.span.Span.{Span}
 use Rattle.layer_assign.specs.Spans.{widened, growing, span_by}
 use Rattle.layer_assign.specs.Assignments.{ends_at}
 use Rattle.layer_assign.proofs.Problems.{pin_span}
+use Rattle.layer_assign.proofs.ColumnLemmas.{on_ok-one}
 use Rattle.layer_assign.proofs.SpanLemmas.{met-found, met-some}
 use Rattle.layer_assign.proofs.tiles.met_spans.Goals as goal
-
-follow-ok : {X E : Type 0} (r : Result X E) (P Q : X → Type 0) → ((x : X) → P x → Q x) → IfOk r P → IfOk r Q
-follow-ok (Ok x) P Q step p = step x p
-follow-ok (Err e) P Q step p = tt
 
 pub whole_spans-requires : goal.whole_spans-requires
 whole_spans-requires c = λ node lt.
@@ -49,8 +46,8 @@ returns-clause-spans c =
     let long = c.len-node-end.ensures.len in
     let count = c.loop-node.invariant.count in
     let same = ap (λ (xs : List (Option Span)). length xs) c.deref.ensures.value in
-    follow-ok c.whole_spans.result _ _
-    (λ whole each node lt.
+    on_ok-one c.whole_spans.result _ _ c.whole_spans.ensures.spans
+    (λ each node lt.
     each node (omega (arith, same, lt, count))
     ∙ ap (λ (xs : List (Option Span)). growing xs node) c.deref.ensures.value
-    ∙ met-found c.args.shape c.args.flat.now c.args.pins.now a c.loop-node.spans.items c.loop-node.node (omega arith) c.loop-node.invariant.spans node lt) c.whole_spans.ensures.spans
+    ∙ met-found c.args.shape c.args.flat.now c.args.pins.now a c.loop-node.spans.items c.loop-node.node (omega arith) c.loop-node.invariant.spans node lt)

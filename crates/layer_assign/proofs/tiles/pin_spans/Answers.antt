@@ -1,13 +1,30 @@
-use Rattle.std.proofs.Common.{Option, ◌≡◌, ℕ, ◌*◌, ◌/◌, ◌%◌, length, set, get_or, Some, refl, sym, ap, ◌∙◌, arith}
+use Rattle.std.proofs.Common.{Option, ◌≡◌, ℕ, ◌*◌, ◌/◌, ◌%◌, ◌<◌, length, set, get_or, Some, refl, sym, ap, ◌∙◌, arith}
 use Rattle.std.proofs.lemmas.List.{length-set}
 use Rattle.std.proofs.lemmas.Option.{slice_get_read}
-use Rattle.gr_base.specs.Trees.{node_with}
+use Rattle.gr_base.specs.Trees.{TreeView, node_with}
+use Rattle.gr_base.specs.declared.grid.Shape.{Shape}
 use Rattle.gr_base.proofs.TreeLemmas.{node_with-at, cell_at-within}
 use Rattle.layer_assign.specs.declared.span.Span.{Span}
 use Rattle.layer_assign.specs.Spans.{widened, growing}
 use Rattle.layer_assign.specs.Assignments.{tile_count, tile_of, level_of}
 use Rattle.layer_assign.proofs.PinLemmas.{pins-more}
 use Rattle.layer_assign.proofs.tiles.pin_spans.Goals as goal
+
+pin_inside : (g : Shape) (t : TreeView) (pin columns rows node : ℕ) (o : Option ℕ) → o ≡ node_with t.nodes (pin % (columns * rows)) → o ≡ Some node → node < length t.nodes
+pin_inside g t pin columns rows node o is found =
+    cell_at-within t.nodes node (pin % (columns * rows)) (node_with-at t.nodes (pin % (columns * rows)) node (sym is ∙ found))
+
+pub index-requires : goal.index-requires
+index-requires c =
+    let below = pin_inside c.args.shape c.args.flat.now (get_or c.args.pins.now c.loop-pin.pin-index 0) c.columns.result c.rows.result c.unwrap-node.result c.node_at.result c.node_at.ensures.node c.unwrap-node.ensures in
+    let count = c.loop-pin.invariant.count in
+    omega (arith, below, count, c.loop-pin.spans.ok.0)
+
+pub index_mut-requires : goal.index_mut-requires
+index_mut-requires c =
+    let below = pin_inside c.args.shape c.args.flat.now (get_or c.args.pins.now c.loop-pin.pin-index 0) c.columns.result c.rows.result c.unwrap-node.result c.node_at.result c.node_at.ensures.node c.unwrap-node.ensures in
+    let count = c.loop-pin.invariant.count in
+    omega (arith, below, count, c.loop-pin.spans.ok.0)
 
 pub loop-pin-preserved : goal.loop-pin-preserved
 loop-pin-preserved c =
