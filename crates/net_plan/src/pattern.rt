@@ -66,7 +66,7 @@ impl Planner {
         let shape = costs.capacity.shape();
         self.fit(alloc, shape)?;
         let flat = flat_tree(alloc, design, costs, pins, &mut self.flat)?;
-        let layers = assign(alloc, costs, shape, &flat, pins)?;
-        raise(alloc, shape, &flat, &layers, pins)
+        let layers = assign(alloc, costs, shape, &flat, pins, &mut self.layers)?;
+        raise(alloc, shape, &flat, &layers, pins, &mut self.layers)
     }
 }

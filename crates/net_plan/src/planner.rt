@@ -3,6 +3,7 @@ ghost use Rattle.layer_assign.specs.Assignments.{tile_count};
 
 use crate::flat::FlatRoom;
 use gr_base::{Design, Shape};
+use layer_assign::LayerRoom;
 use std::alloc::{AllocError, Global};
 
 /// What pattern plans are made with. It serves net after net and keeps its memory; what it holds
@@ -12,7 +13,9 @@ use std::alloc::{AllocError, Global};
 pub struct Planner {
     pub(crate) shape: Shape,
     pub(crate) flat: FlatRoom,
+    pub(crate) layers: LayerRoom,
     pub(crate) ghost fits: { tile_count shape ≤ length flat.joining.index },
+    pub(crate) ghost layers_fit: { tile_count shape ≤ layers },
 }
 
 impl Planner {
@@ -27,6 +30,7 @@ impl Planner {
         Ok(Planner {
             shape,
             flat: FlatRoom::new(alloc, shape)?,
+            layers: LayerRoom::new(alloc, shape)?,
         })
     }
 
