@@ -14,6 +14,9 @@ use pattern_route::pattern;
 use std::alloc::{AllocError, Global};
 use steiner_topology::Topology;
 
+/// The flat trees of most nets have no more nodes, and take memory once.
+const FEW_NODES: usize = 64;
+
 /// What topologies are made trees of, kept from net to net: an index of the tree's nodes, the order
 /// of the points with marks at those that were handled, and a walk. What it holds between two calls
 /// means nothing.
@@ -56,7 +59,8 @@ pub(crate) fn tree_of<C: Costs>(
     ensures room { length room.new.index ≡ length room.old.index }
 {
     order_of(topology, &mut room.order, &mut room.handled)?;
-    let mut tree = RouteTree::start(alloc, shape, cell_of_tile(shape, topology.tile(0)))?;
+    let first = cell_of_tile(shape, topology.tile(0));
+    let mut tree = RouteTree::start_with_room(alloc, shape, first, FEW_NODES)?;
     room.index.extend(&tree, 0);
     for &point in &room.order {
         let walk = &mut room.walk;

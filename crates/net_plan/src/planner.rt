@@ -15,7 +15,7 @@ pub struct Planner {
     pub(crate) flat: FlatRoom,
     pub(crate) layers: LayerRoom,
     pub(crate) ghost fits: { tile_count shape ≤ length flat.joining.index },
-    pub(crate) ghost layered: { tile_count shape ≤ layers },
+    pub(crate) ghost layers_fit: { tile_count shape ≤ layers },
 }
 
 impl Planner {

@@ -1,6 +1,6 @@
 use crate::priced::Priced;
 use gr_base::{Edge, RouteTree, Shape, Way};
-use layer_assign::{assign, raise};
+use layer_assign::{LayerRoom, assign, raise};
 use std::test::Fail;
 
 #[test]
@@ -8,6 +8,7 @@ fn a_wire_climbs_to_a_cheaper_layer(rt: HostRuntime) -> Result<(), Fail> {
     let alloc = rt.alloc();
     let shape = Shape::new(2, 1, 3).ok_or("a grid")?;
     let floor = Shape::new(2, 1, 1).ok_or("a floor")?;
+    let mut room = LayerRoom::new(alloc, shape)?;
     let mut flat = RouteTree::start(alloc, floor, 0)?;
     flat.attach(&[1, 0])?;
     let costs = Priced {
@@ -17,9 +18,9 @@ fn a_wire_climbs_to_a_cheaper_layer(rt: HostRuntime) -> Result<(), Fail> {
         high: 1,
         cost: 10,
     };
-    let layers = assign(alloc, &costs, shape, &flat, &[0, 1])?;
+    let layers = assign(alloc, &costs, shape, &flat, &[0, 1], &mut room)?;
     assert_eq!(rt; layers.layer(1), 1);
-    let tree = raise(alloc, shape, &flat, &layers, &[0, 1])?;
+    let tree = raise(alloc, shape, &flat, &layers, &[0, 1], &mut room)?;
     assert_eq!(rt; tree.len(), 4);
     for (node, low, way) in [(1, 0, Way::Up), (2, 2, Way::East), (3, 1, Way::Up)] {
         assert!(rt; node < tree.len());
@@ -36,6 +37,7 @@ fn the_first_least_assignments_of_a_star(rt: HostRuntime) -> Result<(), Fail> {
     let alloc = rt.alloc();
     let shape = Shape::new(3, 2, 3).ok_or("a grid")?;
     let floor = Shape::new(3, 2, 1).ok_or("a floor")?;
+    let mut room = LayerRoom::new(alloc, shape)?;
     let mut flat = RouteTree::start(alloc, floor, 1)?;
     flat.attach(&[0, 1])?;
     flat.attach(&[2, 1])?;
@@ -47,12 +49,12 @@ fn the_first_least_assignments_of_a_star(rt: HostRuntime) -> Result<(), Fail> {
         high: 99,
         cost: 1,
     };
-    let layers = assign(alloc, &uneven, shape, &flat, &[12, 2])?;
+    let layers = assign(alloc, &uneven, shape, &flat, &[12, 2], &mut room)?;
     assert_eq!(rt;
         [layers.layer(1), layers.layer(2), layers.layer(3)],
         [2, 1, 1]
     );
-    let tree = raise(alloc, shape, &flat, &layers, &[12, 2])?;
+    let tree = raise(alloc, shape, &flat, &layers, &[12, 2], &mut room)?;
     assert_eq!(rt; tree.len(), 6);
     let dear = Priced {
         shape,
@@ -61,7 +63,7 @@ fn the_first_least_assignments_of_a_star(rt: HostRuntime) -> Result<(), Fail> {
         high: 1,
         cost: 9,
     };
-    let layers = assign(alloc, &dear, shape, &flat, &[0, 2])?;
+    let layers = assign(alloc, &dear, shape, &flat, &[0, 2], &mut room)?;
     assert_eq!(rt;
         [layers.layer(1), layers.layer(2), layers.layer(3)],
         [1, 0, 0]
@@ -74,6 +76,7 @@ fn a_lone_tile_climbs_between_its_pins(rt: HostRuntime) -> Result<(), Fail> {
     let alloc = rt.alloc();
     let shape = Shape::new(1, 1, 3).ok_or("a grid")?;
     let floor = Shape::new(1, 1, 1).ok_or("a floor")?;
+    let mut room = LayerRoom::new(alloc, shape)?;
     let flat = RouteTree::start(alloc, floor, 0)?;
     let costs = Priced {
         shape,
@@ -82,8 +85,8 @@ fn a_lone_tile_climbs_between_its_pins(rt: HostRuntime) -> Result<(), Fail> {
         high: 1,
         cost: 1,
     };
-    let layers = assign(alloc, &costs, shape, &flat, &[2, 0])?;
-    let tree = raise(alloc, shape, &flat, &layers, &[2, 0])?;
+    let layers = assign(alloc, &costs, shape, &flat, &[2, 0], &mut room)?;
+    let tree = raise(alloc, shape, &flat, &layers, &[2, 0], &mut room)?;
     assert_eq!(rt; tree.len(), 3);
     for (node, cell) in [(0, 2), (1, 1), (2, 0)] {
         assert!(rt; node < tree.len());

@@ -16,15 +16,7 @@ fn pattern(alloc: Global, design: &Design) -> Result<RouteTree, Fail> {
         return Err(Fail::from("a routed net"));
     }
     let mut planner = Planner::new(alloc, design)?;
-    Ok(pattern_plan(
-        alloc,
-        &mut planner,
-        design,
-        &capacity,
-        &loads,
-        0,
-        &rule,
-    )?)
+    Ok(pattern_plan(alloc, &mut planner, design, &capacity, &loads, 0, &rule)?)
 }
 
 /// Its maze plan with this margin and by this rule.

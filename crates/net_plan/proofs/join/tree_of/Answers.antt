@@ -9,7 +9,7 @@ extend-requires-clause-before g c = none-indexed c.args.room.now.index c.in_ok-t
 pub loop-point-init : goal.loop-point-init
 loop-point-init g c = record {
   grown = grown-first c.args.shape (g.C.Costs.price c.args.costs.now) c.args.topology.now c.deref-point-items.result.now c.in_ok-tree.tree
-      (tree-first c.args.shape c.args.topology.now c.tile.result c.cell_of_tile.result c.in_ok-tree.tree c.in_ok-tree.ensures.tree c.cell_of_tile.ensures.cell c.tile.ensures);
+      (tree-first c.args.shape c.args.topology.now c.tile.result c.cell_of_tile-first.result c.in_ok-tree.tree c.in_ok-tree.ensures.tree c.cell_of_tile-first.ensures.cell c.tile.ensures);
   index = c.extend.ensures.index;
   room = c.extend.ensures.cells;
 }

@@ -19,13 +19,6 @@ assign-requires-clause-layers g c =
     (has-layers d c.args.costs.now.capacity.now c.in_ok-flat.flat c.requires.capacity c.net.ensures.design.frame
     c.in_ok-flat.ensures.tree.flattened (subst IsTree c.flat.view_is c.flat.invariant))
 
-pub assign-requires-clause-pins : goal.assign-requires-clause-pins
-assign-requires-clause-pins g c =
-    let d = c.args.design.now in
-    let shape : c.shape-shape.result ≡ d.frame.shape = c.shape-shape.ensures.shape ∙ ap (λ (x : CapacityView). x.shape) c.requires.capacity in
-    are-pins c.shape-shape.result d.frame.shape c.in_ok-flat.flat c.as_slice-pins.result.now c.net.result.now shape c.as_slice-pins.ensures
-    (net-of d c.args.costs.now.net c.net.result.now c.net.ensures.design c.net.ensures.net) c.in_ok-flat.ensures.tiles
-
 pub raise-requires-clause-pins : goal.raise-requires-clause-pins
 raise-requires-clause-pins g c =
     let d = c.args.design.now in
