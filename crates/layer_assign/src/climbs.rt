@@ -1,5 +1,6 @@
 ghost use Rattle.std.specs.Prelude.{◌≡◌, ℕ, ◌<◌, ◌≤◌, Option, [], length, IfOk, OnOk};
 ghost use Rattle.gr_base.specs.Limits.{most_cells};
+ghost use Rattle.layer_assign.specs.declared.climbs.TheConstants.{KEPT_ROWS};
 ghost use Rattle.layer_assign.specs.declared.span.Span.{Span as SpanView};
 ghost use Rattle.layer_assign.specs.Spans.{IsWithin, climb};
 ghost use Rattle.layer_assign.specs.Choices.{entry};
@@ -17,7 +18,7 @@ const KEPT_ROWS: u32 = 64;
 pub(crate) struct ClimbRows {
     shape: Shape,
     costs: Vec<u64>,
-    ghost rows: { AreClimbs shape.layers 64 costs.items },
+    ghost rows: { AreClimbs shape.layers KEPT_ROWS costs.items },
 }
 
 impl ClimbRows {
