@@ -3,6 +3,7 @@ pub mod Elimination
 pub mod FlatLemmas
 pub mod Problems
 pub mod TableLemmas
+pub mod ClimbLemmas
 pub mod ChoiceLemmas
 pub mod Choosing
 pub mod RunLemmas

@@ -57,7 +57,7 @@ sixteen = refl
 pub few_spans : (layers : ℕ) → layers ≤ 16 → spans_of layers ≤ 137
 few_spans layers few = let rises = triangle-rises layers 16 few in let most = sixteen in omega (arith, rises, most)
 
-in_row : (node spans number nodes : ℕ) → node < nodes → number < spans → node * spans + number < nodes * spans
+pub in_row : (node spans number nodes : ℕ) → node < nodes → number < spans → node * spans + number < nodes * spans
 in_row node spans number nodes below within = let h = mul-add-lt node spans number nodes below within in omega (arith, h)
 
 -- an entry of a table

@@ -9,12 +9,17 @@ use Rattle.gr_base.specs.declared.grid.Shape.{Shape}
 use Rattle.layer_assign.specs.declared.span.Best.{Best}
 use Rattle.layer_assign.specs.declared.span.Limb.{Limb}
 use Rattle.layer_assign.specs.declared.span.Span.{Span}
-use Rattle.layer_assign.specs.Spans.{widened, IsWithin, spans_of}
+use Rattle.layer_assign.specs.Spans.{widened, climb, IsWithin, spans_of}
 use Rattle.layer_assign.specs.Choices.{entry}
 
 -- a table has a row of spans for each node
 abbrev pub HasRows : ℕ → ℕ → List ℕ → Type 0
 HasRows layers nodes table = length table ≡ nodes * spans_of layers
+
+-- the entries of so many nodes are the climbs of their spans
+pub record AreClimbs (layers nodes : ℕ) (table : List ℕ) : Type 0 where
+  pub rows : HasRows layers nodes table
+  pub climbs : (node : ℕ) → (s : Option Span) → node < nodes → IsWithin layers s → entry layers table node s ≡ climb s
 
 -- the entries of a node's row are small
 abbrev pub IsSmall : ℕ → List ℕ → ℕ → Type 0

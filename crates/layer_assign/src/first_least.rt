@@ -7,7 +7,6 @@ use crate::choices::choose_layers;
 use crate::layers::Layers;
 use crate::room::{LayerRoom, refill};
 use crate::spans::spans_of;
-use crate::tables::climbs;
 use crate::tiles::{follow, pin_spans};
 use cost_rules::Costs;
 use gr_base::{RouteTree, Shape};
@@ -70,7 +69,8 @@ fn first_least<C: Costs>(
     room.index.extend(flat, 0);
     pin_spans(shape, flat, pins, &room.index, &mut room.spans)?;
     let nodes = flat.len();
-    climbs(shape, nodes, &mut room.least)?;
+    room.climbs.fit(alloc, shape)?;
+    room.climbs.copy_to(nodes, &mut room.least)?;
     refill(&mut room.choices, 0, nodes as usize * spans_of(shape))?;
     refill(&mut room.joined, false, nodes as usize)?;
     for node in (1..nodes).rev() {

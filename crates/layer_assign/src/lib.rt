@@ -3,6 +3,7 @@
 #![tactic(auto)]
 
 mod choices;
+mod climbs;
 mod columns;
 mod first_least;
 mod layers;

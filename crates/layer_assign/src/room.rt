@@ -1,6 +1,7 @@
 ghost use Rattle.std.specs.Prelude.{◌≡◌, IfOk, OnOk, replicate};
 ghost use Rattle.layer_assign.specs.Assignments.{tile_count};
 
+use crate::climbs::ClimbRows;
 use crate::span::{Span, Workings};
 use gr_base::{NodeIndex, Shape};
 use std::alloc::{AllocError, Global};
@@ -14,6 +15,7 @@ pub struct LayerRoom {
     pub(crate) index: NodeIndex,
     /// The span of each node's tile so far.
     pub(crate) spans: Vec<Option<Span>>,
+    pub(crate) climbs: ClimbRows,
     /// What each node's tile and the limbs below it cost, by the span that the tile has before.
     pub(crate) least: Vec<u64>,
     /// The best layer of each node's edge, by the span that its parent's tile has before.
@@ -35,6 +37,7 @@ impl LayerRoom {
         Ok(LayerRoom {
             index: NodeIndex::new(alloc, shape.columns() * shape.rows())?,
             spans: Vec::new(alloc),
+            climbs: ClimbRows::new(alloc, shape)?,
             least: Vec::new(alloc),
             choices: Vec::new(alloc),
             joined: Vec::new(alloc),

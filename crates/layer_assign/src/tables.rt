@@ -7,9 +7,8 @@ ghost use Rattle.layer_assign.specs.Tables.{HasRows, better};
 ghost use Rattle.layer_assign.specs.Chosen.{Writes};
 
 use crate::span::{Best, Span};
-use crate::spans::{climb, next_span, span_number, spans_of, widened};
+use crate::spans::{span_number, spans_of, widened};
 use gr_base::Shape;
-use std::alloc::AllocError;
 
 /// Where a table has the entry of a node and a span.
 pub(crate) fn place_in(shape: Shape, node: u32, span: Option<Span>) -> usize
@@ -71,37 +70,4 @@ pub(crate) fn write_best(
     let best = best.unwrap();
     least[place_in(shape, parent, span)] = best.cost;
     choices[place_in(shape, node, span)] = best.layer;
-}
-
-/// What it costs to climb each span, for each node.
-pub(crate) fn climbs(shape: Shape, nodes: u32, costs: &mut Vec<u64>) -> Result<(), AllocError>
-    requires some { 0 < nodes }
-    requires few { nodes ≤ most_cells }
-    ensures rows { OnOk result (HasRows shape.layers nodes costs.new.items) }
-    ensures climbs { OnOk result ((node : ℕ) → (s : Option SpanView) → node < nodes → IsWithin shape.layers s →
-        entry shape.layers costs.new.items node s ≡ climb s) }
-{
-    let spans = spans_of(shape);
-    costs.clear();
-    costs.reserve(nodes as usize * spans)?;
-    climb_row(shape, costs)?;
-    for _ in 1..nodes {
-        costs.extend_from_within(..spans)?;
-    }
-    Ok(())
-}
-
-/// What it costs to climb each span, in an empty list.
-fn climb_row(shape: Shape, costs: &mut Vec<u64>) -> Result<(), AllocError>
-    requires { costs.old.items ≡ [] }
-    ensures row { OnOk result (HasRows shape.layers 1 costs.new.items) }
-    ensures climbs { OnOk result ((s : Option SpanView) → IsWithin shape.layers s →
-        entry shape.layers costs.new.items 0 s ≡ climb s) }
-{
-    let mut span = None;
-    for _ in 0..spans_of(shape) {
-        costs.push(climb(span))?;
-        span = next_span(shape, span);
-    }
-    Ok(())
 }

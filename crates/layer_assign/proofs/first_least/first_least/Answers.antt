@@ -1,10 +1,11 @@
 use Rattle.std.proofs.Common.{◌≡◌, ℕ, ◌-◌, ◌*◌, ◌<◌, zero, suc, Bool, true, false, List, length, set, replicate, get_or, Option, Result, Ok, Err, IfOk, refl, sym, ap, subst, ◌∙◌, arith}
 use Rattle.std.proofs.lemmas.List.{length-replicate}
 use Rattle.layer_assign.proofs.Choosing.{prices-at}
+use Rattle.gr_base.specs.declared.grid.Shape.{Shape}
 use Rattle.layer_assign.specs.declared.span.Span.{Span}
 use Rattle.layer_assign.specs.Spans.{IsWithin, growing, spans_of}
 use Rattle.layer_assign.specs.Choices.{entry, FollowsFrom}
-use Rattle.layer_assign.specs.Tables.{HasRows}
+use Rattle.layer_assign.specs.Tables.{AreClimbs}
 use Rattle.layer_assign.specs.Assignments.{parent_of}
 use Rattle.layer_assign.proofs.FlatLemmas.{parent-before, parent-at}
 use Rattle.layer_assign.proofs.Problems.{pin_span, pin_span-within}
@@ -31,8 +32,9 @@ loop-node-init g c =
     let n = c.len-nodes.result in
     let choices : c.refill.new.list.items ≡ replicate (n * c.spans_of.result) 0 = c.in_ok-refill.ensures in
     let joined : c.refill-2.new.list.items ≡ replicate n false = c.in_ok-refill-2.ensures in
-    let rows : HasRows c.args.shape.layers (length t.nodes) c.climbs.new.costs.items =
-    subst (λ (k : ℕ). HasRows c.args.shape.layers k c.climbs.new.costs.items) c.len-nodes.ensures.len c.in_ok-climbs.ensures.rows in
+    let climbs : AreClimbs c.args.shape.layers (length t.nodes) c.copy_to.new.costs.items =
+    subst (λ (k : ℕ). AreClimbs c.args.shape.layers k c.copy_to.new.costs.items) c.len-nodes.ensures.len
+    (subst (λ (s : Shape). AreClimbs s.layers n c.copy_to.new.costs.items) c.in_ok-fit.ensures c.in_ok-copy_to.ensures) in
     let long : length c.refill.new.list.items ≡ n * c.spans_of.result = ap (λ (xs : List ℕ). length xs) choices ∙ length-replicate (n * c.spans_of.result) 0 in
     let marks : length c.refill-2.new.list.items ≡ n = ap (λ (xs : List Bool). length xs) joined ∙ length-replicate n false in
     record {
@@ -40,11 +42,11 @@ loop-node-init g c =
       count = c.in_ok-pin_spans.ensures.count;
       spans = c.in_ok-pin_spans.ensures.spans;
       chosen =
-          chosen-none c.args.shape ways price t c.args.pins.now c.climbs.new.costs.items c.refill.new.list.items c.refill-2.new.list.items n c.len-nodes.ensures.tree c.requires.pins.cells
-          c.len-nodes.ensures.len rows
+          chosen-none c.args.shape ways price t c.args.pins.now c.copy_to.new.costs.items c.refill.new.list.items c.refill-2.new.list.items n c.len-nodes.ensures.tree c.requires.pins.cells
+          c.len-nodes.ensures.len climbs.rows
           (rows_at (length c.refill.new.list.items) n (length t.nodes) c.spans_of.result (spans_of c.args.shape.layers) long c.len-nodes.ensures.len c.spans_of.ensures.count)
           (marks ∙ c.len-nodes.ensures.len)
-          (λ u s lt within. c.in_ok-climbs.ensures.climbs u s (omega (arith, c.len-nodes.ensures.len)) within)
+          climbs.climbs
           (λ place. ap (λ (xs : List ℕ). get_or xs place 0) choices ∙ zeros (n * c.spans_of.result) place);
     }
 

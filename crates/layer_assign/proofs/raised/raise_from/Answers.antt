@@ -96,6 +96,13 @@ start_found : (t : TreeView) (g : Shape) (cell start columns rows : ℕ) (o : Op
 start_found t g cell start columns rows o first second is found =
     ap (λ (n : ℕ). node_with t.nodes (cell % n)) (sym (tiles-at g columns rows first second)) ∙ sym is ∙ found
 
+planted_by : (g : Shape) (t : TreeView) (a : ℕ → ℕ) (spans : ℕ → Span) (cell columns rows : ℕ) (o : Option ℕ) (start : ℕ) (span : Span) (r : TreeView) (ends : List ℕ) (n count : ℕ) → IsFlat g t.shape →
+    IsTree t → columns ≡ g.columns → rows ≡ g.rows → o ≡ node_with t.nodes (cell % (columns * rows)) → o ≡ Some start → span ≡ spans start → IsColumn g cell span r → ends ≡ replicate n 0 →
+    n ≡ length t.nodes → count ≡ length r.nodes → 0 < length r.nodes → Planted g t a spans cell (set ends start count) start r
+planted_by g t a spans cell columns rows o start span r ends n count flat tree first second is found span_is column none size long some =
+    planted_all g t a spans cell ends n start count r flat tree none size (start_found t g cell start columns rows o first second is found)
+    (subst (λ (s : Span). IsColumn g cell s r) span_is column) long (omega arith)
+
 pub span_of_node-requires : goal.span_of_node-requires
 span_of_node-requires c =
     let found = start_found c.args.flat.now c.args.shape c.args.cell c.unwrap-start.result c.columns.result c.rows.result c.node_at.result c.columns.ensures.columns c.rows.ensures.rows c.node_at.ensures.node c.unwrap-start.ensures in
@@ -134,30 +141,18 @@ raise_ancestors-requires-clause-start c =
 
 pub raise_ancestors-requires-clause-first : goal.raise_ancestors-requires-clause-first
 raise_ancestors-requires-clause-first c =
-    let g = c.args.shape in
-    let t = c.args.flat.now in
-    let a : ℕ → ℕ = λ node. get_or c.args.layers.now node 0 in
-    let found = start_found t g c.args.cell c.unwrap-start.result c.columns.result c.rows.result c.node_at.result c.columns.ensures.columns c.rows.ensures.rows c.node_at.ensures.node c.unwrap-start.ensures in
-    let column : IsColumn g c.args.cell (span_in c.args.spans.now c.unwrap-start.result) c.in_ok-tree.tree =
-    subst (λ (s : Span). IsColumn g c.args.cell s c.in_ok-tree.tree) c.span_of_node.ensures c.in_ok-tree.ensures in
-    let some = c.len-2.ensures.tree.rooted in
     let planted =
-    planted_all g t a (span_in c.args.spans.now) c.args.cell c.refill.new.list.items c.len.result c.unwrap-start.result c.len-2.result c.in_ok-tree.tree c.requires.flat c.len.ensures.tree
-    c.in_ok-refill.ensures c.len.ensures.len found column c.len-2.ensures.len (omega (arith, some, c.len-2.ensures.len)) in
+    planted_by c.args.shape c.args.flat.now (λ node. get_or c.args.layers.now node 0) (span_in c.args.spans.now) c.args.cell c.columns.result c.rows.result c.node_at.result c.unwrap-start.result
+    c.span_of_node.result c.in_ok-tree.tree c.refill.new.list.items c.len.result c.len-2.result c.requires.flat c.len.ensures.tree c.columns.ensures.columns c.rows.ensures.rows c.node_at.ensures.node
+    c.unwrap-start.ensures c.span_of_node.ensures c.in_ok-tree.ensures c.in_ok-refill.ensures c.len.ensures.len c.len-2.ensures.len c.len-2.ensures.tree.rooted in
     planted.first
 
 pub raise_ancestors-requires-clause-only : goal.raise_ancestors-requires-clause-only
 raise_ancestors-requires-clause-only c = λ node is.
-    let g = c.args.shape in
-    let t = c.args.flat.now in
-    let a : ℕ → ℕ = λ node. get_or c.args.layers.now node 0 in
-    let found = start_found t g c.args.cell c.unwrap-start.result c.columns.result c.rows.result c.node_at.result c.columns.ensures.columns c.rows.ensures.rows c.node_at.ensures.node c.unwrap-start.ensures in
-    let column : IsColumn g c.args.cell (span_in c.args.spans.now c.unwrap-start.result) c.in_ok-tree.tree =
-    subst (λ (s : Span). IsColumn g c.args.cell s c.in_ok-tree.tree) c.span_of_node.ensures c.in_ok-tree.ensures in
-    let some = c.len-2.ensures.tree.rooted in
     let planted =
-    planted_all g t a (span_in c.args.spans.now) c.args.cell c.refill.new.list.items c.len.result c.unwrap-start.result c.len-2.result c.in_ok-tree.tree c.requires.flat c.len.ensures.tree
-    c.in_ok-refill.ensures c.len.ensures.len found column c.len-2.ensures.len (omega (arith, some, c.len-2.ensures.len)) in
+    planted_by c.args.shape c.args.flat.now (λ node. get_or c.args.layers.now node 0) (span_in c.args.spans.now) c.args.cell c.columns.result c.rows.result c.node_at.result c.unwrap-start.result
+    c.span_of_node.result c.in_ok-tree.tree c.refill.new.list.items c.len.result c.len-2.result c.requires.flat c.len.ensures.tree c.columns.ensures.columns c.rows.ensures.rows c.node_at.ensures.node
+    c.unwrap-start.ensures c.span_of_node.ensures c.in_ok-tree.ensures c.in_ok-refill.ensures c.len.ensures.len c.len-2.ensures.len c.len-2.ensures.tree.rooted in
     elim (cases_eq node c.unwrap-start.result) [
       | inl same ↦ omega arith
       | inr other ↦ absurd (both_ways _ (planted.only node other) is)
@@ -165,33 +160,21 @@ raise_ancestors-requires-clause-only c = λ node is.
 
 pub raise_ancestors-requires-clause-ends : goal.raise_ancestors-requires-clause-ends
 raise_ancestors-requires-clause-ends c =
-    let g = c.args.shape in
-    let t = c.args.flat.now in
-    let a : ℕ → ℕ = λ node. get_or c.args.layers.now node 0 in
-    let found = start_found t g c.args.cell c.unwrap-start.result c.columns.result c.rows.result c.node_at.result c.columns.ensures.columns c.rows.ensures.rows c.node_at.ensures.node c.unwrap-start.ensures in
-    let column : IsColumn g c.args.cell (span_in c.args.spans.now c.unwrap-start.result) c.in_ok-tree.tree =
-    subst (λ (s : Span). IsColumn g c.args.cell s c.in_ok-tree.tree) c.span_of_node.ensures c.in_ok-tree.ensures in
-    let some = c.len-2.ensures.tree.rooted in
     let planted =
-    planted_all g t a (span_in c.args.spans.now) c.args.cell c.refill.new.list.items c.len.result c.unwrap-start.result c.len-2.result c.in_ok-tree.tree c.requires.flat c.len.ensures.tree
-    c.in_ok-refill.ensures c.len.ensures.len found column c.len-2.ensures.len (omega (arith, some, c.len-2.ensures.len)) in
+    planted_by c.args.shape c.args.flat.now (λ node. get_or c.args.layers.now node 0) (span_in c.args.spans.now) c.args.cell c.columns.result c.rows.result c.node_at.result c.unwrap-start.result
+    c.span_of_node.result c.in_ok-tree.tree c.refill.new.list.items c.len.result c.len-2.result c.requires.flat c.len.ensures.tree c.columns.ensures.columns c.rows.ensures.rows c.node_at.ensures.node
+    c.unwrap-start.ensures c.span_of_node.ensures c.in_ok-tree.ensures c.in_ok-refill.ensures c.len.ensures.len c.len-2.ensures.len c.len-2.ensures.tree.rooted in
     let ends = set c.refill.new.list.items c.unwrap-start.result c.len-2.result in
-    subst (λ (s : Shape). AreEnds s t (span_in c.args.spans.now) ends c.in_ok-tree.tree) (sym column.shape) planted.are_ends
+    subst (λ (s : Shape). AreEnds s c.args.flat.now (span_in c.args.spans.now) ends c.in_ok-tree.tree) (sym c.in_ok-tree.ensures.shape) planted.are_ends
 
 pub raise_ancestors-requires-clause-raised : goal.raise_ancestors-requires-clause-raised
 raise_ancestors-requires-clause-raised c =
-    let g = c.args.shape in
-    let t = c.args.flat.now in
-    let a : ℕ → ℕ = λ node. get_or c.args.layers.now node 0 in
-    let found = start_found t g c.args.cell c.unwrap-start.result c.columns.result c.rows.result c.node_at.result c.columns.ensures.columns c.rows.ensures.rows c.node_at.ensures.node c.unwrap-start.ensures in
-    let column : IsColumn g c.args.cell (span_in c.args.spans.now c.unwrap-start.result) c.in_ok-tree.tree =
-    subst (λ (s : Span). IsColumn g c.args.cell s c.in_ok-tree.tree) c.span_of_node.ensures c.in_ok-tree.ensures in
-    let some = c.len-2.ensures.tree.rooted in
     let planted =
-    planted_all g t a (span_in c.args.spans.now) c.args.cell c.refill.new.list.items c.len.result c.unwrap-start.result c.len-2.result c.in_ok-tree.tree c.requires.flat c.len.ensures.tree
-    c.in_ok-refill.ensures c.len.ensures.len found column c.len-2.ensures.len (omega (arith, some, c.len-2.ensures.len)) in
-    raised-as c.in_ok-tree.tree.shape g t a (span_in c.args.spans.now) (cell_at c.in_ok-tree.tree.nodes 0) (Some c.args.cell) (is_done (set c.refill.new.list.items c.unwrap-start.result c.len-2.result))
-    c.unwrap-start.result c.in_ok-tree.tree (sym column.shape) (sym column.starts) planted.raised
+    planted_by c.args.shape c.args.flat.now (λ node. get_or c.args.layers.now node 0) (span_in c.args.spans.now) c.args.cell c.columns.result c.rows.result c.node_at.result c.unwrap-start.result
+    c.span_of_node.result c.in_ok-tree.tree c.refill.new.list.items c.len.result c.len-2.result c.requires.flat c.len.ensures.tree c.columns.ensures.columns c.rows.ensures.rows c.node_at.ensures.node
+    c.unwrap-start.ensures c.span_of_node.ensures c.in_ok-tree.ensures c.in_ok-refill.ensures c.len.ensures.len c.len-2.ensures.len c.len-2.ensures.tree.rooted in
+    raised-as c.in_ok-tree.tree.shape c.args.shape c.args.flat.now (λ node. get_or c.args.layers.now node 0) (span_in c.args.spans.now) (cell_at c.in_ok-tree.tree.nodes 0) (Some c.args.cell)
+    (is_done (set c.refill.new.list.items c.unwrap-start.result c.len-2.result)) c.unwrap-start.result c.in_ok-tree.tree (sym c.in_ok-tree.ensures.shape) (sym c.in_ok-tree.ensures.starts) planted.raised
 
 pub raise_others-requires-clause-ends : goal.raise_others-requires-clause-ends
 raise_others-requires-clause-ends c =

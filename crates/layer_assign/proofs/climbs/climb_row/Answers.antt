@@ -8,7 +8,7 @@ use Rattle.layer_assign.specs.Spans.{climb, IsWithin, span_number, spans_of, spa
 use Rattle.layer_assign.specs.Choices.{entry}
 use Rattle.layer_assign.specs.Tables.{HasRows}
 use Rattle.layer_assign.proofs.TableLemmas.{ordered-within, turn-within, turn-next, span_at-row, span_at-number, place-within}
-use Rattle.layer_assign.proofs.tables.climb_row.Goals as goal
+use Rattle.layer_assign.proofs.climbs.climb_row.Goals as goal
 
 abbrev climb_at : ℕ → ℕ → ℕ
 climb_at layers place = climb (span_at layers place)

@@ -1,7 +1,7 @@
 use Rattle.std.proofs.Common.{◌≡◌, ℕ, map}
 use Rattle.std.specs.List.{range_with_len}
 use Rattle.layer_assign.specs.Spans.{climb, span_at}
-use Rattle.layer_assign.proofs.tables.climb_row.Given as goal
+use Rattle.layer_assign.proofs.climbs.climb_row.Given as goal
 
 abbrev pub invariant-loop : goal.invariant-loop
 invariant-loop l = record {

@@ -3,7 +3,7 @@ use Rattle.layer_assign.specs.declared.span.Span.{Span}
 use Rattle.layer_assign.specs.Spans.{climb, IsWithin}
 use Rattle.layer_assign.specs.Choices.{entry}
 use Rattle.layer_assign.specs.Tables.{HasRows}
-use Rattle.layer_assign.proofs.tables.climbs.Given as goal
+use Rattle.layer_assign.proofs.climbs.climbs.Given as goal
 
 abbrev pub invariant-loop : goal.invariant-loop
 invariant-loop l = record {
