@@ -7,6 +7,7 @@ ghost use Rattle.maze_route.specs.Steps.{size_of, beside, step_to, IsSpot};
 use crate::front::Labels;
 use crate::pane::{Aim, Pane, Reached, Spot, Step};
 use crate::side::Side;
+use crate::side::Side::{Ahead, Behind};
 use crate::steps::step_beside;
 use cost_rules::Costs;
 use gr_base::{Cells, RouteTree, Way};
@@ -69,36 +70,12 @@ fn step_back<C: Costs>(
     ensures { let label = label_at labels.now.costs.items in
         result ≡ first_closer pane (C.price costs.now) aim label spot.local left }
 {
-    let below = closer_beside(costs, pane, aim, labels, spot, left, Side::Behind(Way::Up));
-    let south = closer_beside(
-        costs,
-        pane,
-        aim,
-        labels,
-        spot,
-        left,
-        Side::Behind(Way::North),
-    );
-    let west = closer_beside(
-        costs,
-        pane,
-        aim,
-        labels,
-        spot,
-        left,
-        Side::Behind(Way::East),
-    );
-    let east = closer_beside(costs, pane, aim, labels, spot, left, Side::Ahead(Way::East));
-    let north = closer_beside(
-        costs,
-        pane,
-        aim,
-        labels,
-        spot,
-        left,
-        Side::Ahead(Way::North),
-    );
-    let above = closer_beside(costs, pane, aim, labels, spot, left, Side::Ahead(Way::Up));
+    let below = closer_beside(costs, pane, aim, labels, spot, left, Behind(Way::Up));
+    let south = closer_beside(costs, pane, aim, labels, spot, left, Behind(Way::North));
+    let west = closer_beside(costs, pane, aim, labels, spot, left, Behind(Way::East));
+    let east = closer_beside(costs, pane, aim, labels, spot, left, Ahead(Way::East));
+    let north = closer_beside(costs, pane, aim, labels, spot, left, Ahead(Way::North));
+    let above = closer_beside(costs, pane, aim, labels, spot, left, Ahead(Way::Up));
     either(
         below,
         either(south, either(west, either(east, either(north, above)))),

@@ -11,6 +11,7 @@ use crate::front::{Front, Labels};
 use crate::pane::{Aim, Pane, Spot, Step};
 use crate::queue::BucketQueue;
 use crate::side::Side;
+use crate::side::Side::{Ahead, Behind};
 use crate::steps::{cell_beside, distance_to, step_beside};
 use cost_rules::Costs;
 use gr_base::{RouteTree, Way};
@@ -141,20 +142,12 @@ fn settle<C: Costs>(
     requires key { front.old.queue.last ≤ from + rest_of pane aim spot.local }
     ensures { OnOk result (HandsOn pane (C.price costs.now) aim spot.local from front.old front.new) }
 {
-    hand(costs, pane, aim, front, spot, from, Side::Behind(Way::Up))?;
-    hand(
-        costs,
-        pane,
-        aim,
-        front,
-        spot,
-        from,
-        Side::Behind(Way::North),
-    )?;
-    hand(costs, pane, aim, front, spot, from, Side::Behind(Way::East))?;
-    hand(costs, pane, aim, front, spot, from, Side::Ahead(Way::East))?;
-    hand(costs, pane, aim, front, spot, from, Side::Ahead(Way::North))?;
-    hand(costs, pane, aim, front, spot, from, Side::Ahead(Way::Up))?;
+    hand(costs, pane, aim, front, spot, from, Behind(Way::Up))?;
+    hand(costs, pane, aim, front, spot, from, Behind(Way::North))?;
+    hand(costs, pane, aim, front, spot, from, Behind(Way::East))?;
+    hand(costs, pane, aim, front, spot, from, Ahead(Way::East))?;
+    hand(costs, pane, aim, front, spot, from, Ahead(Way::North))?;
+    hand(costs, pane, aim, front, spot, from, Ahead(Way::Up))?;
     Ok(())
 }
 
