@@ -12,12 +12,13 @@ use gr_base::{Design, RouteTree};
 use grid_demand::Capacity;
 use std::alloc::{AllocError, Global};
 use std::io;
+use std::thread::Threads;
 
 /// More entries than a block of a history has.
 const MANY: u64 = 1025;
 
 /// Prints what the book answers, and what is read of it.
-pub(crate) fn show<R: Print>(rt: &R, alloc: Global) -> io::Result<()> {
+pub(crate) fn show<R: Threads + Print + Sync>(rt: &R, alloc: Global) -> io::Result<()> {
     let (design, tree) = of_two(alloc)?;
     let capacity = Capacity::of(alloc, &design)?;
     println!(rt; "a book for one thread")?;
@@ -26,7 +27,7 @@ pub(crate) fn show<R: Print>(rt: &R, alloc: Global) -> io::Result<()> {
 }
 
 /// The nets take turns on the edge.
-fn take_turns<R: Print>(
+fn take_turns<R: Threads + Print + Sync>(
     rt: &R,
     alloc: Global,
     design: &Design,
@@ -153,14 +154,19 @@ fn look<R: Print>(rt: &R, book: &BookState) -> io::Result<()> {
 }
 
 /// Which nets had a tree at a front, and the demand there.
-fn look_back<R: Print>(rt: &R, book: &BookState, capacity: &Capacity, front: u64) -> io::Result<()>
+fn look_back<R: Threads + Print + Sync>(
+    rt: &R,
+    book: &BookState,
+    capacity: &Capacity,
+    front: u64,
+) -> io::Result<()>
     requires capacity { capacity.now ≡ book.now.capacity }
     requires edge { IsTrue (has_edge capacity.now.shape first_edge) }
 {
     if book.history().len() < front {
         return Ok(());
     }
-    let routes = book.routes_at(front)?;
+    let routes = book.routes_at(rt, front, 2)?;
     let loads = book.loads_at(capacity, front)?;
     println!(rt;
         "at {front}: tree of net 0 {}, of net 1 {}, demand {}",
