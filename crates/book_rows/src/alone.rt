@@ -14,6 +14,7 @@ use gr_base::{Design, RouteTree};
 use grid_demand::Capacity;
 use std::alloc::{AllocError, Global};
 use std::io;
+use std::thread::Threads;
 
 /// More entries than a block of a history has.
 const MANY: u64 = 1025;
@@ -37,13 +38,13 @@ const LATER: [Step; 3] = [
 const BOTH: [Step; 2] = [Step::Claim(Which::A, None), Step::Claim(Which::B, None)];
 
 /// Prints what the book answers, and what is read of it.
-pub(crate) fn show<R: Print>(rt: &R, alloc: Global) -> io::Result<()> {
+pub(crate) fn show<R: Threads + Print + Sync>(rt: &R, alloc: Global) -> io::Result<()> {
     println!(rt; "a book for one thread")?;
     let (design, tree) = of_two(alloc)?;
     over(rt, alloc, &design, &tree)
 }
 
-fn over<R: Print>(rt: &R, alloc: Global, design: &Design, tree: &RouteTree) -> io::Result<()>
+fn over<R: Threads + Print + Sync>(rt: &R, alloc: Global, design: &Design, tree: &RouteTree) -> io::Result<()>
     requires { AreOfTwo (capacity_of design.now) design.now tree.now }
 {
     let capacity = Capacity::of(alloc, design)?;
@@ -52,7 +53,7 @@ fn over<R: Print>(rt: &R, alloc: Global, design: &Design, tree: &RouteTree) -> i
 }
 
 /// The nets take turns.
-fn take_turns<R: Print>(
+fn take_turns<R: Threads + Print + Sync>(
     rt: &R,
     alloc: Global,
     design: &Design,
@@ -65,7 +66,7 @@ fn take_turns<R: Print>(
     turns(rt, alloc, &mut book, design, capacity, tree)
 }
 
-fn turns<R: Print>(
+fn turns<R: Threads + Print + Sync>(
     rt: &R,
     alloc: Global,
     book: &mut BookState,
@@ -182,22 +183,26 @@ fn look<R: Print>(rt: &R, book: &BookState) -> io::Result<()> {
 }
 
 /// Which nets had a tree at a front, and the demand there.
-fn look_back<R: Print>(rt: &R, book: &BookState, capacity: &Capacity, front: u64) -> io::Result<()>
+fn look_back<R: Threads + Print + Sync>(rt: &R, book: &BookState, capacity: &Capacity, front: u64) -> io::Result<()>
     requires capacity { capacity.now ≡ book.now.capacity }
     requires edge { IsTrue (has_edge capacity.now.shape first_edge) }
 {
     if book.history().len() < front {
         return Ok(());
     }
-    let (a, b) = trees_at(book, front)?;
+    let (a, b) = trees_at(rt, book, front)?;
     let demand = book.loads_at(capacity, front)?.demand(EDGE);
     println!(rt; "at {front}: tree of a {a}, of b {b}, demand {demand}")
 }
 
 /// Whether each net had a tree at a front.
-fn trees_at(book: &BookState, front: u64) -> Result<(bool, bool), AllocError>
+fn trees_at<R: Threads + Sync>(
+    rt: &R,
+    book: &BookState,
+    front: u64,
+) -> Result<(bool, bool), AllocError>
     requires { front ≤ length book.now.history }
 {
-    let routes = book.routes_at(front)?;
+    let routes = book.routes_at(rt, front, 2)?;
     Ok((routes.get(0).is_some(), routes.get(1).is_some()))
 }

@@ -117,7 +117,7 @@ mark-last : (h : List Entry) (e : Entry) (overflow : ℕ) → overflow_of e ≡ 
 mark-last h e overflow is = record { e = e; there = slice_get-right h (e ∷ []) (length h) 0 (omega arith); mark = is }
 
 -- an entry that isn't a mark
-least-idle : (h : List Entry) (e : Entry) (o : Option MarkedAt) → overflow_of e ≡ None → IsLeast h o → IsLeast (h ++ e ∷ []) o
+pub least-idle : (h : List Entry) (e : Entry) (o : Option MarkedAt) → overflow_of e ≡ None → IsLeast h o → IsLeast (h ++ e ∷ []) o
 least-idle h e None other is = λ p overflow mark. elim (mark-cases h e p overflow mark) [
   | inl old ↦ is p overflow old
   | inr last ↦ none-some overflow (sym other ∙ last.1)
@@ -137,7 +137,7 @@ least-idle h e (Some m) other is = record {
 }
 
 -- a mark
-least-mark : (h : List Entry) (e : Entry) (o : Option MarkedAt) (new : MarkedAt) → overflow_of e ≡ Some new.overflow → new.length ≡ length h + 1 → IsLeast h o → IsFirstLeast (h ++ e ∷ []) (lesser o new)
+pub least-mark : (h : List Entry) (e : Entry) (o : Option MarkedAt) (new : MarkedAt) → overflow_of e ≡ Some new.overflow → new.length ≡ length h + 1 → IsLeast h o → IsFirstLeast (h ++ e ∷ []) (lesser o new)
 least-mark h e None new over long is = record {
   place = length h;
   length = long;
@@ -188,16 +188,6 @@ least-mark h e (Some m) new over long is =
           subst (λ (b : Bool). IsFirstLeast (h ++ e ∷ []) (if b then m else new)) (sym gives) comes
     ]
 
--- one more entry of a whole history
-pub next-idle : (h : List Entry) (p : ℕ) (e : Entry) (o : Option MarkedAt) → slice_get h p ≡ Some e → overflow_of e ≡ None → IsLeast (take p h) o → IsLeast (take (p + 1) h) o
-next-idle h p e o there other is = subst (λ (k : List Entry). IsLeast k o) (sym (take-entry h p e there)) (least-idle (take p h) e o other is)
-
-pub next-mark : (h : List Entry) (p : ℕ) (e : Entry) (o : Option MarkedAt) (new : MarkedAt) → slice_get h p ≡ Some e → overflow_of e ≡ Some new.overflow → new.length ≡ p + 1 →
-    IsLeast (take p h) o → IsLeast (take (p + 1) h) (Some (lesser o new))
-next-mark h p e o new there over long is =
-    let before = length-before h p e there in
-    subst (λ (k : List Entry). IsFirstLeast k (lesser o new)) (sym (take-entry h p e there)) (least-mark (take p h) e o new over (omega (arith, long, before)) is)
-
 pub least-nothing : IsLeast [] None
 least-nothing = λ p overflow mark. none-some mark.e mark.there
 
@@ -209,7 +199,3 @@ no-mark (Full e n) other = refl
 no-mark Released other = refl
 no-mark NotBooked other = refl
 no-mark (Marked n) other = absurd (other n refl)
-
--- the whole history was read
-pub least-whole : (h : List Entry) (p : ℕ) (o now : Option MarkedAt) → length h ≤ p → o ≡ now → IsLeast (take p h) o → IsLeast h now
-least-whole h p o now long same is = subst (λ (m : Option MarkedAt). IsLeast h m) same (subst (λ (k : List Entry). IsLeast k o) (take_all p h long) is)

@@ -10,3 +10,4 @@ pub mod BookStore
 pub mod LeastSearch
 pub mod Still
 pub mod Crowds
+pub mod Copies

@@ -7,11 +7,12 @@ ghost use Rattle.book_state.specs.Entries.{is_claim_call};
 ghost use Rattle.book_state.specs.Marks.{least_mark as least_mark_of};
 ghost use Rattle.book_state.specs.Views.{with_entry, with_call};
 
+use crate::copies::copied_routes;
 use crate::edges::reply_to_free;
 use crate::entry::{Call, Claim, Entry, Reply};
 use crate::history::History;
-use crate::least::least_mark;
-use crate::places::{places_at, tree_by_place};
+use crate::least::{MarkedAt, least_after};
+use crate::places::places_at;
 use crate::replica::Replica;
 use gr_base::{Cells, Design, RouteTree, Routes};
 use grid_demand::{Capacity, Loads};
@@ -32,6 +33,7 @@ pub struct BookState {
     capacity: Capacity,
     history: History,
     replica: Replica,
+    least: Option<MarkedAt>,
 }
 
 impl BookState {
@@ -41,11 +43,12 @@ impl BookState {
     {
         let nets = design.nets();
         let capacity = Capacity::of(alloc, design)?;
-        let replica = Replica::of_nothing(alloc, &capacity, nets)?;
+        let replica = Replica::of(alloc, &capacity, nets)?;
         Ok(BookState {
             capacity,
             history: History::new(alloc),
             replica,
+            least: None,
         })
     }
 
@@ -207,25 +210,30 @@ impl BookState {
     pub fn least_mark(&self) -> Option<u64>
         ensures { result ≡ least_mark_of self.now.history }
     {
-        least_mark(&self.history)
+        match self.least {
+            Some(mark) => Some(mark.length),
+            None => None,
+        }
     }
 
-    /// A copy of each tree that was booked after the first `front` entries. The only error is want
-    /// of memory.
-    pub fn routes_at(&self, front: u64) -> Result<Routes, AllocError>
-        requires { front ≤ length self.now.history }
+    /// A copy of each tree that was booked after the first `front` entries. The copies are made by at
+    /// most so many threads. The only error is want of memory.
+    pub fn routes_at<R: Threads + Sync>(
+        &self,
+        rt: &R,
+        front: u64,
+        threads: u32,
+    ) -> Result<Routes, AllocError>
+        requires front { front ≤ length self.now.history }
+        requires threads { 0 < threads }
         ensures { IfOk result (λ routes. routes ≡ booked_routes self.now.capacity (take front self.now.history)) }
     {
-        let alloc = self.history.alloc();
         let nets = self.replica.nets();
-        let places = places_at(&self.capacity, &self.history, nets, front)?;
-        let mut routes = Routes::new(alloc, nets)?;
-        for net in 0..nets {
-            if let Some(tree) = tree_by_place(&self.history, &places, net) {
-                routes.set(net, tree.copy(alloc)?);
-            }
+        if front == self.history.len() {
+            return copied_routes(rt, &self.history, self.replica.places(), nets, threads);
         }
-        Ok(routes)
+        let places = places_at(&self.capacity, &self.history, nets, front)?;
+        copied_routes(rt, &self.history, &places, nets, threads)
     }
 
     /// The demand and the marks after the first `front` entries. The capacity is that of the book's
@@ -236,7 +244,7 @@ impl BookState {
         ensures { IfOk result (λ loads. AreLoadsOf self.now.capacity (take front self.now.history) loads) }
     {
         let nets = self.replica.nets();
-        let mut replica = Replica::of_nothing(self.history.alloc(), capacity, nets)?;
+        let mut replica = Replica::of(self.history.alloc(), capacity, nets)?;
         replica.read(capacity, &self.history, front);
         Ok(replica.into_loads())
     }
@@ -249,8 +257,10 @@ impl BookState {
         ensures back { IfErr result (λ refused. refused ≡ entry) }
         ensures legal { IsLegal self.new.capacity self.new.history }
     {
+        let reply = entry.reply;
         self.history.push(entry)?;
         self.replica.follow(&self.capacity, &self.history);
+        self.least = least_after(self.least, reply, self.history.len());
         Ok(())
     }
 }

@@ -16,7 +16,7 @@ const BLOCK: usize = 1024;
 const LIMIT: u64 = 1 << 62;
 
 /// Entries, of which each is shared.
-type Block = Vec<Arc<Entry>>;
+pub(crate) type Block = Vec<Arc<Entry>>;
 
 /// The calls to a book with their replies, in order. An entry doesn't change once it is added. Full
 /// blocks of 1,024 entries are shared as a whole, the entries of the last block one by one. There
@@ -108,8 +108,9 @@ impl History {
         past.extend_to(self)
     }
 
-    /// Takes a hold on the entries of a history of which this one is the first part.
-    pub(crate) fn grow_to(&mut self, whole: &History) -> Result<(), AllocError>
+    /// Takes a hold on the entries of a history of which this one is the first part. Holds on single
+    /// entries that one on their block replaces are put in place of what was spent before.
+    pub(crate) fn grow_to(&mut self, whole: &History, spent: &mut Block) -> Result<(), AllocError>
         requires { take (length self.old) whole.now ≡ self.old }
         ensures ok { OnOk result (self.new ≡ whole.now) }
         ensures err { OnErr result (self.new ≡ self.old) }
@@ -118,7 +119,7 @@ impl History {
         if known < whole.blocks.len() {
             let last = Vec::from_clones(whole.alloc(), &whole.last)?;
             self.blocks.extend_with_clones(&whole.blocks[known..])?;
-            self.last = last;
+            *spent = replace(&mut self.last, last);
         } else {
             let missing = (whole.len() - self.len()) as usize;
             let from = whole.last.len() - missing;

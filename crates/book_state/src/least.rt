@@ -1,38 +1,32 @@
 //! The first mark of least overflow.
-ghost use Rattle.std.specs.Prelude.{◌≡◌, ℕ};
-ghost use Rattle.book_state.specs.Marks.{least_mark as least_mark_of};
-ghost use Rattle.book_state.specs.LeastSearch.{lesser};
+ghost use Rattle.std.specs.Prelude.{◌≡◌, ℕ, ◌+◌, List, [], ◌∷◌, ◌++◌, length};
+ghost use Rattle.book_state.specs.LeastSearch.{lesser, IsLeast};
+ghost use Rattle.book_state.specs.declared.entry.Entry.{Entry};
 
 use crate::entry::Reply;
-use crate::history::History;
 
 /// A mark of a history: its overflow, and the length of the history up to and with it.
 #[derive(Clone, Copy, Debug)]
 pub(crate) struct MarkedAt {
-    overflow: u128,
-    length: u64,
+    pub(crate) overflow: u128,
+    pub(crate) length: u64,
 }
 
-/// The length of the shortest first part that ends with a mark of least overflow. None exactly where
-/// there is no mark.
-pub(crate) fn least_mark(history: &History) -> Option<u64>
-    ensures { result ≡ least_mark_of history.now }
+/// The first mark of least overflow of a history that has grown to this length by an entry with this
+/// reply, where it was `least` before.
+pub(crate) fn least_after(least: Option<MarkedAt>, reply: Reply, grown: u64) -> Option<MarkedAt>
+    ensures { (h : List Entry) (e : Entry) → e.reply ≡ reply → grown ≡ length h + 1 → IsLeast h least →
+        IsLeast (h ++ e ∷ []) result }
 {
-    let mut least: Option<MarkedAt> = None;
-    for place in 0..history.len() {
-        if let Reply::Marked { overflow } = history.entry(place).reply {
-            least = Some(lesser_of(
-                least,
-                MarkedAt {
-                    overflow,
-                    length: place + 1,
-                },
-            ));
-        }
-    }
-    match least {
-        Some(mark) => Some(mark.length),
-        None => None,
+    match reply {
+        Reply::Marked { overflow } => Some(lesser_of(
+            least,
+            MarkedAt {
+                overflow,
+                length: grown,
+            },
+        )),
+        _ => least,
     }
 }
 

@@ -3,6 +3,7 @@
 #![tactic(auto)]
 
 mod book;
+mod copies;
 mod edges;
 mod entry;
 mod history;

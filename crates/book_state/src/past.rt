@@ -1,7 +1,7 @@
 //! A caller's own hold on the first part of a history.
 ghost use Rattle.std.specs.Prelude.{◌≡◌, [], length, take, OnOk, OnErr};
 
-use crate::history::History;
+use crate::history::{Block, History};
 use std::alloc::{AllocError, Global};
 use std::marker::Model;
 
@@ -10,6 +10,8 @@ use std::marker::Model;
 #[derive(Debug, Drop)]
 pub struct Past {
     held: History,
+    /// Holds on single entries that a hold on their block has replaced.
+    spent: Block,
 }
 
 impl Model for Past {
@@ -28,6 +30,7 @@ impl Past {
     {
         Past {
             held: History::new(alloc),
+            spent: Vec::new(alloc),
         }
     }
 
@@ -45,7 +48,15 @@ impl Past {
         ensures ok { OnOk result (self.new ≡ whole.now) }
         ensures err { OnErr result (self.new ≡ self.old) }
     {
-        self.held.grow_to(whole)
+        self.held.grow_to(whole, &mut self.spent)
+    }
+
+    /// Lets go of holds that the past needs no more. That takes as long as a block has entries, so
+    /// that a caller does it once it has let go of the lock on the history.
+    pub fn let_go(&mut self)
+        ensures { self.new ≡ self.old }
+    {
+        self.spent.clear();
     }
 
     /// How many entries it holds.

@@ -58,11 +58,11 @@ fn note_place(capacity: &Capacity, history: &History, place: u64, places: &mut V
 pub(crate) fn tree_by_place<'a>(
     history: &'a History,
     places: &[Option<u64>],
-    net: u32,
+    net: usize,
 ) -> Option<&'a RouteTree>
     ensures { option_copied result ≡ tree_at_place history.now (place_of places.now net) }
 {
-    let place = (*places.get(net as usize)?)?;
+    let place = (*places.get(net)?)?;
     tree_of_claim(history, place)
 }
 

@@ -30,15 +30,12 @@ impl Replica {
     {
         let nets = design.nets();
         let capacity = Capacity::of(alloc, design)?;
-        Replica::of_nothing(alloc, &capacity, nets)
+        Replica::of(alloc, &capacity, nets)
     }
 
-    /// A replica of the empty history of the design with this capacity and so many nets.
-    pub(crate) fn of_nothing(
-        alloc: Global,
-        capacity: &Capacity,
-        nets: u32,
-    ) -> Result<Replica, AllocError>
+    /// A replica of the empty history of the design with this capacity and so many nets. The only
+    /// error is want of memory.
+    pub fn of(alloc: Global, capacity: &Capacity, nets: u32) -> Result<Replica, AllocError>
         requires nets { nets ≡ nets_of capacity.now }
         requires few { nets ≤ most_nets }
         ensures { IfOk result (λ replica. StandsFor capacity.now [] replica) }
@@ -79,11 +76,18 @@ impl Replica {
         self.places.len() as u32
     }
 
+    /// Where the claims of the booked nets stand in the history, by net.
+    pub(crate) fn places(&self) -> &[Option<u64>]
+        ensures { result.now ≡ self.now.places }
+    {
+        &self.places
+    }
+
     /// The tree of the claim by which a net is booked.
     pub(crate) fn tree<'a>(&self, history: &'a History, net: u32) -> Option<&'a RouteTree>
         ensures { option_copied result ≡ tree_at_place history.now (place_of self.now.places net) }
     {
-        tree_by_place(history, &self.places, net)
+        tree_by_place(history, &self.places, net as usize)
     }
 
     /// Reads what a legal history has beyond the part that the replica stands for, which is the

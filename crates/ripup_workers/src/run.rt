@@ -37,7 +37,7 @@ pub(crate) fn book_of_rounds<N: BookName + Send + Sync, R: Threads + Wait + Sync
     ensures { IfOk result (λ closed. IsMadeBook (setting_of asked.now) closed.state) }
 {
     let (book, passes) = blank.begin::<N>(alloc)?;
-    let (mut coordinator, workers) = callers(alloc, asked.design, passes)?;
+    let (mut coordinator, workers) = callers(alloc, &book, asked.design, passes)?;
     let workers = run_rounds(rt, alloc, asked, &book, gate, &mut coordinator, workers)?;
     let made = closed(alloc, book, coordinator, workers)?;
     Ok(made)
@@ -46,6 +46,7 @@ pub(crate) fn book_of_rounds<N: BookName + Send + Sync, R: Threads + Wait + Sync
 /// Who takes part: the coordinator with the first pass, and a worker with each other one.
 fn callers<N: BookName>(
     alloc: Global,
+    book: &TrackBook<N>,
     design: &Design,
     passes: Vec<Pass<N>>,
 ) -> Result<(Coordinator<N>, Vec<Worker<N>>), AllocError>
@@ -61,7 +62,7 @@ fn callers<N: BookName>(
     };
     let coordinator = Coordinator { pass: first };
     while let Some(pass) = rest.next() {
-        let replica = Replica::new(alloc, design)?;
+        let replica = Replica::of(alloc, book.capacity(), design.nets())?;
         workers.push_reserved(Worker { pass, replica });
     }
     Ok((coordinator, workers))

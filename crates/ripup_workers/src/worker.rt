@@ -22,17 +22,15 @@ pub(crate) struct Worker<N: BookName> {
 }
 
 impl<N: BookName> Worker<N> {
-    /// The worker comes to know the whole history.
+    /// The worker comes to know the whole history as it stood at its last call, or later.
     pub(crate) fn sync<R: Wait>(&mut self, rt: &R, book: &TrackBook<N>) -> Result<(), AllocError>
         ensures before { IsPass N.capacity self.old.pass }
         ensures learnt { OnOk result (HasLearnt N.capacity self.old.pass self.new.pass) }
         ensures pass { OnOk result (IsPass N.capacity self.new.pass) }
         ensures stands { OnOk result (StandsFor N.capacity self.new.pass.seen self.new.replica) }
     {
-        let known = self.pass.known();
-        book.sync(rt, &mut self.pass, &mut self.replica)?;
-        let longer = known <= self.pass.known();
-        prove!(longer);
+        self.hold(rt, book)?;
+        self.replica.catch_up(book.capacity(), self.pass.past());
         Ok(())
     }
 
@@ -51,11 +49,27 @@ impl<N: BookName> Worker<N> {
         ensures still { IfOk result (λ still. IsTrue still →
             IsStill N.capacity window (take self.old.replica.front self.new.pass.seen) self.new.pass.seen) }
     {
+        self.hold(rt, book)?;
+        let past = self.pass.past();
+        Ok(self.replica.catch_up_beside(book.capacity(), past, window))
+    }
+
+    /// The pass holds all that it has seen. Each of its calls has left it so, unless memory was wanting;
+    /// else it sees the whole history.
+    fn hold<R: Wait>(&mut self, rt: &R, book: &TrackBook<N>) -> Result<(), AllocError>
+        ensures before { IsPass N.capacity self.old.pass }
+        ensures learnt { OnOk result (HasLearnt N.capacity self.old.pass self.new.pass) }
+        ensures held { OnOk result (self.new.pass.held ≡ length self.new.pass.seen) }
+        ensures replica { OnOk result (self.new.replica ≡ self.old.replica) }
+    {
         let known = self.pass.known();
-        let still = book.sync_beside(rt, &mut self.pass, &mut self.replica, window)?;
+        if self.pass.holds_all() {
+            return Ok(());
+        }
+        book.hold(rt, &mut self.pass)?;
         let longer = known <= self.pass.known();
         prove!(longer);
-        Ok(still)
+        Ok(())
     }
 
     /// Frees a net.

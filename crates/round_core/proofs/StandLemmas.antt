@@ -3,6 +3,7 @@ use Rattle.std.proofs.Common.{◌≡◌, ℕ, suc, zero, ◌+◌, ◌≤◌, inl
 use Rattle.std.specs.List.{range_with_len, position}
 use Rattle.std.specs.Option.{option_map}
 use Rattle.std.proofs.lemmas.Bool.{cases_Bool, both_ways}
+use Rattle.std.proofs.lemmas.List.{take_all}
 use Rattle.std.proofs.lemmas.List.Elements.{All-nil, All-cons}
 use Rattle.std.proofs.lemmas.List.Quantifiers.{position-Some}
 use Rattle.std.proofs.lemmas.Option.{none-some, same_Some, slice_get_within, slice_get-get_or, slice_get_cases}
@@ -12,8 +13,8 @@ use Rattle.gr_base.specs.declared.grid.Edge.{Edge}
 use Rattle.grid_demand.specs.Tables.{CapacityView, capacity_of}
 use Rattle.book_state.proofs.BookSteps.{booked-idle}
 use Rattle.book_state.proofs.BookingLaws.{victim-booked}
-use Rattle.book_state.proofs.LeastMarks.{next-idle, next-mark, least-found, least-nothing, least-whole}
-use Rattle.book_state.proofs.ReplicaSteps.{booked-mark, idle-by}
+use Rattle.book_state.proofs.LeastMarks.{least-idle, least-mark, least-found, least-nothing}
+use Rattle.book_state.proofs.ReplicaSteps.{booked-mark, idle-by, take-entry, length-before}
 use Rattle.book_state.specs.Books.{nets_of, booked, demand, victims, is_victim, reply_by_full, reply_to_free, reply_to, IsRight, IsIdle}
 use Rattle.book_state.specs.LeastSearch.{lesser, IsMarkAt, IsLeast}
 use Rattle.book_state.specs.Marks.{overflow_in, overflow_of, is_least_in, is_least_mark, least_mark}
@@ -135,21 +136,24 @@ least-upto h (suc n) most =
       | inr past ↦ absurd (omega (arith, past.0, most))
     ]
   where
-    more : n + 1 ≡ suc n
-    more = omega arith
+    longer : (e : Entry) → slice_get h n ≡ Some e → take (suc n) h ≡ take n h ++ e ∷ []
+    longer e there = let more : suc n ≡ n + 1 = omega arith in ap (λ (k : ℕ). take k h) more ∙ take-entry h n e there
 
     by : (e : Entry) → slice_get h n ≡ Some e → (old : Option _) → IsLeast (take n h) old → (overflow : Option ℕ) → overflow_of e ≡ overflow →
         (o : Option _) × IsLeast (take (suc n) h) o
-    by e there old least None is = (old, subst (λ (k : ℕ). IsLeast (take k h) old) more (next-idle h n e old there is least))
+    by e there old least None is = (old, subst (λ (xs : List Entry). IsLeast xs old) (sym (longer e there)) (least-idle (take n h) e old is least))
     by e there old least (Some overflow) is =
         let new : _ = record { overflow = overflow; length = n + 1 } in
-        (Some (lesser old new), subst (λ (k : ℕ). IsLeast (take k h) (Some (lesser old new))) more (next-mark h n e old new there is refl least))
+        let before = length-before h n e there in (
+          Some (lesser old new),
+          subst (λ (xs : List Entry). IsLeast xs (Some (lesser old new))) (sym (longer e there)) (least-mark (take n h) e old new is (omega (arith, before)) least),
+        )
 
 -- where there is a mark, some mark has the least overflow
 pub some-least : (h : List Entry) (place overflow : ℕ) → IsMarkAt h place overflow → IsSome (least_mark h)
 some-least h place overflow there =
     let found = least-upto h (length h) (omega arith) in
-    by found.0 (least-whole h (length h) found.0 found.0 (omega arith) refl found.1)
+    by found.0 (subst (λ (xs : List Entry). IsLeast xs found.0) (take_all (length h) h (omega arith)) found.1)
   where
     by : (o : Option _) → IsLeast h o → IsSome (least_mark h)
     by None none = absurd (none place overflow there)

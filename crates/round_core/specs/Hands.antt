@@ -1,5 +1,5 @@
 -- Which entries of a history are whose.
-use Rattle.std.specs.Prelude.{◌≡◌, ℕ, ◌+◌, ◌≤◌, Bool, false, ◌==◌, List, map, filter, length, Option, Some, None, slice_get}
+use Rattle.std.specs.Prelude.{◌≡◌, ℕ, ◌+◌, ◌≤◌, Bool, false, ◌==◌, List, [], ◌∷◌, ◌++◌, map, filter, length, Option, Some, None, slice_get}
 use Rattle.std.specs.List.{range_with_len}
 use Rattle.book_state.specs.Entries.{AtEach}
 use Rattle.book_state.specs.declared.entry.Entry.{Entry}
@@ -15,6 +15,13 @@ places_of h number = filter (λ p. is_by number (slice_get h p)) (range_with_len
 
 abbrev pub log_of : List Entry → ℕ → HandLog
 log_of h number = record { number = number; places = places_of h number }
+
+-- a log without places, and one with one place more
+abbrev pub empty_log : ℕ → HandLog
+empty_log number = record { number = number; places = [] }
+
+abbrev pub with_place : HandLog → ℕ → HandLog
+with_place log place = record { number = log.number; places = log.places ++ place ∷ [] }
 
 -- the logs part a history among the callers of numbers 0 to the last: each has its caller's places, and every entry is
 -- one of theirs

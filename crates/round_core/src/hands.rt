@@ -1,7 +1,7 @@
 //! Which entries of a history are whose.
 ghost use Rattle.std.specs.Prelude.{◌≡◌, [], ◌∷◌, ◌++◌, map, IfOk, OnOk};
 ghost use Rattle.std.specs.List.{range_with_len};
-ghost use Rattle.round_core.specs.Hands.{log_of, places_of as places_in};
+ghost use Rattle.round_core.specs.Hands.{log_of, empty_log, with_place};
 
 use book_state::History;
 use std::alloc::{AllocError, Global};
@@ -62,23 +62,34 @@ pub struct HandLog {
 pub fn hands_of(alloc: Global, history: &History, callers: u32) -> Result<Vec<HandLog>, AllocError>
     ensures { IfOk result (λ hands. hands.items ≡ map (log_of history.now) (range_with_len 0 callers)) }
 {
-    let mut hands = Vec::new(alloc);
-    for number in 0..callers {
-        let places = places_of(alloc, history, number)?;
-        hands.push(HandLog { number, places })?;
+    let mut hands = no_logs(alloc, callers)?;
+    for place in 0..history.len() {
+        let number = history.entry(place).number;
+        if number < callers {
+            note(&mut hands[number as usize], place)?;
+        }
     }
     Ok(hands)
 }
 
-/// The places of the entries of the caller with this number.
-fn places_of(alloc: Global, history: &History, number: u32) -> Result<Places, AllocError>
-    ensures { IfOk result (λ places. places ≡ places_in history.now number) }
+/// The logs of the callers whose numbers are below this, without places.
+fn no_logs(alloc: Global, callers: u32) -> Result<Vec<HandLog>, AllocError>
+    ensures { IfOk result (λ hands. hands.items ≡ map empty_log (range_with_len 0 callers)) }
 {
-    let mut places = Places::new(alloc);
-    for place in 0..history.len() {
-        if history.entry(place).number == number {
-            places.push(place)?;
-        }
+    let mut hands = Vec::new(alloc);
+    for number in 0..callers {
+        hands.push(HandLog {
+            number,
+            places: Places::new(alloc),
+        })?;
     }
-    Ok(places)
+    Ok(hands)
+}
+
+/// Puts a place behind those of a log. The only error is want of memory.
+fn note(log: &mut HandLog, place: u64) -> Result<(), AllocError>
+    ensures { OnOk result (log.new ≡ with_place log.old place) }
+{
+    log.places.push(place)?;
+    Ok(())
 }

@@ -1,5 +1,5 @@
 -- The trees that a history leaves booked.
-use Rattle.std.proofs.Common.{◌≡◌, ℕ, ◌<◌, ◌≤◌, false, List, map, length, get_or, Option, Some, None, IsSomeAnd, IsTrue, inl, inr, refl, sym, ap, subst, ◌∙◌, arith}
+use Rattle.std.proofs.Common.{◌≡◌, ℕ, ◌<◌, ◌≤◌, false, List, map, length, take, get_or, Option, Some, None, IsSomeAnd, IsTrue, inl, inr, refl, sym, ap, subst, ◌∙◌, arith}
 use Rattle.std.specs.List.{range_with_len}
 use Rattle.std.specs.Option.{option_and_then}
 use Rattle.std.proofs.lemmas.Bool.{cases_Bool, cases_lt}
@@ -20,7 +20,9 @@ use Rattle.book_state.specs.declared.entry.Entry.{Entry}
 use Rattle.straight_runs.specs.Routed.{AreRouted}
 use Rattle.round_core.proofs.TurnLemmas.{routed-net}
 use Rattle.round_core.specs.Rounds.{IsRouteOfNet}
-use Rattle.router_top.specs.Routing.{AllJoined, AreTrees}
+use Rattle.router_top.specs.Routing.{AllJoined, AreTrees, AreBookedRoutes, AreChosenRoutes}
+use Rattle.router_top.specs.declared.routing.BookedRoutes.{BookedRoutes}
+use Rattle.word_reader.specs.declared.order.Options.{Options}
 use Rattle.round_core.specs.Standing.{Stands}
 
 past-unrouted : (d : DesignView) (net : ℕ) → length d.nets ≤ net → is_routed d net ≡ false
@@ -86,3 +88,16 @@ routes-joined d h trees stands same are number net is routed = by (tree_at trees
         let joined : IsJoined t.shape (edges_of t) net.pins = joins-pins t net.pins (are number t has there) r.pins in
         subst (λ (o : Option TreeView). IsJoined d.frame.shape (edges_or_none o) net.pins) (sym there)
         (subst (λ (g : Shape). IsJoined g (edges_of t) net.pins) r.shape joined)
+
+-- the trees that are booked where a history stands, each of which is one, are a design's routes
+pub chosen-routes : (d : DesignView) (options : Options) (r : BookedRoutes) → AreBookedRoutes d options r →
+    ((net : ℕ) (t : TreeView) → IsTrue (is_routed d net) → tree_at r.routes net ≡ Some t → IsTree t) → AreChosenRoutes d r.rounds.book.state r.rounds.chosen r.routes
+chosen-routes d options r are trees =
+    let h = take r.rounds.chosen r.rounds.book.state.history in
+    record {
+      least = are.least;
+      booked = are.booked;
+      routed = routes-routed d h r.routes are.stands are.booked;
+      free = routes-free d h r.routes are.stands are.booked;
+      joined = routes-joined d h r.routes are.stands are.booked trees;
+    }

@@ -29,6 +29,8 @@ use Rattle.report_text.specs.BufferTexts.{buffers_text}
 use Rattle.buffer_plan.specs.Plans.{AreRoutesOf, ArePlans}
 use Rattle.router_top.specs.Said.{design_said, library_said, report_of}
 use Rattle.round_core.specs.declared.hands.HandLog.{HandLog}
+use Rattle.round_core.specs.Standing.{Stands}
+use Rattle.router_top.specs.declared.routing.BookedRoutes.{BookedRoutes}
 use Rattle.router_top.specs.declared.routing.JudgedRoutes.{JudgedRoutes}
 use Rattle.router_top.specs.declared.routing.RoutedDesign.{RoutedDesign}
 use Rattle.router_top.specs.declared.stop.Outcome.TheVariants.{Whole}
@@ -80,6 +82,14 @@ AreTrees g trees = (net : ℕ) → (t : TreeView) → tree_at trees net ≡ Some
 -- the report of a verdict on routes, and the buffers of their plans
 abbrev pub routing_report : DesignView → LibraryView → Verdict → List (Option TreeView) → List (Option Plan) → List ℕ
 routing_report d lib v trees plans = report_of v ++ buffers_text d lib trees plans
+
+-- a design's rounds, and the trees that are booked at their first mark of least overflow, where exactly the routed nets
+-- are booked
+pub record AreBookedRoutes (d : DesignView) (options : Options) (r : BookedRoutes) : Type 0 where
+  pub made : IsBookOf d options r.rounds.book.state r.rounds.hands.items
+  pub least : least_mark r.rounds.book.state.history ≡ Some r.rounds.chosen
+  pub booked : (net : ℕ) → tree_at r.routes net ≡ booked (take r.rounds.chosen r.rounds.book.state.history) net
+  pub stands : Stands d (take r.rounds.chosen r.rounds.book.state.history)
 
 -- a design's routes and the verdict on them, with the rounds that they are from
 pub record AreJudgedRoutes (d : DesignView) (options : Options) (r : JudgedRoutes) : Type 0 where

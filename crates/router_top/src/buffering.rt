@@ -1,5 +1,5 @@
 //! The command that places buffers on a solution of a design.
-ghost use Rattle.std.specs.Prelude.{IsTrue, IfOk, OnOk};
+ghost use Rattle.std.specs.Prelude.{◌<◌, IsTrue, IfOk, OnOk};
 ghost use Rattle.gr_base.specs.Designs.{is_routed};
 ghost use Rattle.gr_io.specs.Devices.{device_of, reading_of};
 ghost use Rattle.rc_library.specs.Libraries.{IsLibraryOf};
@@ -45,7 +45,7 @@ pub(crate) fn buffer<R: Threads + Sync, S: Shelf, O: Sink>(
     let library = open_library(alloc, shelf, &design, library)?;
     let solution = open_solution(alloc, shelf, &design, solution)?;
     let trees = solution_trees(alloc, &design, &solution)?;
-    let Ok(text) = buffers_on(rt, alloc, &design, &library, &trees) else {
+    let Ok(text) = buffers_on(rt, alloc, &design, &library, &trees, ONE_WORKER) else {
         return Err(Stop::NoMemory);
     };
     match write_whole(out, text.bytes()) {
@@ -98,18 +98,21 @@ fn solution_tree(
     }
 }
 
-/// The text of the buffers that are placed on trees. The only error is want of memory.
-fn buffers_on<R: Threads + Sync>(
+/// The text of the buffers that are placed on trees, planned by so many workers. The only error is want
+/// of memory.
+pub(crate) fn buffers_on<R: Threads + Sync>(
     rt: &R,
     alloc: Global,
     design: &Design,
     library: &Library,
     trees: &Routes,
+    workers: u32,
 ) -> Result<Text, AllocError>
     requires library { IsLibraryOf design.now library.now }
+    requires workers { 0 < workers }
     requires trees { AreRoutesOf design.now trees.now }
     ensures { IfOk result (IsBuffersText design.now library.now trees.now) }
 {
-    let plans = plan_all(rt, alloc, design, library, trees, ONE_WORKER)?;
+    let plans = plan_all(rt, alloc, design, library, trees, workers)?;
     buffers(alloc, design, library, trees, &plans)
 }

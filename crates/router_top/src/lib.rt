@@ -11,4 +11,5 @@ mod stop;
 mod top;
 mod trial;
 
+pub use left::Spent;
 pub use top::{Ended, run};

@@ -1,5 +1,5 @@
 //! The command that routes a design.
-ghost use Rattle.std.specs.Prelude.{◌≡◌, ◌<◌, IfOk};
+ghost use Rattle.std.specs.Prelude.{◌≡◌, ◌<◌, ◌≤◌, ◌++◌, IfOk, OnOk};
 ghost use Rattle.gr_base.specs.Designs.{IsDesign};
 ghost use Rattle.gr_base.specs.Trees.{TreeView, route_edges};
 ghost use Rattle.rc_library.specs.Libraries.{IsLibraryOf};
@@ -9,29 +9,39 @@ ghost use Rattle.solution_text.specs.WrittenText.{written_text};
 ghost use Rattle.router_top.specs.Commands.{rounds_back};
 ghost use Rattle.router_top.specs.Leaving.{IsWritten, Leaves};
 ghost use Rattle.word_reader.specs.Orders.{AreInRange};
-ghost use Rattle.report_text.specs.BufferTexts.{ArePlanned};
-ghost use Rattle.router_top.specs.Routing.{AreJudgedRoutes, IsRoutedDesign, routing, routing_report};
+ghost use Rattle.buffer_plan.specs.Plans.{AreRoutesOf};
+ghost use Rattle.route_evaluator.specs.NetTrees.{AreTrees};
+ghost use Rattle.route_evaluator.specs.Verdicts.{IsVerdict};
+ghost use Rattle.router_top.specs.Buffering.{IsBuffersText};
+ghost use Rattle.router_top.specs.Routing.{AreBookedRoutes, AreJudgedRoutes, IsRoutedDesign, routing};
+ghost use Rattle.router_top.specs.Said.{report_of};
 
-use crate::left::Left;
+use crate::buffering::buffers_on;
+use crate::left::{Left, Spent};
 use crate::opening::{open_design, open_library};
 use crate::stop::{Outcome, Stop};
-use buffer_plan::plan_all;
 use cost_rules::Rules;
-use elmore_delay::Plans;
 use gr_base::{Design, Routes};
 use gr_io::{Shelf, Sink, write_whole};
 use gr_text::Text;
 use rc_library::Library;
-use report_text::{buffers, report};
+use report_text::report;
 use ripup_workers::{Gate, Rounds, route_rounds};
 use route_evaluator::{Verdict, evaluate_routes};
 use route_writer::{WriteError, write_solution_by};
 use std::alloc::{AllocError, Global};
 use std::sync::Wait;
-use std::thread::Threads;
+use std::thread::{Threads, join};
 use word_reader::Options;
 
-/// The routes of a design, and the verdict on them, with the rounds that they are from.
+/// The routes of a design, with the rounds that they are from.
+#[derive(Drop)]
+pub(crate) struct BookedRoutes {
+    pub rounds: Rounds,
+    pub routes: Routes,
+}
+
+/// The same, and the verdict on the routes.
 #[derive(Drop)]
 pub(crate) struct JudgedRoutes {
     pub rounds: Rounds,
@@ -84,6 +94,11 @@ pub(crate) fn route<R: Threads + Wait + Sync, S: Shelf, O: Sink, E: Sink, G: Gat
     Left {
         end,
         rounds: Some(routed.rounds),
+        spent: Some(Spent {
+            design,
+            library,
+            routes: routed.routes,
+        }),
     }
 }
 
@@ -103,14 +118,10 @@ fn route_design<R: Threads + Wait + Sync, G: Gate + Sync>(
     requires options { AreInRange options }
     ensures { IfOk result (IsRoutedDesign design.now library.now options) }
 {
-    let judged = judged_routes(rt, alloc, design, options, gate, rules)?;
-    let JudgedRoutes {
-        rounds,
-        routes,
-        verdict,
-    } = judged;
-    let plans = plan_all(rt, alloc, design, library, &routes, options.workers)?;
-    let report = routing_report(alloc, design, library, &verdict, &routes, &plans)?;
+    let booked = booked_routes(rt, alloc, design, options, gate, rules)?;
+    let BookedRoutes { rounds, routes } = booked;
+    let told = verdict_and_buffers(rt, alloc, design, library, &routes, options)?;
+    let report = report_with(alloc, &told.0, &told.1)?;
     Ok(RoutedDesign {
         rounds,
         routes,
@@ -132,6 +143,30 @@ pub(crate) fn judged_routes<R: Threads + Wait + Sync, G: Gate + Sync>(
     requires options { AreInRange options }
     ensures { IfOk result (AreJudgedRoutes design.now options) }
 {
+    let booked = booked_routes(rt, alloc, design, options, gate, rules)?;
+    let BookedRoutes { rounds, routes } = booked;
+    let verdict = evaluate_routes(alloc, design, &routes, options.via_cost)?;
+    Ok(JudgedRoutes {
+        rounds,
+        routes,
+        verdict,
+    })
+}
+
+/// Routes a design, and copies the trees that are booked at the first mark of least overflow. The
+/// only error is want of memory.
+fn booked_routes<R: Threads + Wait + Sync, G: Gate + Sync>(
+    rt: &R,
+    alloc: Global,
+    design: &Design,
+    options: Options,
+    gate: &G,
+    rules: &Rules,
+) -> Result<BookedRoutes, AllocError>
+    requires design { IsDesign design.now }
+    requires options { AreInRange options }
+    ensures { IfOk result (AreBookedRoutes design.now options) }
+{
     let rounds = route_rounds(
         rt,
         alloc,
@@ -143,31 +178,56 @@ pub(crate) fn judged_routes<R: Threads + Wait + Sync, G: Gate + Sync>(
         0,
         gate,
     )?;
-    let routes = rounds.book.state().routes_at(rounds.chosen)?;
-    let verdict = evaluate_routes(alloc, design, &routes, options.via_cost)?;
-    Ok(JudgedRoutes {
-        rounds,
-        routes,
-        verdict,
-    })
+    let book = rounds.book.state();
+    let routes = book.routes_at(rt, rounds.chosen, options.workers)?;
+    Ok(BookedRoutes { rounds, routes })
 }
 
-/// The report of a verdict on routes, and the buffers of their plans. The only error is want of
-/// memory.
-fn routing_report(
+/// The verdict on routes, and the text of their buffers, which are made side by side where there is
+/// more than one worker. The only error is want of memory.
+fn verdict_and_buffers<R: Threads + Sync>(
+    rt: &R,
     alloc: Global,
     design: &Design,
     library: &Library,
-    verdict: &Verdict,
     routes: &Routes,
-    plans: &Plans,
-) -> Result<Text, AllocError>
-    requires { ArePlanned design.now library.now routes.now plans.now }
-    ensures { IfOk result (λ text. text
-        ≡ routing_report design.now library.now verdict.now routes.now plans.now) }
+    options: Options,
+) -> Result<(Verdict, Text), AllocError>
+    requires library { IsLibraryOf design.now library.now }
+    requires routed { AreRouted design.now routes.now }
+    requires held { AreRoutesOf design.now routes.now }
+    requires options { AreInRange options }
+    ensures verdict { IfOk result (λ told. IsVerdict design.now options.via_cost (route_edges routes.now) told.0) }
+    ensures trees { OnOk result (AreTrees design.now routes.now) }
+    ensures buffers { IfOk result (λ told. IsBuffersText design.now library.now routes.now told.1) }
+{
+    let via_cost = options.via_cost;
+    let workers = options.workers;
+    if workers == 1 {
+        let verdict = evaluate_routes(alloc, design, routes, via_cost)?;
+        let buffers = buffers_on(rt, alloc, design, library, routes, workers)?;
+        return Ok((verdict, buffers));
+    }
+    let (verdict, buffers) = join(
+        rt,
+        || -> Result<Verdict, AllocError>
+            requires { AreRouted design.now routes.now × (via_cost ≤ 1000) }
+            ensures { IfOk result (IsVerdict design.entry.now via_cost (route_edges routes.entry.now)) ×
+                OnOk result (AreTrees design.entry.now routes.entry.now) }
+        { evaluate_routes(alloc, design, routes, via_cost) },
+        || -> Result<Text, AllocError>
+            requires { IsLibraryOf design.now library.now × AreRoutesOf design.now routes.now × (0 < workers) }
+            ensures { IfOk result (IsBuffersText design.entry.now library.entry.now routes.entry.now) }
+        { buffers_on(rt, alloc, design, library, routes, workers) },
+    );
+    Ok((verdict?, buffers?))
+}
+
+/// The report of a verdict, with a text of buffers behind it. The only error is want of memory.
+fn report_with(alloc: Global, verdict: &Verdict, buffers: &Text) -> Result<Text, AllocError>
+    ensures { IfOk result (λ text. text ≡ report_of verdict.now ++ buffers.now) }
 {
     let mut text = report(alloc, verdict)?;
-    let buffers = buffers(alloc, design, library, routes, plans)?;
     text.put(buffers.bytes())?;
     Ok(text)
 }

@@ -9,7 +9,7 @@ ghost use Rattle.word_reader.specs.Orders.{order_of};
 
 use crate::buffering::buffer;
 use crate::judging::judge;
-use crate::left::Left;
+use crate::left::{Left, Spent};
 use crate::making::make_design;
 use crate::routing::route;
 use crate::stop::{Stop, finish};
@@ -34,11 +34,14 @@ pub struct Ended {
     /// Which entries of the book's history are whose: the marks are those of number 0, the claims
     /// and releases those of the workers, from number 1. Empty without a book.
     pub hands: Vec<HandLog>,
+    /// What the run read and made beside the book, and needs no more. To let go of it takes as long as
+    /// there are nets and trees, which a program that ends need not wait for.
+    pub spent: Option<Spent>,
 }
 
 impl Ended {
     /// Ended with a status, and with the book and the logs of these rounds.
-    fn of(alloc: Global, status: u8, rounds: Option<Rounds>) -> Ended
+    fn of(alloc: Global, status: u8, rounds: Option<Rounds>, spent: Option<Spent>) -> Ended
         ensures status { result.status ≡ status }
         ensures kept { handed_back result.book result.hands.items ≡ rounds_back rounds }
         ensures hands { result.book ≡ None → result.hands.items ≡ [] }
@@ -48,11 +51,13 @@ impl Ended {
                 status,
                 book: Some(rounds.book),
                 hands: rounds.hands,
+                spent,
             },
             None => Ended {
                 status,
                 book: None,
                 hands: Vec::new(alloc),
+                spent,
             },
         }
     }
@@ -111,7 +116,7 @@ pub fn run<R: Threads + Wait + Sync, S: Shelf, O: Sink, E: Sink, G: Gate + Sync>
 {
     let left = carry_out(rt, alloc, words, shelf, out, err, gate, rules);
     let status = finish(alloc, err, left.end);
-    Ended::of(alloc, status, left.rounds)
+    Ended::of(alloc, status, left.rounds, left.spent)
 }
 
 /// Carries out the command that the words give, and tells no stop.

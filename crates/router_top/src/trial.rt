@@ -62,6 +62,7 @@ pub(crate) fn trial<R: Threads + Wait + Sync, O: Sink, G: Gate + Sync>(
     Left {
         end,
         rounds: Some(judged.rounds),
+        spent: None,
     }
 }
 

@@ -1,9 +1,8 @@
 //! The shared book.
-ghost use Rattle.std.specs.Prelude.{◌≡◌, ◌<◌, ◌≤◌, length, take, IfOk, IfErr, OnOk, OnErr, IsTrue};
+ghost use Rattle.std.specs.Prelude.{◌≡◌, ◌<◌, ◌≤◌, length, take, IfOk, IfErr, OnOk, OnErr};
 ghost use Rattle.book_front.specs.Seats.{word_of};
 ghost use Rattle.book_state.specs.Books.{nets_of, IsClaim, victims as victims_of};
 ghost use Rattle.book_state.specs.Replicas.{StandsFor};
-ghost use Rattle.book_state.specs.Still.{IsStill};
 ghost use Rattle.track_book.specs.Passes.{IsPass, IsAnswered, HasLearnt, AreAll, IsClosed};
 
 use crate::closed::{ClosedBook, close};
@@ -14,14 +13,13 @@ use book_front::Front;
 use book_state::{Call, Claim, ClaimRefused, Replica, Reply};
 use gr_base::Cells;
 use grid_demand::Capacity;
-use maze_route::Window;
 use std::alloc::AllocError;
 use std::sync::{Mutex, Wait};
 use std::thread::Threads;
 
 /// The book N, which threads share. Each call is one entry of one history, and its reply is the one
-/// that a book for one thread gives there. `claim`, `release`, `mark`, `sync`, `victims` and `meet`
-/// take the lock and may wait for it; no other call does.
+/// that a book for one thread gives there. `claim`, `release`, `mark`, `hold`, `sync`, `victims` and
+/// `meet` take the lock and may wait for it; no other call does.
 #[derive(Drop)]
 pub struct TrackBook<N: BookName> {
     pub(crate) front: Front,
@@ -53,7 +51,9 @@ impl<N: BookName> TrackBook<N> {
         ensures err { OnErr result (pass.new ≡ pass.old) }
         ensures back { IfErr result (λ refused. refused.claim ≡ claim) }
     {
-        self.lock.lock(rt).claim(&self.front, pass, claim)
+        let reply = self.lock.lock(rt).claim(&self.front, pass, claim)?;
+        pass.let_go();
+        Ok(reply)
     }
 
     /// Frees a booked net. The only error is want of memory, and leaves pass and book as they were.
@@ -67,7 +67,9 @@ impl<N: BookName> TrackBook<N> {
         ensures reply { IfOk result (λ reply. IsAnswered N.capacity pass.old pass.new (Call.Release net) reply) }
         ensures err { OnErr result (pass.new ≡ pass.old) }
     {
-        self.lock.lock(rt).release(&self.front, pass, net)
+        let reply = self.lock.lock(rt).release(&self.front, pass, net)?;
+        pass.let_go();
+        Ok(reply)
     }
 
     /// Marks the edges whose demand is above their capacity. The answer carries the total overflow.
@@ -79,9 +81,19 @@ impl<N: BookName> TrackBook<N> {
         self.lock.lock(rt).mark(&self.front, pass)
     }
 
-    /// The pass sees the whole history, and the replica comes to stand for it. Under the lock the
-    /// pass only takes a hold on the entries; the replica reads them behind it. The only error is
-    /// want of memory, and leaves both as they were.
+    /// The pass sees the whole history, and holds it, so that replicas can read it when the lock is free
+    /// again. The only error is want of memory, and leaves the pass as it was.
+    pub fn hold<R: Wait>(&self, rt: &R, pass: &mut Pass<N>) -> Result<(), AllocError>
+        ensures learnt { OnOk result (HasLearnt N.capacity pass.old pass.new) }
+        ensures held { OnOk result (pass.new.held ≡ length pass.new.seen) }
+        ensures err { OnErr result (pass.new ≡ pass.old) }
+    {
+        self.lock.lock(rt).sync(&self.front, pass)?;
+        pass.let_go();
+        Ok(())
+    }
+
+    /// The same, and the replica comes to stand for the history. An error leaves it too as it was.
     pub fn sync<R: Wait>(
         &self,
         rt: &R,
@@ -95,32 +107,9 @@ impl<N: BookName> TrackBook<N> {
         ensures err { OnErr result (pass.new ≡ pass.old) }
         ensures replica_err { OnErr result (replica.new ≡ replica.old) }
     {
-        self.lock.lock(rt).sync(&self.front, pass)?;
+        self.hold(rt, pass)?;
         replica.catch_up(&self.capacity, pass.past());
         Ok(())
-    }
-
-    /// The same. The result is true only where the entries that the replica read change neither
-    /// demand nor marks of an edge that begins in the window.
-    pub fn sync_beside<R: Wait>(
-        &self,
-        rt: &R,
-        pass: &mut Pass<N>,
-        replica: &mut Replica,
-        window: Window,
-    ) -> Result<bool, AllocError>
-        requires { StandsFor N.capacity (take replica.old.front pass.old.seen) replica.old }
-        ensures learnt { OnOk result (HasLearnt N.capacity pass.old pass.new) }
-        ensures stands { OnOk result (StandsFor N.capacity pass.new.seen replica.new) }
-        ensures held { OnOk result (pass.new.held ≡ length pass.new.seen) }
-        ensures still { IfOk result (λ still. IsTrue still →
-            IsStill N.capacity window (take replica.old.front pass.new.seen) pass.new.seen) }
-        ensures err { OnErr result (pass.new ≡ pass.old) }
-        ensures replica_err { OnErr result (replica.new ≡ replica.old) }
-    {
-        self.lock.lock(rt).sync(&self.front, pass)?;
-        let still = replica.catch_up_beside(&self.capacity, pass.past(), window);
-        Ok(still)
     }
 
     /// The pass sees the whole history. The result are the booked nets whose tree then has a wire edge

@@ -54,7 +54,8 @@ impl<N: BookName> Locked<N> {
         }
     }
 
-    /// Answers a claim, of which the pass then has the entry.
+    /// Answers a claim, of which the pass then has the entry. The pass holds what it has seen, as far as
+    /// there is memory for that.
     pub(crate) fn claim(
         &mut self,
         front: &Front,
@@ -72,10 +73,11 @@ impl<N: BookName> Locked<N> {
         self.look(front, pass);
         let reply = self.state.claim(pass.number, claim)?;
         write(front, self.state.history(), &mut self.keeper, pass);
+        hold(self.state.history(), pass);
         Ok(reply)
     }
 
-    /// Answers a release.
+    /// Answers a release. The pass holds what it has seen, as far as there is memory for that.
     pub(crate) fn release(
         &mut self,
         front: &Front,
@@ -91,6 +93,7 @@ impl<N: BookName> Locked<N> {
     {
         let reply = self.state.release(pass.number, net)?;
         write(front, self.state.history(), &mut self.keeper, pass);
+        hold(self.state.history(), pass);
         Ok(reply)
     }
 
@@ -223,4 +226,18 @@ fn write<N: BookName>(
     let known = history.len();
     append(front, keeper, &mut pass.seat, history.entry(known - 1));
     pass.known = known;
+}
+
+/// The pass takes a hold on what it has seen, which is the whole history. Where memory is wanting, it
+/// holds what it held.
+fn hold<N: BookName>(history: &History, pass: &mut Pass<N>)
+    requires { pass.old.seen ≡ history.now }
+    ensures seen { pass.new.seen ≡ pass.old.seen }
+    ensures mine { pass.new.mine ≡ pass.old.mine }
+    ensures number { pass.new.number ≡ pass.old.number }
+{
+    match history.extend(&mut pass.past) {
+        Ok(()) => {}
+        Err(AllocError) => {}
+    }
 }

@@ -1,5 +1,5 @@
 //! Passes: who calls a shared book.
-ghost use Rattle.std.specs.Prelude.{◌≡◌, ℕ, ◌≤◌, [], length, take, IfOk};
+ghost use Rattle.std.specs.Prelude.{◌≡◌, ◌↔◌, ℕ, ◌≤◌, [], length, take, IfOk, IsTrue};
 ghost use mathlib.Core.List.{IsPrefix};
 ghost use Rattle.book_front.specs.Seats.{word_of, knows, IsPassOf, IsNew as IsNewSeat};
 ghost use Rattle.track_book.specs.Passes.{IsPass, IsNew, AreBegun};
@@ -64,8 +64,22 @@ impl<N: BookName> Pass<N> {
         self.known
     }
 
+    /// Whether the pass holds itself all that it has seen, so that replicas can read it.
+    pub fn holds_all(&self) -> bool
+        ensures { IsTrue result ↔ (self.now.held ≡ length self.now.seen) }
+    {
+        self.past.len() == self.known
+    }
+
+    /// Lets go of holds that the pass needs no more.
+    pub(crate) fn let_go(&mut self)
+        ensures { self.new ≡ self.old }
+    {
+        self.past.let_go();
+    }
+
     /// What the pass holds itself of what it has seen.
-    pub(crate) fn past(&self) -> &Past
+    pub fn past(&self) -> &Past
         ensures past { result.now ≡ take self.now.held self.now.seen }
         ensures pass { IsPass N.capacity self.now }
     {

@@ -1,18 +1,29 @@
-use Rattle.std.proofs.Common.{sym, ap, ◌∙◌, map, List, ◌∷◌, [], ◌++◌, ℕ, arith}
-use Rattle.std.proofs.lemmas.List.FromFn.{map-range_with_len_more}
+use Rattle.std.proofs.Common.{◌≡◌, ◌+◌, map, sym, subst, arith}
+use Rattle.std.specs.Global.{Global}
+use Rattle.std.specs.Prelude.{Vec}
 use Rattle.std.specs.List.{range_with_len}
-use Rattle.round_core.specs.Hands.{log_of}
 use Rattle.round_core.specs.declared.hands.HandLog.{HandLog}
+use Rattle.round_core.proofs.HandLemmas.{log_upto, length-logs, logs-gain, logs-keep}
 use Rattle.round_core.proofs.hands.hands_of.Goals as goal
+use Rattle.round_core.proofs.hands.hands_of.Goals.{then-number-callers+in_ok-note, else-number-callers}
 
-pub loop-number-preserved : goal.loop-number-preserved
-loop-number-preserved c =
+pub index_mut-requires : goal.index_mut-requires
+index_mut-requires c =
+    let long = length-logs c.args.history.now c.args.callers c.loop-place.place c.loop-place.hands.items c.loop-place.invariant in
+    omega (arith, long, c.if-number-callers.true, c.loop-place.hands.ok.0)
+
+pub loop-place-preserved : goal.loop-place-preserved
+loop-place-preserved c =
     let h = c.args.history.now in
-    c.in_ok-push.ensures.items
-    ∙ ap (λ (hands : List HandLog). hands ++ record { number = c.loop-number.number; places = c.in_ok-places.places } ∷ []) c.loop-number.invariant
-    ∙ ap (λ (places : List ℕ). map (log_of h) (range_with_len 0 c.loop-number.number) ++ record { number = c.loop-number.number; places = places } ∷ []) c.in_ok-places.ensures
-    ∙ sym (map-range_with_len_more (log_of h) 0 c.loop-number.number c.loop-number.number (omega arith))
-
-pub returns : goal.returns
-returns c =
-    c.loop-number.invariant ∙ ap (λ (n : ℕ). map (log_of c.args.history.now) (range_with_len 0 n)) (omega (arith, c.loop-number-test.false, c.loop-number.auto.number-end))
+    let place = c.loop-place.place in
+    let logs = c.loop-place.hands.items in
+    let e = c.entry.result.now in
+    let P : Vec HandLog Global → Type 0 = λ hands. hands.items ≡ map (log_upto h (place + 1)) (range_with_len 0 c.args.callers) in
+    elim c.if-number-callers.branch [
+      | then-number-callers+in_ok-note w ↦
+          subst P (sym w.hands-is)
+          (logs-gain h c.args.callers place e w.index_mut.result.now w.note.new.log logs c.entry.ensures.entry w.if-number-callers.true c.loop-place.invariant w.index_mut.ensures.value w.in_ok-note.ensures)
+      | else-number-callers w ↦
+          subst P (sym w.hands-is)
+          (logs-keep h c.args.callers place e logs c.entry.ensures.entry w.if-number-callers.false c.loop-place.invariant)
+    ]

@@ -1,23 +1,35 @@
-use Rattle.router_top.proofs.PlannedLemmas.{planned-for}
+use Rattle.std.proofs.Common.{List, ◌++◌, take, ap, ◌∙◌}
+use Rattle.router_top.specs.Said.{report_of}
+use Rattle.router_top.proofs.RouteLemmas.{held-tree, routes-routed, routes-trees, chosen-routes}
 use Rattle.router_top.proofs.routing.route_design.Goals as goal
 
-pub plan_all-requires-clause-routes : goal.plan_all-requires-clause-routes
-plan_all-requires-clause-routes g c κs within = c.in_ok-judged.ensures.held
+pub verdict_and_buffers-requires-clause-routed : goal.verdict_and_buffers-requires-clause-routed
+verdict_and_buffers-requires-clause-routed g c κs within =
+    let r = c.in_ok-booked.booked in
+    let are = c.in_ok-booked.ensures in
+    routes-routed c.args.design.now (take r.rounds.chosen r.rounds.book.state.history) r.routes are.stands are.booked
 
-pub routing_report-requires : goal.routing_report-requires
-routing_report-requires g c =
-    planned-for c.args.design.now c.args.library.now c.in_ok-judged.judged.routes c.in_ok-plans.plans c.in_ok-judged.ensures.held c.in_ok-plans.ensures
+pub verdict_and_buffers-requires-clause-held : goal.verdict_and_buffers-requires-clause-held
+verdict_and_buffers-requires-clause-held g c κs within =
+    let r = c.in_ok-booked.booked in
+    let are = c.in_ok-booked.ensures in
+    held-tree c.args.design.now (take r.rounds.chosen r.rounds.book.state.history) r.routes are.stands are.booked
 
 pub returns : goal.returns
 returns g c =
-    let judged = c.in_ok-judged.ensures in
+    let d = c.args.design.now in
+    let r = c.in_ok-booked.booked in
+    let are = c.in_ok-booked.ensures in
+    let h = take r.rounds.chosen r.rounds.book.state.history in
+    let told = c.in_ok-told.ensures in
+    let verdict = c.in_ok-told.told.0 in
     record {
-      made = judged.made;
-      routes = judged.routes;
-      trees = judged.trees;
-      verdict = c.in_ok-judged.judged.verdict;
-      judged = judged.judged;
-      plans = c.in_ok-plans.plans;
-      planned = c.in_ok-plans.ensures;
-      reports = c.in_ok-report.ensures;
+      made = are.made;
+      routes = chosen-routes d c.args.options r are told.trees;
+      trees = routes-trees d h r.routes are.stands are.booked told.trees;
+      verdict = verdict;
+      judged = told.verdict;
+      plans = told.buffers.plans;
+      planned = told.buffers.planned;
+      reports = c.in_ok-report.ensures ∙ ap (λ (text : List _). report_of verdict ++ text) told.buffers.says;
     }

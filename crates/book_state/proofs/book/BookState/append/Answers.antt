@@ -1,5 +1,7 @@
-use Rattle.std.proofs.Common.{List, sym, subst}
+use Rattle.std.proofs.Common.{List, length, refl, sym, ap, subst, ◌∙◌, arith}
+use Rattle.std.proofs.lemmas.List.{length_push}
 use Rattle.book_state.specs.Books.{IsLegal, IsRight}
+use Rattle.book_state.specs.LeastSearch.{IsLeast}
 use Rattle.book_state.specs.Views.{BookView}
 use Rattle.book_state.specs.declared.entry.Entry.{Entry}
 use Rattle.book_state.proofs.LegalHistories.{legal-push}
@@ -18,6 +20,11 @@ invariant_of-self-2 c =
     record {
       legal = subst (λ (h : List Entry). IsLegal s.capacity h) (sym c.in_ok-push.ensures.ok) (legal-push s.capacity s.history c.args.entry c.self.invariant.legal right);
       stands = c.follow.ensures;
+      least =
+          let pushed = c.in_ok-push.ensures.ok in
+          let long = ap (λ (h : List Entry). length h) pushed ∙ length_push s.history c.args.entry in
+          subst (λ (h : List Entry). IsLeast h c.least_after-self-inside.result) (sym pushed)
+          (c.least_after-self-inside.ensures s.history c.args.entry refl (omega (arith, long, c.len.ensures.len)) c.self.invariant.least);
     }
 
 pub returns-clause-legal : goal.returns-clause-legal

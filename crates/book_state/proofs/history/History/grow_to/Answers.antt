@@ -1,4 +1,7 @@
-use Rattle.std.proofs.Common.{refl, ◌∙◌, arith}
+use Rattle.std.proofs.Common.{◌≡◌, ◌^◌, ◌<◌, ◌≤◌, length, refl, sym, subst, ◌∙◌, arith}
+use Rattle.std.specs.Prelude.{Vec}
+use Rattle.std.specs.Global.{Global}
+use Rattle.book_state.specs.HistoryStore.{block_size, Held, entries_in}
 use Rattle.book_state.proofs.PastLists.{grows-by_blocks, lacks-few, grows-by_entries}
 use Rattle.book_state.proofs.history.History.grow_to.Goals as goal
 
@@ -17,7 +20,8 @@ returns-in_ok-extend_with_clones-clause-ok c =
     c.self.view_is c.whole.view_is c.requires (omega (arith, c.len-known.ensures, c.self.inside.blocks.ok.0))
     (omega (arith, c.if-known-len.true, c.len.ensures, c.len-known.ensures, c.whole.inside.blocks.ok.0))
     c.deref-then-known-len.ensures.value c.in_ok-extend_with_clones.ensures.items c.deref.ensures.value c.in_ok-last.ensures.items in
-    grown.same ∙ c.whole.view_is
+    subst (λ (last : Vec Held Global). entries_in c.extend_with_clones.new.self.items last.items ≡ c.args.whole.now) (sym c.replace.ensures.after)
+    (grown.same ∙ c.whole.view_is)
 
 pub invariant_of-self-then-known-len : goal.invariant_of-self-then-known-len
 invariant_of-self-then-known-len c =
@@ -26,7 +30,13 @@ invariant_of-self-then-known-len c =
     c.self.view_is c.whole.view_is c.requires (omega (arith, c.len-known.ensures, c.self.inside.blocks.ok.0))
     (omega (arith, c.if-known-len.true, c.len.ensures, c.len-known.ensures, c.whole.inside.blocks.ok.0))
     c.deref-then-known-len.ensures.value c.in_ok-extend_with_clones.ensures.items c.deref.ensures.value c.in_ok-last.ensures.items in
-    record { full = grown.full; last = grown.short; few = grown.few }
+    record {
+      full = grown.full;
+      last = subst (λ (last : Vec Held Global). length last.items ≤ block_size) (sym c.replace.ensures.after) grown.short;
+      few =
+          subst (λ (last : Vec Held Global). length (entries_in c.extend_with_clones.new.self.items last.items) < 2 ^ 62)
+          (sym c.replace.ensures.after) grown.few;
+    }
 
 pub returns-in_ok-extend_with_clones-2-clause-ok : goal.returns-in_ok-extend_with_clones-2-clause-ok
 returns-in_ok-extend_with_clones-2-clause-ok c =

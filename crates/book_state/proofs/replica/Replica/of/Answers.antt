@@ -1,6 +1,6 @@
 use Rattle.std.proofs.Common.{rules, ◌≡◌, ℕ, None, replicate, ap, ◌∙◌}
 use Rattle.book_state.proofs.StandSteps.{stands-nothing}
-use Rattle.book_state.proofs.replica.Replica.of_nothing.Goals as goal
+use Rattle.book_state.proofs.replica.Replica.of.Goals as goal
 
 pub returns : goal.returns
 returns c =
