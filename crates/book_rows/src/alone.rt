@@ -44,7 +44,12 @@ pub(crate) fn show<R: Threads + Print + Sync>(rt: &R, alloc: Global) -> io::Resu
     over(rt, alloc, &design, &tree)
 }
 
-fn over<R: Threads + Print + Sync>(rt: &R, alloc: Global, design: &Design, tree: &RouteTree) -> io::Result<()>
+fn over<R: Threads + Print + Sync>(
+    rt: &R,
+    alloc: Global,
+    design: &Design,
+    tree: &RouteTree,
+) -> io::Result<()>
     requires { AreOfTwo (capacity_of design.now) design.now tree.now }
 {
     let capacity = Capacity::of(alloc, design)?;
@@ -183,7 +188,12 @@ fn look<R: Print>(rt: &R, book: &BookState) -> io::Result<()> {
 }
 
 /// Which nets had a tree at a front, and the demand there.
-fn look_back<R: Threads + Print + Sync>(rt: &R, book: &BookState, capacity: &Capacity, front: u64) -> io::Result<()>
+fn look_back<R: Threads + Print + Sync>(
+    rt: &R,
+    book: &BookState,
+    capacity: &Capacity,
+    front: u64,
+) -> io::Result<()>
     requires capacity { capacity.now ≡ book.now.capacity }
     requires edge { IsTrue (has_edge capacity.now.shape first_edge) }
 {

@@ -11,7 +11,7 @@ use cost_rules::{CostRule, Formula, Rules};
 use gr_base::{Design, RouteTree};
 use gr_text::Text;
 use grid_demand::Capacity;
-use net_plan::pattern_plan;
+use net_plan::{Planner, pattern_plan};
 use round_core::{Phase, Step, StepRefused, World};
 use std::alloc::{AllocError, Global};
 
@@ -55,7 +55,9 @@ fn first_plan(alloc: Global, design: &Design, rule: &CostRule) -> Result<RouteTr
 {
     let capacity = Capacity::of(alloc, design)?;
     let replica = Replica::new(alloc, design)?;
-    pattern_plan(alloc, design, &capacity, replica.loads(), 0, rule)
+    let mut planner = Planner::new(alloc, design)?;
+    let loads = replica.loads();
+    pattern_plan(alloc, &mut planner, design, &capacity, loads, 0, rule)
 }
 
 /// Takes a step, and tells whether it was allowed.
