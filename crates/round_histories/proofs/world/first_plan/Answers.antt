@@ -14,15 +14,15 @@ use Rattle.round_histories.proofs.world.first_plan.Goals as goal
 
 pub pattern_plan-requires-clause-demand : goal.pattern_plan-requires-clause-demand
 pattern_plan-requires-clause-demand g c =
-    subst HasBoundedDemand (sym c.loads.ensures)
+    subst HasBoundedDemand (sym c.loads-loads.ensures)
     (bounded-loads c.args.design.now (capacity_of c.args.design.now) [] _ c.requires.design refl c.in_ok-replica.ensures.loads)
 
 pub returns : goal.returns
 returns g c =
     let d = c.args.design.now in
-    let of = subst (λ (l : LoadsView). AreLoadsOf (capacity_of d) [] l) (sym c.loads.ensures) c.in_ok-replica.ensures.loads in
+    let of = subst (λ (l : LoadsView). AreLoadsOf (capacity_of d) [] l) (sym c.loads-loads.ensures) c.in_ok-replica.ensures.loads in
     if-both c.pattern_plan.result
     (λ (tree : TreeView) plan routes.
     subst (λ (formula : Formula). IsPlanFor d formula [] 0 Pattern tree) c.requires.formula
-    (plan-pattern d c.args.rule.now.formula _ [] c.loads.result.now 0 Pattern tree c.in_ok-capacity.ensures of refl plan routes))
+    (plan-pattern d c.args.rule.now.formula _ [] c.loads-loads.result.now 0 Pattern tree c.in_ok-capacity.ensures of refl plan routes))
     c.pattern_plan.ensures.plan (routes-net d 0 c.pattern_plan.result c.pattern_plan.ensures.routes)
