@@ -3,10 +3,12 @@ use crate::devices::Devices;
 use cost_rules::Rules;
 use gr_io::{MemoryShelf, MemorySink};
 use ripup_workers::Gate;
+use round_core::HandLog;
 use router_top::{Ended, run};
 use std::alloc::{AllocError, Global};
 use std::sync::Wait;
 use std::thread::Threads;
+use track_book::ClosedBook;
 
 /// A text under a name.
 #[derive(Debug, Drop)]
@@ -22,10 +24,18 @@ pub(crate) struct Bench {
     pub devices: Devices,
 }
 
+/// How a run ended, with the book of its rounds, and whose its entries are.
+#[derive(Drop)]
+pub(crate) struct End {
+    pub status: u8,
+    pub book: Option<ClosedBook>,
+    pub hands: Vec<HandLog>,
+}
+
 /// What a run left.
 #[derive(Drop)]
 pub(crate) struct Left {
-    pub ended: Ended,
+    pub ended: End,
     pub out: MemorySink,
     pub err: MemorySink,
 }
@@ -119,8 +129,19 @@ fn end_of<R: AllocGlobal + Threads + Wait + Sync, G: Gate + Sync>(
     err: &mut MemorySink,
     gate: &G,
     rules: &Rules,
-) -> Ended {
-    run(rt, rt.alloc(), words, shelf, out, err, gate, rules)
+) -> End {
+    let Ended {
+        status,
+        book,
+        hands,
+        spent,
+    } = run(rt, rt.alloc(), words, shelf, out, err, gate, rules);
+    drop(spent);
+    End {
+        status,
+        book,
+        hands,
+    }
 }
 
 /// The first bytes of a text, at most so many.
