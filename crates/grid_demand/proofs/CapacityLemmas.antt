@@ -1,7 +1,9 @@
 -- The tables of a capacity.
-use Rattle.std.proofs.Common.{◌≡◌, ℕ, suc, zero, ◌+◌, ◌*◌, ◌<◌, ◌≤◌, Bool, true, false, List, [], ◌∷◌, ◌++◌, map, reverse, length, take, get_or, All, slice_set, slice_get, find, Option, Some, None, IfSome, option_map, unwrap_or, if◌then◌else◌, IsTrue, refl, sym, ap, subst, ◌∙◌, arith}
+use Rattle.std.proofs.Common.{◌≡◌, ℕ, suc, zero, ◌+◌, ◌-◌, ◌*◌, ◌/◌, ◌<◌, ◌≤◌, Bool, true, false, List, [], ◌∷◌, ◌++◌, map, reverse, length, take, get_or, replicate, All, slice_set, slice_get, find, Option, Some, None, IfSome, option_map, unwrap_or, if◌then◌else◌, IsTrue, refl, sym, ap, subst, ◌∙◌, arith}
 use Rattle.std.proofs.lemmas.Bool.Decides.{nat_tests}
-use Rattle.std.proofs.lemmas.List.{reverse-append, take_more, map-append}
+use Rattle.std.proofs.Math.Nat.{div-div-eq-div-mul}
+use Rattle.std.proofs.lemmas.Nat.{div-mul-add}
+use Rattle.std.proofs.lemmas.List.{append-nil, append_assoc, reverse-append, replicate_more, take_all, take_more, map-append}
 use Rattle.std.proofs.lemmas.List.Elements.{All-head, All-tail, All-map, All-weaker}
 use Rattle.std.proofs.lemmas.List.FromFn.{length-map-range_with_len, get_or-map-range_with_len, map-range_with_len_more}
 use Rattle.std.proofs.lemmas.List.Sorted.{All-permutation, IsPermutation-reverse}
@@ -70,28 +72,72 @@ widths-more nets k net old is before =
     ∙ sym (map-append (λ (n : Net). n.width) (take k nets) (net ∷ []))
     ∙ sym (ap (map (λ (n : Net). n.width)) (take-next nets k net is))
 
--- the layers of the first cells and the next one
-pub layers-more : (g : Shape) (cell n : ℕ) (old new : List ℕ) → new ≡ old ++ n ∷ [] → n ≡ (place_at g cell).layer →
-    old ≡ map (λ (c : ℕ). (place_at g c).layer) (range_with_len 0 cell) →
-    new ≡ map (λ (c : ℕ). (place_at g c).layer) (range_with_len 0 (cell + 1))
-layers-more g cell n old new is layer before =
-    is ∙ ap (λ (m : ℕ). old ++ m ∷ []) layer ∙ ap (λ (xs : List ℕ). xs ++ (place_at g cell).layer ∷ []) before
-    ∙ sym (map-range_with_len_more (λ (c : ℕ). (place_at g c).layer) 0 cell cell (omega arith))
+-- a layer's cells follow one another
+pub layer-of : (g : Shape) (layer tile : ℕ) → tile < g.columns * g.rows → (place_at g (layer * (g.columns * g.rows) + tile)).layer ≡ layer
+layer-of g layer tile below =
+    div-div-eq-div-mul (layer * (g.columns * g.rows) + tile) g.columns g.rows ∙ div-mul-add layer (g.columns * g.rows) tile below
 
--- what the layers state for the first cells and the next one
-pub stated-more : (frame : Frame) (cell n : ℕ) (blank : Layer) (old one two : List ℕ) → length frame.layers ≡ 16 → n < 16 →
-    n ≡ (place_at frame.shape cell).layer → one ≡ old ++ (get_or frame.layers n blank).horizontal ∷ [] →
-    two ≡ one ++ (get_or frame.layers n blank).vertical ∷ [] →
-    old ≡ map (stated frame) (map wire_at (range_with_len 0 (2 * cell))) →
-    two ≡ map (stated frame) (map wire_at (range_with_len 0 (2 * (cell + 1))))
-stated-more frame cell n blank old one two long below is first second before =
-    let layer : slice_get frame.layers (place_at frame.shape cell).layer ≡ Some (get_or frame.layers n blank) =
-    ap (λ (k : ℕ). slice_get frame.layers k) (sym is) ∙ slice_get-get_or frame.layers n blank (omega arith) in
-    let east : (get_or frame.layers n blank).horizontal ≡ stated frame (edge_at cell East) = sym (ap (λ (o : Option Layer). stated_along East o) layer) in
-    let north : (get_or frame.layers n blank).vertical ≡ stated frame (edge_at cell North) = sym (ap (λ (o : Option Layer). stated_along North o) layer) in
+-- the layers of the cells below a layer, and of so many of its own
+layers-run : (g : Shape) (layer n : ℕ) → n ≤ g.columns * g.rows →
+    map (λ (c : ℕ). (place_at g c).layer) (range_with_len 0 (layer * (g.columns * g.rows) + n))
+    ≡ map (λ (c : ℕ). (place_at g c).layer) (range_with_len 0 (layer * (g.columns * g.rows))) ++ replicate n layer
+layers-run g layer zero few =
+    let L : ℕ → ℕ = λ c. (place_at g c).layer in
+    let none : layer * (g.columns * g.rows) + 0 ≡ layer * (g.columns * g.rows) = omega arith in
+    ap (λ (k : ℕ). map L (range_with_len 0 k)) none ∙ sym (append-nil (map L (range_with_len 0 (layer * (g.columns * g.rows)))))
+layers-run g layer (suc n) few =
+    let L : ℕ → ℕ = λ c. (place_at g c).layer in
+    let at = layer * (g.columns * g.rows) + n in
+    let before : List ℕ = map L (range_with_len 0 (layer * (g.columns * g.rows))) in
+    let more : layer * (g.columns * g.rows) + suc n ≡ at + 1 = omega arith in
+    let count : n + 1 ≡ suc n = omega arith in
+    ap (λ (k : ℕ). map L (range_with_len 0 k)) more ∙ map-range_with_len_more L 0 at at (omega arith)
+    ∙ ap (λ (k : ℕ). map L (range_with_len 0 at) ++ k ∷ []) (layer-of g layer n (omega arith))
+    ∙ ap (λ (xs : List ℕ). xs ++ layer ∷ []) (layers-run g layer n (omega arith))
+    ∙ append_assoc before (replicate n layer) (layer ∷ [])
+    ∙ ap (λ (xs : List ℕ). before ++ xs) (replicate_more n layer ∙ ap (λ (k : ℕ). replicate k layer) count)
+
+-- a list that is filled up with copies
+filled : (old new : List ℕ) (end long cells value : ℕ) → long ≡ length old → end ≡ length old + cells →
+    new ≡ take end old ++ replicate (end - long) value → new ≡ old ++ replicate cells value
+filled old new end long cells value whole ends is =
+    let some : end - long ≡ cells = omega arith in
+    is ∙ ap (λ (n : ℕ). take end old ++ replicate n value) some
+    ∙ ap (λ (xs : List ℕ). xs ++ replicate cells value) (take_all end old (omega (arith, ends)))
+
+-- the layers of the cells below the next layer
+pub layers-more : (g : Shape) (layer end long cells : ℕ) (old new : List ℕ) → long ≡ length old → end ≡ length old + cells → cells ≡ g.columns * g.rows →
+    new ≡ take end old ++ replicate (end - long) layer →
+    old ≡ map (λ (c : ℕ). (place_at g c).layer) (range_with_len 0 (layer * (g.columns * g.rows))) →
+    new ≡ map (λ (c : ℕ). (place_at g c).layer) (range_with_len 0 ((layer + 1) * (g.columns * g.rows)))
+layers-more g layer end long cells old new whole ends many is before =
+    let L : ℕ → ℕ = λ c. (place_at g c).layer in
+    let next : layer * (g.columns * g.rows) + g.columns * g.rows ≡ (layer + 1) * (g.columns * g.rows) = omega arith in
+    filled old new end long cells layer whole ends is ∙ ap (λ (n : ℕ). old ++ replicate n layer) many
+    ∙ ap (λ (xs : List ℕ). xs ++ replicate (g.columns * g.rows) layer) before
+    ∙ sym (layers-run g layer (g.columns * g.rows) (omega arith)) ∙ ap (λ (k : ℕ). map L (range_with_len 0 k)) next
+
+-- all layers have all cells
+pub all-cells : (g : Shape) (layer : ℕ) → layer ≡ g.layers → layer * (g.columns * g.rows) ≡ cells_of g
+all-cells g layer is = ap (λ (n : ℕ). n * (g.columns * g.rows)) is ∙ omega arith
+
+-- what the layers state for the first cells and the next one, which is on a layer
+pub stated-more : (frame : Frame) (layer tile : ℕ) (blank : Layer) (old one two : List ℕ) → length frame.layers ≡ 16 → layer < 16 →
+    tile < frame.shape.columns * frame.shape.rows → one ≡ old ++ (get_or frame.layers layer blank).horizontal ∷ [] →
+    two ≡ one ++ (get_or frame.layers layer blank).vertical ∷ [] →
+    old ≡ map (stated frame) (map wire_at (range_with_len 0 (2 * (layer * (frame.shape.columns * frame.shape.rows) + tile)))) →
+    two ≡ map (stated frame) (map wire_at (range_with_len 0 (2 * (layer * (frame.shape.columns * frame.shape.rows) + (tile + 1)))))
+stated-more frame layer tile blank old one two long below inside first second before =
+    let cell = layer * (frame.shape.columns * frame.shape.rows) + tile in
+    let next : cell + 1 ≡ layer * (frame.shape.columns * frame.shape.rows) + (tile + 1) = omega arith in
+    let is : slice_get frame.layers (place_at frame.shape cell).layer ≡ Some (get_or frame.layers layer blank) =
+    ap (λ (k : ℕ). slice_get frame.layers k) (layer-of frame.shape layer tile inside) ∙ slice_get-get_or frame.layers layer blank (omega arith) in
+    let east : (get_or frame.layers layer blank).horizontal ≡ stated frame (edge_at cell East) = sym (ap (λ (o : Option Layer). stated_along East o) is) in
+    let north : (get_or frame.layers layer blank).vertical ≡ stated frame (edge_at cell North) = sym (ap (λ (o : Option Layer). stated_along North o) is) in
     second ∙ ap (λ (m : ℕ). one ++ m ∷ []) north
     ∙ ap (λ (xs : List ℕ). xs ++ stated frame (edge_at cell North) ∷ []) (first ∙ ap (λ (m : ℕ). old ++ m ∷ []) east ∙ ap (λ (xs : List ℕ). xs ++ stated frame (edge_at cell East) ∷ []) before)
     ∙ sym (wires-more (stated frame) cell)
+    ∙ ap (λ (n : ℕ). map (stated frame) (map wire_at (range_with_len 0 (2 * n)))) next
 
 -- the layer that stands beside a cell
 pub length-layers : (g : Shape) (xs : List ℕ) → xs ≡ cell_layers g → length xs ≡ cells_of g

@@ -5,7 +5,7 @@ use Rattle.gr_base.specs.Capacities.{stated, capacity, usable_along, need_along,
 use Rattle.gr_base.specs.Designs.{DesignView, IsLayer}
 use Rattle.gr_base.specs.Grid.{cells_of, place_at}
 use Rattle.gr_base.specs.Limits.{most_capacity, most_width}
-use Rattle.gr_base.specs.Sums.{wire_number, wires_from_cells}
+use Rattle.gr_base.specs.Sums.{wire_at, wire_number, wires_from_cells}
 use Rattle.gr_base.specs.declared.frame.Frame.{Frame}
 use Rattle.gr_base.specs.declared.frame.Layer.{Layer}
 use Rattle.gr_base.specs.declared.grid.Edge.{Edge}
@@ -21,6 +21,10 @@ pub record CapacityView : Type 0 where
 -- what the layers state for the wire edges, and the capacities of the wire edges, by number
 abbrev pub stated_table : Frame → List ℕ
 stated_table frame = map (stated frame) (wires_from_cells frame.shape)
+
+-- what the layers below one state for their wire edges
+abbrev pub stated_below : Frame → ℕ → List ℕ
+stated_below frame layer = map (stated frame) (map wire_at (range_with_len 0 (2 * (layer * (frame.shape.columns * frame.shape.rows)))))
 
 abbrev pub capacity_table : DesignView → List ℕ
 capacity_table d = map (capacity d) (wires_from_cells d.frame.shape)

@@ -1,11 +1,11 @@
 //! The capacity of wire edges, and what nets need of them.
-ghost use Rattle.std.specs.Prelude.{◌≡◌, ℕ, ◌*◌, ◌≤◌, IfOk, IsTrue, map, slice_get, Some};
+ghost use Rattle.std.specs.Prelude.{◌≡◌, ℕ, ◌+◌, ◌*◌, ◌<◌, ◌≤◌, IfOk, OnOk, IsTrue, map, slice_get, Some};
 ghost use Rattle.gr_base.specs.Designs.{DesignView, IsFrame, IsLayer};
 ghost use Rattle.gr_base.specs.Capacities.{stated, capacity, usable, need, widths_of};
 ghost use Rattle.gr_base.specs.Grid.{place_at, has_edge, is_wire};
 ghost use Rattle.gr_base.specs.Limits.{most_capacity, most_width};
 ghost use Rattle.gr_base.specs.Sums.{wires_from_cells};
-ghost use Rattle.grid_demand.specs.Tables.{capacity_of, stated_table, capacity_table, capacity_at, usable_at, need_at, cell_layers, IsCapacity};
+ghost use Rattle.grid_demand.specs.Tables.{capacity_of, stated_table, stated_below, capacity_table, capacity_at, usable_at, need_at, cell_layers, IsCapacity};
 
 use crate::wires::wire_number;
 use gr_base::{Design, Edge, Frame, Layer, Shape, Way};
@@ -121,13 +121,21 @@ impl Model for Capacity {
     ghost invariant = { Keeps };
 }
 
+/// How many cells each layer has. They follow one another by number.
+fn cells_a_layer(shape: Shape) -> u32
+    ensures { result ≡ shape.columns * shape.rows }
+{
+    shape.columns() * shape.rows()
+}
+
 /// The layer of each cell.
 fn layers_by_cell(alloc: Global, shape: Shape) -> Result<Vec<u8>, AllocError>
     ensures { IfOk result (λ layers. layers.items ≡ cell_layers shape) }
 {
+    let cells = cells_a_layer(shape) as usize;
     let mut layers = Vec::with_capacity(alloc, shape.cells() as usize)?;
-    for cell in 0..shape.cells() {
-        layers.push(shape.place_of(cell).layer as u8)?;
+    for layer in 0..shape.layers {
+        layers.resize(layers.len() + cells, layer as u8)?;
     }
     Ok(layers)
 }
@@ -150,12 +158,25 @@ fn stated_by_wire(alloc: Global, frame: &Frame) -> Result<Vec<u32>, AllocError>
 {
     let shape = frame.shape;
     let mut capacities = Vec::with_capacity(alloc, 2 * shape.cells() as usize)?;
-    for cell in 0..shape.cells() {
-        let layer = frame.layers[shape.place_of(cell).layer as usize];
-        capacities.push(layer.horizontal)?;
-        capacities.push(layer.vertical)?;
+    for layer in 0..shape.layers {
+        push_stated(&mut capacities, frame, layer)?;
     }
     Ok(capacities)
+}
+
+/// Puts what a layer states for its wire edges behind what the layers below it state.
+fn push_stated(capacities: &mut Vec<u32>, frame: &Frame, layer: u32) -> Result<(), AllocError>
+    requires frame { IsFrame frame.now }
+    requires layer { layer < frame.now.shape.layers }
+    requires below { capacities.old.items ≡ stated_below frame.now layer }
+    ensures { OnOk result (capacities.new.items ≡ stated_below frame.now (layer + 1)) }
+{
+    let stated = frame.layers[layer as usize];
+    for _ in 0..cells_a_layer(frame.shape) {
+        capacities.push(stated.horizontal)?;
+        capacities.push(stated.vertical)?;
+    }
+    Ok(())
 }
 
 /// The capacities of the wire edges, by number.

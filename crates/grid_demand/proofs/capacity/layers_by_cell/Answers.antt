@@ -1,9 +1,10 @@
-use Rattle.std.proofs.Common.{ap}
-use Rattle.gr_base.specs.declared.grid.Cell.{Cell}
+use Rattle.std.proofs.Common.{◌+◌, arith}
+use Rattle.std.specs.Vec.{vec_len}
 use Rattle.grid_demand.proofs.CapacityLemmas.{layers-more}
 use Rattle.grid_demand.proofs.capacity.layers_by_cell.Goals as goal
 
-pub loop-cell-preserved : goal.loop-cell-preserved
-loop-cell-preserved c =
-    layers-more c.args.shape c.loop-cell.cell _ c.loop-cell.layers.items c.push.new.self.items c.in_ok-push.ensures.items
-    (ap (λ (cell : Cell). cell.layer) c.place_of.ensures.place) c.loop-cell.invariant
+pub loop-layer-preserved : goal.loop-layer-preserved
+loop-layer-preserved c =
+    let old = c.loop-layer.layers in
+    layers-more c.args.shape c.loop-layer.layer (c.len.result + c.cells_a_layer-cells.result) (vec_len old) c.cells_a_layer-cells.result old.items c.resize.new.self.items
+    (omega (arith, old.ok.0)) (omega (arith, c.len.ensures, old.ok.0)) c.cells_a_layer-cells.ensures c.in_ok-resize.ensures.items c.loop-layer.invariant

@@ -1,8 +1,6 @@
-use Rattle.std.proofs.Common.{◌≡◌, ◌*◌, map}
-use Rattle.std.specs.List.{range_with_len}
-use Rattle.gr_base.specs.Capacities.{stated}
-use Rattle.gr_base.specs.Sums.{wire_at}
+use Rattle.std.proofs.Common.{◌≡◌}
+use Rattle.grid_demand.specs.Tables.{stated_below}
 use Rattle.grid_demand.proofs.capacity.stated_by_wire.Given as goal
 
-abbrev pub invariant-loop-cell : goal.invariant-loop-cell
-invariant-loop-cell l = l.capacities.items ≡ map (stated l.frame) (map wire_at (range_with_len 0 (2 * l.cell)))
+abbrev pub invariant-loop-layer : goal.invariant-loop-layer
+invariant-loop-layer l = l.capacities.items ≡ stated_below l.frame l.layer
