@@ -1,9 +1,10 @@
 -- Loads as sums of tables.
-use Rattle.std.proofs.Common.{◌≡◌, ℕ, suc, zero, ◌+◌, ◌-◌, ◌*◌, ◌<◌, ◌≤◌, inl, inr, max, Bool, true, false, nat_lt, List, [], ◌∷◌, map, filter, fold, zip, sum_by, length, get_or, All, slice_index, IsTrue, refl, sym, ap, subst, ◌∙◌, arith}
+use Rattle.std.proofs.Common.{◌≡◌, ℕ, suc, zero, ◌+◌, ◌-◌, ◌*◌, ◌<◌, ◌≤◌, inl, inr, max, Bool, true, false, ◌||◌, nat_lt, List, [], ◌∷◌, map, filter, fold, zip, sum_by, length, get_or, All, slice_index, IsTrue, refl, sym, ap, subst, ◌∙◌, arith}
 use Rattle.std.proofs.lemmas.Bool.{cases_Bool, both_ways}
 use Rattle.std.proofs.lemmas.List.Elements.{All-head, All-tail, All-map}
 use Rattle.std.proofs.lemmas.List.FromFn.{get_or-map-range_with_len}
 use Rattle.std.proofs.lemmas.List.Sums.{sum_by-cons}
+use Rattle.std.specs.List.{list_any}
 use Rattle.gr_base.proofs.TreeEdges.{tree-grid_edges}
 use Rattle.gr_base.specs.Capacities.{capacity}
 use Rattle.gr_base.specs.Designs.{DesignView}
@@ -16,7 +17,7 @@ use Rattle.grid_demand.proofs.CapacityLemmas.{capacity-table}
 use Rattle.grid_demand.proofs.LoadSteps.{tree-edge}
 use Rattle.grid_demand.proofs.WireLemmas.{table-at, table-is, table-self, length-table, length-wires, number-wire_at, wire-wire_at}
 use Rattle.gr_base.specs.Limits.{most_marks}
-use Rattle.grid_demand.specs.LoadSums.{LoadsView, demand_at, marks_at, share, added, taken, mark_of, marked, AreLoads}
+use Rattle.grid_demand.specs.LoadSums.{LoadsView, demand_at, marks_at, share, added, taken, mark_of, marked, marks_told, AreLoads}
 use Rattle.grid_demand.specs.Tables.{CapacityView, capacity_of, capacity_at, IsCapacity}
 
 -- an edge that leaves the grid has no demand
@@ -90,6 +91,24 @@ marks-table c l new loads long each =
     let within : n < length l.marks = let h = loads.marks in omega (arith, h) in
     each n within
     ∙ ap (λ (k : ℕ). mark_of (slice_index l.demands k) (slice_index c.capacities k) (slice_index l.marks k)) (sym (number-wire_at n)))
+
+-- where no demand is above its capacity, marks stay as they are
+neither : (a b : Bool) → (a || b) ≡ false → (a ≡ false) × (b ≡ false)
+neither true b is = absurd (both_ways true is refl)
+neither false b is = (refl, is)
+
+none-over : (demands capacities : List ℕ) → length capacities ≡ length demands → list_any (λ (p : ℕ × ℕ). nat_lt p.1 p.0) (zip demands capacities) ≡ false →
+    (n : ℕ) → n < length demands → nat_lt (slice_index capacities n) (slice_index demands n) ≡ false
+none-over [] capacities long none n below = absurd (omega arith)
+none-over (a ∷ others) [] long none n below = absurd (omega arith)
+none-over (a ∷ others) (b ∷ bs) long none zero below = (neither (nat_lt b a) (list_any (λ (p : ℕ × ℕ). nat_lt p.1 p.0) (zip others bs)) none).0
+none-over (a ∷ others) (b ∷ bs) long none (suc n) below =
+    none-over others bs (omega arith) (neither (nat_lt b a) (list_any (λ (p : ℕ × ℕ). nat_lt p.1 p.0) (zip others bs)) none).1 n (omega arith)
+
+pub none-marked : (demands capacities marks : List ℕ) → length capacities ≡ length demands →
+    list_any (λ (p : ℕ × ℕ). nat_lt p.1 p.0) (zip demands capacities) ≡ false → (n : ℕ) → n < length demands →
+    slice_index marks n ≡ mark_of (slice_index demands n) (slice_index capacities n) (slice_index marks n)
+none-marked demands capacities marks long none n below = rw (none-over demands capacities long none n below) refl
 
 -- sums and maxima of two tables side by side
 sum-tables : (f h : Edge → ℕ) (edges : List Edge) →
@@ -183,6 +202,23 @@ marked-is c l demands capacities new loads same_demands same_capacities long eac
     (λ n below.
     each n below ∙ ap (λ (xs : List ℕ). mark_of (slice_index xs n) (slice_index capacities n) (slice_index l.marks n)) same_demands
     ∙ ap (λ (xs : List ℕ). mark_of (slice_index l.demands n) (slice_index xs n) (slice_index l.marks n)) same_capacities)
+
+-- the loads after new marks that a list tells
+pub marked-told : (c : CapacityView) (l : LoadsView) (demands capacities old new : List ℕ) → AreLoads l → demands ≡ l.demands → capacities ≡ c.capacities →
+    l.marks ≡ marks_told (2 * cells_of l.shape) old → length (marks_told (length demands) new) ≡ length demands →
+    ((n : ℕ) → n < length demands →
+    slice_index (marks_told (length demands) new) n ≡ mark_of (slice_index demands n) (slice_index capacities n) (slice_index (marks_told (length demands) old) n)) →
+    marks_told (2 * cells_of l.shape) new ≡ (marked c l).marks
+marked-told c l demands capacities old new loads same_demands same_capacities told long each =
+    let wires : length demands ≡ 2 * cells_of l.shape = ap length same_demands ∙ loads.demands in
+    let whole : length (marks_told (2 * cells_of l.shape) new) ≡ 2 * cells_of l.shape = subst (λ (k : ℕ). length (marks_told k new) ≡ k) wires long in
+    let P : ℕ → Type 0 = λ k. (n : ℕ) → n < k →
+    slice_index (marks_told k new) n ≡ mark_of (slice_index demands n) (slice_index capacities n) (slice_index (marks_told k old) n) in
+    let all : P (2 * cells_of l.shape) = subst P wires each in
+    marked-is c l demands capacities (marks_told (2 * cells_of l.shape) new) loads same_demands same_capacities (whole ∙ sym loads.marks)
+    (λ n below.
+    let within : n < 2 * cells_of l.shape = let h = loads.marks in omega (arith, h) in
+    all n within ∙ ap (λ (xs : List ℕ). mark_of (slice_index demands n) (slice_index capacities n) (slice_index xs n)) (sym told))
 
 pub marked-whole : (c : CapacityView) (l : LoadsView) (new : List ℕ) → AreLoads l → new ≡ (marked c l).marks → AreLoads (record { shape = l.shape; demands = l.demands; marks = new })
 marked-whole c l new loads is =

@@ -1,11 +1,15 @@
 -- What the fields of loads keep.
-use Rattle.grid_demand.specs.LoadSums.{LoadsView, AreLoads}
+use Rattle.std.specs.Prelude.{◌*◌, ◌≤◌}
+use Rattle.std.specs.Vec.{vec_capacity}
+use Rattle.gr_base.specs.Grid.{cells_of}
+use Rattle.grid_demand.specs.LoadSums.{LoadsView, AreLoads, marks_told}
 use Rattle.grid_demand.specs.declared.loads.Loads.TheInside.{Inside}
 
 -- what the fields say
 abbrev pub seen : Inside → LoadsView
-seen l = record { shape = l.shape; demands = l.demands.items; marks = l.marks.items }
+seen l = record { shape = l.shape; demands = l.demands.items; marks = marks_told (2 * cells_of l.shape) l.marks.items }
 
--- the fields make loads
-abbrev pub Keeps : Inside → Type 0
-Keeps l = AreLoads (seen l)
+-- the fields make loads, and there is memory for marks
+pub record Keeps (l : Inside) : Type 0 where
+  pub loads : AreLoads (seen l)
+  pub room : 2 * cells_of l.shape ≤ vec_capacity l.marks

@@ -1,5 +1,7 @@
 //! The loads of a grid: the demand for each wire edge, and its marks.
-ghost use Rattle.std.specs.Prelude.{◌≡◌, ℕ, ◌+◌, ◌-◌, ◌*◌, ◌^◌, ◌<◌, ◌≤◌, length, map, fold, max, zip, sum_by, slice_index, IfOk, IsTrue};
+ghost use Rattle.std.specs.Prelude.{◌≡◌, ℕ, ◌+◌, ◌-◌, ◌*◌, ◌^◌, ◌<◌, ◌≤◌, length, map, fold, max, zip, sum_by, slice_index, nat_lt, IfOk, IsTrue};
+ghost use Rattle.std.specs.List.{list_any};
+ghost use Rattle.std.specs.Vec.{vec_capacity};
 ghost use Rattle.gr_base.specs.Capacities.{capacity as capacity_in};
 ghost use Rattle.gr_base.specs.Designs.{DesignView};
 ghost use Rattle.gr_base.specs.Grid.{cells_of, has_edge, is_wire};
@@ -7,7 +9,7 @@ ghost use Rattle.gr_base.specs.Sums.{wire_number as number_of, wires_from_cells,
 ghost use Rattle.gr_base.specs.Limits.{most_marks, most_width};
 ghost use Rattle.gr_base.specs.Trees.{IsTree, edges_of};
 ghost use Rattle.grid_demand.specs.Tables.{capacity_of, capacity_at, need_at};
-ghost use Rattle.grid_demand.specs.LoadSums.{no_loads, demand_at, marks_at, share, charged, added, taken, marked, mark_of, HasRoom, HasShare, AreLoads, Fits, changed_by};
+ghost use Rattle.grid_demand.specs.LoadSums.{no_loads, demand_at, marks_at, share, charged, added, taken, marked, mark_of, HasRoom, HasShare, AreLoads, Fits, changed_by, marks_told};
 
 use crate::capacity::Capacity;
 use crate::wires::wire_number;
@@ -17,6 +19,9 @@ use std::marker::Model;
 
 /// The demand for each wire edge of a grid, in units of width, and the marks of each: how often it
 /// was over its capacity when the loads were marked.
+///
+/// The list of marks is empty until an edge gets its first mark. Its memory is taken before, so that
+/// `mark` needs none, and isn't touched until then.
 #[derive(Debug, Drop)]
 pub struct Loads {
     shape: Shape,
@@ -34,7 +39,7 @@ impl Loads {
         Ok(Loads {
             shape,
             demands: vec![in alloc; 0; wires]?,
-            marks: vec![in alloc; 0; wires]?,
+            marks: Vec::with_capacity(alloc, wires)?,
         })
     }
 
@@ -56,7 +61,7 @@ impl Loads {
         ensures most { result ≤ most_marks }
         ensures loads { AreLoads self.now }
     {
-        self.marks[wire_number(e)]
+        self.marks.get(wire_number(e)).copied().unwrap_or(0)
     }
 
     /// Puts one wire edge of a net in: the edge gains the net's need.
@@ -103,7 +108,7 @@ impl Loads {
         ensures loads { self.new ≡ marked capacity.now self.old }
         ensures whole { AreLoads self.new }
     {
-        mark_over(&mut self.marks, &self.demands, capacity.table());
+        mark_edges(&mut self.marks, &self.demands, capacity.table());
     }
 
     /// The demand for each wire edge, by number.
@@ -192,11 +197,52 @@ fn changed(change: Change, demand: u64, need: u64) -> u64
     }
 }
 
+/// Adds a mark where the demand is above the capacity, up to the most marks. The list of marks may
+/// be empty before, which stands for no marks, and stays so where no demand is above its capacity.
+fn mark_edges(marks: &mut Vec<u32>, demands: &[u64], capacities: &[u32])
+    requires capacities { length capacities.now ≡ length demands.now }
+    requires whole { length (marks_told (length demands.now) marks.old.items) ≡ length demands.now }
+    requires room { length demands.now ≤ vec_capacity marks.old }
+    ensures long { length (marks_told (length demands.now) marks.new.items) ≡ length demands.now }
+    ensures each { (n : ℕ) → n < length demands.now → slice_index (marks_told (length demands.now) marks.new.items) n
+        ≡ mark_of (slice_index demands.now n) (slice_index capacities.now n) (slice_index (marks_told (length demands.now) marks.old.items) n) }
+    ensures room { length demands.now ≤ vec_capacity marks.new }
+{
+    if marks.is_empty() && !is_any_over(demands, capacities) {
+        return;
+    }
+    fill_up(marks, demands.len());
+    mark_over(marks, demands, capacities);
+}
+
+/// Whether a demand is above its capacity.
+fn is_any_over(demands: &[u64], capacities: &[u32]) -> bool
+    ensures { result ≡ list_any (λ (p : ℕ × ℕ). nat_lt p.1 p.0) (zip demands.now capacities.now) }
+{
+    demands
+        .iter()
+        .zip(capacities)
+        .any(|(demand, capacity)| *demand > u64::from(*capacity))
+}
+
+/// Fills an empty list of marks with zeros up to a length that it has room for.
+fn fill_up(marks: &mut Vec<u32>, wires: usize)
+    requires whole { length (marks_told wires marks.old.items) ≡ wires }
+    requires room { wires ≤ vec_capacity marks.old }
+    ensures marks { marks.new.items ≡ marks_told wires marks.old.items }
+    ensures room { wires ≤ vec_capacity marks.new }
+{
+    let Ok(()) = marks.resize(wires, 0) else {
+        unreachable!()
+    };
+}
+
 /// Adds a mark where the demand is above the capacity, up to the most marks.
 fn mark_over(marks: &mut Vec<u32>, demands: &[u64], capacities: &[u32])
     requires demands { length demands.now ≡ length marks.old.items }
     requires capacities { length capacities.now ≡ length marks.old.items }
     ensures long { length marks.new.items ≡ length marks.old.items }
+    ensures room { vec_capacity marks.new ≡ vec_capacity marks.old }
     ensures each { (n : ℕ) → n < length marks.old.items → slice_index marks.new.items n
         ≡ mark_of (slice_index demands.now n) (slice_index capacities.now n) (slice_index marks.old.items n) }
 {

@@ -5,11 +5,14 @@ use Rattle.grid_demand.proofs.LoadLemmas.{added-whole}
 use Rattle.grid_demand.proofs.loads.Loads.add.Goals as goal
 
 pub invariant_of-self : goal.invariant_of-self
-invariant_of-self c =
-    added-whole c.args.capacity.now c.args.net c.args.tree.now (seen c.self.inside) c.change_along.new.demands.items c.self.invariant c.change_along.ensures.tree
-    (c.requires.tree ∙ sym (ap (λ (l : LoadsView). l.shape) c.self.view_is)) c.change_along.ensures.demands
+invariant_of-self c = record {
+  loads =
+      added-whole c.args.capacity.now c.args.net c.args.tree.now (seen c.self.inside) c.change_along.new.demands.items c.self.invariant.loads c.change_along.ensures.tree
+      (c.requires.tree ∙ sym (ap (λ (l : LoadsView). l.shape) c.self.view_is)) c.change_along.ensures.demands;
+  room = c.self.invariant.room;
+}
 
 pub returns-clause-whole : goal.returns-clause-whole
 returns-clause-whole c =
-    added-whole c.args.capacity.now c.args.net c.args.tree.now (seen c.self.inside) c.change_along.new.demands.items c.self.invariant c.change_along.ensures.tree
+    added-whole c.args.capacity.now c.args.net c.args.tree.now (seen c.self.inside) c.change_along.new.demands.items c.self.invariant.loads c.change_along.ensures.tree
     (c.requires.tree ∙ sym (ap (λ (l : LoadsView). l.shape) c.self.view_is)) c.change_along.ensures.demands
