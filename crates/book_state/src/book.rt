@@ -1,5 +1,6 @@
 //! The book: calls, their replies, and what can be asked of it.
 ghost use Rattle.std.specs.Prelude.{◌≡◌, ℕ, ◌+◌, ◌<◌, ◌≤◌, [], length, take, Some, IfOk, IfErr, OnOk, OnErr, IsTrue};
+ghost use Rattle.std.specs.Arc.{arc_value};
 ghost use Rattle.std.specs.Option.{option_copied};
 ghost use Rattle.grid_demand.specs.Tables.{capacity_of};
 ghost use Rattle.book_state.specs.Books.{nets_of, booked as booked_tree, demand, reply_to_free as free_reply, reply_to_claim, reply_to_release, reply_to_mark, booked_routes, IsClaim, IsRight, IsLegal, AreLoadsOf, victims as victims_of};
@@ -18,6 +19,7 @@ use gr_base::{Cells, Design, RouteTree, Routes};
 use grid_demand::{Capacity, Loads};
 use std::alloc::{AllocError, Global};
 use std::marker::Model;
+use std::sync::Arc;
 use std::thread::Threads;
 
 /// A claim that was not answered, for want of memory.
@@ -30,7 +32,7 @@ pub struct ClaimRefused {
 /// marks that follow, and the history of all calls with their replies.
 #[derive(Debug, Drop)]
 pub struct BookState {
-    capacity: Capacity,
+    capacity: Arc<Capacity>,
     history: History,
     replica: Replica,
     least: Option<MarkedAt>,
@@ -42,7 +44,7 @@ impl BookState {
         ensures { IfOk result (λ book. book ≡ record { capacity = capacity_of design.now; history = [] }) }
     {
         let nets = design.nets();
-        let capacity = Capacity::of(alloc, design)?;
+        let capacity = Arc::new(alloc, Capacity::of(alloc, design)?)?;
         let replica = Replica::of(alloc, &capacity, nets)?;
         Ok(BookState {
             capacity,
@@ -58,6 +60,15 @@ impl BookState {
         ensures legal { IsLegal self.now.capacity self.now.history }
     {
         &self.capacity
+    }
+
+    /// A hold on the capacity of the book's design, by which others read the same tables. The only
+    /// error is that there are too many holds.
+    pub fn shared_capacity(&self) -> Result<Arc<Capacity>, AllocError>
+        ensures capacity { IfOk result (λ capacity. arc_value capacity ≡ self.now.capacity) }
+        ensures legal { IsLegal self.now.capacity self.now.history }
+    {
+        Arc::try_clone(&self.capacity)
     }
 
     /// The history of all calls.

@@ -1,7 +1,10 @@
 use Rattle.std.proofs.Common.{List, length, refl, sym, ap, subst, ◌∙◌, arith}
+use Rattle.std.specs.Arc.{arc_value}
 use Rattle.std.proofs.lemmas.List.{length_push}
+use Rattle.grid_demand.specs.Tables.{CapacityView}
 use Rattle.book_state.specs.Books.{IsLegal, IsRight}
 use Rattle.book_state.specs.LeastSearch.{IsLeast}
+use Rattle.book_state.specs.Replicas.{StandsFor}
 use Rattle.book_state.specs.Views.{BookView}
 use Rattle.book_state.specs.declared.entry.Entry.{Entry}
 use Rattle.book_state.proofs.LegalHistories.{legal-push}
@@ -11,15 +14,16 @@ pub follow-requires-clause-legal : goal.follow-requires-clause-legal
 follow-requires-clause-legal c =
     let s = c.self.inside in
     let right = subst (λ (b : BookView). IsRight b.capacity b.history c.args.entry) (sym c.self.view_is) c.requires in
-    subst (λ (h : List Entry). IsLegal s.capacity h) (sym c.in_ok-push.ensures.ok) (legal-push s.capacity s.history c.args.entry c.self.invariant.legal right)
+    subst (λ (capacity : CapacityView). IsLegal capacity c.push.new.self) (sym c.deref.ensures)
+    (subst (λ (h : List Entry). IsLegal (arc_value s.capacity) h) (sym c.in_ok-push.ensures.ok) (legal-push (arc_value s.capacity) s.history c.args.entry c.self.invariant.legal right))
 
 pub invariant_of-self-2 : goal.invariant_of-self-2
 invariant_of-self-2 c =
     let s = c.self.inside in
     let right = subst (λ (b : BookView). IsRight b.capacity b.history c.args.entry) (sym c.self.view_is) c.requires in
     record {
-      legal = subst (λ (h : List Entry). IsLegal s.capacity h) (sym c.in_ok-push.ensures.ok) (legal-push s.capacity s.history c.args.entry c.self.invariant.legal right);
-      stands = c.follow.ensures;
+      legal = subst (λ (h : List Entry). IsLegal (arc_value s.capacity) h) (sym c.in_ok-push.ensures.ok) (legal-push (arc_value s.capacity) s.history c.args.entry c.self.invariant.legal right);
+      stands = subst (λ (capacity : CapacityView). StandsFor capacity c.push.new.self c.follow.new.self) c.deref.ensures c.follow.ensures;
       least =
           let pushed = c.in_ok-push.ensures.ok in
           let long = ap (λ (h : List Entry). length h) pushed ∙ length_push s.history c.args.entry in
@@ -31,4 +35,4 @@ pub returns-clause-legal : goal.returns-clause-legal
 returns-clause-legal c =
     let s = c.self.inside in
     let right = subst (λ (b : BookView). IsRight b.capacity b.history c.args.entry) (sym c.self.view_is) c.requires in
-    subst (λ (h : List Entry). IsLegal s.capacity h) (sym c.in_ok-push.ensures.ok) (legal-push s.capacity s.history c.args.entry c.self.invariant.legal right)
+    subst (λ (h : List Entry). IsLegal (arc_value s.capacity) h) (sym c.in_ok-push.ensures.ok) (legal-push (arc_value s.capacity) s.history c.args.entry c.self.invariant.legal right)
