@@ -13,7 +13,7 @@ use gr_base::Design;
 use grid_demand::Capacity;
 use std::alloc::{AllocError, Global};
 use std::marker::Model;
-use std::sync::Mutex;
+use std::sync::{Arc, Mutex};
 
 /// A book that isn't begun, and has no name in its type yet.
 #[derive(Drop)]
@@ -22,7 +22,7 @@ pub struct Blank {
     keeper: PassSeat,
     seats: Vec<PassSeat>,
     state: BookState,
-    capacity: Capacity,
+    capacity: Arc<Capacity>,
     passes: u32,
 }
 
@@ -46,8 +46,8 @@ impl Blank {
         ensures capacity { IfOk result (λ blank. blank.capacity ≡ capacity_of design.now) }
         ensures passes { IfOk result (λ blank. blank.passes ≡ passes) }
     {
-        let capacity = Capacity::of(alloc, design)?;
         let state = BookState::new(alloc, design)?;
+        let capacity = state.shared_capacity()?;
         let (front, keeper, seats) = Front::new(alloc, passes)?;
         Ok(Blank {
             front,

@@ -1,5 +1,6 @@
 //! The shared book.
 ghost use Rattle.std.specs.Prelude.{◌≡◌, ◌<◌, ◌≤◌, length, take, IfOk, IfErr, OnOk, OnErr};
+ghost use Rattle.std.specs.Arc.{arc_value};
 ghost use Rattle.book_front.specs.Seats.{word_of};
 ghost use Rattle.book_state.specs.Books.{nets_of, IsClaim, victims as victims_of};
 ghost use Rattle.book_state.specs.Replicas.{StandsFor};
@@ -14,7 +15,7 @@ use book_state::{Call, Claim, ClaimRefused, Replica, Reply};
 use gr_base::Cells;
 use grid_demand::Capacity;
 use std::alloc::AllocError;
-use std::sync::{Mutex, Wait};
+use std::sync::{Arc, Mutex, Wait};
 use std::thread::Threads;
 
 /// The book N, which threads share. Each call is one entry of one history, and its reply is the one
@@ -23,10 +24,10 @@ use std::thread::Threads;
 #[derive(Drop)]
 pub struct TrackBook<N: BookName> {
     pub(crate) front: Front,
-    pub(crate) capacity: Capacity,
+    pub(crate) capacity: Arc<Capacity>,
     pub(crate) lock: Mutex<Locked<N>>,
     ghost word_is: { word_of front ≡ N.word },
-    ghost capacity_is: { capacity ≡ N.capacity },
+    ghost capacity_is: { arc_value capacity ≡ N.capacity },
 }
 
 impl<N: BookName> TrackBook<N> {
