@@ -186,7 +186,6 @@ counted-next d sets k nets_in wires_in vias_in apart c routed count counted =
 -- the tally with other loads
 abbrev pub with_loads : Tally → LoadsView → Tally
 with_loads t loads = record {
-  capacity = t.capacity;
   loads = loads;
   wires = t.wires;
   vias = t.vias;
@@ -200,7 +199,6 @@ pub tallied-next : (d : DesignView) (sets : ℕ → Edges) (k : ℕ) (old new : 
     AreTallied d sets k old → AreTallied d sets (k + 1) new
 tallied-next d sets k old new loads c routed is charged count tallied =
     subst (λ (t : Tally). AreTallied d sets (k + 1) t) (sym is) (record {
-      capacity = tallied.capacity;
       charged = charged;
       counted = counted-next d sets k old.routed old.wires old.vias old.unjoined c routed count tallied.counted;
     })

@@ -54,7 +54,6 @@ tallied-skip d sets k t off tallied =
     let counted = tallied.counted in
     let listed = listed-skip d sets k t.unjoined (λ u. both_ways (is_routed d k) off u.routed) (record { rising = counted.rising; unjoined = counted.unjoined }) in
     record {
-      capacity = tallied.capacity;
       charged = record {
         shape = tallied.charged.shape;
         demand = λ e edge wire. tallied.charged.demand e edge wire ∙ sym (sum-skip d (λ net. if sets net e then need d net e else 0) k off);

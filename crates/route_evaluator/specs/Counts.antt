@@ -39,14 +39,12 @@ pub record AreCounted (d : DesignView) (sets : ℕ → Edges) (count nets_in wir
 
 -- the nets below a number are in the tally
 pub record AreTallied (d : DesignView) (sets : ℕ → Edges) (count : ℕ) (t : Tally) : Type 0 where
-  pub capacity : t.capacity ≡ capacity_of d
   pub charged : AreCharged d sets count t.loads
   pub counted : AreCounted d sets count t.routed t.wires t.vias t.unjoined
 
 -- what is counted of a net is added
 abbrev pub with_count : ℕ → NetCount → Tally → Tally
 with_count net c t = record {
-  capacity = t.capacity;
   loads = t.loads;
   wires = t.wires + c.wires;
   vias = t.vias + c.vias;
@@ -70,7 +68,7 @@ IsCharged c net set old new =
     (e : Edge) → IsTrue (has_edge old.shape e) → IsTrue (is_wire e) →
     demand_at new e ≡ demand_at old e + (if set e then need_at c net e else 0)
 
--- the verdict says what was counted of all nets
-abbrev pub TellsOf : ℕ → Tally → Verdict → Type 0
-TellsOf via_cost t v =
-    (d : DesignView) → (sets : ℕ → Edges) → AreTallied d sets (length d.nets) t → IsVerdict d via_cost sets v
+-- the verdict says what was counted of all nets of a design with this capacity
+abbrev pub TellsOf : ℕ → CapacityView → Tally → Verdict → Type 0
+TellsOf via_cost c t v =
+    (d : DesignView) → (sets : ℕ → Edges) → c ≡ capacity_of d → AreTallied d sets (length d.nets) t → IsVerdict d via_cost sets v

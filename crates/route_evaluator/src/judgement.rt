@@ -1,5 +1,6 @@
-ghost use Rattle.std.specs.Prelude.{◌≤◌, IfOk, OnOk};
+ghost use Rattle.std.specs.Prelude.{◌≡◌, ◌≤◌, IfOk, OnOk};
 ghost use Rattle.gr_base.specs.Trees.{route_edges};
+ghost use Rattle.grid_demand.specs.Tables.{capacity_of};
 ghost use Rattle.route_reader.specs.Solutions.{IsOf, edges_by};
 ghost use Rattle.straight_runs.specs.Routed.{AreRouted};
 ghost use Rattle.route_evaluator.specs.NetTrees.{AreTrees};
@@ -10,6 +11,7 @@ use crate::reached::Reached;
 use crate::tally::Tally;
 use crate::verdict::Verdict;
 use gr_base::{Design, NodeIndex, Routes};
+use grid_demand::Capacity;
 use route_reader::Solution;
 use std::alloc::{AllocError, Global};
 
@@ -27,38 +29,48 @@ pub fn evaluate(
     ensures { IfOk result (λ verdict. IsVerdict design.now via_cost (edges_by solution.now) verdict) }
 {
     let shape = design.frame().shape;
-    let mut tally = Tally::new(alloc, design)?;
+    let capacity = Capacity::of(alloc, design)?;
+    let mut tally = Tally::new(alloc, &capacity)?;
     let mut edges = NumberSet::new(alloc, 3 * shape.cells())?;
     let mut reached = Reached::new(alloc, shape)?;
     for net in 0..design.nets() {
         if design.routed(net) {
-            tally.count_runs(&mut edges, &mut reached, design, solution, net)?;
+            tally.count_runs(
+                &mut edges,
+                &mut reached,
+                design,
+                &capacity,
+                solution,
+                net,
+            )?;
         }
     }
-    Ok(tally.verdict(via_cost))
+    Ok(tally.verdict(&capacity, via_cost))
 }
 
-/// Judges the routes of a design, in which each routed net has a tree in the design's grid. The
-/// via cost, at most 1,000, is what a via edge counts in the wirelength. The only error is want of
-/// memory.
+/// Judges the routes of a design with this capacity, in which each routed net has a tree in the
+/// design's grid. The via cost, at most 1,000, is what a via edge counts in the wirelength. The only
+/// error is want of memory.
 pub fn evaluate_routes(
     alloc: Global,
     design: &Design,
+    capacity: &Capacity,
     routes: &Routes,
     via_cost: u32,
 ) -> Result<Verdict, AllocError>
+    requires capacity { capacity.now ≡ capacity_of design.now }
     requires routes { AreRouted design.now routes.now }
     requires cost { via_cost ≤ 1000 }
     ensures verdict { IfOk result (IsVerdict design.now via_cost (route_edges routes.now)) }
     ensures trees { OnOk result (AreTrees design.now routes.now) }
 {
-    let mut tally = Tally::new(alloc, design)?;
+    let mut tally = Tally::new(alloc, capacity)?;
     let mut index = NodeIndex::new(alloc, design.frame().shape.cells())?;
     for net in 0..design.nets() {
         if !design.routed(net) {
             continue;
         }
-        tally.count_route(&mut index, design, routes, net)?;
+        tally.count_route(&mut index, design, capacity, routes, net)?;
     }
-    Ok(tally.verdict(via_cost))
+    Ok(tally.verdict(capacity, via_cost))
 }

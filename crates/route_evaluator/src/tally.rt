@@ -1,9 +1,10 @@
 //! What is counted of the nets of a design, one after another.
 ghost use Rattle.std.specs.Prelude.{◌≡◌, ◌+◌, ◌*◌, ◌≤◌, ℕ, length, IfOk, OnOk, IsTrue, IsSomeAnd};
-ghost use Rattle.gr_base.specs.Designs.{is_routed};
+ghost use Rattle.gr_base.specs.Designs.{DesignView, is_routed};
 ghost use Rattle.gr_base.specs.EdgeSets.{Edges};
 ghost use Rattle.gr_base.specs.Grid.{cells_of};
 ghost use Rattle.gr_base.specs.Trees.{IsTree, route_edges, tree_at};
+ghost use Rattle.grid_demand.specs.Tables.{capacity_of};
 ghost use Rattle.solution_text.specs.Runs.{LieIn};
 ghost use Rattle.route_reader.specs.Solutions.{IsOf, edges_by};
 ghost use Rattle.route_evaluator.specs.EdgeNumbers.{edges_numbered};
@@ -24,7 +25,6 @@ use std::alloc::{AllocError, Global};
 /// What was counted of the nets so far.
 #[derive(Drop)]
 pub(crate) struct Tally {
-    pub capacity: Capacity,
     pub loads: Loads,
     pub wires: u64,
     pub vias: u64,
@@ -34,14 +34,12 @@ pub(crate) struct Tally {
 
 impl Tally {
     /// No net is counted. The only error is want of memory.
-    pub(crate) fn new(alloc: Global, design: &Design) -> Result<Tally, AllocError>
-        ensures { IfOk result (λ tally. (sets : ℕ → Edges) → AreTallied design.now sets 0 tally) }
+    pub(crate) fn new(alloc: Global, capacity: &Capacity) -> Result<Tally, AllocError>
+        ensures { IfOk result (λ tally. (d : DesignView) (sets : ℕ → Edges) → capacity.now ≡ capacity_of d →
+            AreTallied d sets 0 tally) }
     {
-        let capacity = Capacity::of(alloc, design)?;
-        let loads = Loads::new(alloc, &capacity)?;
         Ok(Tally {
-            capacity,
-            loads,
+            loads: Loads::new(alloc, capacity)?,
             wires: 0,
             vias: 0,
             routed: 0,
@@ -56,9 +54,11 @@ impl Tally {
         edges: &mut NumberSet,
         reached: &mut Reached,
         design: &Design,
+        capacity: &Capacity,
         solution: &Solution,
         net: u32,
     ) -> Result<(), AllocError>
+        requires capacity { capacity.now ≡ capacity_of design.now }
         requires solution { IsOf design.now solution.now }
         requires routed { IsTrue (is_routed design.now net) }
         requires edges { edges.old ≡ empty_set (3 * cells_of design.now.frame.shape) }
@@ -71,7 +71,7 @@ impl Tally {
         gather_net(edges, design, solution, net)?;
         let pins = design.net(net).pins.as_slice();
         let count = count_edges(edges, reached, design.frame().shape, pins)?;
-        charge(&mut self.loads, &self.capacity, net, edges);
+        charge(&mut self.loads, capacity, net, edges);
         edges.clear();
         self.include(net, count)?;
         Ok(())
@@ -83,9 +83,11 @@ impl Tally {
         &mut self,
         index: &mut NodeIndex,
         design: &Design,
+        capacity: &Capacity,
         routes: &Routes,
         net: u32,
     ) -> Result<(), AllocError>
+        requires capacity { capacity.now ≡ capacity_of design.now }
         requires routed { IsTrue (is_routed design.now net) }
         requires tree { IsSomeAnd (tree_at routes.now net) (λ tree. tree.shape ≡ design.now.frame.shape) }
         requires index { cells_of design.now.frame.shape ≤ length index.old }
@@ -96,7 +98,7 @@ impl Tally {
     {
         let tree = routes.get(net).unwrap();
         let count = count_tree(tree, index, design.net(net).pins.as_slice());
-        self.loads.add(&self.capacity, net, tree);
+        self.loads.add(capacity, net, tree);
         self.include(net, count)?;
         Ok(())
     }
@@ -114,15 +116,15 @@ impl Tally {
     }
 
     /// The verdict on all nets, at a cost for each via edge.
-    pub(crate) fn verdict(self, via_cost: u32) -> Verdict
-        requires { self.capacity.shape ≡ self.loads.shape }
-        ensures { TellsOf via_cost self result }
+    pub(crate) fn verdict(self, capacity: &Capacity, via_cost: u32) -> Verdict
+        requires { capacity.now.shape ≡ self.loads.shape }
+        ensures { TellsOf via_cost capacity.now self result }
     {
         let vias = u128::from(self.vias);
         Verdict {
             routed: self.routed,
-            total: self.loads.over_total(&self.capacity),
-            max: self.loads.over_max(&self.capacity),
+            total: self.loads.over_total(capacity),
+            max: self.loads.over_max(capacity),
             wirelength: u128::from(self.wires) + u128::from(via_cost) * vias,
             vias,
             unjoined: self.unjoined,

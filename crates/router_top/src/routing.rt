@@ -2,6 +2,7 @@
 ghost use Rattle.std.specs.Prelude.{◌≡◌, ◌<◌, ◌≤◌, ◌++◌, IfOk, OnOk};
 ghost use Rattle.gr_base.specs.Designs.{IsDesign};
 ghost use Rattle.gr_base.specs.Trees.{TreeView, route_edges};
+ghost use Rattle.grid_demand.specs.Tables.{capacity_of};
 ghost use Rattle.rc_library.specs.Libraries.{IsLibraryOf};
 ghost use Rattle.gr_io.specs.Devices.{device_of, reading_of};
 ghost use Rattle.straight_runs.specs.Routed.{AreRouted};
@@ -24,6 +25,7 @@ use cost_rules::Rules;
 use gr_base::{Design, Routes};
 use gr_io::{Shelf, Sink, write_whole};
 use gr_text::Text;
+use grid_demand::Capacity;
 use rc_library::Library;
 use report_text::report;
 use ripup_workers::{Gate, Rounds, route_rounds};
@@ -120,7 +122,8 @@ fn route_design<R: Threads + Wait + Sync, G: Gate + Sync>(
 {
     let booked = booked_routes(rt, alloc, design, options, gate, rules)?;
     let BookedRoutes { rounds, routes } = booked;
-    let told = verdict_and_buffers(rt, alloc, design, library, &routes, options)?;
+    let capacity = rounds.book.state().capacity();
+    let told = verdict_and_buffers(rt, alloc, design, capacity, library, &routes, options)?;
     let report = report_with(alloc, &told.0, &told.1)?;
     Ok(RoutedDesign {
         rounds,
@@ -145,7 +148,8 @@ pub(crate) fn judged_routes<R: Threads + Wait + Sync, G: Gate + Sync>(
 {
     let booked = booked_routes(rt, alloc, design, options, gate, rules)?;
     let BookedRoutes { rounds, routes } = booked;
-    let verdict = evaluate_routes(alloc, design, &routes, options.via_cost)?;
+    let capacity = rounds.book.state().capacity();
+    let verdict = evaluate_routes(alloc, design, capacity, &routes, options.via_cost)?;
     Ok(JudgedRoutes {
         rounds,
         routes,
@@ -189,10 +193,12 @@ fn verdict_and_buffers<R: Threads + Sync>(
     rt: &R,
     alloc: Global,
     design: &Design,
+    capacity: &Capacity,
     library: &Library,
     routes: &Routes,
     options: Options,
 ) -> Result<(Verdict, Text), AllocError>
+    requires capacity { capacity.now ≡ capacity_of design.now }
     requires library { IsLibraryOf design.now library.now }
     requires routed { AreRouted design.now routes.now }
     requires held { AreRoutesOf design.now routes.now }
@@ -204,17 +210,17 @@ fn verdict_and_buffers<R: Threads + Sync>(
     let via_cost = options.via_cost;
     let workers = options.workers;
     if workers == 1 {
-        let verdict = evaluate_routes(alloc, design, routes, via_cost)?;
+        let verdict = evaluate_routes(alloc, design, capacity, routes, via_cost)?;
         let buffers = buffers_on(rt, alloc, design, library, routes, workers)?;
         return Ok((verdict, buffers));
     }
     let (verdict, buffers) = join(
         rt,
         || -> Result<Verdict, AllocError>
-            requires { AreRouted design.now routes.now × (via_cost ≤ 1000) }
+            requires { (capacity.now ≡ capacity_of design.now) × (AreRouted design.now routes.now × (via_cost ≤ 1000)) }
             ensures { IfOk result (IsVerdict design.entry.now via_cost (route_edges routes.entry.now)) ×
                 OnOk result (AreTrees design.entry.now routes.entry.now) }
-        { evaluate_routes(alloc, design, routes, via_cost) },
+        { evaluate_routes(alloc, design, capacity, routes, via_cost) },
         || -> Result<Text, AllocError>
             requires { IsLibraryOf design.now library.now × AreRoutesOf design.now routes.now × (0 < workers) }
             ensures { IfOk result (IsBuffersText design.entry.now library.entry.now routes.entry.now) }

@@ -3,6 +3,7 @@ ghost use Rattle.std.specs.Prelude.{◌≡◌, length, IfOk};
 
 use crate::given::design;
 use gr_base::{Design, RouteTree, Routes, Shape};
+use grid_demand::Capacity;
 use route_evaluator::{Verdict, evaluate_routes};
 use std::alloc::{AllocError, Global};
 use std::test::Fail;
@@ -39,7 +40,8 @@ fn judge_trees(
     let mut routes = Routes::new(alloc, 2)?;
     routes.set(0, first);
     routes.set(1, second);
-    let verdict = evaluate_routes(alloc, design, &routes, 3)?;
+    let capacity = Capacity::of(alloc, design)?;
+    let verdict = evaluate_routes(alloc, design, &capacity, &routes, 3)?;
     told(alloc, &verdict)
 }
 

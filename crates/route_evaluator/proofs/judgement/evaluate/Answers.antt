@@ -16,7 +16,7 @@ pub loop-net-init : goal.loop-net-init
 loop-net-init c =
     let cells : cells_of c.frame.result.now.shape ≡ cells_of c.args.design.now.frame.shape = ap (λ (f : Frame). cells_of f.shape) c.frame.ensures.frame in
     record {
-      tallied = c.in_ok-tally.ensures (edges_by c.args.solution.now);
+      tallied = c.in_ok-tally.ensures c.args.design.now (edges_by c.args.solution.now) c.in_ok-capacity.ensures;
       edges = c.in_ok-edges.ensures ∙ ap (λ (n : ℕ). empty_set (3 * n)) (c.cells.ensures.cells ∙ cells);
       reached = c.in_ok-reached.ensures ∙ ap empty_set cells;
     }
@@ -46,4 +46,4 @@ returns c =
     let d : DesignView = c.args.design.now in
     let sets : ℕ → Edges = edges_by c.args.solution.now in
     let all : c.loop-net.net ≡ length d.nets = omega (arith, c.loop-net.auto.net-end, c.loop-net-test.false, c.nets-net-end.ensures.nets) in
-    c.verdict.ensures d sets (subst (λ (k : ℕ). AreTallied d sets k c.loop-net.tally) all c.loop-net.invariant.tallied)
+    c.verdict.ensures d sets c.in_ok-capacity.ensures (subst (λ (k : ℕ). AreTallied d sets k c.loop-net.tally) all c.loop-net.invariant.tallied)

@@ -47,8 +47,8 @@ returns-clause-tallied c =
     let is = is-nets d c.args.routes.now c.args.net t (sym c.get.ensures ∙ ap (λ o. option_copied o) c.unwrap-tree.ensures) c.requires.tree in
     let count = count-same d (route_edges c.args.routes.now) c.args.net t.shape (edges_of t) c.as_slice.result.now c.count_tree-count.result is.shape is.edges
     (c.as_slice.ensures ∙ pins-are d c.args.net c.net.result.now c.net.ensures.net) c.count_tree-count.ensures.count in
-    let charged = charged-next d (route_edges c.args.routes.now) c.args.net (edges_of t) c.args.self.now.capacity c.args.self.now.loads c.add.new.self
-    c.requires.routed is.edges c.requires.tallied.capacity (ap (λ (l : LoadsView). l.shape) c.add.ensures.loads)
-    (tree-charged c.args.self.now.capacity c.args.net t c.args.self.now.loads c.add.new.self c.add.ensures.loads) c.requires.tallied.charged in
+    let charged = charged-next d (route_edges c.args.routes.now) c.args.net (edges_of t) c.args.capacity.now c.args.self.now.loads c.add.new.self
+    c.requires.routed is.edges c.requires.capacity (ap (λ (l : LoadsView). l.shape) c.add.ensures.loads)
+    (tree-charged c.args.capacity.now c.args.net t c.args.self.now.loads c.add.new.self c.add.ensures.loads) c.requires.tallied.charged in
     tallied-next d (route_edges c.args.routes.now) c.args.net c.args.self.now c.include.new.self c.add.new.self c.count_tree-count.result c.requires.routed c.in_ok-include.ensures
     charged count c.requires.tallied

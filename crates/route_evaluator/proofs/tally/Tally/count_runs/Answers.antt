@@ -40,7 +40,7 @@ returns-clause-tallied c =
     let count = count-same d (edges_by c.args.solution.now) c.args.net c.frame.result.now.shape (edges_numbered c.gather_net.new.edges.numbers) c.as_slice-pins.result.now
     c.in_ok-count.count (ap (λ (f : Frame). f.shape) c.frame.ensures.frame) c.in_ok-gather_net.ensures.edges
     (c.as_slice-pins.ensures ∙ pins-are d c.args.net c.net.result.now c.net.ensures.net) c.in_ok-count.ensures.count in
-    let charged = charged-next d (edges_by c.args.solution.now) c.args.net (edges_numbered c.gather_net.new.edges.numbers) c.args.self.now.capacity c.args.self.now.loads c.charge.new.loads
-    c.requires.routed c.in_ok-gather_net.ensures.edges c.requires.tallied.capacity c.charge.ensures.shape c.charge.ensures.demand c.requires.tallied.charged in
+    let charged = charged-next d (edges_by c.args.solution.now) c.args.net (edges_numbered c.gather_net.new.edges.numbers) c.args.capacity.now c.args.self.now.loads c.charge.new.loads
+    c.requires.routed c.in_ok-gather_net.ensures.edges c.requires.capacity c.charge.ensures.shape c.charge.ensures.demand c.requires.tallied.charged in
     tallied-next d (edges_by c.args.solution.now) c.args.net c.args.self.now c.include.new.self c.charge.new.loads c.in_ok-count.count c.requires.routed c.in_ok-include.ensures
     charged count c.requires.tallied

@@ -6,13 +6,13 @@ wires-plus : (a b c u v w : ℕ) → a ≡ u → b ≡ v → c ≡ w → a + b *
 wires-plus a b c u v w first second third = cc
 
 pub returns : goal.returns
-returns c d sets tallied =
+returns c d sets capacity tallied =
     let charged = tallied.charged in
     let counted = tallied.counted in
     record {
       routed = counted.routed;
-      total = total-is d sets c.args.self.loads c.over_total.result charged.shape charged.demand (c.over_total.ensures.design d tallied.capacity);
-      max = most-is d sets c.args.self.loads c.over_max.result charged.shape charged.demand (c.over_max.ensures.design d tallied.capacity);
+      total = total-is d sets c.args.self.loads c.over_total.result charged.shape charged.demand (c.over_total.ensures.design d capacity);
+      max = most-is d sets c.args.self.loads c.over_max.result charged.shape charged.demand (c.over_max.ensures.design d capacity);
       wirelength = wires-plus _ _ _ _ _ _ (c.from.ensures ∙ counted.wires) c.from-2.ensures (c.from-vias.ensures ∙ counted.vias);
       vias = c.from-vias.ensures ∙ counted.vias;
       rising = counted.rising;
