@@ -183,22 +183,9 @@ counted-next d sets k nets_in wires_in vias_in apart c routed count counted =
       unjoined = listed.unjoined;
     }
 
--- the tally with other loads
-abbrev pub with_loads : Tally → LoadsView → Tally
-with_loads t loads = record {
-  loads = loads;
-  wires = t.wires;
-  vias = t.vias;
-  routed = t.routed;
-  unjoined = t.unjoined;
-}
-
--- the tally once a net's edges are charged and what is counted of it is added
-pub tallied-next : (d : DesignView) (sets : ℕ → Edges) (k : ℕ) (old new : Tally) (loads : LoadsView) (c : NetCount) → is_routed d k ≡ true →
-    new ≡ with_count k c (with_loads old loads) → AreCharged d sets (k + 1) loads → IsCountOf d.frame.shape (sets k) (pins_at d k) c →
-    AreTallied d sets k old → AreTallied d sets (k + 1) new
-tallied-next d sets k old new loads c routed is charged count tallied =
-    subst (λ (t : Tally). AreTallied d sets (k + 1) t) (sym is) (record {
-      charged = charged;
-      counted = counted-next d sets k old.routed old.wires old.vias old.unjoined c routed count tallied.counted;
-    })
+-- the tally once what is counted of a net is added
+pub tallied-next : (d : DesignView) (sets : ℕ → Edges) (k : ℕ) (old new : Tally) (c : NetCount) → is_routed d k ≡ true →
+    new ≡ with_count k c old → IsCountOf d.frame.shape (sets k) (pins_at d k) c → AreTallied d sets k old → AreTallied d sets (k + 1) new
+tallied-next d sets k old new c routed is count tallied =
+    subst (λ (t : Tally). AreTallied d sets (k + 1) t) (sym is)
+    (counted-next d sets k old.routed old.wires old.vias old.unjoined c routed count tallied)

@@ -9,10 +9,11 @@ use Rattle.gr_base.specs.Grid.{has_edge, is_wire}
 use Rattle.gr_base.specs.Sums.{total_overflow, most_overflow, total_over, most_over}
 use Rattle.gr_base.specs.declared.grid.Edge.{Edge}
 use Rattle.gr_base.specs.declared.grid.Shape.{Shape}
-use Rattle.grid_demand.specs.LoadSums.{LoadsView, demand_at}
+use Rattle.grid_demand.specs.LoadSums.{LoadsView, demand_at, no_loads}
 use Rattle.grid_demand.proofs.LoadLemmas.{total_overflow-same, most_overflow-same}
-use Rattle.route_evaluator.specs.Counts.{sum_before, AreTallied}
-use Rattle.route_evaluator.specs.Verdicts.{IsUnjoined, IsVerdict}
+use Rattle.grid_demand.proofs.OperationLemmas.{demand-none}
+use Rattle.route_evaluator.specs.Counts.{sum_before, AreCharged, AreTallied}
+use Rattle.route_evaluator.specs.Verdicts.{AreLoadsBy, IsUnjoined, IsVerdict}
 use Rattle.route_evaluator.specs.declared.tally.Tally.{Tally}
 use Rattle.route_evaluator.specs.declared.verdict.Verdict.{Verdict}
 use Rattle.route_evaluator.proofs.CountedLemmas.{routed-below}
@@ -48,21 +49,33 @@ unjoined-all d sets nets listed net = (
   λ u. (listed net).1 (routed-below d net u.routed, u),
 )
 
+-- before any net there is no demand
+pub charged-none : (d : DesignView) (sets : ℕ → Edges) (l : LoadsView) → l ≡ no_loads d.frame.shape → AreCharged d sets 0 l
+charged-none d sets l is =
+    subst (λ (m : LoadsView). AreCharged d sets 0 m) (sym is) (record {
+      shape = refl;
+      demand = λ e edge wire. demand-none d.frame.shape e (record { edge = edge; wire = wire });
+    })
+
+-- the demand of all nets is that of the routes
+pub loads-by : (d : DesignView) (sets : ℕ → Edges) (l : LoadsView) → AreCharged d sets (length d.nets) l → AreLoadsBy d sets l
+loads-by d sets l charged = record { shape = charged.shape; demand = charged.demand }
+
+-- a net that isn't routed takes nothing
+pub charged-skip : (d : DesignView) (sets : ℕ → Edges) (k : ℕ) (l : LoadsView) → is_routed d k ≡ false → AreCharged d sets k l → AreCharged d sets (k + 1) l
+charged-skip d sets k l off charged = record {
+  shape = charged.shape;
+  demand = λ e edge wire. charged.demand e edge wire ∙ sym (sum-skip d (λ net. if sets net e then need d net e else 0) k off);
+}
+
 -- a net that isn't routed counts nothing
 pub tallied-skip : (d : DesignView) (sets : ℕ → Edges) (k : ℕ) (t : Tally) → is_routed d k ≡ false → AreTallied d sets k t → AreTallied d sets (k + 1) t
-tallied-skip d sets k t off tallied =
-    let counted = tallied.counted in
+tallied-skip d sets k t off counted =
     let listed = listed-skip d sets k t.unjoined (λ u. both_ways (is_routed d k) off u.routed) (record { rising = counted.rising; unjoined = counted.unjoined }) in
     record {
-      charged = record {
-        shape = tallied.charged.shape;
-        demand = λ e edge wire. tallied.charged.demand e edge wire ∙ sym (sum-skip d (λ net. if sets net e then need d net e else 0) k off);
-      };
-      counted = record {
-        routed = counted.routed ∙ sym (routed-skip d k off);
-        wires = counted.wires ∙ sym (sum-skip d _ k off);
-        vias = counted.vias ∙ sym (sum-skip d _ k off);
-        rising = listed.rising;
-        unjoined = listed.unjoined;
-      };
+      routed = counted.routed ∙ sym (routed-skip d k off);
+      wires = counted.wires ∙ sym (sum-skip d _ k off);
+      vias = counted.vias ∙ sym (sum-skip d _ k off);
+      rising = listed.rising;
+      unjoined = listed.unjoined;
     }

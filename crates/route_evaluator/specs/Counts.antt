@@ -10,7 +10,7 @@ use Rattle.gr_base.specs.Sums.{wire_edges, via_edges}
 use Rattle.gr_base.specs.declared.grid.Edge.{Edge}
 use Rattle.grid_demand.specs.LoadSums.{LoadsView, demand_at}
 use Rattle.grid_demand.specs.Tables.{CapacityView, capacity_of, need_at}
-use Rattle.route_evaluator.specs.Verdicts.{IsUnjoined, IsVerdict}
+use Rattle.route_evaluator.specs.Verdicts.{AreLoadsBy, IsUnjoined, IsVerdict}
 use Rattle.route_evaluator.specs.declared.net_count.NetCount.{NetCount}
 use Rattle.route_evaluator.specs.declared.tally.Tally.{Tally}
 use Rattle.route_evaluator.specs.declared.verdict.Verdict.{Verdict}
@@ -38,14 +38,12 @@ pub record AreCounted (d : DesignView) (sets : ℕ → Edges) (count nets_in wir
   pub unjoined : (net : ℕ) → Contains apart net ↔ ((net < count) × IsUnjoined d sets net)
 
 -- the nets below a number are in the tally
-pub record AreTallied (d : DesignView) (sets : ℕ → Edges) (count : ℕ) (t : Tally) : Type 0 where
-  pub charged : AreCharged d sets count t.loads
-  pub counted : AreCounted d sets count t.routed t.wires t.vias t.unjoined
+abbrev pub AreTallied : DesignView → (ℕ → Edges) → ℕ → Tally → Type 0
+AreTallied d sets count t = AreCounted d sets count t.routed t.wires t.vias t.unjoined
 
 -- what is counted of a net is added
 abbrev pub with_count : ℕ → NetCount → Tally → Tally
 with_count net c t = record {
-  loads = t.loads;
   wires = t.wires + c.wires;
   vias = t.vias + c.vias;
   routed = t.routed + 1;
@@ -68,7 +66,8 @@ IsCharged c net set old new =
     (e : Edge) → IsTrue (has_edge old.shape e) → IsTrue (is_wire e) →
     demand_at new e ≡ demand_at old e + (if set e then need_at c net e else 0)
 
--- the verdict says what was counted of all nets of a design with this capacity
-abbrev pub TellsOf : ℕ → CapacityView → Tally → Verdict → Type 0
-TellsOf via_cost c t v =
-    (d : DesignView) → (sets : ℕ → Edges) → c ≡ capacity_of d → AreTallied d sets (length d.nets) t → IsVerdict d via_cost sets v
+-- the verdict says what was counted of all nets of a design with this capacity, where these are their loads
+abbrev pub TellsOf : ℕ → CapacityView → LoadsView → Tally → Verdict → Type 0
+TellsOf via_cost c l t v =
+    (d : DesignView) → (sets : ℕ → Edges) → c ≡ capacity_of d → AreLoadsBy d sets l → AreTallied d sets (length d.nets) t →
+    IsVerdict d via_cost sets v

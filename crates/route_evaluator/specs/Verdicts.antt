@@ -4,7 +4,10 @@ use Rattle.std.specs.List.{range_with_len}
 use Rattle.std.specs.List.Sorted.{IsStrictlyIncreasing}
 use Rattle.gr_base.specs.Designs.{DesignView, is_routed, pins_at}
 use Rattle.gr_base.specs.EdgeSets.{Edges, IsJoined}
-use Rattle.gr_base.specs.Sums.{total_over, most_over, wirelength as wirelength_of, vias as vias_of}
+use Rattle.gr_base.specs.Grid.{has_edge, is_wire}
+use Rattle.gr_base.specs.Sums.{demand as demand_of, total_over, most_over, wirelength as wirelength_of, vias as vias_of}
+use Rattle.gr_base.specs.declared.grid.Edge.{Edge}
+use Rattle.grid_demand.specs.LoadSums.{LoadsView, demand_at}
 use Rattle.route_evaluator.specs.declared.verdict.Verdict.{Verdict}
 
 -- how many nets are routed
@@ -15,6 +18,11 @@ routed_nets d = count_by (is_routed d) (range_with_len 0 (length d.nets))
 pub record IsUnjoined (d : DesignView) (sets : ℕ → Edges) (net : ℕ) : Type 0 where
   pub routed : IsTrue (is_routed d net)
   pub apart : IsJoined d.frame.shape (sets net) (pins_at d net) → ⊥
+
+-- the demand for each wire edge is that of these sets of edges
+pub record AreLoadsBy (d : DesignView) (sets : ℕ → Edges) (l : LoadsView) : Type 0 where
+  pub shape : l.shape ≡ d.frame.shape
+  pub demand : (e : Edge) → IsTrue (has_edge d.frame.shape e) → IsTrue (is_wire e) → demand_at l e ≡ demand_of d sets e
 
 -- what is said of routes where each net has its set of edges
 pub record IsVerdict (d : DesignView) (via_cost : ℕ) (sets : ℕ → Edges) (v : Verdict) : Type 0 where

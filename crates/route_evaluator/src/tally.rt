@@ -9,7 +9,7 @@ ghost use Rattle.solution_text.specs.Runs.{LieIn};
 ghost use Rattle.route_reader.specs.Solutions.{IsOf, edges_by};
 ghost use Rattle.route_evaluator.specs.EdgeNumbers.{edges_numbered};
 ghost use Rattle.route_evaluator.specs.NumberSets.{empty_set};
-ghost use Rattle.route_evaluator.specs.Counts.{AreTallied, HasRoom, HasRoomFor, IsCharged, TellsOf, noted, with_count};
+ghost use Rattle.route_evaluator.specs.Counts.{AreCharged, AreTallied, HasRoom, HasRoomFor, IsCharged, TellsOf, noted, with_count};
 
 use crate::edge_numbers::{edge_with_number, is_via};
 use crate::gather::gather_net;
@@ -25,7 +25,6 @@ use std::alloc::{AllocError, Global};
 /// What was counted of the nets so far.
 #[derive(Drop)]
 pub(crate) struct Tally {
-    pub loads: Loads,
     pub wires: u64,
     pub vias: u64,
     pub routed: u32,
@@ -33,24 +32,23 @@ pub(crate) struct Tally {
 }
 
 impl Tally {
-    /// No net is counted. The only error is want of memory.
-    pub(crate) fn new(alloc: Global, capacity: &Capacity) -> Result<Tally, AllocError>
-        ensures { IfOk result (λ tally. (d : DesignView) (sets : ℕ → Edges) → capacity.now ≡ capacity_of d →
-            AreTallied d sets 0 tally) }
+    /// No net is counted.
+    pub(crate) fn new(alloc: Global) -> Tally
+        ensures { (d : DesignView) (sets : ℕ → Edges) → AreTallied d sets 0 result }
     {
-        Ok(Tally {
-            loads: Loads::new(alloc, capacity)?,
+        Tally {
             wires: 0,
             vias: 0,
             routed: 0,
             unjoined: Cells::new(alloc),
-        })
+        }
     }
 
-    /// Counts the next net, which is routed, by the runs of a solution. The sets serve net after
-    /// net. The only error is want of memory.
+    /// Counts the next net, which is routed, by the runs of a solution, and charges its edges. The sets
+    /// serve net after net. The only error is want of memory.
     pub(crate) fn count_runs(
         &mut self,
+        loads: &mut Loads,
         edges: &mut NumberSet,
         reached: &mut Reached,
         design: &Design,
@@ -63,7 +61,9 @@ impl Tally {
         requires routed { IsTrue (is_routed design.now net) }
         requires edges { edges.old ≡ empty_set (3 * cells_of design.now.frame.shape) }
         requires reached { reached.old.cells ≡ empty_set (cells_of design.now.frame.shape) }
+        requires charged { AreCharged design.now (edges_by solution.now) net loads.old }
         requires tallied { AreTallied design.now (edges_by solution.now) net self.old }
+        ensures charged { OnOk result (AreCharged design.now (edges_by solution.now) (net + 1) loads.new) }
         ensures tallied { OnOk result (AreTallied design.now (edges_by solution.now) (net + 1) self.new) }
         ensures edges { OnOk result (edges.new ≡ edges.old) }
         ensures reached { OnOk result (reached.new.cells ≡ reached.old.cells) }
@@ -71,7 +71,7 @@ impl Tally {
         gather_net(edges, design, solution, net)?;
         let pins = design.net(net).pins.as_slice();
         let count = count_edges(edges, reached, design.frame().shape, pins)?;
-        charge(&mut self.loads, capacity, net, edges);
+        charge(loads, capacity, net, edges);
         edges.clear();
         self.include(net, count)?;
         Ok(())
@@ -83,11 +83,9 @@ impl Tally {
         &mut self,
         index: &mut NodeIndex,
         design: &Design,
-        capacity: &Capacity,
         routes: &Routes,
         net: u32,
     ) -> Result<(), AllocError>
-        requires capacity { capacity.now ≡ capacity_of design.now }
         requires routed { IsTrue (is_routed design.now net) }
         requires tree { IsSomeAnd (tree_at routes.now net) (λ tree. tree.shape ≡ design.now.frame.shape) }
         requires index { cells_of design.now.frame.shape ≤ length index.old }
@@ -98,7 +96,6 @@ impl Tally {
     {
         let tree = routes.get(net).unwrap();
         let count = count_tree(tree, index, design.net(net).pins.as_slice());
-        self.loads.add(capacity, net, tree);
         self.include(net, count)?;
         Ok(())
     }
@@ -115,16 +112,16 @@ impl Tally {
         Ok(())
     }
 
-    /// The verdict on all nets, at a cost for each via edge.
-    pub(crate) fn verdict(self, capacity: &Capacity, via_cost: u32) -> Verdict
-        requires { capacity.now.shape ≡ self.loads.shape }
-        ensures { TellsOf via_cost capacity.now self result }
+    /// The verdict on all nets, of which these are the loads, at a cost for each via edge.
+    pub(crate) fn verdict(self, capacity: &Capacity, loads: &Loads, via_cost: u32) -> Verdict
+        requires { capacity.now.shape ≡ loads.now.shape }
+        ensures { TellsOf via_cost capacity.now loads.now self result }
     {
         let vias = u128::from(self.vias);
         Verdict {
             routed: self.routed,
-            total: self.loads.over_total(capacity),
-            max: self.loads.over_max(capacity),
+            total: loads.over_total(capacity),
+            max: loads.over_max(capacity),
             wirelength: u128::from(self.wires) + u128::from(via_cost) * vias,
             vias,
             unjoined: self.unjoined,

@@ -15,11 +15,14 @@ use Rattle.gr_base.specs.declared.grid.Shape.{Shape}
 use Rattle.gr_base.proofs.General.{and-some}
 use Rattle.gr_base.proofs.TreeEdges.{joins-pins}
 use Rattle.grid_demand.specs.Tables.{CapacityView, capacity_of}
-use Rattle.book_state.specs.Books.{nets_of, booked}
+use Rattle.grid_demand.specs.LoadSums.{LoadsView}
+use Rattle.book_state.specs.Books.{nets_of, booked, AreLoadsOf}
 use Rattle.book_state.specs.declared.entry.Entry.{Entry}
+use Rattle.route_evaluator.specs.Verdicts.{AreLoadsBy}
 use Rattle.straight_runs.specs.Routed.{AreRouted}
 use Rattle.round_core.proofs.TurnLemmas.{routed-net}
 use Rattle.round_core.specs.Rounds.{IsRouteOfNet}
+use Rattle.router_top.proofs.DemandLemmas.{booked-demand}
 use Rattle.router_top.specs.Routing.{AllJoined, AreTrees, AreBookedRoutes, AreChosenRoutes}
 use Rattle.router_top.specs.declared.routing.BookedRoutes.{BookedRoutes}
 use Rattle.word_reader.specs.declared.order.Options.{Options}
@@ -88,6 +91,18 @@ routes-joined d h trees stands same are number net is routed = by (tree_at trees
         let joined : IsJoined t.shape (edges_of t) net.pins = joins-pins t net.pins (are number t has there) r.pins in
         subst (λ (o : Option TreeView). IsJoined d.frame.shape (edges_or_none o) net.pins) (sym there)
         (subst (λ (g : Shape). IsJoined g (edges_of t) net.pins) r.shape joined)
+
+-- the loads at the mark of booked routes are the routes'
+pub loads-booked : (d : DesignView) (options : Options) (r : BookedRoutes) (l : LoadsView) → AreBookedRoutes d options r →
+    AreLoadsOf r.rounds.book.state.capacity (take r.rounds.chosen r.rounds.book.state.history) l → AreLoadsBy d (route_edges r.routes) l
+loads-booked d options r l are loads =
+    let h = take r.rounds.chosen r.rounds.book.state.history in
+    let of : AreLoadsOf (capacity_of d) h l = subst (λ (c : CapacityView). AreLoadsOf c h l) are.made.capacity loads in
+    record {
+      shape = of.shape;
+      demand = λ e edge wire. of.demand e edge wire ∙ booked-demand d h (route_edges r.routes) are.stands.free
+          (λ net routed f. ap (λ (o : Option TreeView). edges_or_none o f) (are.booked net)) e;
+    }
 
 -- the trees that are booked where a history stands, each of which is one, are a design's routes
 pub chosen-routes : (d : DesignView) (options : Options) (r : BookedRoutes) → AreBookedRoutes d options r →

@@ -1,5 +1,5 @@
 -- The command `route`: the book of its rounds, the text of its routes, and their report.
-use Rattle.std.specs.Prelude.{◌≡◌, ℕ, true, false, List, ◌++◌, Option, Some, None, Ok, slice_get, take, IsTrue, IsSomeAnd}
+use Rattle.std.specs.Prelude.{◌≡◌, ℕ, ◌≤◌, true, false, List, ◌++◌, Option, Some, None, Ok, length, slice_get, take, IsTrue, IsSomeAnd}
 use Rattle.cost_rules.specs.declared.sight.Watch.TheVariants.{Never}
 use Rattle.gr_base.specs.Designs.{DesignView, is_routed, is_routed_net}
 use Rattle.gr_base.specs.EdgeSets.{Edges, IsJoined}
@@ -88,6 +88,7 @@ routing_report d lib v trees plans = report_of v ++ buffers_text d lib trees pla
 pub record AreBookedRoutes (d : DesignView) (options : Options) (r : BookedRoutes) : Type 0 where
   pub made : IsBookOf d options r.rounds.book.state r.rounds.hands.items
   pub least : least_mark r.rounds.book.state.history ≡ Some r.rounds.chosen
+  pub within : r.rounds.chosen ≤ length r.rounds.book.state.history
   pub booked : (net : ℕ) → tree_at r.routes net ≡ booked (take r.rounds.chosen r.rounds.book.state.history) net
   pub stands : Stands d (take r.rounds.chosen r.rounds.book.state.history)
 

@@ -2,7 +2,6 @@
 ghost use Rattle.std.specs.Prelude.{◌≡◌, ◌<◌, ◌≤◌, ◌++◌, IfOk, OnOk};
 ghost use Rattle.gr_base.specs.Designs.{IsDesign};
 ghost use Rattle.gr_base.specs.Trees.{TreeView, route_edges};
-ghost use Rattle.grid_demand.specs.Tables.{capacity_of};
 ghost use Rattle.rc_library.specs.Libraries.{IsLibraryOf};
 ghost use Rattle.gr_io.specs.Devices.{device_of, reading_of};
 ghost use Rattle.straight_runs.specs.Routed.{AreRouted};
@@ -25,7 +24,6 @@ use cost_rules::Rules;
 use gr_base::{Design, Routes};
 use gr_io::{Shelf, Sink, write_whole};
 use gr_text::Text;
-use grid_demand::Capacity;
 use rc_library::Library;
 use report_text::report;
 use ripup_workers::{Gate, Rounds, route_rounds};
@@ -121,13 +119,11 @@ fn route_design<R: Threads + Wait + Sync, G: Gate + Sync>(
     ensures { IfOk result (IsRoutedDesign design.now library.now options) }
 {
     let booked = booked_routes(rt, alloc, design, options, gate, rules)?;
-    let BookedRoutes { rounds, routes } = booked;
-    let capacity = rounds.book.state().capacity();
-    let told = verdict_and_buffers(rt, alloc, design, capacity, library, &routes, options)?;
+    let told = verdict_and_buffers(rt, alloc, design, library, &booked, options)?;
     let report = report_with(alloc, &told.0, &told.1)?;
     Ok(RoutedDesign {
-        rounds,
-        routes,
+        rounds: booked.rounds,
+        routes: booked.routes,
         report,
     })
 }
@@ -147,12 +143,10 @@ pub(crate) fn judged_routes<R: Threads + Wait + Sync, G: Gate + Sync>(
     ensures { IfOk result (AreJudgedRoutes design.now options) }
 {
     let booked = booked_routes(rt, alloc, design, options, gate, rules)?;
-    let BookedRoutes { rounds, routes } = booked;
-    let capacity = rounds.book.state().capacity();
-    let verdict = evaluate_routes(alloc, design, capacity, &routes, options.via_cost)?;
+    let verdict = verdict_on(alloc, design, &booked, options)?;
     Ok(JudgedRoutes {
-        rounds,
-        routes,
+        rounds: booked.rounds,
+        routes: booked.routes,
         verdict,
     })
 }
@@ -187,44 +181,71 @@ fn booked_routes<R: Threads + Wait + Sync, G: Gate + Sync>(
     Ok(BookedRoutes { rounds, routes })
 }
 
-/// The verdict on routes, and the text of their buffers, which are made side by side where there is
-/// more than one worker. The only error is want of memory.
+/// The verdict on booked routes, by the loads that the book had at their mark. The only error is want
+/// of memory.
+fn verdict_on(
+    alloc: Global,
+    design: &Design,
+    booked: &BookedRoutes,
+    options: Options,
+) -> Result<Verdict, AllocError>
+    requires booked { AreBookedRoutes design.now options booked.now }
+    requires options { AreInRange options }
+    ensures verdict { IfOk result (IsVerdict design.now options.via_cost (route_edges booked.now.routes)) }
+    ensures trees { OnOk result (AreTrees design.now booked.now.routes) }
+{
+    let book = booked.rounds.book.state();
+    let capacity = book.capacity();
+    let front = booked.rounds.chosen;
+    let via_cost = options.via_cost;
+    if front == book.history().len() {
+        return evaluate_routes(
+            alloc,
+            design,
+            capacity,
+            book.loads(),
+            &booked.routes,
+            via_cost,
+        );
+    }
+    let loads = book.loads_at(capacity, front)?;
+    evaluate_routes(alloc, design, capacity, &loads, &booked.routes, via_cost)
+}
+
+/// The verdict on booked routes, and the text of their buffers, which are made side by side where there
+/// is more than one worker. The only error is want of memory.
 fn verdict_and_buffers<R: Threads + Sync>(
     rt: &R,
     alloc: Global,
     design: &Design,
-    capacity: &Capacity,
     library: &Library,
-    routes: &Routes,
+    booked: &BookedRoutes,
     options: Options,
 ) -> Result<(Verdict, Text), AllocError>
-    requires capacity { capacity.now ≡ capacity_of design.now }
     requires library { IsLibraryOf design.now library.now }
-    requires routed { AreRouted design.now routes.now }
-    requires held { AreRoutesOf design.now routes.now }
+    requires booked { AreBookedRoutes design.now options booked.now }
     requires options { AreInRange options }
-    ensures verdict { IfOk result (λ told. IsVerdict design.now options.via_cost (route_edges routes.now) told.0) }
-    ensures trees { OnOk result (AreTrees design.now routes.now) }
-    ensures buffers { IfOk result (λ told. IsBuffersText design.now library.now routes.now told.1) }
+    ensures verdict { IfOk result (λ told. IsVerdict design.now options.via_cost (route_edges booked.now.routes) told.0) }
+    ensures trees { OnOk result (AreTrees design.now booked.now.routes) }
+    ensures buffers { IfOk result (λ told. IsBuffersText design.now library.now booked.now.routes told.1) }
 {
-    let via_cost = options.via_cost;
     let workers = options.workers;
     if workers == 1 {
-        let verdict = evaluate_routes(alloc, design, capacity, routes, via_cost)?;
-        let buffers = buffers_on(rt, alloc, design, library, routes, workers)?;
+        let verdict = verdict_on(alloc, design, booked, options)?;
+        let buffers = buffers_on(rt, alloc, design, library, &booked.routes, workers)?;
         return Ok((verdict, buffers));
     }
     let (verdict, buffers) = join(
         rt,
         || -> Result<Verdict, AllocError>
-            requires { (capacity.now ≡ capacity_of design.now) × (AreRouted design.now routes.now × (via_cost ≤ 1000)) }
-            ensures { IfOk result (IsVerdict design.entry.now via_cost (route_edges routes.entry.now)) ×
-                OnOk result (AreTrees design.entry.now routes.entry.now) }
-        { evaluate_routes(alloc, design, capacity, routes, via_cost) },
+            requires { AreBookedRoutes design.now options booked.now × AreInRange options }
+            ensures { IfOk result (IsVerdict design.entry.now options.via_cost (route_edges booked.entry.now.routes)) ×
+                OnOk result (AreTrees design.entry.now booked.entry.now.routes) }
+        { verdict_on(alloc, design, booked, options) },
         || -> Result<Text, AllocError>
-            requires { IsLibraryOf design.now library.now × AreRoutesOf design.now routes.now × (0 < workers) }
-            ensures { IfOk result (IsBuffersText design.entry.now library.entry.now routes.entry.now) }
-        { buffers_on(rt, alloc, design, library, routes, workers) },
+            requires { IsLibraryOf design.now library.now × AreRoutesOf design.now booked.now.routes × (0 < workers) }
+            ensures { IfOk result (IsBuffersText design.entry.now library.entry.now booked.entry.now.routes) }
+        { buffers_on(rt, alloc, design, library, &booked.routes, workers) },
     );
     Ok((verdict?, buffers?))
 }

@@ -11,7 +11,7 @@ use Rattle.route_evaluator.proofs.judgement.evaluate_routes.Goals as goal
 
 pub loop-net-init : goal.loop-net-init
 loop-net-init c = record {
-  tallied = c.in_ok-tally.ensures c.args.design.now (route_edges c.args.routes.now) c.requires.capacity;
+  tallied = c.new-tally.ensures c.args.design.now (route_edges c.args.routes.now);
   index = omega (arith, c.in_ok-index.ensures, c.cells.ensures.cells, ap (λ (f : Frame). cells_of f.shape) c.frame.ensures.frame);
   trees = trees-none c.args.design.now c.args.routes.now;
 }
@@ -37,7 +37,7 @@ pub returns-clause-verdict : goal.returns-clause-verdict
 returns-clause-verdict c =
     let d : DesignView = c.args.design.now in
     let all : c.loop-net.net ≡ length d.nets = omega (arith, c.loop-net.auto.net-end, c.loop-net-test.false, c.nets-net-end.ensures.nets) in
-    c.verdict.ensures d (route_edges c.args.routes.now) c.requires.capacity
+    c.verdict.ensures d (route_edges c.args.routes.now) c.requires.capacity c.requires.loads
     (subst (λ (k : ℕ). AreTallied d (route_edges c.args.routes.now) k c.loop-net.tally) all c.loop-net.invariant.tallied)
 
 pub returns-clause-trees : goal.returns-clause-trees

@@ -25,6 +25,7 @@ returns g c =
         parted = made.parted;
       };
       least = made.least;
+      within = made.within;
       booked = routes-booked d rounds.book.state.capacity h trees made.capacity made.stands are;
       stands = made.stands;
     }

@@ -2,12 +2,6 @@ use Rattle.std.proofs.Common.{take}
 use Rattle.router_top.proofs.RouteLemmas.{held-tree, routes-routed, routes-trees, chosen-routes}
 use Rattle.router_top.proofs.routing.judged_routes.Goals as goal
 
-pub evaluate_routes-requires-clause-routes : goal.evaluate_routes-requires-clause-routes
-evaluate_routes-requires-clause-routes g c =
-    let r = c.in_ok-booked.booked in
-    let are = c.in_ok-booked.ensures in
-    routes-routed c.args.design.now (take r.rounds.chosen r.rounds.book.state.history) r.routes are.stands are.booked
-
 pub returns : goal.returns
 returns g c =
     let d = c.args.design.now in

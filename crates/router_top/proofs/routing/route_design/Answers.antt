@@ -3,18 +3,6 @@ use Rattle.router_top.specs.Said.{report_of}
 use Rattle.router_top.proofs.RouteLemmas.{held-tree, routes-routed, routes-trees, chosen-routes}
 use Rattle.router_top.proofs.routing.route_design.Goals as goal
 
-pub verdict_and_buffers-requires-clause-routed : goal.verdict_and_buffers-requires-clause-routed
-verdict_and_buffers-requires-clause-routed g c κs within =
-    let r = c.in_ok-booked.booked in
-    let are = c.in_ok-booked.ensures in
-    routes-routed c.args.design.now (take r.rounds.chosen r.rounds.book.state.history) r.routes are.stands are.booked
-
-pub verdict_and_buffers-requires-clause-held : goal.verdict_and_buffers-requires-clause-held
-verdict_and_buffers-requires-clause-held g c κs within =
-    let r = c.in_ok-booked.booked in
-    let are = c.in_ok-booked.ensures in
-    held-tree c.args.design.now (take r.rounds.chosen r.rounds.book.state.history) r.routes are.stands are.booked
-
 pub returns : goal.returns
 returns g c =
     let d = c.args.design.now in

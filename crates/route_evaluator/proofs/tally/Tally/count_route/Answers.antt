@@ -23,14 +23,6 @@ is-nets d trees net t at of = record {
   edges = sym (ap (λ (o : Option TreeView). edges_or_none o) at);
 }
 
-pub add-requires-clause-room : goal.add-requires-clause-room
-add-requires-clause-room c e among wire =
-    let t = c.unwrap-tree.result.now in
-    let is = is-nets c.args.design.now c.args.routes.now c.args.net t (sym c.get.ensures ∙ ap (λ o. option_copied o) c.unwrap-tree.ensures) c.requires.tree in
-    let edge = tree-edge t e (tree-grid_edges t c.count_tree-count.ensures.tree) among in
-    room-next c.args.design.now (route_edges c.args.routes.now) c.args.net c.args.self.now.loads c.net.ensures.design c.requires.routed c.requires.tallied.charged e
-    (subst (λ (g : Shape). IsTrue (has_edge g e)) (is.shape ∙ sym c.requires.tallied.charged.shape) edge) wire
-
 pub include-requires : goal.include-requires
 include-requires c =
     let d = c.args.design.now in
@@ -38,7 +30,7 @@ include-requires c =
     let is = is-nets d c.args.routes.now c.args.net t (sym c.get.ensures ∙ ap (λ o. option_copied o) c.unwrap-tree.ensures) c.requires.tree in
     let count = count-same d (route_edges c.args.routes.now) c.args.net t.shape (edges_of t) c.as_slice.result.now c.count_tree-count.result is.shape is.edges
     (c.as_slice.ensures ∙ pins-are d c.args.net c.net.result.now c.net.ensures.net) c.count_tree-count.ensures.count in
-    counted-room d (route_edges c.args.routes.now) c.args.net _ _ _ _ _ c.count_tree-count.result c.net.ensures.design c.requires.routed count c.requires.tallied.counted
+    counted-room d (route_edges c.args.routes.now) c.args.net _ _ _ _ _ c.count_tree-count.result c.net.ensures.design c.requires.routed count c.requires.tallied
 
 pub returns-clause-tallied : goal.returns-clause-tallied
 returns-clause-tallied c =
@@ -47,8 +39,5 @@ returns-clause-tallied c =
     let is = is-nets d c.args.routes.now c.args.net t (sym c.get.ensures ∙ ap (λ o. option_copied o) c.unwrap-tree.ensures) c.requires.tree in
     let count = count-same d (route_edges c.args.routes.now) c.args.net t.shape (edges_of t) c.as_slice.result.now c.count_tree-count.result is.shape is.edges
     (c.as_slice.ensures ∙ pins-are d c.args.net c.net.result.now c.net.ensures.net) c.count_tree-count.ensures.count in
-    let charged = charged-next d (route_edges c.args.routes.now) c.args.net (edges_of t) c.args.capacity.now c.args.self.now.loads c.add.new.self
-    c.requires.routed is.edges c.requires.capacity (ap (λ (l : LoadsView). l.shape) c.add.ensures.loads)
-    (tree-charged c.args.capacity.now c.args.net t c.args.self.now.loads c.add.new.self c.add.ensures.loads) c.requires.tallied.charged in
-    tallied-next d (route_edges c.args.routes.now) c.args.net c.args.self.now c.include.new.self c.add.new.self c.count_tree-count.result c.requires.routed c.in_ok-include.ensures
-    charged count c.requires.tallied
+    tallied-next d (route_edges c.args.routes.now) c.args.net c.args.self.now c.include.new.self c.count_tree-count.result c.requires.routed c.in_ok-include.ensures
+    count c.requires.tallied

@@ -20,11 +20,11 @@ count_edges-requires-clause-pins c =
 
 pub charge-requires-clause-grid : goal.charge-requires-clause-grid
 charge-requires-clause-grid c =
-    subst (λ (g : Shape). LieIn g (edges_numbered c.gather_net.new.edges.numbers)) (sym c.requires.tallied.charged.shape) c.in_ok-gather_net.ensures.grid
+    subst (λ (g : Shape). LieIn g (edges_numbered c.gather_net.new.edges.numbers)) (sym c.requires.charged.shape) c.in_ok-gather_net.ensures.grid
 
 pub charge-requires-clause-room : goal.charge-requires-clause-room
 charge-requires-clause-room c =
-    room-next c.args.design.now (edges_by c.args.solution.now) c.args.net c.args.self.now.loads c.frame.ensures.design c.requires.routed c.requires.tallied.charged
+    room-next c.args.design.now (edges_by c.args.solution.now) c.args.net c.args.loads.now c.frame.ensures.design c.requires.routed c.requires.charged
 
 pub include-requires : goal.include-requires
 include-requires c =
@@ -32,7 +32,7 @@ include-requires c =
     let count = count-same d (edges_by c.args.solution.now) c.args.net c.frame.result.now.shape (edges_numbered c.gather_net.new.edges.numbers) c.as_slice-pins.result.now
     c.in_ok-count.count (ap (λ (f : Frame). f.shape) c.frame.ensures.frame) c.in_ok-gather_net.ensures.edges
     (c.as_slice-pins.ensures ∙ pins-are d c.args.net c.net.result.now c.net.ensures.net) c.in_ok-count.ensures.count in
-    counted-room d (edges_by c.args.solution.now) c.args.net _ _ _ _ _ c.in_ok-count.count c.frame.ensures.design c.requires.routed count c.requires.tallied.counted
+    counted-room d (edges_by c.args.solution.now) c.args.net _ _ _ _ _ c.in_ok-count.count c.frame.ensures.design c.requires.routed count c.requires.tallied
 
 pub returns-clause-tallied : goal.returns-clause-tallied
 returns-clause-tallied c =
@@ -40,7 +40,10 @@ returns-clause-tallied c =
     let count = count-same d (edges_by c.args.solution.now) c.args.net c.frame.result.now.shape (edges_numbered c.gather_net.new.edges.numbers) c.as_slice-pins.result.now
     c.in_ok-count.count (ap (λ (f : Frame). f.shape) c.frame.ensures.frame) c.in_ok-gather_net.ensures.edges
     (c.as_slice-pins.ensures ∙ pins-are d c.args.net c.net.result.now c.net.ensures.net) c.in_ok-count.ensures.count in
-    let charged = charged-next d (edges_by c.args.solution.now) c.args.net (edges_numbered c.gather_net.new.edges.numbers) c.args.capacity.now c.args.self.now.loads c.charge.new.loads
-    c.requires.routed c.in_ok-gather_net.ensures.edges c.requires.capacity c.charge.ensures.shape c.charge.ensures.demand c.requires.tallied.charged in
-    tallied-next d (edges_by c.args.solution.now) c.args.net c.args.self.now c.include.new.self c.charge.new.loads c.in_ok-count.count c.requires.routed c.in_ok-include.ensures
-    charged count c.requires.tallied
+    tallied-next d (edges_by c.args.solution.now) c.args.net c.args.self.now c.include.new.self c.in_ok-count.count c.requires.routed c.in_ok-include.ensures
+    count c.requires.tallied
+
+pub returns-clause-charged : goal.returns-clause-charged
+returns-clause-charged c =
+    charged-next c.args.design.now (edges_by c.args.solution.now) c.args.net (edges_numbered c.gather_net.new.edges.numbers) c.args.capacity.now c.args.loads.now
+    c.charge.new.loads c.requires.routed c.in_ok-gather_net.ensures.edges c.requires.capacity c.charge.ensures.shape c.charge.ensures.demand c.requires.charged
