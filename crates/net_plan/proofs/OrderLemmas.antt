@@ -329,9 +329,9 @@ none-below points marks lowest v low children is under less u below =
     let inside = (find-some due (length points) 0 v is).0 in
     let before = find-before due (length points) 0 v u is (omega arith) (omega arith) in
     let apart : parent_of points u ≡ v → ⊥ = λ same. (
-      let bound = children.below u (omega arith) in
-      let there = ap (λ (k : ℕ). get_or lowest k 0) same in
-      absurd (omega arith)
+    let bound = children.below u (omega arith) in
+    let there = ap (λ (k : ℕ). get_or lowest k 0) same in
+    absurd (omega arith)
     ) in
     let own : is_marked (set marks v true) u ≡ is_marked marks u = get_or-set_other marks v u true false (λ same. absurd (omega arith)) in
     let above : is_marked (set marks v true) (parent_of points u) ≡ is_marked marks (parent_of points u) =
