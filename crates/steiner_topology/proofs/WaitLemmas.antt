@@ -1,7 +1,7 @@
 -- The first of the points that wait is joined next, and the others wait on.
-use Rattle.std.proofs.Common.{◌≡◌, ℕ, zero, suc, ◌+◌, ◌-◌, ◌<◌, ◌≤◌, ◌⊎◌, inl, inr, Bool, false, cond, nat_lt, Option, Some, None, IfSome, List, [], ◌∷◌, ◌++◌, length, map, take, drop, get_or, set, refl, sym, ap, subst, ◌∙◌, arith}
+use Rattle.std.proofs.Common.{◌≡◌, ℕ, zero, suc, ◌+◌, ◌-◌, ◌<◌, ◌≤◌, ◌⊎◌, inl, inr, Bool, true, false, cond, nat_lt, Option, Some, None, IfSome, List, [], ◌∷◌, ◌++◌, length, map, take, drop, get_or, set, refl, sym, ap, subst, ◌∙◌, arith}
 use Rattle.std.specs.List.{filter_map, flat_map, range_with_len, remove}
-use Rattle.std.proofs.lemmas.Bool.{cases_eq, cases_Bool}
+use Rattle.std.proofs.lemmas.Bool.{cases_eq, cases_lt, cases_Bool}
 use Rattle.std.proofs.lemmas.Bool.Decides.{nat_tests}
 use Rattle.std.proofs.lemmas.Option.{none-some}
 use Rattle.std.proofs.lemmas.List.{length-map, get_or_default, get_or-map, get_or-set_same, get_or-set_other}
@@ -32,18 +32,29 @@ first-none points = record {
   least = λ place below. absurd (omega arith);
 }
 
-pub first-less : (points : List Waiting) (place first : ℕ) (w : Waiting) → IsFirst points place first → first ≤ place → place < length points →
-    w.span < span_at (set points place w) first → IsFirst (set points place w) (place + 1) place
-first-less points place first w so_far low below less =
-    let none = waiting_in 0 (0, 0) 0 0 in
+first-one : (points : List Waiting) (count first : ℕ) → count ≡ 1 → first ≡ 0 → IsFirst points count first
+first-one points count first one none = record {
+  inside = λ some. omega arith;
+  before = λ place below. absurd (omega arith);
+  least = λ place below. let here : place ≡ first = omega arith in let e = ap (span_at points) here in omega arith;
+}
+
+pub span-set : (points : List Waiting) (place : ℕ) (w : Waiting) → place < length points → span_at (set points place w) place ≡ w.span
+span-set points place w below = ap (λ (x : Waiting). x.span) (get_or-set_same points place w (waiting_in 0 (0, 0) 0 0) below)
+
+pub span-kept : (points : List Waiting) (place i : ℕ) (w : Waiting) → i < place → span_at (set points place w) i ≡ span_at points i
+span-kept points place i w before =
+    ap (λ (x : Waiting). x.span) (get_or-set_other points place i w (waiting_in 0 (0, 0) 0 0) (λ is. absurd (omega arith)))
+
+-- one place more is compared
+pub first-less : (points : List Waiting) (place first : ℕ) (w : Waiting) → IsFirst points place first → place < length points →
+    w.span < span_at points first → IsFirst (set points place w) (place + 1) place
+first-less points place first w so_far below less =
     let new = set points place w in
-    let here : span_at new place ≡ w.span = ap (λ (x : Waiting). x.span) (get_or-set_same points place w none below) in
-    let others : (i : ℕ) → (i ≡ place → ⊥) → span_at new i ≡ span_at points i = λ i other. ap (λ (x : Waiting). x.span) (get_or-set_other points place i w none other) in
-    let apart : first ≡ place → ⊥ = λ is. (let e = ap (span_at new) is in absurd (omega arith)) in
+    let here = span-set points place w below in
     let before : (i : ℕ) → i < place → span_at new place < span_at new i = λ i under.
     let least = so_far.least i under in
-    let there = others i (λ is. absurd (omega arith)) in
-    let old = others first apart in
+    let there = span-kept points place i w under in
     omega arith in
     record {
       inside = λ some. omega arith;
@@ -54,31 +65,58 @@ first-less points place first w so_far low below less =
       ];
     }
 
-pub first-kept : (points : List Waiting) (place first : ℕ) (w : Waiting) → IsFirst points place first → first ≤ place → place < length points →
-    span_at (set points place w) first ≤ w.span → IsFirst (set points place w) (place + 1) first
-first-kept points place first w so_far low below more =
-    let none = waiting_in 0 (0, 0) 0 0 in
+first-kept : (points : List Waiting) (place first : ℕ) (w : Waiting) → IsFirst points place first → place < length points → first < place →
+    span_at points first ≤ w.span → IsFirst (set points place w) (place + 1) first
+first-kept points place first w so_far below inside more =
     let new = set points place w in
-    let here : span_at new place ≡ w.span = ap (λ (x : Waiting). x.span) (get_or-set_same points place w none below) in
-    let others : (i : ℕ) → (i ≡ place → ⊥) → span_at new i ≡ span_at points i = λ i other. ap (λ (x : Waiting). x.span) (get_or-set_other points place i w none other) in
+    let here = span-set points place w below in
+    let old = span-kept points place first w inside in
     record {
       inside = λ some. omega arith;
       before = λ i under.
-          let inside : first < place = (let h = so_far.inside in omega arith) in
           let was = so_far.before i under in
-          let there = others i (λ is. absurd (omega arith)) in
-          let old = others first (λ is. absurd (omega arith)) in
+          let there = span-kept points place i w (omega arith) in
           omega arith;
       least = λ i under. elim (cases_eq i place) [
         | inl is ↦ (let e = ap (span_at new) is in omega arith)
         | inr other ↦
-            let inside : first < place = so_far.inside (omega arith) in
             let was = so_far.least i (omega arith) in
-            let there = others i other in
-            let old = others first (λ is. absurd (omega arith)) in
+            let there = span-kept points place i w (omega arith) in
             omega arith
       ];
     }
+
+pub first-stays : (points : List Waiting) (place first : ℕ) (w : Waiting) → IsFirst points place first → first ≤ place → place < length points →
+    w.span ≤ span_at points place → span_at points first ≤ w.span →
+    IsFirst (set points place w) (place + 1) first × (span_at points first ≡ span_at (set points place w) first)
+first-stays points place first w so_far low below shrinks more = elim (cases_lt first place) [
+  | inl inside ↦ (first-kept points place first w so_far below inside more, sym (span-kept points place first w inside))
+  | inr here ↦
+      let inside = so_far.inside in
+      let none : place ≡ 0 = elim (cases_lt 0 place) [
+        | inl some ↦ (let h = inside some in absurd (omega arith))
+        | inr past ↦ omega arith
+      ] in
+      let is : first ≡ place = omega arith in
+      let same = ap (span_at (set points place w)) is in
+      let old = ap (span_at points) is in
+      let set_is = span-set points place w below in
+      (first-one (set points place w) (place + 1) first (omega arith) (omega arith), omega arith)
+]
+
+-- an offer brings no point farther away
+pub nearer-shrinks : (tile : Tile) (parent : ℕ) (w : Waiting) → (nearer tile parent w).span ≤ w.span
+nearer-shrinks tile parent w =
+    let d = distance w.tile tile in
+    elim (cases_Bool (by_number d w.span (nat_lt parent w.parent))) [
+      | inl before ↦
+          let less : d ≤ w.span = no-longer d w.span (nat_lt parent w.parent) before in
+          rw before less
+      | inr after ↦ rw after (omega arith)
+    ]
+  where
+    no-longer : (a b : ℕ) (rest : Bool) → by_number a b rest ≡ true → a ≤ b
+    no-longer a b rest before = grind (arith, nat_tests)
 
 -- the first pair of a point
 abbrev own : List Tile → List Join → ℕ → Option Join

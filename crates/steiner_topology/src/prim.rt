@@ -58,40 +58,36 @@ fn put_waiting(tiles: &[Tile], waiting: &mut Vec<Waiting>) -> Result<(), AllocEr
     Ok(())
 }
 
-/// Offers a joined point as a parent to each point that waits, and gives the first place of the
-/// least distance. Points wait in their order, so the pair there is the one that comes first.
+/// Offers a joined point as a parent to each point that waits, of which there are some, and gives
+/// the first place of the least distance. Points wait in their order, so the pair there is the one
+/// that comes first.
 fn offer(waiting: &mut Vec<Waiting>, tile: Tile, parent: u32) -> usize
+    requires { 0 < vec_len waiting.old }
     ensures waiting { waiting.new.items ≡ map (nearer tile parent) waiting.old.items }
     ensures first { IsFirst waiting.new.items (vec_len waiting.new) result }
 {
     let mut first = 0;
+    // The distance at the first place doesn't grow.
+    let mut least = waiting[0].span;
     for place in 0..waiting.len() {
-        let point = nearer(waiting[place], tile, parent);
-        waiting[place] = point;
-        if point.span < waiting[first].span {
+        bring_nearer(&mut waiting[place], tile, parent);
+        let span = waiting[place].span;
+        if span < least {
+            least = span;
             first = place;
         }
     }
     first
 }
 
-/// The better of a point's pair and its pair with this parent.
-fn nearer(point: Waiting, tile: Tile, parent: u32) -> Waiting
-    ensures { result ≡ nearer tile parent point }
+/// Puts a point into its pair with this parent, where that pair comes before the point's own. Few
+/// points get nearer, so the others aren't written to.
+fn bring_nearer(point: &mut Waiting, tile: Tile, parent: u32)
+    ensures { point.new ≡ nearer tile parent point.old }
 {
     let span = distance(point.tile, tile);
-    let is_before = if span == point.span {
-        parent < point.parent
-    } else {
-        span < point.span
-    };
-    if is_before {
-        Waiting {
-            span,
-            parent,
-            ..point
-        }
-    } else {
-        point
+    if span < point.span || (span == point.span && parent < point.parent) {
+        point.span = span;
+        point.parent = parent;
     }
 }
