@@ -4,7 +4,7 @@ use Rattle.std.specs.List.{range_with_len}
 use Rattle.std.proofs.Math.ListN.{set}
 use Rattle.std.proofs.lemmas.Bool.{cases_eq, cases_lt}
 use Rattle.std.proofs.lemmas.Bool.Decides.{nat_tests}
-use Rattle.std.proofs.lemmas.List.{length-set, get_or-set_same, get_or-set_other, get_or_append_left, get_or_push, take-append-le, take_at, length_push, length-replicate, get_or-replicate}
+use Rattle.std.proofs.lemmas.List.{length-set, get_or-set_same, get_or-set_other, get_or_append_left, get_or_push, take-append-le, take_at, take_all, length_push, length-replicate, get_or-replicate}
 use Rattle.std.proofs.lemmas.List.Elements.{All-get_or}
 use Rattle.std.proofs.lemmas.List.Folds.{list_any-append}
 use Rattle.gr_base.specs.Trees.{is_among}
@@ -12,8 +12,8 @@ use Rattle.steiner_topology.specs.Spanning.{IsTopology, LeadsUp}
 use Rattle.steiner_topology.specs.Spanning.LeadsUp.{root, over}
 use Rattle.steiner_topology.specs.Topology.{point, parent_of}
 use Rattle.steiner_topology.specs.declared.point.Point.{Point}
-use Rattle.net_plan.specs.Orders.{is_handled, is_due, next_due, with_next, order_after, order_of, is_marked}
-use Rattle.net_plan.proofs.RangeLemmas.{find-some, find-none, find-same, count-less, count-none, count-all}
+use Rattle.net_plan.specs.Orders.{is_handled, is_due, next_due, with_next, order_after, order_of, is_marked, AreBelowSome, AreBelowChildren}
+use Rattle.net_plan.proofs.RangeLemmas.{find-some, find-none, find-before, find-same, count-less, count-none, count-all}
 
 -- what has been handled after one more point
 or-shift : (a b c : Bool) → (a || (b || (c || false))) ≡ ((a || b) || c)
@@ -289,3 +289,57 @@ pub order-done : (points : List Point) (order : List ℕ) (marks : List Bool) �
     next_due points (is_marked marks) ≡ None → order ≡ order_of points
 order-done points order marks tree way none =
     sym (order_after-stays (open_count points order) points order (sym (marked-due points order marks tree way.marked) ∙ none)) ∙ way.so_far
+
+-- a lowest number for each point, one child later
+pub lowest-first : (points : List Point) (lowest : List ℕ) → length lowest ≡ length points → AreBelowSome points lowest 0
+lowest-first points lowest size = record { size = size; below = λ child under. absurd (omega arith) }
+
+pub lowest-more : (points : List Point) (lowest : List ℕ) (child low : ℕ) → AreBelowSome points lowest child → parent_of points child < length points →
+    low ≤ child → low ≤ get_or lowest (parent_of points child) 0 → AreBelowSome points (set lowest (parent_of points child) low) (child + 1)
+lowest-more points lowest child low so_far inside under less =
+    let parent = parent_of points child in
+    let within : parent < length lowest = let e = so_far.size in omega arith in
+    record {
+      size = length-set lowest parent low ∙ so_far.size;
+      below = λ c before. elim (cases_eq (parent_of points c) parent) [
+        | inl same ↦
+            let here : get_or (set lowest parent low) (parent_of points c) 0 ≡ low =
+            ap (λ (k : ℕ). get_or (set lowest parent low) k 0) same ∙ get_or-set_same lowest parent low 0 within in
+            elim (cases_eq c child) [
+              | inl last ↦ omega arith
+              | inr earlier ↦
+                  let was = so_far.below c (omega arith) in
+                  let there = ap (λ (k : ℕ). get_or lowest k 0) same in
+                  omega arith
+            ]
+        | inr other ↦
+            let kept = get_or-set_other lowest parent (parent_of points c) low 0 other in
+            let earlier : c ≡ child → ⊥ = λ is. other (ap (parent_of points) is) in
+            let was = so_far.below c (omega arith) in
+            omega arith
+      ];
+    }
+
+-- once the first point that is due has been handled, no lower one is due, but for its children
+pub none-below : (points : List Point) (marks : List Bool) (lowest : List ℕ) (v low : ℕ) → AreBelowChildren points lowest →
+    next_due points (is_marked marks) ≡ Some v → low ≤ v → low ≤ get_or lowest v 0 →
+    (u : ℕ) → u < low → is_due points (is_marked (set marks v true)) u ≡ false
+none-below points marks lowest v low children is under less u below =
+    let due = is_due points (is_marked marks) in
+    let inside = (find-some due (length points) 0 v is).0 in
+    let before = find-before due (length points) 0 v u is (omega arith) (omega arith) in
+    let apart : parent_of points u ≡ v → ⊥ = λ same. (
+    let bound = children.below u (omega arith) in
+    let there = ap (λ (k : ℕ). get_or lowest k 0) same in
+    absurd (omega arith)
+    ) in
+    let own : is_marked (set marks v true) u ≡ is_marked marks u = get_or-set_other marks v u true false (λ same. absurd (omega arith)) in
+    let above : is_marked (set marks v true) (parent_of points u) ≡ is_marked marks (parent_of points u) =
+    get_or-set_other marks v (parent_of points u) true false apart in
+    ap (λ (b : Bool). not b && is_marked (set marks v true) (parent_of points u)) own ∙ ap (λ (b : Bool). not (is_marked marks u) && b) above ∙ before
+
+-- an empty list that is filled up
+pub filled : {X : Type 0} (xs : List X) (count long : ℕ) (x : X) → xs ≡ [] → long ≡ 0 → take count xs ++ replicate (count - long) x ≡ replicate count x
+filled {X} xs count long x none nothing =
+    ap (λ (ys : List X). take count ys ++ replicate (count - long) x) none ∙ ap (λ (ys : List X). ys ++ replicate (count - long) x) (take_all count [] (omega arith)) ∙
+    ap (λ (n : ℕ). replicate n x) (omega arith)

@@ -1,13 +1,13 @@
 -- Tests on the numbers of a range.
 use Rattle.std.proofs.Common.{◌≡◌, ℕ, zero, suc, ◌+◌, ◌-◌, ◌<◌, ◌≤◌, inl, inr, Bool, true, false, Option, Some, None, find, List, [], ◌∷◌, ◌++◌, All, count_by, if◌then◌else◌, refl, sym, ap, ◌∙◌, arith}
 use Rattle.std.specs.List.{range_with_len, list_any}
-use Rattle.std.proofs.lemmas.Bool.{cases_Bool, cases_eq}
+use Rattle.std.proofs.lemmas.Bool.{cases_Bool, cases_eq, cases_lt}
 use Rattle.std.proofs.lemmas.List.Elements.{All-nil, All-cons}
 use Rattle.std.proofs.lemmas.List.Folds.{list_any-append}
 use Rattle.std.proofs.lemmas.List.FromFn.{map-range_with_len_more}
 use Rattle.std.proofs.lemmas.List.Sums.{sum_by-cons}
 use Rattle.std.proofs.lemmas.List.{map-id}
-use Rattle.std.proofs.lemmas.Option.{same_Some}
+use Rattle.std.proofs.lemmas.Option.{none-some, same_Some}
 
 -- what holds of each number of a range
 pub All-range : (P : ℕ → Type 0) (n a : ℕ) → ((k : ℕ) → k < a + n → P k) → All P (range_with_len a n)
@@ -48,11 +48,20 @@ found-later p end a below fails =
 pub found-none : (p : ℕ → Bool) (end a : ℕ) → end ≤ a → find p (range_with_len a (end - a)) ≡ None
 found-none p end a past = let none : end - a ≡ 0 = omega arith in ap (λ (n : ℕ). find p (range_with_len a n)) none
 
+-- where none of the numbers below passes, the search may begin past them
+pub found-from : (p : ℕ → Bool) (end a : ℕ) → ((k : ℕ) → k < a → p k ≡ false) →
+    find p (range_with_len a (end - a)) ≡ find p (range_with_len 0 end)
+found-from p end zero fails = let whole : end - 0 ≡ end = omega arith in ap (λ (n : ℕ). find p (range_with_len 0 n)) whole
+found-from p end (suc a) fails =
+    let rest = found-from p end a (λ k below. fails k (omega arith)) in
+    let next : suc a ≡ a + 1 = omega arith in
+    elim (cases_lt a end) [
+      | inl below ↦ ap (λ (n : ℕ). find p (range_with_len n (end - n))) next ∙ found-later p end a below (fails a (omega arith)) ∙ rest
+      | inr past ↦ found-none p end (suc a) (omega arith) ∙ sym (found-none p end a past) ∙ rest
+    ]
+
 pub find-some : (p : ℕ → Bool) (n a v : ℕ) → find p (range_with_len a n) ≡ Some v → (v < a + n) × (p v ≡ true)
 find-some p zero a v is = absurd (none-some v is)
-  where
-    none-some : (v : ℕ) → ◌≡◌ {A = Option ℕ} None (Some v) → ⊥
-    none-some v e = cc
 find-some p (suc n) a v is =
     elim (cases_Bool (p a)) [
       | inl passes ↦
@@ -62,6 +71,21 @@ find-some p (suc n) a v is =
           let rest = find-some p n (a + 1) v (sym (find-no p n a fails) ∙ is) in
           let below = rest.0 in
           (omega arith, rest.1)
+    ]
+
+-- no number before the first one passes
+pub find-before : (p : ℕ → Bool) (n a v k : ℕ) → find p (range_with_len a n) ≡ Some v → a ≤ k → k < v → p k ≡ false
+find-before p zero a v k is low high = absurd (none-some v is)
+find-before p (suc n) a v k is low high =
+    elim (cases_Bool (p a)) [
+      | inl passes ↦
+          let same : a ≡ v = same_Some a v (sym (find-yes p n a passes) ∙ is) in
+          absurd (omega arith)
+      | inr fails ↦
+          elim (cases_eq a k) [
+            | inl same ↦ ap p (sym same) ∙ fails
+            | inr other ↦ find-before p n (a + 1) v k (sym (find-no p n a fails) ∙ is) (omega arith) high
+          ]
     ]
 
 pub find-none : (p : ℕ → Bool) (n a k : ℕ) → find p (range_with_len a n) ≡ None → a ≤ k → k < a + n → p k ≡ false

@@ -1,5 +1,5 @@
 -- The order in which the points of a topology are joined to a tree.
-use Rattle.std.specs.Prelude.{ℕ, zero, suc, ◌-◌, Bool, false, not, ◌&&◌, ◌||◌, ◌==◌, List, [], ◌∷◌, ◌++◌, length, find, slice_index_or, Option, Some, None}
+use Rattle.std.specs.Prelude.{◌≡◌, ℕ, zero, suc, ◌-◌, ◌<◌, ◌≤◌, Bool, false, not, ◌&&◌, ◌||◌, ◌==◌, List, [], ◌∷◌, ◌++◌, length, find, slice_index_or, Option, Some, None}
 use Rattle.std.specs.List.{range_with_len}
 use Rattle.gr_base.specs.Trees.{is_among}
 use Rattle.steiner_topology.specs.Topology.{parent_of}
@@ -34,3 +34,12 @@ order_of points = order_after (length points - 1) points []
 -- the point is marked
 abbrev pub is_marked : List Bool → ℕ → Bool
 is_marked marks v = slice_index_or marks v false
+
+-- of the first so many points none has a lower number than the one that is kept for its parent
+pub record AreBelowSome (points : List Point) (lowest : List ℕ) (count : ℕ) : Type 0 where
+  pub size : length lowest ≡ length points
+  pub below : (child : ℕ) → child < count → slice_index_or lowest (parent_of points child) 0 ≤ child
+
+-- no child of a point has a lower number than the one that is kept for the point
+abbrev pub AreBelowChildren : List Point → List ℕ → Type 0
+AreBelowChildren points lowest = AreBelowSome points lowest (length points)

@@ -18,13 +18,14 @@ use steiner_topology::Topology;
 const FEW_NODES: usize = 64;
 
 /// What topologies are made trees of, kept from net to net: an index of the tree's nodes, the order
-/// of the points with marks at those that were handled, and a walk. What it holds between two calls
-/// means nothing.
+/// of the points with a mark and a number for each, and a walk. What it holds between two calls means
+/// nothing.
 #[derive(Debug, Drop)]
 pub(crate) struct JoinRoom {
     pub(crate) index: NodeIndex,
     pub(crate) order: Vec<u32>,
     pub(crate) handled: Vec<bool>,
+    pub(crate) lowest: Vec<u32>,
     pub(crate) walk: Vec<u32>,
 }
 
@@ -37,6 +38,7 @@ impl JoinRoom {
             index: NodeIndex::new(alloc, shape.cells())?,
             order: Vec::new(alloc),
             handled: Vec::new(alloc),
+            lowest: Vec::new(alloc),
             walk: Vec::new(alloc),
         })
     }
@@ -58,7 +60,8 @@ pub(crate) fn tree_of<C: Costs>(
     ensures points { IfOk result (λ t. All (λ p. IsTrue (holds t (cell_of_tile shape p.tile))) topology.now) }
     ensures room { length room.new.index ≡ length room.old.index }
 {
-    order_of(topology, &mut room.order, &mut room.handled)?;
+    let lowest = &mut room.lowest;
+    order_of(topology, &mut room.order, &mut room.handled, lowest)?;
     let first = cell_of_tile(shape, topology.tile(0));
     let mut tree = RouteTree::start_with_room(alloc, shape, first, FEW_NODES)?;
     room.index.extend(&tree, 0);

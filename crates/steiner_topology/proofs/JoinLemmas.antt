@@ -1,16 +1,16 @@
 -- The nearest pair of each point tells the next join.
-use Rattle.std.proofs.Common.{◌≡◌, ℕ, zero, suc, ◌+◌, ◌-◌, ◌<◌, ◌≤◌, inl, inr, Bool, true, false, cond, ◌||◌, ◌==◌, Option, Some, None, IfSome, List, [], ◌∷◌, ◌++◌, length, map, filter, flat_map, fold, get_or, set, count_by, All, is_some, refl, sym, ap, subst, ◌∙◌, arith}
+use Rattle.std.proofs.Common.{◌≡◌, ℕ, zero, suc, ◌+◌, ◌-◌, ◌<◌, ◌≤◌, inl, inr, Bool, true, false, cond, ◌||◌, ◌==◌, Option, Some, None, IfSome, List, [], ◌∷◌, ◌++◌, length, map, filter, flat_map, get_or, set, count_by, All, is_some, refl, sym, ap, subst, ◌∙◌, arith}
 use Rattle.std.specs.List.{list_any, range_with_len}
 use Rattle.std.proofs.lemmas.Bool.{cases_eq, cases_Bool}
 use Rattle.std.proofs.lemmas.Bool.Decides.{nat_tests}
 use Rattle.std.proofs.lemmas.List.{length_push, length-set, length-map, get_or-map, get_or-set_same, get_or-set_other}
-use Rattle.std.proofs.lemmas.List.FromFn.{fill_by_all, length-map-range_with_len, get_or-map-range_with_len, map-range_with_len_more}
+use Rattle.std.proofs.lemmas.List.FromFn.{fill_by_all, length-map-range_with_len, get_or-map-range_with_len}
 use Rattle.std.proofs.lemmas.List.Sums.{sum_by-cons, sum_by-set, get_or-le-sum_by}
-use Rattle.std.proofs.lemmas.List.Elements.{All-from_get_or, All-set, All-nil, All-push}
+use Rattle.std.proofs.lemmas.List.Elements.{All-nil, All-push}
 use Rattle.steiner_topology.specs.declared.point.Join.{Join}
 use Rattle.steiner_topology.specs.Tile.{Tile}
 use Rattle.steiner_topology.specs.Joins.{pair, numbers, span, is_before, sooner, soonest, is_joined, pairs_of, open_pairs, with_join, joins_after, joins_of, AreInside, nearest_pairs, offered}
-use Rattle.steiner_topology.proofs.Order.{sooner-first, sooner-kept, sooner-none, sooner-comm, sooner-self, sooner_assoc, before-span}
+use Rattle.steiner_topology.proofs.Order.{sooner-first, sooner-kept, sooner-comm, sooner-self, sooner_assoc, before-span}
 
 pub soonest-append : (tiles : List Tile) (xs ys : List Join) →
     soonest tiles (xs ++ ys) ≡ sooner tiles (soonest tiles xs) (soonest tiles ys)
@@ -18,19 +18,6 @@ soonest-append tiles [] ys = refl
 soonest-append tiles (p ∷ xs) ys =
     ap (sooner tiles (Some p)) (soonest-append tiles xs ys) ∙
     sym (sooner_assoc tiles (Some p) (soonest tiles xs) (soonest tiles ys))
-
--- the first of the firsts of several lists is the first of all
-pub fold-soonest : (tiles : List Tile) (f : ℕ → List Join) (a : Option Join) (vs : List ℕ) →
-    fold (sooner tiles) a (map (λ v. soonest tiles (f v)) vs) ≡ sooner tiles a (soonest tiles (flat_map f vs))
-fold-soonest tiles f a [] = sym (sooner-none tiles a)
-fold-soonest tiles f a (v ∷ vs) =
-    fold-soonest tiles f (sooner tiles a (soonest tiles (f v))) vs ∙
-    sooner_assoc tiles a (soonest tiles (f v)) (soonest tiles (flat_map f vs)) ∙
-    ap (sooner tiles a) (sym (soonest-append tiles (f v) (flat_map f vs)))
-
-pub soonest-nearest : (tiles : List Tile) (joins : List Join) →
-    fold (sooner tiles) None (nearest_pairs tiles joins) ≡ soonest tiles (open_pairs tiles joins)
-soonest-nearest tiles joins = fold-soonest tiles (λ v. pairs_of tiles joins v) None (numbers tiles)
 
 -- what has been taken in already changes nothing when it comes again
 again : (tiles : List Tile) (u a : Option Join) → sooner tiles (sooner tiles u a) u ≡ sooner tiles u a
@@ -140,7 +127,7 @@ is_joined-same joins p = let e = list_any-push (λ q. q.point == p.point) joins 
 pub is_joined-other : (joins : List Join) (p : Join) (v : ℕ) → (v ≡ p.point → ⊥) → is_joined (joins ++ p ∷ []) v ≡ is_joined joins v
 is_joined-other joins p v other = let e = list_any-push (λ q. q.point == v) joins p in grind (arith, nat_tests)
 
-pairs_of-joined : (tiles : List Tile) (joins : List Join) (v : ℕ) → is_joined joins v ≡ true → pairs_of tiles joins v ≡ []
+pub pairs_of-joined : (tiles : List Tile) (joins : List Join) (v : ℕ) → is_joined joins v ≡ true → pairs_of tiles joins v ≡ []
 pairs_of-joined tiles joins v joined = rw joined refl
 
 pairs_of-open : (tiles : List Tile) (joins : List Join) (v : ℕ) → is_joined joins v ≡ false →
@@ -148,7 +135,7 @@ pairs_of-open : (tiles : List Tile) (joins : List Join) (v : ℕ) → is_joined 
 pairs_of-open tiles joins v open_one = rw open_one refl
 
 -- point 0 is joined, so there is a first pair
-nearest-some : (tiles : List Tile) (joins : List Join) (v : ℕ) → is_joined joins v ≡ false → 0 < length tiles →
+pub nearest-some : (tiles : List Tile) (joins : List Join) (v : ℕ) → is_joined joins v ≡ false → 0 < length tiles →
     (i : ℕ) × (soonest tiles (pairs_of tiles joins v) ≡ Some (pair v i))
 nearest-some (t ∷ tiles) joins v open_one some =
     let first = first_with-some (t ∷ tiles) v 0 (filter (λ i. is_joined joins i) (range_with_len 1 (length tiles))) in
@@ -156,7 +143,7 @@ nearest-some (t ∷ tiles) joins v open_one some =
 nearest-some [] joins v open_one some = absurd (omega arith)
 
 -- a point's first pair after one more join
-nearest-more : (tiles : List Tile) (joins : List Join) (p : Join) (v : ℕ) → p.point < length tiles → (v ≡ p.point → ⊥) →
+pub nearest-more : (tiles : List Tile) (joins : List Join) (p : Join) (v : ℕ) → p.point < length tiles → (v ≡ p.point → ⊥) →
     soonest tiles (pairs_of tiles (joins ++ p ∷ []) v) ≡ offered tiles p.point (soonest tiles (pairs_of tiles joins v))
 nearest-more tiles joins p v inside other = elim (cases_Bool (is_joined joins v)) [
   | inl joined ↦
@@ -244,17 +231,16 @@ nearest-open tiles joins v below =
           (λ i inside passes. record { inside = below; not_joined = open_one; parent_inside = omega arith; parent_joined = passes }))
     ]
 
-open-inside : (tiles : List Tile) (joins : List Join) (o : Option Join) → IfSome o (IsOpen tiles joins) → IfSome o (AreInside tiles)
-open-inside tiles joins None opens = tt
-open-inside tiles joins (Some p) opens = (opens.inside, opens.parent_inside)
-
-pub nearest_pairs-inside : (tiles : List Tile) (joins : List Join) →
-    All (λ o. IfSome o (AreInside tiles)) (nearest_pairs tiles joins)
-nearest_pairs-inside tiles joins =
-    let P : Option Join → Type 0 = λ o. IfSome o (AreInside tiles) in
-    All-from_get_or P (nearest_pairs tiles joins) None (λ v below.
-    let small : v < length tiles = let e = length-nearest tiles joins in omega arith in
-    subst P (sym (nearest_at tiles joins v None small)) (open-inside tiles joins (soonest tiles (pairs_of tiles joins v)) (nearest-open tiles joins v small)))
+-- a point's first pair is its own
+pub own-point : (tiles : List Tile) (joins : List Join) (v : ℕ) → IfSome (soonest tiles (pairs_of tiles joins v)) (λ p. p.point ≡ v)
+own-point tiles joins v =
+    let Q : Option Join → Type 0 = λ o. IfSome o (λ p. p.point ≡ v) in
+    elim (cases_Bool (is_joined joins v)) [
+      | inl joined ↦ subst Q (sym (ap (soonest tiles) (pairs_of-joined tiles joins v joined))) tt
+      | inr open_one ↦
+          subst Q (sym (pairs_of-open tiles joins v open_one))
+          (first_with-if tiles v (λ i. is_joined joins i) (λ p. p.point ≡ v) (length tiles) 0 (λ i inside passes. refl))
+    ]
 
 open_pairs-open : (tiles : List Tile) (joins : List Join) (n a : ℕ) → a + n ≤ length tiles →
     IfSome (soonest tiles (flat_map (λ v. pairs_of tiles joins v) (range_with_len a n))) (IsOpen tiles joins)
@@ -359,65 +345,6 @@ open_count-first tiles some =
     ap open_count (nearest_pairs-first tiles some) ∙
     sum_by-cons (λ o. cond (is_some o) 1 0) None (map (λ v. Some (pair v 0)) (range_with_len 1 (length tiles - 1))) ∙
     (let e = open_count-pairs (length tiles - 1) 1 in omega arith)
-
-pub nearest_pairs-push : (n j : ℕ) → 1 ≤ j → n ≡ j →
-    None ∷ map (λ v. Some (pair v 0)) (range_with_len 1 (j - 1)) ++ Some (pair n 0) ∷ [] ≡ None ∷ map (λ v. Some (pair v 0)) (range_with_len 1 (j + 1 - 1))
-nearest_pairs-push n j above is =
-    let f : ℕ → Option Join = λ v. Some (pair v 0) in
-    let more : map f (range_with_len 1 (j - 1 + 1)) ≡ map f (range_with_len 1 (j - 1)) ++ f n ∷ [] = map-range_with_len_more f 1 (j - 1) n (omega arith) in
-    let size : j - 1 + 1 ≡ j + 1 - 1 = omega arith in
-    ap (λ (os : List (Option Join)). None ∷ os) (sym more) ∙ ap (λ (m : ℕ). None ∷ map f (range_with_len 1 m)) size
-
--- the pairs are those of the joins so far, and the first of them is found
-pub found-open : (tiles : List Tile) (joins : List Join) (pairs : List (Option Join)) (p : Join) →
-    pairs ≡ nearest_pairs tiles joins → fold (sooner tiles) None pairs ≡ Some p →
-    (soonest tiles (open_pairs tiles joins) ≡ Some p) × IsOpen tiles joins p
-found-open tiles joins pairs p are is =
-    let next : soonest tiles (open_pairs tiles joins) ≡ Some p =
-    sym (soonest-nearest tiles joins) ∙ ap (fold (sooner tiles) None) (sym are) ∙ is in
-    (next, next-open tiles joins p next)
-
--- what a join changes
-pub record Joined (tiles : List Tile) (joins : List Join) (pairs : List (Option Join)) (p : Join) (new : List (Option Join)) : Type 0 where
-  pub nearest : new ≡ nearest_pairs tiles (joins ++ p ∷ [])
-  pub fewer : open_count new + 1 ≡ open_count pairs
-  pub rest : joins_after (open_count new) tiles (joins ++ p ∷ []) ≡ joins_after (open_count pairs) tiles joins
-
-pub joined : (tiles : List Tile) (joins : List Join) (pairs : List (Option Join)) (p : Join) (new : List (Option Join)) →
-    pairs ≡ nearest_pairs tiles joins → fold (sooner tiles) None pairs ≡ Some p → new ≡ map (offered tiles p.point) (set pairs p.point None) →
-    Joined tiles joins pairs p new
-joined tiles joins pairs p new are is changed =
-    let found = found-open tiles joins pairs p are is in
-    let opens = found.1 in
-    let inside = opens.inside in
-    let count : open_count new ≡ open_count (set (nearest_pairs tiles joins) p.point None) =
-    ap open_count changed ∙ open_count-offered tiles p.point (set pairs p.point None) ∙
-    ap (λ (xs : List (Option Join)). open_count (set xs p.point None)) are in
-    let less = open_count-joined tiles joins p (omega arith) opens in
-    let all = ap open_count are in
-    let fewer : open_count new + 1 ≡ open_count pairs = omega arith in
-    let size : suc (open_count new) ≡ open_count pairs = omega arith in
-    record {
-      nearest = changed ∙ ap (λ (xs : List (Option Join)). map (offered tiles p.point) (set xs p.point None)) are ∙ nearest_pairs-more tiles joins p inside;
-      fewer = fewer;
-      rest = sym (joins_after-more (open_count new) tiles joins p found.0) ∙ ap (λ (n : ℕ). joins_after n tiles joins) size;
-    }
-
--- the pairs are inside, also with one of them taken out
-pub pairs-inside : (tiles : List Tile) (joins : List Join) (pairs : List (Option Join)) → pairs ≡ nearest_pairs tiles joins →
-    All (λ o. IfSome o (AreInside tiles)) pairs
-pairs-inside tiles joins pairs are =
-    let P : List (Option Join) → Type 0 = λ xs. All (λ o. IfSome o (AreInside tiles)) xs in
-    subst P (sym are) (nearest_pairs-inside tiles joins)
-
-pub rest-inside : (tiles : List Tile) (joins : List Join) (pairs : List (Option Join)) (v : ℕ) → pairs ≡ nearest_pairs tiles joins →
-    All (λ o. IfSome o (AreInside tiles)) (set pairs v None)
-rest-inside tiles joins pairs v are =
-    let Q : Option Join → Type 0 = λ o. IfSome o (AreInside tiles) in
-    All-set Q pairs v None tt (pairs-inside tiles joins pairs are)
-
-pub length-pairs : (tiles : List Tile) (joins : List Join) (pairs : List (Option Join)) → pairs ≡ nearest_pairs tiles joins → length pairs ≡ length tiles
-length-pairs tiles joins pairs are = ap length are ∙ length-nearest tiles joins
 
 with_join-all : (tiles : List Tile) (joins : List Join) (P : Join → Type 0) → ((p : Join) → IsOpen tiles joins p → P p) →
     (o : Option Join) → All P joins → IfSome o (IsOpen tiles joins) → All P (with_join joins o)

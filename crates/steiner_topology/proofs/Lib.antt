@@ -1,5 +1,6 @@
 pub mod Order
 pub mod JoinLemmas
+pub mod WaitLemmas
 pub mod TopologyLemmas
 pub mod MedianLemmas
 pub mod TreeLemmas

@@ -7,7 +7,7 @@ use Rattle.steiner_topology.specs.Tile.{Tile}
 use Rattle.steiner_topology.specs.Joins.{pair, span, by_number, is_before, sooner}
 
 -- a comparison by number, and what it leaves to the rest
-by_less : (a b : ℕ) (rest : Bool) → a < b → by_number a b rest ≡ true
+pub by_less : (a b : ℕ) (rest : Bool) → a < b → by_number a b rest ≡ true
 by_less a b rest less = grind (arith, nat_tests)
 
 by_more : (a b : ℕ) (rest : Bool) → b < a → by_number a b rest ≡ false

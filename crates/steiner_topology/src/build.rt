@@ -37,7 +37,7 @@ pub fn topology(
     ensures shortest { IfOk result (IsShortest tiles.now) }
     ensures least { length tiles.now ≡ 3 → IfOk result (IsLeast tiles.now) }
 {
-    joins_of(tiles, &mut room.nearest, &mut room.joins)?;
+    joins_of(tiles, &mut room.waiting, &mut room.joins)?;
     let points = mem::replace(&mut room.points, Vec::new(alloc));
     build(alloc, tiles, &room.joins, points, &mut room.children)
 }

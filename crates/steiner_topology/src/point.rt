@@ -14,3 +14,13 @@ pub struct Join {
     pub point: u32,
     pub parent: u32,
 }
+
+/// A point that waits to be joined to a tree, its tile, the point of the tree that it is to be
+/// joined to, and the distance between the two.
+#[derive(Clone, Copy, Debug)]
+pub(crate) struct Waiting {
+    pub(crate) span: u64,
+    pub(crate) tile: Tile,
+    pub(crate) point: u32,
+    pub(crate) parent: u32,
+}

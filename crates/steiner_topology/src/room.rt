@@ -1,5 +1,5 @@
 use crate::children::Children;
-use crate::point::{Join, Point};
+use crate::point::{Join, Point, Waiting};
 use crate::tree::Topology;
 use std::alloc::Global;
 
@@ -7,7 +7,7 @@ use std::alloc::Global;
 /// nothing.
 #[derive(Debug, Drop)]
 pub struct TopologyRoom {
-    pub(crate) nearest: Vec<Option<Join>>,
+    pub(crate) waiting: Vec<Waiting>,
     pub(crate) joins: Vec<Join>,
     pub(crate) children: Vec<Children>,
     pub(crate) points: Vec<Point>,
@@ -17,7 +17,7 @@ impl TopologyRoom {
     /// Room that takes no memory yet.
     pub fn new(alloc: Global) -> TopologyRoom {
         TopologyRoom {
-            nearest: Vec::new(alloc),
+            waiting: Vec::new(alloc),
             joins: Vec::new(alloc),
             children: Vec::new(alloc),
             points: Vec::new(alloc),

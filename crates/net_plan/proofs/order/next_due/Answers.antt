@@ -1,7 +1,10 @@
 use Rattle.std.proofs.Common.{◌<◌, length, sym, ◌∙◌, arith}
 use Rattle.net_plan.specs.Orders.{is_marked, is_due}
-use Rattle.net_plan.proofs.RangeLemmas.{found-later}
+use Rattle.net_plan.proofs.RangeLemmas.{found-later, found-from}
 use Rattle.net_plan.proofs.order.next_due.Goals as goal
+
+pub loop-point-init : goal.loop-point-init
+loop-point-init c = found-from (is_due c.args.topology.now (is_marked c.args.handled.now)) (length c.args.topology.now) c.args.from c.requires.none_below
 
 pub loop-point-preserved : goal.loop-point-preserved
 loop-point-preserved c =

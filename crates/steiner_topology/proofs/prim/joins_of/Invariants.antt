@@ -1,13 +1,9 @@
-use Rattle.std.proofs.Common.{◌≡◌}
-use Rattle.steiner_topology.specs.Joins.{nearest_pairs, joins_after, joins_of}
-use Rattle.steiner_topology.proofs.JoinLemmas.{open_count}
+use Rattle.std.proofs.Common.{length}
+use Rattle.steiner_topology.proofs.WaitLemmas.{IsWaiting}
 use Rattle.steiner_topology.proofs.prim.joins_of.Given as goal
 
-abbrev pub invariant-loop-join : goal.invariant-loop-join
-invariant-loop-join l = record {
-  nearest : l.nearest.items ≡ nearest_pairs l.tiles l.joins.items;
-  rest : joins_after (open_count l.nearest.items) l.tiles l.joins.items ≡ joins_of l.tiles;
-}
+abbrev pub invariant-loop-waiting : goal.invariant-loop-waiting
+invariant-loop-waiting l = IsWaiting l.tiles l.joins.items l.point l.waiting.items
 
-abbrev pub decreases-loop-join : goal.decreases-loop-join
-decreases-loop-join l = open_count l.nearest.items
+abbrev pub decreases-loop-waiting : goal.decreases-loop-waiting
+decreases-loop-waiting l = length l.waiting.items
