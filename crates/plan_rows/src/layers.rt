@@ -1,12 +1,27 @@
+ghost use Rattle.std.specs.Prelude.{◌≡◌};
+ghost use Rattle.layer_assign.specs.Assignments.{IsFlat};
+
 use crate::priced::Priced;
 use gr_base::{Edge, RouteTree, Shape, Way};
 use layer_assign::{LayerRoom, assign, raise};
+use std::process::Abort;
+
+/// A grid with three layers, and its floor.
+fn grids(rt: &impl Abort, columns: u32, rows: u32) -> (Shape, Shape)
+    ensures columns { result.0.columns ≡ columns }
+    ensures rows { result.0.rows ≡ rows }
+    ensures layers { result.0.layers ≡ 3 }
+    ensures floor { IsFlat result.0 result.1 }
+{
+    let shape = Shape::new(columns, rows, 3).expect(rt, "a grid");
+    let floor = Shape::new(columns, rows, 1).expect(rt, "a floor");
+    (shape, floor)
+}
 
 #[test]
 fn a_wire_climbs_to_a_cheaper_layer(rt: HostRuntime) {
     let alloc = rt.alloc();
-    let shape = Shape::new(2, 1, 3).expect(&rt, "a grid");
-    let floor = Shape::new(2, 1, 1).expect(&rt, "a floor");
+    let (shape, floor) = grids(&rt, 2, 1);
     let mut room = LayerRoom::new(alloc, shape).expect(&rt, "memory");
     let mut flat = RouteTree::start(alloc, floor, 0).expect(&rt, "memory");
     flat.attach(&[1, 0]).expect(&rt, "memory");
@@ -27,8 +42,7 @@ fn a_wire_climbs_to_a_cheaper_layer(rt: HostRuntime) {
 #[test]
 fn the_first_least_assignments_of_a_star(rt: HostRuntime) {
     let alloc = rt.alloc();
-    let shape = Shape::new(3, 2, 3).expect(&rt, "a grid");
-    let floor = Shape::new(3, 2, 1).expect(&rt, "a floor");
+    let (shape, floor) = grids(&rt, 3, 2);
     let mut room = LayerRoom::new(alloc, shape).expect(&rt, "memory");
     let mut flat = RouteTree::start(alloc, floor, 1).expect(&rt, "memory");
     flat.attach(&[0, 1]).expect(&rt, "memory");
@@ -59,8 +73,7 @@ fn the_first_least_assignments_of_a_star(rt: HostRuntime) {
 #[test]
 fn a_lone_tile_climbs_between_its_pins(rt: HostRuntime) {
     let alloc = rt.alloc();
-    let shape = Shape::new(1, 1, 3).expect(&rt, "a grid");
-    let floor = Shape::new(1, 1, 1).expect(&rt, "a floor");
+    let (shape, floor) = grids(&rt, 1, 1);
     let mut room = LayerRoom::new(alloc, shape).expect(&rt, "memory");
     let flat = RouteTree::start(alloc, floor, 0).expect(&rt, "memory");
     let costs = Priced::but_one(shape, 1, 1);

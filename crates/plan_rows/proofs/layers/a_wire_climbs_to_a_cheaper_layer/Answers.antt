@@ -5,4 +5,4 @@ use Rattle.plan_rows.proofs.layers.a_wire_climbs_to_a_cheaper_layer.Goals as goa
 pub assign-requires-clause-layers : goal.assign-requires-clause-layers
 assign-requires-clause-layers g c =
     let tree : IsTree c.attach.new.self = search in
-    open_layers c.expect-shape.result c.attach.new.self tree
+    open_layers c.grids.result.0 c.attach.new.self tree
