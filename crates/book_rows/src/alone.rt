@@ -19,23 +19,46 @@ use std::thread::Threads;
 /// More entries than a block of a history has.
 const MANY: u64 = 1025;
 
+/// What is done with a book.
+#[derive(Clone, Copy)]
+enum Act {
+    /// Makes these calls, and prints the replies.
+    Play(&'static [Step]),
+    /// Adds marks until the history has this length.
+    MarkTo(u64),
+    Follow,
+    Look,
+    LookBack(u64),
+}
+
 /// The nets take turns on the edge.
-const TURNS: [Step; 4] = [
-    Step::Claim(Which::A, Some(0)),
-    Step::Claim(Which::B, Some(0)),
-    Step::Claim(Which::A, Some(0)),
-    Step::Mark,
+const TURNS: [Act; 7] = [
+    Act::Play(&[
+        Step::Claim(Which::A, Some(0)),
+        Step::Claim(Which::B, Some(0)),
+        Step::Claim(Which::A, Some(0)),
+        Step::Mark,
+    ]),
+    Act::Follow,
+    Act::Play(&[
+        Step::Release(Which::A),
+        Step::Release(Which::A),
+        Step::Claim(Which::B, Some(0)),
+    ]),
+    Act::Follow,
+    Act::Look,
+    Act::LookBack(4),
+    Act::LookBack(7),
 ];
 
-/// The turns after them.
-const LATER: [Step; 3] = [
-    Step::Release(Which::A),
-    Step::Release(Which::A),
-    Step::Claim(Which::B, Some(0)),
+/// Both nets lie on the edge, beyond its capacity, and the book is marked again and again.
+const MARKS: [Act; 5] = [
+    Act::Play(&[Step::Claim(Which::A, None), Step::Claim(Which::B, None)]),
+    Act::MarkTo(500),
+    Act::Follow,
+    Act::MarkTo(MANY),
+    Act::Follow,
 ];
-
-/// Both nets lie on the edge, beyond its capacity.
-const BOTH: [Step; 2] = [Step::Claim(Which::A, None), Step::Claim(Which::B, None)];
 
 /// Prints what the book answers, and what is read of it.
 pub(crate) fn show<R: Threads + Print + Sync>(rt: &R, alloc: Global) -> io::Result<()> {
@@ -53,74 +76,50 @@ fn over<R: Threads + Print + Sync>(
     requires { AreOfTwo (capacity_of design.now) design.now tree.now }
 {
     let capacity = Capacity::of(alloc, design)?;
-    take_turns(rt, alloc, design, &capacity, tree)?;
-    grow(rt, alloc, design, &capacity, tree)
+    for acts in [TURNS.as_slice(), MARKS.as_slice()] {
+        game(rt, alloc, design, &capacity, tree, acts)?;
+    }
+    Ok(())
 }
 
-/// The nets take turns.
-fn take_turns<R: Threads + Print + Sync>(
+/// What is done with a new book, in turn.
+fn game<R: Threads + Print + Sync>(
     rt: &R,
     alloc: Global,
     design: &Design,
     capacity: &Capacity,
     tree: &RouteTree,
+    acts: &[Act],
 ) -> io::Result<()>
     requires { AreOfTwo capacity.now design.now tree.now }
 {
     let mut book = BookState::new(alloc, design)?;
-    turns(rt, alloc, &mut book, design, capacity, tree)
+    for act in acts {
+        perform(rt, alloc, &mut book, design, capacity, tree, *act)?;
+    }
+    Ok(())
 }
 
-fn turns<R: Threads + Print + Sync>(
+fn perform<R: Threads + Print + Sync>(
     rt: &R,
     alloc: Global,
     book: &mut BookState,
     design: &Design,
     capacity: &Capacity,
     tree: &RouteTree,
+    act: Act,
 ) -> io::Result<()>
     requires of_two { AreOfTwo capacity.now design.now tree.now }
     requires book { book.old.capacity ≡ capacity.now }
+    ensures { book.new.capacity ≡ book.old.capacity }
 {
-    play(rt, alloc, book, tree, &TURNS)?;
-    follow(rt, alloc, book, design, capacity)?;
-    play(rt, alloc, book, tree, &LATER)?;
-    follow(rt, alloc, book, design, capacity)?;
-    look(rt, book)?;
-    look_back(rt, book, capacity, 4)?;
-    look_back(rt, book, capacity, 7)
-}
-
-/// The book is marked again and again.
-fn grow<R: Print>(
-    rt: &R,
-    alloc: Global,
-    design: &Design,
-    capacity: &Capacity,
-    tree: &RouteTree,
-) -> io::Result<()>
-    requires { AreOfTwo capacity.now design.now tree.now }
-{
-    let mut book = BookState::new(alloc, design)?;
-    marks(rt, alloc, &mut book, design, capacity, tree)
-}
-
-fn marks<R: Print>(
-    rt: &R,
-    alloc: Global,
-    book: &mut BookState,
-    design: &Design,
-    capacity: &Capacity,
-    tree: &RouteTree,
-) -> io::Result<()>
-    requires of_two { AreOfTwo capacity.now design.now tree.now }
-    requires book { book.old.capacity ≡ capacity.now }
-{
-    play(rt, alloc, book, tree, &BOTH)?;
-    mark_to(book, 500)?;
-    follow(rt, alloc, book, design, capacity)?;
-    mark_to(book, MANY)?;
-    follow(rt, alloc, book, design, capacity)
+    match act {
+        Act::Play(steps) => play(rt, alloc, book, tree, steps),
+        Act::MarkTo(wanted) => Ok(mark_to(book, wanted)?),
+        Act::Follow => follow(rt, alloc, book, design, capacity),
+        Act::Look => look(rt, book),
+        Act::LookBack(front) => look_back(rt, book, capacity, front),
+    }
 }
 
 /// Prints the reply to each of these calls.

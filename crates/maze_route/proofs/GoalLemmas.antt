@@ -158,18 +158,20 @@ found-first p t ways price aim marks label ends first prices finds marked free b
       goal = first-goal (pane_graph p t price) (rest_of p aim) label finds.bound ends first (pane-rest p t ways price aim prices) finds.guided is low free;
     }
 
--- the same, from what is known of each list of the goals' numbers
-pub found-of : (p : Pane) (t : TreeView) (ways : ℕ → Way → Bool) (price : Edge → Option ℕ) (aim : Aim) (marks : List Bool) (label : ℕ → Option ℕ)
-    (goals ends boxed marked : List ℕ) (o : Option Reached) (first : Reached) → ArePrices p.grid ways price →
-    Finds (pane_graph p t price) (rest_of p aim) marks label → ends ≡ map (local_of p) goals → boxed ≡ ends → marked ≡ ends →
-    ((n : ℕ) → is_marked marks n ≡ is_among marked n) → ((end : ℕ) → IsTrue (is_among boxed end) → rest_of p aim end ≡ 0) →
-    LieIn p.grid p.window goals → IsFirstOf label ends o → o ≡ Some first → Found p t price aim label ends first
-found-of p t ways price aim marks label goals ends boxed marked o first prices finds are as_boxed as_marked of_marks of_box inside is found =
-    found-first p t ways price aim marks label ends first prices finds
-    (λ n. of_marks n ∙ ap (λ (xs : List ℕ). is_among xs n) as_marked)
-    (λ end among. of_box end (ap (λ (xs : List ℕ). is_among xs end) as_boxed ∙ among))
+-- the same, from what is known of each list of the goals' numbers, and of the marks
+pub found-of : (p : Pane) (t : TreeView) (grid : Shape) (ways : ℕ → Way → Bool) (price : Edge → Option ℕ) (aim : Aim) (marks made : List Bool) (label : ℕ → Option ℕ)
+    (goals ends boxed marked kept : List ℕ) (o : Option Reached) (first : Reached) → grid ≡ p.grid → ArePrices grid ways price →
+    Finds (pane_graph p t price) (rest_of p aim) marks label → boxed ≡ kept → marked ≡ kept → ends ≡ kept → kept ≡ map (local_of p) goals →
+    marks ≡ made → ((n : ℕ) → is_marked made n ≡ is_among marked n) → ((end : ℕ) → IsTrue (is_among boxed end) → rest_of p aim end ≡ 0) →
+    LieIn p.grid p.window goals → IsFirstOf label ends o → o ≡ Some first → Found p t price aim label (map (local_of p) goals) first
+found-of p t grid ways price aim marks made label goals ends boxed marked kept o first on_grid given finds as_boxed as_marked as_ends kept_are marks_are of_marks of_box inside is found =
+    let are = as_ends ∙ kept_are in
+    subst (λ (xs : List ℕ). Found p t price aim label xs first) are
+    (found-first p t ways price aim marks label ends first (subst (λ (g : Shape). ArePrices g ways price) on_grid given) finds
+    (λ n. ap (λ (xs : List Bool). is_marked xs n) marks_are ∙ of_marks n ∙ ap (λ (xs : List ℕ). is_among xs n) (as_marked ∙ sym as_ends))
+    (λ end among. of_box end (ap (λ (xs : List ℕ). is_among xs end) (as_boxed ∙ sym as_ends) ∙ among))
     (subst (λ (xs : List ℕ). All (λ e. e < size_of p) xs) (sym are) (locals-below p goals (size_of p) refl inside))
-    (subst (λ (r : Option Reached). IsFirstOf label ends r) found is)
+    (subst (λ (r : Option Reached). IsFirstOf label ends r) found is))
 
 pub some-locals : (p : Pane) (goals : List ℕ) → 0 < length goals → 0 < length (map (local_of p) goals)
 some-locals p [] some = absurd (omega arith)

@@ -1,13 +1,14 @@
 -- The turns of a search.
-use Rattle.std.proofs.Common.{◌≡◌, ℕ, ◌+◌, ◌<◌, ◌≤◌, inl, inr, Bool, true, false, List, [], ◌∷◌, length, Option, Some, None, IfSome, IsSome, IsSomeAnd, Contains, if◌then◌else◌, refl, sym, ap, subst, ◌∙◌, arith}
+use Rattle.std.proofs.Common.{◌≡◌, ℕ, ◌+◌, ◌<◌, ◌≤◌, inl, inr, Bool, true, false, List, [], ◌∷◌, length, Option, Some, None, IfSome, IsSome, IsSomeAnd, Contains, get_or, if◌then◌else◌, refl, sym, ap, subst, ◌∙◌, arith}
 use Rattle.std.proofs.lemmas.Bool.{both_ways}
 use Rattle.std.proofs.lemmas.Bool.Decides.{nat_tests}
-use Rattle.std.proofs.lemmas.Option.{same_Some, slice_get_past}
+use Rattle.std.proofs.lemmas.Option.{same_Some, slice_get_past, unwrap_or-slice_get}
 use Rattle.std.proofs.lemmas.List.Elements.{All-contains}
 use Rattle.std.proofs.lemmas.List.Sorted.{Contains-permutation, length_permutation}
 use Rattle.cost_rules.specs.Prices.{ArePrices}
 use Rattle.gr_base.specs.declared.grid.Cell.{Cell}
 use Rattle.gr_base.specs.declared.grid.Edge.{Edge}
+use Rattle.gr_base.specs.declared.grid.Shape.{Shape}
 use Rattle.gr_base.specs.declared.grid.Way.{Way}
 use Rattle.gr_base.specs.Trees.{TreeView}
 use Rattle.maze_route.specs.Labels.{label_from}
@@ -106,14 +107,27 @@ next-near : (nearest next : Option ℕ) (marked : Bool) (key : ℕ) → next ≡
 next-near nearest next true key is_next small near = let P : Option ℕ → Type 0 = λ o. IfSome o (λ distance. distance ≤ most_distance) in subst P (sym is_next) (small refl)
 next-near nearest next false key is_next small near = let P : Option ℕ → Type 0 = λ o. IfSome o (λ distance. distance ≤ most_distance) in subst P (sym is_next) near
 
--- the turn of a pair whose cell is settled
-pub settled-turn : (p : Pane) (t : TreeView) (ways : ℕ → Way → Bool) (price : Edge → Option ℕ) (aim : Aim) (marks : List Bool) (nearest next : Option ℕ) (marked : Bool)
-    (front after : Front) (queue : QueueView) (key cell cost : ℕ) → ArePrices p.grid ways price →
+-- a spot's distance is its cell's
+pub spot-rest : (p : Pane) (aim : Aim) (spot : Spot) (cell rest : ℕ) → IsSpot p spot → spot.local ≡ cell → rest ≡ steps_to aim spot.place → rest ≡ rest_of p aim cell
+spot-rest p aim spot cell rest is local tiles =
+    let f : Cell → ℕ = λ q. steps_to aim q in
+    tiles ∙ ap f is.place ∙ ap (λ (n : ℕ). rest_of p aim n) local
+
+-- the turn of a pair whose cell, at this spot, is settled
+pub settled-turn : (p : Pane) (t : TreeView) (grid : Shape) (ways : ℕ → Way → Bool) (price : Edge → Option ℕ) (aim : Aim) (marks : List Bool) (nearest next : Option ℕ)
+    (front after : Front) (queue : QueueView) (spot : Spot) (key cell cost steps : ℕ) → grid ≡ p.grid → ArePrices grid ways price →
     IsTurn (pane_graph p t price) (rest_of p aim) marks (size_of p) nearest front → IsPopped key cell front.queue queue →
-    labels_of front cell ≡ Some cost → key ≤ cost + rest_of p aim cell → is_marked marks cell ≡ marked → next ≡ (if marked then Some key else nearest) →
-    ((n : ℕ) → is_marked marks n ≡ true → rest_of p aim n ≡ 0) → HandsOn p price aim cell cost (left_of front queue) after →
+    labels_of front cell ≡ Some cost → IsSpot p spot → spot.local ≡ cell → steps ≡ steps_to aim spot.place → key ≤ cost + steps →
+    next ≡ (if get_or marks cell false then Some key else nearest) → ((n : ℕ) → is_marked marks n ≡ true → rest_of p aim n ≡ 0) →
+    HandsOn p price aim spot.local cost (left_of front queue) after →
     (IsTurn (pane_graph p t price) (rest_of p aim) marks (size_of p) next after) × (weight_of after < weight_of front)
-settled-turn p t ways price aim marks nearest next marked front after queue key cell cost prices turn popped is fresh mark is_next aims spreads =
+settled-turn p t grid ways price aim marks nearest next front after queue spot key cell cost steps on_grid given turn popped is at local steps_are due is_next aims handed =
+    let prices = subst (λ (g : Shape). ArePrices g ways price) on_grid given in
+    let spreads = subst (λ (n : ℕ). HandsOn p price aim n cost (left_of front queue) after) local handed in
+    let rest = spot-rest p aim spot cell steps at local steps_are in
+    let fresh : key ≤ cost + rest_of p aim cell = omega (arith, due, rest) in
+    let marked = get_or marks cell false in
+    let mark : is_marked marks cell ≡ marked = unwrap_or-slice_get marks cell false in
     let graph = pane_graph p t price in
     let none = no-label front (size_of p) turn.size_is in
     let opened = open-taken graph (rest_of p aim) (labels_of front) front.queue.pairs queue.pairs (size_of p) key cell turn.searching none (taken-by key cell front.queue queue popped) in
@@ -174,9 +188,3 @@ end-turn graph rest marks size nearest front consistent aims turn empty can =
       guided = guided;
       goal = record { goal = can.goal; marked = can.marked; low = guided-low graph rest (labels_of front) can.cost consistent guided can.goal can.cost can.walk (omega arith) };
     }
-
--- a spot's distance is its cell's
-pub spot-rest : (p : Pane) (aim : Aim) (spot : Spot) (cell rest : ℕ) → IsSpot p spot → spot.local ≡ cell → rest ≡ steps_to aim spot.place → rest ≡ rest_of p aim cell
-spot-rest p aim spot cell rest is local tiles =
-    let f : Cell → ℕ = λ q. steps_to aim q in
-    tiles ∙ ap f is.place ∙ ap (λ (n : ℕ). rest_of p aim n) local

@@ -1,14 +1,16 @@
-ghost use Rattle.std.specs.Prelude.{◌≡◌, ◌<◌, ◌≤◌, [], All, length, take, IfOk, IfSome};
+ghost use Rattle.std.specs.Prelude.{◌≡◌, ◌<◌, ◌≤◌, [], ◌∷◌, All, length, take, IfOk};
 ghost use Rattle.std.specs.List.{Any};
-ghost use Rattle.gr_base.specs.Designs.{IsFrame, IsLayer};
+ghost use Rattle.gr_base.specs.Designs.{IsFrame, IsLayer, IsAdjustment, with_adjustment};
+ghost use Rattle.gr_base.specs.Limits.{most_adjustments};
+ghost use Rattle.gr_base.specs.declared.grid.Way.TheVariants.{East};
 ghost use Rattle.gr_base.specs.Grid.{cells_of};
 ghost use Rattle.gr_base.specs.declared.frame.Layer.{Layer as LayerView};
-ghost use Rattle.gr_base.specs.declared.grid.Way.TheVariants.{East};
 ghost use Rattle.net_plan.specs.Prices.{HasBoundedDemand};
 
 use gr_base::{Adjustment, Cells, Design, Edge, Frame, Layer, Name, Net, Shape, Way};
 use grid_demand::{Capacity, Loads};
 use std::alloc::{AllocError, Global};
+use std::process::Abort;
 
 /// A layer for wires along rows.
 pub(crate) const ALONG_ROWS: Layer = Layer {
@@ -123,51 +125,59 @@ pub(crate) fn open_frame(columns: u32) -> Frame
 }
 
 /// A design with one net, of this width.
-pub(crate) fn design(alloc: Global, frame: Frame, width: u32, pins: &[u32]) -> Option<Design>
+pub(crate) fn design(
+    rt: &impl Abort,
+    alloc: Global,
+    frame: Frame,
+    width: u32,
+    pins: &[u32],
+) -> Design
     requires frame { IsFrame frame }
     requires width { width ≤ 10 }
     requires some { 0 < length pins.now }
     requires few { length pins.now ≤ 1000 }
     requires pins { All (λ pin. pin < cells_of frame.shape) pins.now }
-    ensures frame { IfSome result (λ d. d.frame ≡ frame) }
-    ensures adjustments { IfSome result (λ d. d.adjustments ≡ []) }
+    ensures frame { result.frame ≡ frame }
+    ensures adjustments { result.adjustments ≡ [] }
 {
-    let Ok(mut design) = Design::new(alloc, frame) else {
-        return None;
-    };
-    let Ok(name) = Name::from_bytes(alloc, b"a") else {
-        return None;
-    };
+    let mut design = Design::new(alloc, frame).expect(rt, "memory");
+    let net = net(alloc, width, pins).expect(rt, "memory");
+    design.push_net(net).expect(rt, "memory");
+    design
+}
+
+/// A net of this width.
+fn net(alloc: Global, width: u32, pins: &[u32]) -> Result<Net, AllocError>
+    ensures name { IfOk result (λ n. n.name ≡ 97 ∷ []) }
+    ensures id { IfOk result (λ n. n.id ≡ 0) }
+    ensures width { IfOk result (λ n. n.width ≡ width) }
+    ensures pins { IfOk result (λ n. n.pins ≡ pins.now) }
+{
+    let name = Name::from_bytes(alloc, b"a")?;
     let mut cells = Cells::new(alloc);
     for &pin in pins {
-        let Ok(()) = cells.push(pin) else {
-            return None;
-        };
+        cells.push(pin)?;
     }
-    let net = Net {
+    Ok(Net {
         name,
         id: 0,
         width,
         pins: cells,
-    };
-    let Ok(()) = design.push_net(net) else {
-        return None;
-    };
-    Some(design)
+    })
 }
 
-/// An adjustment of the edge of cells 0 and 1.
-pub(crate) fn narrowed(capacity: u32) -> Adjustment
-    ensures edge { result.edge ≡ record { low = 0; way = East } }
-    ensures capacity { result.capacity ≡ capacity }
+/// Gives the edge of cells 0 and 1 this capacity.
+pub(crate) fn narrow(rt: &impl Abort, design: &mut Design, capacity: u32)
+    requires adjustment { IsAdjustment design.old.frame.shape (record { edge = record { low = 0; way = East }; capacity = capacity }) }
+    requires room { length design.old.adjustments < most_adjustments }
+    ensures { design.new ≡ with_adjustment (record { edge = record { low = 0; way = East }; capacity = capacity }) design.old }
 {
-    Adjustment {
-        edge: Edge {
-            low: 0,
-            way: Way::East,
-        },
-        capacity,
-    }
+    let edge = Edge {
+        low: 0,
+        way: Way::East,
+    };
+    let adjustment = Adjustment { edge, capacity };
+    design.push_adjustment(adjustment).expect(rt, "memory");
 }
 
 /// Loads without demand and marks.

@@ -1,11 +1,10 @@
 use crate::priced::Priced;
 use gr_base::Shape;
 use pattern_route::pattern;
-use std::test::Fail;
 
 #[test]
-fn the_first_least_walk_is_taken(rt: HostRuntime) -> Result<(), Fail> {
-    let shape = Shape::new(3, 2, 1).ok_or("a grid")?;
+fn the_first_least_walk_is_taken(rt: HostRuntime) {
+    let shape = Shape::new(3, 2, 1).expect(&rt, "a grid");
     assert_eq!(rt; shape.cells(), 6);
     assert_eq!(rt; shape.layers(), 1);
     for (cost, a, b, cells) in [
@@ -14,16 +13,9 @@ fn the_first_least_walk_is_taken(rt: HostRuntime) -> Result<(), Fail> {
         (1, 5, 0, [5, 2, 1, 0].as_slice()),
         (9, 4, 4, [4].as_slice()),
     ] {
-        let costs = Priced {
-            shape,
-            factor: 0,
-            low: 0,
-            high: 3,
-            cost,
-        };
+        let costs = Priced::but_one(shape, 3, cost);
         let mut walk = Vec::new(rt.alloc());
-        pattern(&costs, shape, a, b, &mut walk)?;
+        pattern(&costs, shape, a, b, &mut walk).expect(&rt, "memory");
         assert_eq!(rt; walk.as_slice(), cells);
     }
-    Ok(())
 }

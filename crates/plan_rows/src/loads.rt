@@ -1,12 +1,12 @@
 //! Capacity and loads.
-ghost use Rattle.std.specs.Prelude.{◌≡◌, IfSome, IfOk};
+ghost use Rattle.std.specs.Prelude.{◌≡◌, IfOk};
 ghost use Rattle.grid_demand.specs.LoadSums.{no_loads, added, marked};
 
-use crate::designs::{ALONG_COLUMNS, ALONG_ROWS, narrowed, small_frame_of};
-use gr_base::{Cells, Design, Edge, Layer, Name, Net, RouteTree, Shape, Way};
+use crate::designs::{ALONG_COLUMNS, ALONG_ROWS, design, narrow, small_frame_of};
+use gr_base::{Design, Edge, Layer, RouteTree, Shape, Way};
 use grid_demand::{Capacity, Loads, loads_are_sums};
 use std::alloc::{AllocError, Global};
-use std::test::Fail;
+use std::process::Abort;
 
 /// A layer for wires along rows.
 const LOW: Layer = Layer {
@@ -23,43 +23,21 @@ const HIGH: Layer = Layer {
 };
 
 /// A design on a grid of 3 by 2 tiles with one net, and two adjustments of the edge of cells 0 and 1.
-fn design(alloc: Global) -> Option<Design>
-    ensures columns { IfSome result (λ d. d.frame.shape.columns ≡ 3) }
-    ensures rows { IfSome result (λ d. d.frame.shape.rows ≡ 2) }
-    ensures layers { IfSome result (λ d. d.frame.shape.layers ≡ 2) }
+fn narrow_design(rt: &impl Abort, alloc: Global) -> Design
+    ensures columns { result.frame.shape.columns ≡ 3 }
+    ensures rows { result.frame.shape.rows ≡ 2 }
+    ensures layers { result.frame.shape.layers ≡ 2 }
 {
-    let Ok(mut design) = Design::new(alloc, small_frame_of(LOW, HIGH)) else {
-        return None;
-    };
-    let Ok(name) = Name::from_bytes(alloc, b"a") else {
-        return None;
-    };
-    let mut pins = Cells::new(alloc);
-    let Ok(()) = pins.push(0) else {
-        return None;
-    };
-    let net = Net {
-        name,
-        id: 7,
-        width: 3,
-        pins,
-    };
-    let Ok(()) = design.push_net(net) else {
-        return None;
-    };
-    let Ok(()) = design.push_adjustment(narrowed(9)) else {
-        return None;
-    };
-    let Ok(()) = design.push_adjustment(narrowed(2)) else {
-        return None;
-    };
-    Some(design)
+    let mut design = design(rt, alloc, small_frame_of(LOW, HIGH), 3, &[0]);
+    narrow(rt, &mut design, 9);
+    narrow(rt, &mut design, 2);
+    design
 }
 
 #[test]
-fn the_last_adjustment_counts(rt: HostRuntime) -> Result<(), Fail> {
-    let design = design(rt.alloc()).expect(&rt, "memory for a design");
-    let capacity = Capacity::of(rt.alloc(), &design)?;
+fn the_last_adjustment_counts(rt: HostRuntime) {
+    let design = narrow_design(&rt, rt.alloc());
+    let capacity = Capacity::of(rt.alloc(), &design).expect(&rt, "memory");
     let shape = capacity.shape();
     for (a, b, most, usable, need) in [
         (0, 1, 2, true, 4),
@@ -77,7 +55,6 @@ fn the_last_adjustment_counts(rt: HostRuntime) -> Result<(), Fail> {
         );
         assert_eq!(rt; capacity.need(0, e), need, "edge {e:?}");
     }
-    Ok(())
 }
 
 /// A tree that goes east, up and north from cell 0 to cell 10.
@@ -104,11 +81,11 @@ fn marked_loads(alloc: Global, capacity: &Capacity, tree: &RouteTree) -> Result<
 }
 
 #[test]
-fn a_tree_is_added_and_taken(rt: HostRuntime) -> Result<(), Fail> {
-    let design = design(rt.alloc()).expect(&rt, "memory for a design");
-    let capacity = Capacity::of(rt.alloc(), &design)?;
-    let tree = bent_tree(rt.alloc(), capacity.shape())?;
-    let mut loads = marked_loads(rt.alloc(), &capacity, &tree)?;
+fn a_tree_is_added_and_taken(rt: HostRuntime) {
+    let design = narrow_design(&rt, rt.alloc());
+    let capacity = Capacity::of(rt.alloc(), &design).expect(&rt, "memory");
+    let tree = bent_tree(rt.alloc(), capacity.shape()).expect(&rt, "memory");
+    let mut loads = marked_loads(rt.alloc(), &capacity, &tree).expect(&rt, "memory");
     let over = (loads.over_total(&capacity), loads.over_max(&capacity));
     assert_eq!(rt; over, (3, 2));
     let e = Edge {
@@ -119,19 +96,17 @@ fn a_tree_is_added_and_taken(rt: HostRuntime) -> Result<(), Fail> {
     loads.take(&capacity, 0, &tree);
     assert_eq!(rt; loads.over_total(&capacity), 0);
     loads_are_sums();
-    Ok(())
 }
 
 #[test]
-fn one_edge_is_charged(rt: HostRuntime) -> Result<(), Fail> {
-    let design = design(rt.alloc()).expect(&rt, "memory for a design");
-    let capacity = Capacity::of(rt.alloc(), &design)?;
-    let mut loads = Loads::new(rt.alloc(), &capacity)?;
+fn one_edge_is_charged(rt: HostRuntime) {
+    let design = narrow_design(&rt, rt.alloc());
+    let capacity = Capacity::of(rt.alloc(), &design).expect(&rt, "memory");
+    let mut loads = Loads::new(rt.alloc(), &capacity).expect(&rt, "memory");
     let e = Edge {
         low: 7,
         way: Way::North,
     };
     loads.charge(&capacity, 0, e);
     assert_eq!(rt; (loads.demand(e), loads.over_total(&capacity)), (7, 1));
-    Ok(())
 }

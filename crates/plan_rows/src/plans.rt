@@ -1,32 +1,34 @@
-use crate::designs::{design, empty_loads, narrowed, open_frame, small_frame, wide_frame};
+use crate::designs::{design, empty_loads, narrow, open_frame, small_frame, wide_frame};
 use crate::own_rule::flat_by_cases;
 use cost_rules::{CostRule, Formula, first_cost};
 use gr_base::{Design, RouteTree};
 use grid_demand::Capacity;
 use net_plan::{Planner, maze_plan, pattern_plan};
 use std::alloc::Global;
-use std::test::Fail;
+use std::process::Abort;
 
 /// The pattern plan of a design's first net over empty loads.
-fn pattern(alloc: Global, design: &Design) -> Result<RouteTree, Fail> {
-    let capacity = Capacity::of(alloc, design)?;
-    let loads = empty_loads(alloc, &capacity)?;
+fn pattern(rt: &impl Abort, alloc: Global, design: &Design) -> RouteTree {
+    assert!(rt; 0 < design.nets() && design.routed(0));
     let rule = CostRule::new(Formula::First, first_cost);
-    if design.nets() == 0 || !design.routed(0) {
-        return Err(Fail::from("a routed net"));
-    }
-    let mut planner = Planner::new(alloc, design)?;
-    Ok(pattern_plan(alloc, &mut planner, design, &capacity, &loads, 0, &rule)?)
+    let capacity = Capacity::of(alloc, design).expect(rt, "memory");
+    let loads = empty_loads(alloc, &capacity).expect(rt, "memory");
+    let mut planner = Planner::new(alloc, design).expect(rt, "memory");
+    pattern_plan(alloc, &mut planner, design, &capacity, &loads, 0, &rule).expect(rt, "memory")
 }
 
 /// Its maze plan with this margin and by this rule.
-fn maze(alloc: Global, design: &Design, margin: u32, rule: &CostRule) -> Result<RouteTree, Fail> {
-    let capacity = Capacity::of(alloc, design)?;
-    let loads = empty_loads(alloc, &capacity)?;
-    if design.nets() == 0 || !design.routed(0) {
-        return Err(Fail::from("a routed net"));
-    }
-    Ok(maze_plan(alloc, design, &capacity, &loads, 0, margin, rule)?)
+fn maze(
+    rt: &impl Abort,
+    alloc: Global,
+    design: &Design,
+    margin: u32,
+    rule: &CostRule,
+) -> RouteTree {
+    assert!(rt; 0 < design.nets() && design.routed(0));
+    let capacity = Capacity::of(alloc, design).expect(rt, "memory");
+    let loads = empty_loads(alloc, &capacity).expect(rt, "memory");
+    maze_plan(alloc, design, &capacity, &loads, 0, margin, rule).expect(rt, "memory")
 }
 
 /// Whether an edge of the tree joins two cells.
@@ -45,43 +47,40 @@ fn has_edges(tree: &RouteTree, edges: &[(u32, u32)]) -> bool {
 }
 
 #[test]
-fn a_net_of_two_pins_bends_once(rt: HostRuntime) -> Result<(), Fail> {
-    let design = design(rt.alloc(), small_frame(), 1, &[0, 5]).ok_or("a design")?;
+fn a_net_of_two_pins_bends_once(rt: HostRuntime) {
+    let design = design(&rt, rt.alloc(), small_frame(), 1, &[0, 5]);
     let first = CostRule::new(Formula::First, first_cost);
-    let flat = pattern(rt.alloc(), &design)?;
+    let flat = pattern(&rt, rt.alloc(), &design);
     assert!(rt; has_edges(&flat, &[(0, 1), (1, 2), (2, 8), (8, 11), (5, 11)]));
-    let tree = maze(rt.alloc(), &design, 0, &first)?;
+    let tree = maze(&rt, rt.alloc(), &design, 0, &first);
     assert!(rt; has_edges(&tree, &[(0, 6), (6, 9), (3, 9), (3, 4), (4, 5)]));
-    Ok(())
 }
 
 #[test]
-fn a_net_goes_round_a_narrow_edge(rt: HostRuntime) -> Result<(), Fail> {
-    let mut design = design(rt.alloc(), small_frame(), 1, &[0, 5]).ok_or("a design")?;
-    design.push_adjustment(narrowed(3))?;
-    design.push_adjustment(narrowed(1))?;
-    let tree = pattern(rt.alloc(), &design)?;
+fn a_net_goes_round_a_narrow_edge(rt: HostRuntime) {
+    let mut design = design(&rt, rt.alloc(), small_frame(), 1, &[0, 5]);
+    narrow(&rt, &mut design, 3);
+    narrow(&rt, &mut design, 1);
+    let tree = pattern(&rt, rt.alloc(), &design);
     assert!(rt; has_edges(&tree, &[(0, 6), (6, 9), (3, 9), (3, 4), (4, 5)]));
-    Ok(())
 }
 
 #[test]
-fn three_pins_meet_at_a_median_tile(rt: HostRuntime) -> Result<(), Fail> {
-    let design = design(rt.alloc(), wide_frame(), 1, &[0, 3, 9]).ok_or("a design")?;
-    let tree = pattern(rt.alloc(), &design)?;
+fn three_pins_meet_at_a_median_tile(rt: HostRuntime) {
+    let design = design(&rt, rt.alloc(), wide_frame(), 1, &[0, 3, 9]);
+    let tree = pattern(&rt, rt.alloc(), &design);
     assert!(rt;
         has_edges(
             &tree,
             &[(0, 1), (1, 2), (2, 3), (1, 13), (13, 17), (17, 21), (9, 21)]
         )
     );
-    Ok(())
 }
 
 /// The edge of cells 0 and 1 costs 9 and each other 1, by the caller's own function as by the
 /// library's: round the edge in the whole grid, and along it where the window is a row.
 #[test]
-fn a_rule_of_the_callers_gives_the_same_mazes(rt: HostRuntime) -> Result<(), Fail> {
+fn a_rule_of_the_callers_gives_the_same_mazes(rt: HostRuntime) {
     let rule = CostRule::new(Formula::Flat, flat_by_cases);
     for (margin, pins, edges) in [
         (
@@ -97,10 +96,9 @@ fn a_rule_of_the_callers_gives_the_same_mazes(rt: HostRuntime) -> Result<(), Fai
         (0, [0, 2].as_slice(), [(2, 1), (1, 0)].as_slice()),
         (0, [0, 1].as_slice(), [(0, 1)].as_slice()),
     ] {
-        let mut design = design(rt.alloc(), open_frame(3), 7, pins).ok_or("a design")?;
-        design.push_adjustment(narrowed(0))?;
-        let tree = maze(rt.alloc(), &design, margin, &rule)?;
+        let mut design = design(&rt, rt.alloc(), open_frame(3), 7, pins);
+        narrow(&rt, &mut design, 0);
+        let tree = maze(&rt, rt.alloc(), &design, margin, &rule);
         assert!(rt; has_edges(&tree, edges));
     }
-    Ok(())
 }

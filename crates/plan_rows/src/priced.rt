@@ -19,6 +19,23 @@ pub(crate) struct Priced {
     pub(crate) ghost most: { cost ≤ 1048576 },
 }
 
+impl Priced {
+    /// Each edge costs 1, but that between cell 0 and this one.
+    pub(crate) fn but_one(shape: Shape, high: u32, cost: u64) -> Priced
+        requires least { 1 ≤ cost }
+        requires most { cost ≤ 1048576 }
+        ensures { result.shape ≡ shape }
+    {
+        Priced {
+            shape,
+            factor: 0,
+            low: 0,
+            high,
+            cost,
+        }
+    }
+}
+
 impl Costs for Priced {
     ghost grid = { λ c. c.shape };
 

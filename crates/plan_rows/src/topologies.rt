@@ -1,5 +1,4 @@
 use std::alloc::{AllocError, Global};
-use std::test::Fail;
 use steiner_topology::{Point, Tile, Topology, TopologyRoom, topology};
 
 /// The topology's points, by its methods.
@@ -115,28 +114,26 @@ const ROWS: [Row; 8] = [
 ];
 
 #[test]
-fn points_parents_and_ties_are_those_of_the_rule(rt: HostRuntime) -> Result<(), Fail> {
+fn points_parents_and_ties_are_those_of_the_rule(rt: HostRuntime) {
     let mut room = TopologyRoom::new(rt.alloc());
     for (tiles, expected, length) in ROWS {
         assert!(rt; !tiles.is_empty() && tiles.len() <= 7);
-        let topology = topology(rt.alloc(), tiles, &mut room)?;
-        let points = points_of(rt.alloc(), &topology)?;
+        let topology = topology(rt.alloc(), tiles, &mut room).expect(&rt, "memory");
+        let points = points_of(rt.alloc(), &topology).expect(&rt, "memory");
         assert_eq!(rt; points.len(), expected.len());
         for (point, &(tile, parent)) in points.iter().zip(expected) {
             assert_eq!(rt; *point, Point { tile, parent });
         }
         assert_eq!(rt; length_of(&points), length);
     }
-    Ok(())
 }
 
 #[test]
-fn tiles_at_the_ends_of_their_type_have_a_topology(rt: HostRuntime) -> Result<(), Fail> {
+fn tiles_at_the_ends_of_their_type_have_a_topology(rt: HostRuntime) {
     let last = u32::MAX;
     let mut room = TopologyRoom::new(rt.alloc());
     let tiles = [(0, 0), (last, 0), (0, last), (last, last)];
-    let topology = topology(rt.alloc(), &tiles, &mut room)?;
-    let points = points_of(rt.alloc(), &topology)?;
+    let topology = topology(rt.alloc(), &tiles, &mut room).expect(&rt, "memory");
+    let points = points_of(rt.alloc(), &topology).expect(&rt, "memory");
     assert_eq!(rt; length_of(&points), 3 * u64::from(last));
-    Ok(())
 }

@@ -88,25 +88,3 @@ pub(crate) fn sum(alloc: Global, side: u32, count: u32) -> Result<u64, AllocErro
     }
     Ok(sum)
 }
-
-#[cfg(test)]
-mod tests {
-    use super::sum;
-    use std::test::Fail;
-
-    /// The sums are those of a plain program: distances by Bellman and Ford's method over all edges
-    /// of a window, and the walk back by its definition.
-    #[test]
-    fn least_walks_are_those_of_a_plain_search(rt: HostRuntime) -> Result<(), Fail> {
-        for (side, count, cells) in [
-            (1, 5, 219_372),
-            (2, 20, 2_077_005),
-            (3, 20, 2_172_867),
-            (5, 20, 2_693_490),
-            (9, 10, 3_366_188),
-        ] {
-            assert_eq!(rt; sum(rt.alloc(), side, count)?, cells, "windows of {side}");
-        }
-        Ok(())
-    }
-}

@@ -57,21 +57,7 @@ view_with w workers left phases = record {
 
 -- after a worker took a net
 abbrev pub taken_fields : Inside → ℕ → ℕ → Vec ℕ Global → Inside
-taken_fields w worker net left = record {
-  alloc = w.alloc;
-  design = w.design;
-  formula = w.formula;
-  rounds = w.rounds;
-  watch = w.watch;
-  goal = w.goal;
-  book = w.book;
-  overflow = w.overflow;
-  round = w.round;
-  over = w.over;
-  left = left;
-  phases = with_item w.phases worker (Holding net);
-  since = w.since;
-}
+taken_fields w worker net left = record w { left = left; phases = with_item w.phases worker (Holding net) }
 
 pub taken-view : (w : Inside) (worker net : ℕ) (left : Vec ℕ Global) → left.items ≡ filter (λ (n : ℕ). not (n == net)) w.left.items →
     seen (taken_fields w worker net left) ≡ with_taken (seen w) worker net

@@ -96,14 +96,4 @@ other-room h place k a count net there took =
 
 -- what a hand saw to leave is no matter
 pub left-step : (h : HandView) (left : List ℕ) → IsHand h → IsHand (with_left h left)
-left-step h left is = record {
-  number = is.number;
-  few = is.few;
-  own = is.own;
-  home = is.home;
-  parts = is.parts;
-  alone = is.alone;
-  own_within = is.own_within;
-  within = is.within;
-  counted = is.counted;
-}
+left-step h left is = search

@@ -1,12 +1,11 @@
-use Rattle.std.proofs.Common.{◌≡◌, ℕ, false, get_or, Option, refl, sym, subst, ◌∙◌, arith}
-use Rattle.std.proofs.lemmas.Option.{same_Some, unwrap_or-slice_get}
+use Rattle.std.proofs.Common.{◌≡◌, ℕ, Option, refl, sym, subst, ◌∙◌, arith}
+use Rattle.std.proofs.lemmas.Option.{same_Some}
 use Rattle.cost_rules.specs.Prices.{ArePrices}
 use Rattle.gr_base.specs.declared.grid.Edge.{Edge}
 use Rattle.gr_base.specs.declared.grid.Shape.{Shape}
-use Rattle.maze_route.specs.Handing.{HandsOn}
 use Rattle.maze_route.specs.Steps.{size_of, rest_of, pane_graph}
 use Rattle.maze_route.proofs.HandingLemmas.{pane-rest}
-use Rattle.maze_route.proofs.TurnLemmas.{taken-has, is-some, stale-turn, settled-turn, stop-turn, end-turn, left_of, spot-rest}
+use Rattle.maze_route.proofs.TurnLemmas.{taken-has, is-some, stale-turn, settled-turn, stop-turn, end-turn, spot-rest}
 use Rattle.maze_route.proofs.search.search.Goals as goal
 
 pub loop-key-init : goal.loop-key-init
@@ -62,33 +61,19 @@ returns-then-is_past-clause-found g c =
 
 pub loop-key-preserved : goal.loop-key-preserved
 loop-key-preserved g c =
-    let price : Edge → Option ℕ = g.C.Costs.price c.args.costs.now in
-    let P : Shape → Type 0 = λ s. ArePrices s (g.C.Costs.ways c.args.costs.now) price in
-    let prices = subst P c.requires.costs (g.met.C.Costs.prices c.args.costs.now) in
-    let is = sym c.at.ensures ∙ c.unwrap-label.ensures in
-    let rest = spot-rest c.args.pane c.args.aim c.spot-spot.result c.in-Some.cell c.distance_to.result c.spot-spot.ensures.spot c.spot-spot.ensures.local c.distance_to.ensures.steps in
-    let S : ℕ → Type 0 = λ n. HandsOn c.args.pane price c.args.aim n c.unwrap-label.result (left_of c.loop-key.front c.pop.new.self) c.settle.new.front in
-    let spreads = subst S c.spot-spot.ensures.local c.in_ok-settle.ensures in
-    let turn = settled-turn c.args.pane c.args.tree.now (g.C.Costs.ways c.args.costs.now) price c.args.aim c.args.marks.now c.loop-key.nearest c.nearest_with-nearest.result
-    (get_or c.args.marks.now c.in-Some.cell false) c.loop-key.front c.settle.new.front c.pop.new.self c.in-Some.key c.in-Some.cell c.unwrap-label.result prices
-    c.loop-key.invariant c.in-Some.ensures is (omega (arith, rest, c.if-label-distance_to.false))
-    (unwrap_or-slice_get c.args.marks.now c.in-Some.cell false) c.nearest_with-nearest.ensures c.requires.aim spreads in
-    turn.0
+    (settled-turn c.args.pane c.args.tree.now (g.C.Costs.grid c.args.costs.now) (g.C.Costs.ways c.args.costs.now) (g.C.Costs.price c.args.costs.now) c.args.aim c.args.marks.now
+    c.loop-key.nearest c.nearest_with-nearest.result c.loop-key.front c.settle.new.front c.pop.new.self c.spot-spot.result c.in-Some.key c.in-Some.cell c.unwrap-label.result
+    c.distance_to.result c.requires.costs (g.met.C.Costs.prices c.args.costs.now) c.loop-key.invariant c.in-Some.ensures (sym c.at.ensures ∙ c.unwrap-label.ensures)
+    c.spot-spot.ensures.spot c.spot-spot.ensures.local c.distance_to.ensures.steps (omega (arith, c.if-label-distance_to.false)) c.nearest_with-nearest.ensures c.requires.aim
+    c.in_ok-settle.ensures).0
 
 pub loop-key-smaller : goal.loop-key-smaller
 loop-key-smaller g c =
-    let price : Edge → Option ℕ = g.C.Costs.price c.args.costs.now in
-    let P : Shape → Type 0 = λ s. ArePrices s (g.C.Costs.ways c.args.costs.now) price in
-    let prices = subst P c.requires.costs (g.met.C.Costs.prices c.args.costs.now) in
-    let is = sym c.at.ensures ∙ c.unwrap-label.ensures in
-    let rest = spot-rest c.args.pane c.args.aim c.spot-spot.result c.in-Some.cell c.distance_to.result c.spot-spot.ensures.spot c.spot-spot.ensures.local c.distance_to.ensures.steps in
-    let S : ℕ → Type 0 = λ n. HandsOn c.args.pane price c.args.aim n c.unwrap-label.result (left_of c.loop-key.front c.pop.new.self) c.settle.new.front in
-    let spreads = subst S c.spot-spot.ensures.local c.in_ok-settle.ensures in
-    let turn = settled-turn c.args.pane c.args.tree.now (g.C.Costs.ways c.args.costs.now) price c.args.aim c.args.marks.now c.loop-key.nearest c.nearest_with-nearest.result
-    (get_or c.args.marks.now c.in-Some.cell false) c.loop-key.front c.settle.new.front c.pop.new.self c.in-Some.key c.in-Some.cell c.unwrap-label.result prices
-    c.loop-key.invariant c.in-Some.ensures is (omega (arith, rest, c.if-label-distance_to.false))
-    (unwrap_or-slice_get c.args.marks.now c.in-Some.cell false) c.nearest_with-nearest.ensures c.requires.aim spreads in
-    turn.1
+    (settled-turn c.args.pane c.args.tree.now (g.C.Costs.grid c.args.costs.now) (g.C.Costs.ways c.args.costs.now) (g.C.Costs.price c.args.costs.now) c.args.aim c.args.marks.now
+    c.loop-key.nearest c.nearest_with-nearest.result c.loop-key.front c.settle.new.front c.pop.new.self c.spot-spot.result c.in-Some.key c.in-Some.cell c.unwrap-label.result
+    c.distance_to.result c.requires.costs (g.met.C.Costs.prices c.args.costs.now) c.loop-key.invariant c.in-Some.ensures (sym c.at.ensures ∙ c.unwrap-label.ensures)
+    c.spot-spot.ensures.spot c.spot-spot.ensures.local c.distance_to.ensures.steps (omega (arith, c.if-label-distance_to.false)) c.nearest_with-nearest.ensures c.requires.aim
+    c.in_ok-settle.ensures).1
 
 pub loop-key-preserved-then-label-distance_to : goal.loop-key-preserved-then-label-distance_to
 loop-key-preserved-then-label-distance_to g c =

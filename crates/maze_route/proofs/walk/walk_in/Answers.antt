@@ -1,12 +1,11 @@
-use Rattle.std.proofs.Common.{◌≡◌, ℕ, ◌<◌, Bool, Option, List, All, length, map, refl, sym, ap, subst, ◌∙◌}
+use Rattle.std.proofs.Common.{ℕ, ◌<◌, Bool, Option, List, All, length, map, refl, sym, ap, subst, ◌∙◌}
 use Rattle.cost_rules.specs.Prices.{ArePrices}
 use Rattle.gr_base.specs.declared.grid.Edge.{Edge}
 use Rattle.gr_base.specs.declared.grid.Shape.{Shape}
 use Rattle.gr_base.specs.Trees.{is_among}
 use Rattle.maze_route.specs.Labels.{label_at}
 use Rattle.maze_route.specs.Search.{is_marked}
-use Rattle.maze_route.specs.Steps.{size_of, local_of, pane_graph}
-use Rattle.maze_route.specs.Walks.{IsFirstGoal}
+use Rattle.maze_route.specs.Steps.{size_of, local_of}
 use Rattle.maze_route.proofs.GoalLemmas.{locals-below, can-reach, finds-first, found-of, walk-least, some-source, lies-in, some-locals, result-then}
 use Rattle.maze_route.proofs.walk.walk_in.Goals as goal
 
@@ -55,31 +54,18 @@ unwrap-goal-requires g c =
 
 pub walk_back-requires : goal.walk_back-requires
 walk_back-requires g c =
-    let price : Edge → Option ℕ = g.C.Costs.price c.args.costs.now in
-    let P : Shape → Type 0 = λ s. ArePrices s (g.C.Costs.ways c.args.costs.now) price in
-    let p = c.args.pane in
-    let are : c.deref-4.result.now ≡ map (local_of p) c.args.goals.now = c.deref-4.ensures.value ∙ c.in_ok-ends.ensures in
-    let found =
-    found-of p c.args.tree.now (g.C.Costs.ways c.args.costs.now) price c.box_of-aim.result c.deref-3.result.now (label_at c.in_ok-labels.labels.costs.items) c.args.goals.now
-    c.deref-4.result.now c.deref.result.now c.deref-2.result.now c.first_reached.result c.unwrap-goal.result (subst P c.requires.grid (g.met.C.Costs.prices c.args.costs.now))
-    c.in_ok-labels.ensures.found are (c.deref.ensures.value ∙ sym c.deref-4.ensures.value) (c.deref-2.ensures.value ∙ sym c.deref-4.ensures.value)
-    (λ n. ap (λ (xs : List Bool). is_marked xs n) c.deref-3.ensures.value ∙ c.in_ok-marks.ensures.marks n)
-    c.box_of-aim.ensures c.requires.goals c.first_reached.ensures c.unwrap-goal.ensures in
+    let found = found-of c.args.pane c.args.tree.now (g.C.Costs.grid c.args.costs.now) (g.C.Costs.ways c.args.costs.now) (g.C.Costs.price c.args.costs.now) c.box_of-aim.result
+    c.deref-3.result.now _ (label_at c.in_ok-labels.labels.costs.items) c.args.goals.now c.deref-4.result.now c.deref.result.now c.deref-2.result.now _ c.first_reached.result c.unwrap-goal.result
+    c.requires.grid (g.met.C.Costs.prices c.args.costs.now) c.in_ok-labels.ensures.found c.deref.ensures.value c.deref-2.ensures.value c.deref-4.ensures.value c.in_ok-ends.ensures
+    c.deref-3.ensures.value c.in_ok-marks.ensures.marks c.box_of-aim.ensures c.requires.goals c.first_reached.ensures c.unwrap-goal.ensures in
     record { grid = c.requires.grid; size = c.in_ok-labels.ensures.size; near = found.near }
 
 pub returns : goal.returns
 returns g c =
-    let price : Edge → Option ℕ = g.C.Costs.price c.args.costs.now in
-    let P : Shape → Type 0 = λ s. ArePrices s (g.C.Costs.ways c.args.costs.now) price in
-    let p = c.args.pane in
-    let are : c.deref-4.result.now ≡ map (local_of p) c.args.goals.now = c.deref-4.ensures.value ∙ c.in_ok-ends.ensures in
-    let found =
-    found-of p c.args.tree.now (g.C.Costs.ways c.args.costs.now) price c.box_of-aim.result c.deref-3.result.now (label_at c.in_ok-labels.labels.costs.items) c.args.goals.now
-    c.deref-4.result.now c.deref.result.now c.deref-2.result.now c.first_reached.result c.unwrap-goal.result (subst P c.requires.grid (g.met.C.Costs.prices c.args.costs.now))
-    c.in_ok-labels.ensures.found are (c.deref.ensures.value ∙ sym c.deref-4.ensures.value) (c.deref-2.ensures.value ∙ sym c.deref-4.ensures.value)
-    (λ n. ap (λ (xs : List Bool). is_marked xs n) c.deref-3.ensures.value ∙ c.in_ok-marks.ensures.marks n)
-    c.box_of-aim.ensures c.requires.goals c.first_reached.ensures c.unwrap-goal.ensures in
-    let G : List ℕ → Type 0 = λ xs. IsFirstGoal (pane_graph p c.args.tree.now price) xs c.unwrap-goal.result.cell in
-    let goal_is = subst G are found.goal in
+    let found = found-of c.args.pane c.args.tree.now (g.C.Costs.grid c.args.costs.now) (g.C.Costs.ways c.args.costs.now) (g.C.Costs.price c.args.costs.now) c.box_of-aim.result
+    c.deref-3.result.now _ (label_at c.in_ok-labels.labels.costs.items) c.args.goals.now c.deref-4.result.now c.deref.result.now c.deref-2.result.now _ c.first_reached.result c.unwrap-goal.result
+    c.requires.grid (g.met.C.Costs.prices c.args.costs.now) c.in_ok-labels.ensures.found c.deref.ensures.value c.deref-2.ensures.value c.deref-4.ensures.value c.in_ok-ends.ensures
+    c.deref-3.ensures.value c.in_ok-marks.ensures.marks c.box_of-aim.ensures c.requires.goals c.first_reached.ensures c.unwrap-goal.ensures in
     result-then c.walk_back.result _ _ c.walk_back.ensures (λ cells walk.
-    walk-least p c.args.tree.now price c.args.goals.now cells c.unwrap-goal.result.cell (lies-in p c.args.tree.now c.requires.shape c.requires.tree) c.requires.goals goal_is walk)
+    walk-least c.args.pane c.args.tree.now (g.C.Costs.price c.args.costs.now) c.args.goals.now cells c.unwrap-goal.result.cell (lies-in c.args.pane c.args.tree.now c.requires.shape c.requires.tree)
+    c.requires.goals found.goal walk)
