@@ -41,12 +41,13 @@ pub struct Tokens {
     piece: Piece,
     /// The token in hand, as far as it lies in earlier pieces.
     carried: Vec<u8>,
-    /// How many more bytes may be used.
-    room: u64,
     number: u64,
     /// The token in hand, as far as it lies in this piece.
     from: usize,
     to: usize,
+    /// How many more bytes may be used. It isn't beside `number`: the two would be read as one pair
+    /// right after one of them was written, which waits for that write.
+    room: u64,
     slot: Slot,
     broken: bool,
     alloc: Global,
@@ -277,10 +278,10 @@ impl Tokens {
         Ok(Tokens {
             piece: Piece::new(alloc, PIECE_BYTES)?,
             carried: Vec::new(alloc),
-            room: limit,
             number: 0,
             from: 0,
             to: 0,
+            room: limit,
             slot,
             broken: false,
             alloc,
