@@ -35,14 +35,7 @@ pub fn evaluate(
     let mut reached = Reached::new(alloc, shape)?;
     for net in 0..design.nets() {
         if design.routed(net) {
-            tally.count_runs(
-                &mut edges,
-                &mut reached,
-                design,
-                &capacity,
-                solution,
-                net,
-            )?;
+            tally.count_runs(&mut edges, &mut reached, design, &capacity, solution, net)?;
         }
     }
     Ok(tally.verdict(&capacity, via_cost))
