@@ -1,16 +1,25 @@
 -- Where the claims of booked nets stand in longer and longer histories.
-use Rattle.std.proofs.Common.{◌≡◌, ℕ, suc, zero, ◌+◌, ◌<◌, inl, inr, List, [], ◌∷◌, ◌++◌, length, take, Option, Some, None, slice_get, slice_set, replicate, refl, sym, ap, subst, ◌∙◌, arith}
+use Rattle.std.proofs.Common.{◌≡◌, ℕ, suc, zero, ◌+◌, ◌<◌, inl, inr, List, [], ◌∷◌, ◌++◌, length, map, take, Option, Some, None, slice_get, slice_set, replicate, refl, sym, ap, subst, ◌∙◌, arith}
 use Rattle.gr_base.specs.Trees.{TreeView}
 use Rattle.grid_demand.specs.Tables.{CapacityView}
 use Rattle.book_state.proofs.BookSteps.{booked-idle, booked-none}
 use Rattle.book_state.proofs.HistoryLists.{slice_get-right}
 use Rattle.book_state.proofs.ReplicaSteps.{take-entry, length-before, place-kept, place_of-same, place_of-other, is_same, claim-in_range, release-in_range, booked-claim, booked-claim_other, booked-release, booked-release_other, booked-mark, idle-by}
 use Rattle.book_state.specs.Books.{nets_of, booked, IsLegal, IsIdle}
+use Rattle.book_state.specs.PlaceStore.{told}
 use Rattle.book_state.specs.Replicas.{tree_of, tree_of_call, place_of, IsPlace, ArePlaces, IsClaimed, IsReleased}
 use Rattle.book_state.specs.declared.entry.Call.{Call}
 use Rattle.book_state.specs.declared.entry.Call.TheVariants.{Claim as Claims, Mark}
 use Rattle.book_state.specs.declared.entry.Claim.{Claim}
 use Rattle.book_state.specs.declared.entry.Entry.{Entry}
+
+-- what is kept of a place, and of nets that aren't booked
+pub told-next : (place : ℕ) → told (place + 1) ≡ Some place
+told-next place = let e : place + 1 ≡ suc place = omega arith in ap told e
+
+pub told-none : (n : ℕ) → map told (replicate n 0) ≡ replicate n None
+told-none zero = refl
+told-none (suc n) = ap (λ (places : List (Option ℕ)). None ∷ places) (told-none n)
 
 -- the place of a net that an entry leaves as it was
 place-same : (h : List Entry) (e : Entry) (place : Option ℕ) (net : ℕ) → IsPlace h place (booked h net) → booked (h ++ e ∷ []) net ≡ booked h net → IsPlace (h ++ e ∷ []) place (booked (h ++ e ∷ []) net)

@@ -5,6 +5,7 @@ pub mod Cuts
 pub mod HistoryStore
 pub mod Replicas
 pub mod ReplicaStore
+pub mod PlaceStore
 pub mod Views
 pub mod BookStore
 pub mod LeastSearch

@@ -6,8 +6,8 @@ use Rattle.book_state.specs.declared.replica.Replica.TheInside.{Inside}
 
 -- what the fields say
 abbrev pub seen : Inside → ReplicaView
-seen r = record { front = r.front; places = r.places.items; loads = r.loads }
+seen r = record { front = r.front; places = r.places; loads = r.loads }
 
 -- there are no more nets than a design may have
 abbrev pub Keeps : Inside → Type 0
-Keeps r = length r.places.items ≤ most_nets
+Keeps r = length r.places ≤ most_nets

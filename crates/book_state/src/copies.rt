@@ -6,7 +6,7 @@ ghost use Rattle.book_state.specs.Replicas.{tree_at_place, place_of};
 ghost use Rattle.book_state.specs.Copies.{IsCopyOf, AreCopies};
 
 use crate::history::History;
-use crate::places::tree_by_place;
+use crate::places::{Places, tree_by_place};
 use gr_base::{RouteTree, Routes};
 use std::alloc::{AllocError, Global};
 use std::thread::{Threads, for_each_mut};
@@ -16,7 +16,7 @@ use std::thread::{Threads, for_each_mut};
 pub(crate) fn copied_routes<R: Threads + Sync>(
     rt: &R,
     history: &History,
-    places: &[Option<u64>],
+    places: &Places,
     nets: u32,
     threads: u32,
 ) -> Result<Routes, AllocError>
@@ -45,7 +45,7 @@ fn no_copies(alloc: Global, nets: u32) -> Result<Vec<Option<RouteTree>>, AllocEr
 fn copy_each<R: Threads + Sync>(
     rt: &R,
     history: &History,
-    places: &[Option<u64>],
+    places: &Places,
     threads: u32,
     copies: &mut Vec<Option<RouteTree>>,
 )
@@ -66,7 +66,7 @@ fn copy_each<R: Threads + Sync>(
 }
 
 /// A copy of the tree of a net's claim, if there is one and memory for it.
-fn copy_of(history: &History, places: &[Option<u64>], net: usize) -> Option<RouteTree>
+fn copy_of(history: &History, places: &Places, net: usize) -> Option<RouteTree>
     ensures { IsCopyOf (tree_at_place history.now (place_of places.now net)) result }
 {
     let tree = tree_by_place(history, places, net)?;
@@ -80,7 +80,7 @@ fn copy_of(history: &History, places: &[Option<u64>], net: usize) -> Option<Rout
 fn routes_of(
     alloc: Global,
     history: &History,
-    places: &[Option<u64>],
+    places: &Places,
     nets: u32,
     copies: Vec<Option<RouteTree>>,
 ) -> Result<Routes, AllocError>
@@ -103,7 +103,7 @@ fn routes_of(
 }
 
 /// Says that a net without a copy has no claim: else memory ran out.
-fn lacks_none(history: &History, places: &[Option<u64>], net: usize) -> Result<(), AllocError>
+fn lacks_none(history: &History, places: &Places, net: usize) -> Result<(), AllocError>
     ensures { OnOk result (tree_at_place history.now (place_of places.now net) ≡ None) }
 {
     match tree_by_place(history, places, net) {

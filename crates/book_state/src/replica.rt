@@ -9,7 +9,7 @@ ghost use Rattle.book_state.specs.Replicas.{StandsFor, tree_at_place, place_of, 
 use crate::entry::{Call, Claim, Entry, Reply};
 use crate::history::History;
 use crate::past::Past;
-use crate::places::tree_by_place;
+use crate::places::{Places, tree_by_place};
 use gr_base::{Design, RouteTree};
 use grid_demand::{Capacity, Loads};
 use std::alloc::{AllocError, Global};
@@ -19,7 +19,7 @@ use std::marker::Model;
 #[derive(Debug, Drop)]
 pub struct Replica {
     front: u64,
-    places: Vec<Option<u64>>,
+    places: Places,
     loads: Loads,
 }
 
@@ -42,7 +42,7 @@ impl Replica {
     {
         Ok(Replica {
             front: 0,
-            places: vec![in alloc; None; nets as usize]?,
+            places: Places::none(alloc, nets)?,
             loads: Loads::new(alloc, capacity)?,
         })
     }
@@ -73,11 +73,11 @@ impl Replica {
         ensures nets { result ≡ length self.now.places }
         ensures few { result ≤ most_nets }
     {
-        self.places.len() as u32
+        self.places.nets() as u32
     }
 
     /// Where the claims of the booked nets stand in the history, by net.
-    pub(crate) fn places(&self) -> &[Option<u64>]
+    pub(crate) fn places(&self) -> &Places
         ensures { result.now ≡ self.now.places }
     {
         &self.places
@@ -157,7 +157,7 @@ impl Replica {
         prove!(fits);
         self.front = place + 1;
         self.loads.add(capacity, claim.net, &claim.tree);
-        self.places[claim.net as usize] = Some(place);
+        self.places.set(claim.net, place);
     }
 
     /// Frees a booked net.
@@ -174,7 +174,7 @@ impl Replica {
         let fits = tree.shape() == capacity.shape();
         prove!(fits);
         self.loads.take(capacity, net, tree);
-        self.places[net as usize] = None;
+        self.places.clear(net);
         self.front = place + 1;
     }
 

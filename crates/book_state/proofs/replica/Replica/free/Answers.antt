@@ -1,11 +1,11 @@
-use Rattle.std.proofs.Common.{◌≡◌, length, take, Some, sym, ap, subst, ◌∙◌, arith}
+use Rattle.std.proofs.Common.{◌≡◌, ℕ, ◌+◌, List, Option, length, take, Some, sym, ap, subst, ◌∙◌, arith}
 use Rattle.std.proofs.lemmas.Bool.{both_ways}
 use Rattle.std.proofs.lemmas.Option.{none-some, same_Some}
 use Rattle.gr_base.specs.Trees.{TreeView}
 use Rattle.book_state.specs.Replicas.{ReplicaView, StandsFor, tree_at_place, place_of}
 use Rattle.book_state.specs.ReplicaStore.{seen}
 use Rattle.book_state.proofs.ReplicaSteps.{one-shape, release-in_range}
-use Rattle.book_state.proofs.StandSteps.{released-held, step-release, share-release}
+use Rattle.book_state.proofs.StandSteps.{replica_of, released-held, step-release, share-release}
 use Rattle.book_state.proofs.replica.Replica.free.Goals as goal
 
 pub unreachable-requires : goal.unreachable-requires
@@ -37,12 +37,12 @@ take-requires-clause-share c =
     (release-in_range c.args.capacity.now history c.args.place c.args.net c.requires.legal c.requires.release)
     (held.before ∙ ap (λ (t : TreeView). Some t) (sym same))
 
-pub index_mut-requires : goal.index_mut-requires
-index_mut-requires c =
+pub clear-requires : goal.clear-requires
+clear-requires c =
     let within = release-in_range c.args.capacity.now c.args.history.now c.args.place c.args.net c.requires.legal c.requires.release in
     let nets = c.requires.stands.nets in
     let same = ap (λ (r : ReplicaView). length r.places) c.self.view_is in
-    omega (arith, within, nets, same, c.self.inside.places.ok.0)
+    omega (arith, within, nets, same)
 
 pub returns : goal.returns
 returns c =
@@ -51,5 +51,7 @@ returns c =
     let same : c.in-Some.tree.now ≡ held.t = same_Some c.in-Some.tree.now held.t (c.in-Some.ensures ∙ held.tree_there) in
     let stands = subst (λ (r : ReplicaView). StandsFor c.args.capacity.now (take c.args.place history) r) (sym c.self.view_is) c.requires.stands in
     let there = subst (λ (r : ReplicaView). tree_at_place history (place_of r.places c.args.net) ≡ Some held.t) (sym c.self.view_is) held.tree_there in
-    step-release c.args.capacity.now history c.args.place c.args.net c.in-Some.tree.now (seen c.self.inside) c.take.new.self c.requires.legal stands c.requires.release
-    (there ∙ ap (λ (t : TreeView). Some t) (sym same)) c.take.ensures.loads
+    let P : List (Option ℕ) → Type 0 = λ places. StandsFor c.args.capacity.now (take (c.args.place + 1) history) (replica_of (c.args.place + 1) places c.take.new.self) in
+    subst P (sym c.clear.ensures)
+    (step-release c.args.capacity.now history c.args.place c.args.net c.in-Some.tree.now (seen c.self.inside) c.take.new.self c.requires.legal stands c.requires.release
+    (there ∙ ap (λ (t : TreeView). Some t) (sym same)) c.take.ensures.loads)
