@@ -1,5 +1,5 @@
 use Rattle.std.proofs.Common.{◌≡◌, ℕ, ◌<◌, false}
-use Rattle.net_plan.specs.Orders.{is_marked, is_due, AreBelowChildren}
+use Rattle.net_plan.specs.Orders.{is_marked, is_due}
 use Rattle.net_plan.proofs.OrderLemmas.{IsUnderWay, open_count}
 use Rattle.net_plan.proofs.order.order_of.Given as goal
 
