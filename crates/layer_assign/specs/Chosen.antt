@@ -1,5 +1,5 @@
 -- What the choice of one node's layers writes into the tables.
-use Rattle.std.specs.Prelude.{◌≡◌, ◌≢◌, ◌⊎◌, ℕ, ◌+◌, Bool, true, false, ◌&&◌, ◌||◌, ◌==◌, nat_le, not, List, ◌*◌, ◌<◌, length, Option, Some, None, get_or, slice_set, if◌then◌else◌}
+use Rattle.std.specs.Prelude.{◌≡◌, ◌≢◌, ◌⊎◌, ℕ, ◌+◌, Bool, true, false, ◌&&◌, ◌||◌, ◌==◌, nat_le, not, List, ◌*◌, ◌<◌, length, IsTrue, Option, Some, None, get_or, slice_set, if◌then◌else◌}
 use Rattle.gr_base.specs.Trees.{TreeView}
 use Rattle.gr_base.specs.declared.grid.Edge.{Edge}
 use Rattle.gr_base.specs.declared.grid.Shape.{Shape}
@@ -10,6 +10,12 @@ use Rattle.layer_assign.specs.Spans.{widened, climb, IsWithin, span_number, span
 use Rattle.layer_assign.specs.Assignments.{parent_of, may_take, wire_cost}
 use Rattle.layer_assign.specs.Choices.{IsBest, entry}
 use Rattle.layer_assign.specs.Tables.{HasRows}
+
+-- a layer is to be chosen for the node: it is in the tree, it isn't node 0, and its edge may take some layer
+pub record HasChoice (g : Shape) (ways : ℕ → Way → Bool) (t : TreeView) (node : ℕ) : Type 0 where
+  pub later : 0 < node
+  pub inside : node < length t.nodes
+  pub layer : (layer : ℕ) × IsTrue (may_take g ways t node layer)
 
 -- what a node's layer costs: its edge, what its tile costs with it, and what the parent's tile does
 abbrev pub onward_cost : Shape → (Edge → Option ℕ) → TreeView → List ℕ → ℕ → Option Span → Option Span → ℕ → ℕ

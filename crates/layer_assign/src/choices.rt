@@ -1,12 +1,12 @@
-ghost use Rattle.std.specs.Prelude.{◌≡◌, ℕ, ◌+◌, ◌*◌, ◌^◌, ◌<◌, ◌≤◌, ◌||◌, ◌==◌, false, not, Option, length, get_or, IsSome, IsTrue};
+ghost use Rattle.std.specs.Prelude.{◌≡◌, ℕ, ◌+◌, ◌*◌, ◌^◌, ◌<◌, ◌≤◌, ◌||◌, ◌==◌, false, not, Option, length, get_or, IsSome};
 ghost use Rattle.gr_base.specs.Limits.{most_cells};
 ghost use Rattle.gr_base.specs.Trees.{IsTree};
 ghost use Rattle.layer_assign.specs.declared.span.Span.{Span as SpanView};
 ghost use Rattle.layer_assign.specs.Spans.{IsWithin, widened, climb, growing, spans_of};
-ghost use Rattle.layer_assign.specs.Assignments.{IsFlat, parent_of, may_take};
+ghost use Rattle.layer_assign.specs.Assignments.{IsFlat, parent_of};
 ghost use Rattle.layer_assign.specs.Choices.{entry};
 ghost use Rattle.layer_assign.specs.Tables.{HasRows, IsSmall, IsLimb, AreWires, priced, offer, best_below};
-ghost use Rattle.layer_assign.specs.Chosen.{is_near, holds_pins, may_precede, AreUntouched, Chooses, Writes};
+ghost use Rattle.layer_assign.specs.Chosen.{HasChoice, is_near, holds_pins, may_precede, AreUntouched, Chooses, Writes};
 
 use crate::limbs::{best_layer, limb_of};
 use crate::runs::{choose_on_run, is_run};
@@ -32,9 +32,7 @@ pub(crate) fn choose_layers<C: Costs>(
 )
     requires grid { C.grid costs.now ≡ shape }
     requires flat { IsFlat shape flat.now.shape }
-    requires later { 0 < node }
-    requires node { node < length flat.now.nodes }
-    requires layer { (layer : ℕ) × IsTrue (may_take shape (C.ways costs.now) flat.now node layer) }
+    requires node { HasChoice shape (C.ways costs.now) flat.now node }
     requires pins { length pins.now ≡ length flat.now.nodes }
     requires within { (u : ℕ) → u < length flat.now.nodes → IsWithin shape.layers (growing pins.now u) }
     requires joined { length joined.now ≡ length flat.now.nodes }
@@ -77,9 +75,7 @@ fn choose_by_span<C: Costs>(
 )
     requires grid { C.grid costs.now ≡ shape }
     requires flat { IsFlat shape flat.now.shape }
-    requires later { 0 < node }
-    requires node { node < length flat.now.nodes }
-    requires layer { (layer : ℕ) × IsTrue (may_take shape (C.ways costs.now) flat.now node layer) }
+    requires node { HasChoice shape (C.ways costs.now) flat.now node }
     requires base { IsWithin shape.layers base }
     requires above { IsWithin shape.layers above }
     requires costs { HasRows shape.layers (length flat.now.nodes) least.old.items }

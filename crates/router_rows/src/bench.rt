@@ -66,6 +66,12 @@ impl Bench {
         }
     }
 
+    /// Adds a line with this end to the text that was begun last.
+    pub(crate) fn add_line(&mut self, line: &str, end: &str) -> Result<(), AllocError> {
+        self.add(line)?;
+        self.add(end)
+    }
+
     /// How many bytes the text of a name has, or 0.
     pub(crate) fn size_of(&self, name: &str) -> usize {
         match self.texts.iter().find(|held| held.name.as_str() == name) {

@@ -1,5 +1,5 @@
 //! The lines of standard input, and what each asks for.
-use crate::bench::Bench;
+use crate::bench::{Bench, Left};
 use crate::devices::Devices;
 use crate::gates::HoldingGate;
 use crate::told;
@@ -11,43 +11,41 @@ use std::ops::Range;
 use std::sync::Wait;
 use std::thread::Threads;
 
-/// Does what a line asks for, and gives what is to be printed of it.
+/// Does what a line asks for, and puts what is to be printed of it.
 pub(crate) fn carry_out<R: AllocGlobal + Threads + Wait + Sync>(
     rt: &R,
     bench: &mut Bench,
     rules: &Rules,
     line: &str,
-) -> Result<Text, AllocError> {
-    let alloc = rt.alloc();
+    told: &mut Text,
+) -> Result<(), AllocError> {
     let (command, rest) = word_in(line);
     match command {
-        "text" => bench.begin(alloc, rest)?,
-        "|" => {
-            bench.add(rest)?;
-            bench.add("\n")?;
+        "text" => bench.begin(rt.alloc(), rest),
+        "|" => bench.add_line(rest, "\n"),
+        "crlf" => bench.add_line(rest, "\r\n"),
+        "&" => bench.add(rest),
+        "times" => add_times(bench, rest),
+        "set" => {
+            bench.devices = changed(bench.devices, rest);
+            Ok(())
         }
-        "crlf" => {
-            bench.add(rest)?;
-            bench.add("\r\n")?;
+        "ample" => {
+            bench.devices = Devices::ample();
+            Ok(())
         }
-        "&" => bench.add(rest)?,
-        "times" => add_times(bench, rest)?,
-        "set" => bench.devices = changed(bench.devices, rest),
-        "ample" => bench.devices = Devices::ample(),
-        "run" | "brief" | "hold" | "each" | "cut" => return told_of(
-            rt, bench, rules, line, command, rest,
-        ),
-        _ => return echoed(alloc, line),
+        "run" | "brief" | "hold" | "each" | "cut" => {
+            put_line(told, line)?;
+            put_runs(rt, bench, rules, command, rest, told)
+        }
+        _ => put_line(told, line),
     }
-    Ok(Text::new(alloc))
 }
 
 /// The line itself.
-fn echoed(alloc: Global, line: &str) -> Result<Text, AllocError> {
-    let mut told = Text::new(alloc);
+fn put_line(told: &mut Text, line: &str) -> Result<(), AllocError> {
     told.put(line.as_bytes())?;
-    told.put(b"\n")?;
-    Ok(told)
+    told.put(b"\n")
 }
 
 /// The words of a line.
@@ -84,66 +82,70 @@ fn changed(devices: Devices, rest: &str) -> Devices {
     devices.with(name, number_in(rest).0).unwrap_or(devices)
 }
 
-/// The line itself, and what is told of the runs that it asks for.
-fn told_of<R: AllocGlobal + Threads + Wait + Sync>(
+/// Puts what is told of the runs that a line asks for.
+fn put_runs<R: AllocGlobal + Threads + Wait + Sync>(
     rt: &R,
     bench: &Bench,
     rules: &Rules,
-    line: &str,
     command: &str,
     rest: &str,
-) -> Result<Text, AllocError> {
-    let alloc = rt.alloc();
-    let mut text = echoed(alloc, line)?;
-    let told = match command {
+    told: &mut Text,
+) -> Result<(), AllocError> {
+    match command {
         "each" => {
             let (device, rest) = word_in(rest);
             let (most, rest) = number_in(rest);
-            let words = words_of(alloc, rest)?;
             let steps = 1..(most as usize).saturating_add(1);
-            swept(rt, bench, rules, &words, Sweep::Call(device), steps)?
+            put_sweep(rt, bench, rules, rest, Sweep::Call(device), steps, told)
         }
         "cut" => {
             let (name, rest) = word_in(rest);
-            let words = words_of(alloc, rest)?;
             let steps = 0..bench.size_of(name).saturating_add(1);
-            swept(rt, bench, rules, &words, Sweep::Cut(name), steps)?
+            put_sweep(rt, bench, rules, rest, Sweep::Cut(name), steps, told)
         }
         "hold" => {
             let (worker, rest) = number_in(rest);
             let (claims, rest) = number_in(rest);
-            held(rt, bench, rules, worker, claims, rest)?
-        }
-        "brief" => {
-            let words = words_of(alloc, rest)?;
-            let left = bench.run(rt, &OpenGate, rules, bench.devices, None, &words)?;
-            told::brief(alloc, &left)?
+            let words = words_of(rt.alloc(), rest)?;
+            let gate = HoldingGate::new(if worker == 0 { None } else { Some(worker) }, claims);
+            put_held(rt, bench, rules, &words, gate, told)
         }
         _ => {
-            let words = words_of(alloc, rest)?;
-            let left = bench.run(rt, &OpenGate, rules, bench.devices, None, &words)?;
-            told::whole(alloc, &left)?
+            let words = words_of(rt.alloc(), rest)?;
+            put_run(rt, bench, rules, &words, command == "brief", told)
         }
-    };
-    text.put(told.bytes())?;
-    Ok(text)
+    }
 }
 
-/// What is told of a run in which a worker, 0 for the first that comes, waits at its first search for
-/// so many claims of the others.
-fn held<R: AllocGlobal + Threads + Wait + Sync>(
+/// What is told of a run, or how it ended alone.
+fn put_run<R: AllocGlobal + Threads + Wait + Sync>(
     rt: &R,
     bench: &Bench,
     rules: &Rules,
-    worker: u64,
-    claims: u64,
-    rest: &str,
-) -> Result<Text, AllocError> {
-    let alloc = rt.alloc();
-    let words = words_of(alloc, rest)?;
-    let gate = HoldingGate::new(if worker == 0 { None } else { Some(worker) }, claims);
-    let left = bench.run(rt, &gate, rules, bench.devices, None, &words)?;
-    told::meeting(alloc, &left, gate.is_passed())
+    words: &[String],
+    brief: bool,
+    told: &mut Text,
+) -> Result<(), AllocError> {
+    let left = bench.run(rt, &OpenGate, rules, bench.devices, None, words)?;
+    if brief {
+        told::put_brief(told, &left)
+    } else {
+        told::put_whole(told, &left)
+    }
+}
+
+/// What is told of a run in which a worker, the first that comes or that of a number, waits at its
+/// first search for so many claims of the others.
+fn put_held<R: AllocGlobal + Threads + Wait + Sync>(
+    rt: &R,
+    bench: &Bench,
+    rules: &Rules,
+    words: &[String],
+    gate: HoldingGate,
+    told: &mut Text,
+) -> Result<(), AllocError> {
+    let left = bench.run(rt, &gate, rules, bench.devices, None, words)?;
+    told::put_meeting(told, &left, gate.is_passed())
 }
 
 /// What changes from run to run: the call of a device that fails, or how much is left of a text.
@@ -165,21 +167,48 @@ fn setting<'a>(
     }
 }
 
+/// A line for each step of a sweep.
+fn put_sweep<R: AllocGlobal + Threads + Wait + Sync>(
+    rt: &R,
+    bench: &Bench,
+    rules: &Rules,
+    rest: &str,
+    sweep: Sweep<'_>,
+    steps: Range<usize>,
+    told: &mut Text,
+) -> Result<(), AllocError> {
+    let words = words_of(rt.alloc(), rest)?;
+    put_steps(rt, bench, rules, &words, sweep, steps, told)
+}
+
 /// A line for each step of a sweep, beside what the words leave without it.
-fn swept<R: AllocGlobal + Threads + Wait + Sync>(
+fn put_steps<R: AllocGlobal + Threads + Wait + Sync>(
     rt: &R,
     bench: &Bench,
     rules: &Rules,
     words: &[String],
     sweep: Sweep<'_>,
     steps: Range<usize>,
-) -> Result<Text, AllocError> {
+    told: &mut Text,
+) -> Result<(), AllocError> {
     let done = bench.run(rt, &OpenGate, rules, bench.devices, None, words)?;
-    let mut told = Text::new(rt.alloc());
     for step in steps {
-        let (devices, cut) = setting(bench.devices, sweep, step);
-        let left = bench.run(rt, &OpenGate, rules, devices, cut, words)?;
-        told.put(told::line(rt.alloc(), step, &left, &done)?.bytes())?;
+        put_step(rt, bench, rules, words, sweep, step, &done, told)?;
     }
-    Ok(told)
+    Ok(())
+}
+
+fn put_step<R: AllocGlobal + Threads + Wait + Sync>(
+    rt: &R,
+    bench: &Bench,
+    rules: &Rules,
+    words: &[String],
+    sweep: Sweep<'_>,
+    step: usize,
+    done: &Left,
+    told: &mut Text,
+) -> Result<(), AllocError> {
+    let (devices, cut) = setting(bench.devices, sweep, step);
+    let left = bench.run(rt, &OpenGate, rules, devices, cut, words)?;
+    told::put_step(told, step, &left, done)
 }

@@ -28,6 +28,7 @@ use cost_rules::{
     CostRule, Formula, Rules, Watch, Watcher, first_cost, flat_cost, goal, never, steep_cost, still,
 };
 use gr_io::{HostSink, write_whole};
+use gr_text::Text;
 use std::io;
 
 fn main(rt: HostRuntime) -> io::Result<()> {
@@ -42,7 +43,8 @@ fn main(rt: HostRuntime) -> io::Result<()> {
     let mut out = HostSink::new(rt.stdout());
     let mut bench = Bench::new(rt.alloc());
     for line in rt.lines(rt.alloc()) {
-        let told = lines::carry_out(&rt, &mut bench, &rules, &line?)?;
+        let mut told = Text::new(rt.alloc());
+        lines::carry_out(&rt, &mut bench, &rules, &line?, &mut told)?;
         if write_whole(&mut out, told.bytes()).is_err() {
             break;
         }

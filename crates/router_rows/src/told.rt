@@ -3,7 +3,7 @@ use crate::bench::Left;
 use book_state::{BookState, Call, Reply};
 use gr_text::Text;
 use round_core::HandLog;
-use std::alloc::{AllocError, Global};
+use std::alloc::AllocError;
 
 /// The most bytes of a text that is printed whole.
 const MOST_PRINTED: usize = 2_000;
@@ -12,63 +12,60 @@ const MOST_PRINTED: usize = 2_000;
 const NUMBERS: usize = 5;
 
 /// The whole of what a run left.
-pub(crate) fn whole(alloc: Global, left: &Left) -> Result<Text, AllocError> {
-    let mut told = Text::new(alloc);
-    told.put(b"status ")?;
-    told.put_number(left.ended.status)?;
-    told.put(b"\n")?;
-    put_text(&mut told, b"out", left.out.bytes())?;
-    put_text(&mut told, b"err", left.err.bytes())?;
+pub(crate) fn put_whole(told: &mut Text, left: &Left) -> Result<(), AllocError> {
+    put_status(told, left)?;
+    put_text(told, b"out", left.out.bytes())?;
+    put_text(told, b"err", left.err.bytes())?;
     if let Some(book) = &left.ended.book {
-        put_book(&mut told, book.state())?;
+        put_book(told, book.state())?;
     }
     for log in &left.ended.hands {
-        put_hand(&mut told, log)?;
+        put_hand(told, log)?;
     }
-    Ok(told)
+    Ok(())
+}
+
+fn put_status(told: &mut Text, left: &Left) -> Result<(), AllocError> {
+    told.put(b"status ")?;
+    told.put_number(left.ended.status)?;
+    told.put(b"\n")
 }
 
 /// How a run ended, and the five numbers of its report.
-pub(crate) fn brief(alloc: Global, left: &Left) -> Result<Text, AllocError> {
-    let mut told = Text::new(alloc);
-    told.put(b"status ")?;
-    told.put_number(left.ended.status)?;
-    told.put(b"\n")?;
+pub(crate) fn put_brief(told: &mut Text, left: &Left) -> Result<(), AllocError> {
+    put_status(told, left)?;
     for line in left.err.bytes().split(|&byte| byte == b'\n').take(NUMBERS) {
         told.put(b"| ")?;
         told.put(line)?;
         told.put(b"\n")?;
     }
-    Ok(told)
+    Ok(())
 }
 
 /// The same, and whether the others came to the claims for which a worker waits.
-pub(crate) fn meeting(alloc: Global, left: &Left, passed: bool) -> Result<Text, AllocError> {
-    let mut told = brief(alloc, left)?;
+pub(crate) fn put_meeting(told: &mut Text, left: &Left, passed: bool) -> Result<(), AllocError> {
+    put_brief(told, left)?;
     let met: &[u8] = if passed {
         b"the others came to their claims\n"
     } else {
         b"the others didn't come to their claims\n"
     };
-    told.put(met)?;
-    Ok(told)
+    told.put(met)
 }
 
 /// A line on what a run left, beside what one that was done leaves.
-pub(crate) fn line(
-    alloc: Global,
+pub(crate) fn put_step(
+    told: &mut Text,
     number: usize,
     left: &Left,
     done: &Left,
-) -> Result<Text, AllocError> {
-    let mut told = Text::new(alloc);
+) -> Result<(), AllocError> {
     told.put_number(number)?;
     told.put(b": status ")?;
     told.put_number(left.ended.status)?;
-    put_share(&mut told, b", out", left.out.bytes(), done.out.bytes())?;
-    put_share(&mut told, b", err", left.err.bytes(), done.err.bytes())?;
-    told.put(b"\n")?;
-    Ok(told)
+    put_share(told, b", out", left.out.bytes(), done.out.bytes())?;
+    put_share(told, b", err", left.err.bytes(), done.err.bytes())?;
+    told.put(b"\n")
 }
 
 /// How much of a text a sink gained, or what else.

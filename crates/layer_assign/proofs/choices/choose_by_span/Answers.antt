@@ -30,8 +30,8 @@ next_span-next-requires g c = turn-within c.args.shape c.loop.next c.loop.counte
 pub may_precede-requires : goal.may_precede-requires
 may_precede-requires g c =
     let many = few c.args.flat.now c.parent-parent.ensures.tree in
-    let b = c.requires.node in
-    let e = c.parent-parent.ensures.earlier c.requires.later in
+    let b = c.requires.node.inside in
+    let e = c.parent-parent.ensures.earlier c.requires.node.later in
     omega arith
 
 pub choose_layer-requires-clause-span : goal.choose_layer-requires-clause-span
@@ -40,12 +40,12 @@ choose_layer-requires-clause-span g c = turn-within c.args.shape c.loop.next c.l
 pub choose_layer-requires-clause-parent : goal.choose_layer-requires-clause-parent
 choose_layer-requires-clause-parent g c =
     let many = few c.args.flat.now c.parent-parent.ensures.tree in
-    let b = c.requires.node in
-    let e = c.parent-parent.ensures.earlier c.requires.later in
+    let b = c.requires.node.inside in
+    let e = c.parent-parent.ensures.earlier c.requires.node.later in
     omega arith
 
 pub choose_layer-requires-clause-node : goal.choose_layer-requires-clause-node
-choose_layer-requires-clause-node g c = let many = few c.args.flat.now c.parent-parent.ensures.tree in let b = c.requires.node in omega arith
+choose_layer-requires-clause-node g c = let many = few c.args.flat.now c.parent-parent.ensures.tree in let b = c.requires.node.inside in omega arith
 
 pub choose_layer-requires-clause-small : goal.choose_layer-requires-clause-small
 choose_layer-requires-clause-small g c = λ other lt.
@@ -66,9 +66,9 @@ choose_layer-requires-clause-some g c =
     finds c.args.shape (g.C.Costs.ways c.args.costs.now) (g.C.Costs.price c.args.costs.now) c.args.flat.now c.args.node c.parent-parent.result c.args.base c.args.above c.args.least.now.items
     c.args.choices.now.items c.loop.least.items c.loop.choices.items c.deref.result.now c.loop.counter c.loop.next (priced c.args.shape (g.C.Costs.price c.args.costs.now) c.limb_of.new.limb)
     (prices-at (g.C.Costs.grid c.args.costs.now) c.args.shape (g.C.Costs.ways c.args.costs.now) (g.C.Costs.price c.args.costs.now) c.requires.grid (g.met.C.Costs.prices c.args.costs.now))
-    c.requires.flat c.parent-parent.ensures.tree c.requires.later c.requires.node (sym (parent-at c.args.flat.now c.args.node c.parent-parent.result c.parent-parent.ensures.parent))
+    c.requires.flat c.parent-parent.ensures.tree c.requires.node.later c.requires.node.inside (sym (parent-at c.args.flat.now c.args.node c.parent-parent.result c.parent-parent.ensures.parent))
     c.deref.ensures.value c.limb_of.ensures.costs c.loop.invariant.so_far (turn-within c.args.shape c.loop.next c.loop.counter c.loop.invariant.next)
-    (turn-numbered c.args.shape c.loop.next c.loop.counter c.loop.invariant.next (omega (arith, c.spans_of-end.ensures.count))) c.requires.layer in
+    (turn-numbered c.args.shape c.loop.next c.loop.counter c.loop.invariant.next (omega (arith, c.spans_of-end.ensures.count))) c.requires.node.layer in
     found.some
 
 pub loop-preserved-then-not-may_precede : goal.loop-preserved-then-not-may_precede
@@ -92,8 +92,8 @@ loop-preserved-then-not-may_precede g c =
 pub loop-preserved : goal.loop-preserved
 loop-preserved g c =
     let below = c.loop-test.true in
-    let node = c.requires.node in
-    let early = c.parent-parent.ensures.earlier c.requires.later in
+    let node = c.requires.node.inside in
+    let early = c.parent-parent.ensures.earlier c.requires.node.later in
     let up = (sym (parent-at c.args.flat.now c.args.node c.parent-parent.result c.parent-parent.ensures.parent)) in
     let within = turn-within c.args.shape c.loop.next c.loop.counter c.loop.invariant.next in
     let number = turn-numbered c.args.shape c.loop.next c.loop.counter c.loop.invariant.next (omega (arith, c.spans_of-end.ensures.count)) in
@@ -108,7 +108,7 @@ loop-preserved g c =
           (finds c.args.shape (g.C.Costs.ways c.args.costs.now) (g.C.Costs.price c.args.costs.now) c.args.flat.now c.args.node c.parent-parent.result c.args.base c.args.above c.args.least.now.items
           c.args.choices.now.items c.loop.least.items c.loop.choices.items c.deref.result.now c.loop.counter c.loop.next (priced c.args.shape (g.C.Costs.price c.args.costs.now) c.limb_of.new.limb)
           (prices-at (g.C.Costs.grid c.args.costs.now) c.args.shape (g.C.Costs.ways c.args.costs.now) (g.C.Costs.price c.args.costs.now) c.requires.grid (g.met.C.Costs.prices c.args.costs.now))
-          c.requires.flat c.parent-parent.ensures.tree c.requires.later node up c.deref.ensures.value c.limb_of.ensures.costs c.loop.invariant.so_far within number c.requires.layer)
+          c.requires.flat c.parent-parent.ensures.tree c.requires.node.later node up c.deref.ensures.value c.limb_of.ensures.costs c.loop.invariant.so_far within number c.requires.node.layer)
           c.loop.invariant.so_far;
       wires = c.choose_layer.ensures.wires;
     }

@@ -15,13 +15,13 @@ growing-at (s ∷ spans) (suc node) = growing-at spans node
 pub is_run-requires : goal.is_run-requires
 is_run-requires g c =
     let many = few c.args.flat.now c.parent-parent.ensures.tree in
-    let b = c.requires.node in
-    let e = c.parent-parent.ensures.earlier c.requires.later in
+    let b = c.requires.node.inside in
+    let e = c.parent-parent.ensures.earlier c.requires.node.later in
     omega arith
 
 pub choose_on_run-requires-clause-base : goal.choose_on_run-requires-clause-base
 choose_on_run-requires-clause-base g c =
-    subst (λ (s : Option Span). IsWithin c.args.shape.layers s) (growing-at c.args.pins.now c.args.node) (c.requires.within c.args.node c.requires.node)
+    subst (λ (s : Option Span). IsWithin c.args.shape.layers s) (growing-at c.args.pins.now c.args.node) (c.requires.within c.args.node c.requires.node.inside)
 
 pub returns-then-is_run : goal.returns-then-is_run
 returns-then-is_run g c =
@@ -38,12 +38,12 @@ returns-then-is_run g c =
 
 pub choose_by_span-requires-clause-base : goal.choose_by_span-requires-clause-base
 choose_by_span-requires-clause-base g c =
-    subst (λ (s : Option Span). IsWithin c.args.shape.layers s) (growing-at c.args.pins.now c.args.node) (c.requires.within c.args.node c.requires.node)
+    subst (λ (s : Option Span). IsWithin c.args.shape.layers s) (growing-at c.args.pins.now c.args.node) (c.requires.within c.args.node c.requires.node.inside)
 
 pub choose_by_span-requires-clause-above : goal.choose_by_span-requires-clause-above
 choose_by_span-requires-clause-above g c =
-    let many = c.requires.node in
-    let early = c.parent-parent.ensures.earlier c.requires.later in
+    let many = c.requires.node.inside in
+    let early = c.parent-parent.ensures.earlier c.requires.node.later in
     subst (λ (s : Option Span). IsWithin c.args.shape.layers s) (growing-at c.args.pins.now c.parent-parent.result) (c.requires.within c.parent-parent.result (omega arith))
 
 pub returns : goal.returns

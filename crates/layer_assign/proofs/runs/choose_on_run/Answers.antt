@@ -1,14 +1,21 @@
 use Rattle.std.proofs.lemmas.Option.{same_Some}
-use Rattle.std.proofs.Common.{◌≡◌, ℕ, zero, suc, [], ◌∷◌, ◌+◌, ◌-◌, ◌<◌, false, Option, Some, None, List, slice_get, get_or, refl, sym, ap, subst, ◌∙◌, arith}
+use Rattle.std.proofs.Common.{◌≡◌, ℕ, zero, suc, [], ◌∷◌, ◌+◌, ◌-◌, ◌<◌, false, Option, Some, None, IsTrue, List, length, slice_get, get_or, Bool, refl, sym, ap, subst, ◌∙◌, arith}
 use Rattle.std.proofs.lemmas.Bool.Decides.{nat_tests}
+use Rattle.cost_rules.specs.Prices.{ArePrices}
+use Rattle.gr_base.specs.Trees.{TreeView, IsTree, parent_at}
+use Rattle.gr_base.specs.declared.grid.Edge.{Edge}
+use Rattle.gr_base.specs.declared.grid.Shape.{Shape}
+use Rattle.gr_base.specs.declared.grid.Way.{Way}
 use Rattle.layer_assign.specs.declared.span.Best.{Best}
+use Rattle.layer_assign.specs.declared.span.Limb.{Limb}
 use Rattle.layer_assign.specs.declared.span.Span.{Span}
-use Rattle.layer_assign.specs.Assignments.{parent_of}
-use Rattle.layer_assign.specs.Chosen.{Writes}
-use Rattle.layer_assign.specs.Spans.{widened, IsWithin}
-use Rattle.layer_assign.specs.Tables.{number_in, priced, better, best_below}
-use Rattle.layer_assign.specs.Runs.{offer_on, offer_from, a_climb_more, best_up_to, best_from}
-use Rattle.layer_assign.proofs.Choosing.{choosing-none, choosing-turn, choosing-done, single_below, adds-layer, all-single, prices-at}
+use Rattle.layer_assign.specs.Assignments.{IsFlat, parent_of, may_take}
+use Rattle.layer_assign.specs.Choices.{entry}
+use Rattle.layer_assign.specs.Chosen.{onward_cost, Writes}
+use Rattle.layer_assign.specs.Spans.{widened, climb, IsWithin}
+use Rattle.layer_assign.specs.Tables.{number_in, limb_cost, priced, better, best_below}
+use Rattle.layer_assign.specs.Runs.{offer_on, offer_from, a_climb_more, best_up_to, best_from, Thins}
+use Rattle.layer_assign.proofs.Choosing.{Finds, choosing-none, choosing-turn, choosing-done, single_below, adds-layer, all-single, prices-at}
 use Rattle.layer_assign.proofs.FlatLemmas.{few, few_layers, parent-at}
 use Rattle.layer_assign.proofs.RunLemmas.{AreSmall, up_to-more, up_to-small, costs-less, best-both}
 use Rattle.layer_assign.proofs.ThinLemmas.{thin-best}
@@ -39,6 +46,19 @@ run-best limbs above layer layers below seen own now best inside below_is seen_i
     ap (λ o. better (best_up_to limbs (layer + 1)) o) (read-at above layer (a_climb_more (best_from limbs (layer + 1) (layers - (layer + 1)))) above_is None) ∙
     best-both limbs layer (layers - (layer + 1)) layers (omega arith)
 
+-- the best of all is the best layer of the node's edge, where its span begins at the layer
+run-found : (grid g : Shape) (ways : ℕ → Way → Bool) (price : Edge → Option ℕ) (t : TreeView) (node up : ℕ) (base : Option Span) (old from : List ℕ) (layer : ℕ) (limb : Limb)
+    (thin : List (Option ℕ)) (above : List (Option Best)) (below seen own now best : Option Best) → grid ≡ g → ArePrices grid ways price → IsFlat g t.shape → IsTree t → 0 < node →
+    node < length t.nodes → parent_at t.nodes node ≡ Some up → from ≡ old → ((l : ℕ) → l < g.layers → priced g price limb l ≡ limb_cost g price t from node base l) →
+    ((s : Option Span) → IsWithin g.layers s → entry g.layers old (parent_of t node) s ≡ climb s) → layer < g.layers → (l : ℕ) × IsTrue (may_take g ways t node l) →
+    below ≡ best_up_to (number_in thin) layer → seen ≡ a_climb_more below → own ≡ offer_on (number_in thin) layer → now ≡ better seen own →
+    slice_get above layer ≡ Some (a_climb_more (best_from (number_in thin) (layer + 1) (g.layers - (layer + 1)))) → best ≡ better now (get_or above layer None) →
+    Thins g.layers (priced g price limb) (number_in thin) → Finds best (onward_cost g price t old node base (widened None layer)) (may_take g ways t node)
+run-found grid g ways price t node up base old from layer limb thin above below seen own now best on_grid given flat tree later inside parent same at climbs within allowed below_is seen_is own_is now_is above_is best_is thins =
+    run-finds g ways price t node up base old from layer (priced g price limb) (prices-at grid g ways price on_grid given) flat tree later inside (sym (parent-at t node up parent)) same at climbs within allowed best
+    (run-best (number_in thin) above layer g.layers below seen own now best within below_is seen_is own_is now_is above_is best_is
+    ∙ thin-best (priced g price limb) (number_in thin) layer g.layers thins)
+
 pub loop-layer-init : goal.loop-layer-init
 unfolding best_up_to
 loop-layer-init g c = record {
@@ -62,15 +82,12 @@ a_climb_more-requires g c =
 pub write_best-requires-clause-some : goal.write_best-requires-clause-some
 write_best-requires-clause-some g c =
     let inside : c.loop-layer.layer < c.args.shape.layers = let e = c.loop-layer-test.true in omega (arith, c.layers-layer-end.ensures.layers) in
-    let found = run-finds c.args.shape (g.C.Costs.ways c.args.costs.now) (g.C.Costs.price c.args.costs.now) c.args.flat.now c.args.node c.parent-parent.result c.args.base c.args.least.now.items c.deref.result.now c.loop-layer.layer
-    (priced c.args.shape (g.C.Costs.price c.args.costs.now) c.limb_of.new.limb) (prices-at (g.C.Costs.grid c.args.costs.now) c.args.shape (g.C.Costs.ways c.args.costs.now) (g.C.Costs.price c.args.costs.now) c.requires.grid (g.met.C.Costs.prices c.args.costs.now))
-    c.requires.flat c.parent-parent.ensures.tree (let e = c.requires.early in let n = c.requires.next in omega arith) c.requires.node
-    (sym (parent-at c.args.flat.now c.args.node c.parent-parent.result c.parent-parent.ensures.parent)) c.deref.ensures.value c.limb_of.ensures.costs
-    c.requires.climbs inside c.requires.layer c.better_of-best.result
-    (run-best (number_in c.run_costs.new.thin) c.bests_above.new.above c.loop-layer.layer c.args.shape.layers c.loop-layer.below c.a_climb_more.result c.offer_on.result
-    c.better_of-below.result c.better_of-best.result inside c.loop-layer.invariant.below c.a_climb_more.ensures c.offer_on.ensures c.better_of-below.ensures
-    (c.bests_above.ensures c.loop-layer.layer inside) c.better_of-best.ensures
-    ∙ thin-best (priced c.args.shape (g.C.Costs.price c.args.costs.now) c.limb_of.new.limb) (number_in c.run_costs.new.thin) c.loop-layer.layer c.args.shape.layers c.run_costs.ensures.thins) in
+    let later : 0 < c.args.node = let e = c.requires.early in let n = c.requires.next in omega arith in
+    let found = run-found (g.C.Costs.grid c.args.costs.now) c.args.shape (g.C.Costs.ways c.args.costs.now) (g.C.Costs.price c.args.costs.now) c.args.flat.now c.args.node c.parent-parent.result
+    c.args.base c.args.least.now.items c.deref.result.now c.loop-layer.layer c.limb_of.new.limb c.run_costs.new.thin c.bests_above.new.above c.loop-layer.below c.a_climb_more.result c.offer_on.result
+    c.better_of-below.result c.better_of-best.result c.requires.grid (g.met.C.Costs.prices c.args.costs.now) c.requires.flat c.parent-parent.ensures.tree later c.requires.node
+    c.parent-parent.ensures.parent c.deref.ensures.value c.limb_of.ensures.costs c.requires.climbs inside c.requires.layer c.loop-layer.invariant.below c.a_climb_more.ensures c.offer_on.ensures
+    c.better_of-below.ensures (c.bests_above.ensures c.loop-layer.layer inside) c.better_of-best.ensures c.run_costs.ensures.thins in
     found.some
 
 pub loop-layer-preserved : goal.loop-layer-preserved
@@ -78,15 +95,12 @@ loop-layer-preserved g c =
     let inside : c.loop-layer.layer < c.args.shape.layers = let e = c.loop-layer-test.true in omega (arith, c.layers-layer-end.ensures.layers) in
     let next = c.requires.next in
     let node = c.requires.node in
-    let found = run-finds c.args.shape (g.C.Costs.ways c.args.costs.now) (g.C.Costs.price c.args.costs.now) c.args.flat.now c.args.node c.parent-parent.result c.args.base c.args.least.now.items c.deref.result.now c.loop-layer.layer
-    (priced c.args.shape (g.C.Costs.price c.args.costs.now) c.limb_of.new.limb) (prices-at (g.C.Costs.grid c.args.costs.now) c.args.shape (g.C.Costs.ways c.args.costs.now) (g.C.Costs.price c.args.costs.now) c.requires.grid (g.met.C.Costs.prices c.args.costs.now))
-    c.requires.flat c.parent-parent.ensures.tree (let e = c.requires.early in let n = c.requires.next in omega arith) c.requires.node
-    (sym (parent-at c.args.flat.now c.args.node c.parent-parent.result c.parent-parent.ensures.parent)) c.deref.ensures.value c.limb_of.ensures.costs
-    c.requires.climbs inside c.requires.layer c.better_of-best.result
-    (run-best (number_in c.run_costs.new.thin) c.bests_above.new.above c.loop-layer.layer c.args.shape.layers c.loop-layer.below c.a_climb_more.result c.offer_on.result
-    c.better_of-below.result c.better_of-best.result inside c.loop-layer.invariant.below c.a_climb_more.ensures c.offer_on.ensures c.better_of-below.ensures
-    (c.bests_above.ensures c.loop-layer.layer inside) c.better_of-best.ensures
-    ∙ thin-best (priced c.args.shape (g.C.Costs.price c.args.costs.now) c.limb_of.new.limb) (number_in c.run_costs.new.thin) c.loop-layer.layer c.args.shape.layers c.run_costs.ensures.thins) in
+    let later : 0 < c.args.node = let e = c.requires.early in omega (arith, next) in
+    let found = run-found (g.C.Costs.grid c.args.costs.now) c.args.shape (g.C.Costs.ways c.args.costs.now) (g.C.Costs.price c.args.costs.now) c.args.flat.now c.args.node c.parent-parent.result
+    c.args.base c.args.least.now.items c.deref.result.now c.loop-layer.layer c.limb_of.new.limb c.run_costs.new.thin c.bests_above.new.above c.loop-layer.below c.a_climb_more.result c.offer_on.result
+    c.better_of-below.result c.better_of-best.result c.requires.grid (g.met.C.Costs.prices c.args.costs.now) c.requires.flat c.parent-parent.ensures.tree later c.requires.node
+    c.parent-parent.ensures.parent c.deref.ensures.value c.limb_of.ensures.costs c.requires.climbs inside c.requires.layer c.loop-layer.invariant.below c.a_climb_more.ensures c.offer_on.ensures
+    c.better_of-below.ensures (c.bests_above.ensures c.loop-layer.layer inside) c.better_of-best.ensures c.run_costs.ensures.thins in
     let within : IsWithin c.args.shape.layers (widened None c.loop-layer.layer) = record { ordered = omega arith; high = omega arith } in
     let P : Option Span → Type 0 =
     λ r. Writes c.args.shape.layers c.parent-parent.result c.args.node r c.better_of-best.result c.loop-layer.least.items c.write_best.new.least.items
