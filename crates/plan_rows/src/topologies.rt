@@ -29,102 +29,49 @@ fn length_of(points: &[Point]) -> u64 {
     length
 }
 
-/// Tiles, and the topology and its length that the rule gives by hand or by a plain program.
-type Row = (&'static [Tile], &'static [(Tile, u32)], u64);
+/// Rows of tiles by column and row, and the topology that the rule gives by hand or by a plain
+/// program: its points by column, row and parent, and its length.
+const ROWS: &str = "55: 550, length 0\n\
+    21 35: 210 350, length 5\n\
+    00 40 23: 000 403 233 200, length 7\n\
+    31 02 24 20: 310 024 245 204 215 210, length 8\n\
+    66 16 35 61 14: 660 166 355 615 146 650 152, length 12\n\
+    34 46 03 52 65 06: 340 467 038 526 657 068 440 456 040, length 14\n\
+    46 43 52 14 41 00 65: 460 439 528 149 418 003 657 450 421 447, length 16\n\
+    15 55 21 31 50 33 61: 150 557 213 315 508 337 618 350 513, length 13";
 
-const ROWS: [Row; 8] = [
-    (&[(5, 5)], &[((5, 5), 0)], 0),
-    (&[(2, 1), (3, 5)], &[((2, 1), 0), ((3, 5), 0)], 5),
-    (
-        &[(0, 0), (4, 0), (2, 3)],
-        &[((0, 0), 0), ((4, 0), 3), ((2, 3), 3), ((2, 0), 0)],
-        7,
-    ),
-    (
-        &[(3, 1), (0, 2), (2, 4), (2, 0)],
-        &[
-            ((3, 1), 0),
-            ((0, 2), 4),
-            ((2, 4), 5),
-            ((2, 0), 4),
-            ((2, 1), 5),
-            ((2, 1), 0),
-        ],
-        8,
-    ),
-    (
-        &[(6, 6), (1, 6), (3, 5), (6, 1), (1, 4)],
-        &[
-            ((6, 6), 0),
-            ((1, 6), 6),
-            ((3, 5), 5),
-            ((6, 1), 5),
-            ((1, 4), 6),
-            ((6, 5), 0),
-            ((1, 5), 2),
-        ],
-        12,
-    ),
-    (
-        &[(3, 4), (4, 6), (0, 3), (5, 2), (6, 5), (0, 6)],
-        &[
-            ((3, 4), 0),
-            ((4, 6), 7),
-            ((0, 3), 8),
-            ((5, 2), 6),
-            ((6, 5), 7),
-            ((0, 6), 8),
-            ((4, 4), 0),
-            ((4, 5), 6),
-            ((0, 4), 0),
-        ],
-        14,
-    ),
-    (
-        &[(4, 6), (4, 3), (5, 2), (1, 4), (4, 1), (0, 0), (6, 5)],
-        &[
-            ((4, 6), 0),
-            ((4, 3), 9),
-            ((5, 2), 8),
-            ((1, 4), 9),
-            ((4, 1), 8),
-            ((0, 0), 3),
-            ((6, 5), 7),
-            ((4, 5), 0),
-            ((4, 2), 1),
-            ((4, 4), 7),
-        ],
-        16,
-    ),
-    (
-        &[(1, 5), (5, 5), (2, 1), (3, 1), (5, 0), (3, 3), (6, 1)],
-        &[
-            ((1, 5), 0),
-            ((5, 5), 7),
-            ((2, 1), 3),
-            ((3, 1), 5),
-            ((5, 0), 8),
-            ((3, 3), 7),
-            ((6, 1), 8),
-            ((3, 5), 0),
-            ((5, 1), 3),
-        ],
-        13,
-    ),
-];
+/// The tiles of a row.
+fn tiles_of(alloc: Global, row: &str) -> Result<Vec<Tile>, AllocError> {
+    let mut tiles = Vec::new(alloc);
+    for word in row.split_whitespace() {
+        let place: u32 = word.parse().unwrap_or(0);
+        tiles.push((place / 10, place % 10))?;
+    }
+    Ok(tiles)
+}
+
+/// The points and the length as a row has them.
+fn told(alloc: Global, points: &[Point]) -> Result<String, AllocError> {
+    let mut told = String::new(alloc);
+    for (at, Point { tile, parent }) in points.iter().enumerate() {
+        let space = if at == 0 { "" } else { " " };
+        told.push_str(&format!(in alloc; "{space}{}{}{parent}", tile.0, tile.1)?)?;
+    }
+    told.push_str(&format!(in alloc; ", length {}", length_of(points))?)?;
+    Ok(told)
+}
 
 #[test]
 fn points_parents_and_ties_are_those_of_the_rule(rt: HostRuntime) {
     let mut room = TopologyRoom::new(rt.alloc());
-    for (tiles, expected, length) in ROWS {
+    for row in ROWS.lines() {
+        let (tiles, wanted) = row.split_once(": ").unwrap_or((row, ""));
+        let tiles = tiles_of(rt.alloc(), tiles).expect(&rt, "memory");
         assert!(rt; !tiles.is_empty() && tiles.len() <= 7);
-        let topology = topology(rt.alloc(), tiles, &mut room).expect(&rt, "memory");
+        let topology = topology(rt.alloc(), &tiles, &mut room).expect(&rt, "memory");
         let points = points_of(rt.alloc(), &topology).expect(&rt, "memory");
-        assert_eq!(rt; points.len(), expected.len());
-        for (point, &(tile, parent)) in points.iter().zip(expected) {
-            assert_eq!(rt; *point, Point { tile, parent });
-        }
-        assert_eq!(rt; length_of(&points), length);
+        let told = told(rt.alloc(), &points).expect(&rt, "memory");
+        assert_eq!(rt; told.as_str(), wanted);
     }
 }
 

@@ -103,13 +103,7 @@ fn put_runs<R: AllocGlobal + Threads + Wait + Sync>(
             let steps = 0..bench.size_of(name).saturating_add(1);
             put_sweep(rt, bench, rules, rest, Sweep::Cut(name), steps, told)
         }
-        "hold" => {
-            let (worker, rest) = number_in(rest);
-            let (claims, rest) = number_in(rest);
-            let words = words_of(rt.alloc(), rest)?;
-            let gate = HoldingGate::new(if worker == 0 { None } else { Some(worker) }, claims);
-            put_held(rt, bench, rules, &words, gate, told)
-        }
+        "hold" => put_held(rt, bench, rules, rest, told),
         _ => {
             let words = words_of(rt.alloc(), rest)?;
             put_run(rt, bench, rules, &words, command == "brief", told)
@@ -134,17 +128,20 @@ fn put_run<R: AllocGlobal + Threads + Wait + Sync>(
     }
 }
 
-/// What is told of a run in which a worker, the first that comes or that of a number, waits at its
-/// first search for so many claims of the others.
+/// What is told of a run in which a worker, 0 for the first that comes, waits at its first search for
+/// so many claims of the others.
 fn put_held<R: AllocGlobal + Threads + Wait + Sync>(
     rt: &R,
     bench: &Bench,
     rules: &Rules,
-    words: &[String],
-    gate: HoldingGate,
+    rest: &str,
     told: &mut Text,
 ) -> Result<(), AllocError> {
-    let left = bench.run(rt, &gate, rules, bench.devices, None, words)?;
+    let (worker, rest) = number_in(rest);
+    let (claims, rest) = number_in(rest);
+    let words = words_of(rt.alloc(), rest)?;
+    let gate = HoldingGate::new(if worker == 0 { None } else { Some(worker) }, claims);
+    let left = bench.run(rt, &gate, rules, bench.devices, None, &words)?;
     told::put_meeting(told, &left, gate.is_passed())
 }
 
