@@ -1,5 +1,5 @@
 -- The lines of buffers, and of nets with plans.
-use Rattle.std.proofs.Common.{◌≡◌, ℕ, zero, suc, ◌+◌, ◌<◌, ◌≤◌, inl, inr, Bool, true, false, List, [], ◌∷◌, ◌++◌, All, length, map, filter, sum_by, Option, Some, None, IfSome, IsSomeAnd, is_some, unwrap_or, option_and_then, slice_get, if◌then◌else◌, refl, sym, ap, subst, ◌∙◌, append-nil, append_assoc, arith}
+use Rattle.std.proofs.Common.{◌≡◌, ℕ, zero, suc, ◌+◌, ◌-◌, ◌<◌, ◌≤◌, inl, inr, Bool, true, false, List, [], ◌∷◌, ◌++◌, All, length, map, filter, sum_by, Option, Some, None, IfSome, IsSomeAnd, is_some, unwrap_or, option_and_then, slice_get, if◌then◌else◌, refl, sym, ap, subst, ◌∙◌, append-nil, append_assoc, arith}
 use Rattle.std.specs.List.{AllByRecursion, flat_map, range_with_len}
 use Rattle.std.proofs.lemmas.Bool.{cases_Bool, cases_lt, false≢true}
 use Rattle.std.proofs.lemmas.List.{get_or_past}
@@ -145,13 +145,41 @@ sum-counted d plans n is =
     let one : (if is_routed d n then buffers_in (plan_at plans n) else 0) ≡ buffers_in (plan_at plans n) = rw is refl in
     omega (arith, sum-more d plans n, one)
 
--- the lines of the nets before a number, with one more net's
-pub lines-more : (f : ℕ → List ℕ) (head : List ℕ) (n : ℕ) →
-    (head ++ flat_map f (range_with_len 0 n)) ++ f n ≡ head ++ flat_map f (range_with_len 0 (n + 1))
-lines-more f head n =
-    let here : 0 + n ≡ n = omega arith in
-    append_assoc head (flat_map f (range_with_len 0 n)) (f n)
-    ∙ ap (λ (text : List ℕ). head ++ (flat_map f (range_with_len 0 n) ++ text)) (sym (append-nil (f n)))
-    ∙ ap (λ (text : List ℕ). head ++ text) (sym (flat_map-append f (range_with_len 0 n) (n ∷ [])))
-    ∙ ap (λ (k : ℕ). head ++ flat_map f (range_with_len 0 n ++ k ∷ [])) (sym here)
-    ∙ ap (λ (ns : List ℕ). head ++ flat_map f ns) (sym (range-more 0 n))
+-- the lines of one more net
+pub lines-more : (f : ℕ → List ℕ) (head : List ℕ) (first last : ℕ) → first ≤ last →
+    (head ++ flat_map f (range_with_len first (last - first))) ++ f last ≡ head ++ flat_map f (range_with_len first (last + 1 - first))
+lines-more f head first last low =
+    let count : ℕ = last - first in
+    let here : first + count ≡ last = omega arith in
+    let more : last + 1 - first ≡ count + 1 = omega arith in
+    append_assoc head (flat_map f (range_with_len first count)) (f last)
+    ∙ ap (λ (text : List ℕ). head ++ (flat_map f (range_with_len first count) ++ text)) (sym (append-nil (f last)))
+    ∙ ap (λ (text : List ℕ). head ++ text) (sym (flat_map-append f (range_with_len first count) (last ∷ [])))
+    ∙ ap (λ (k : ℕ). head ++ flat_map f (range_with_len first count ++ k ∷ [])) (sym here)
+    ∙ ap (λ (ns : List ℕ). head ++ flat_map f ns) (sym (range-more first count))
+    ∙ ap (λ (n : ℕ). head ++ flat_map f (range_with_len first n)) (sym more)
+
+-- the lines of nets, and of those behind them
+lines-behind : (f : ℕ → List ℕ) (first m n : ℕ) →
+    flat_map f (range_with_len first m) ++ flat_map f (range_with_len (first + m) n) ≡ flat_map f (range_with_len first (m + n))
+lines-behind f first zero n =
+    let here : first + zero ≡ first = omega arith in
+    let same : n ≡ zero + n = omega arith in
+    ap (λ (k : ℕ). flat_map f (range_with_len k n)) here ∙ ap (λ (k : ℕ). flat_map f (range_with_len first k)) same
+lines-behind f first (suc m) n =
+    let here : first + suc m ≡ first + 1 + m = omega arith in
+    let same : suc (m + n) ≡ suc m + n = omega arith in
+    append_assoc (f first) (flat_map f (range_with_len (first + 1) m)) (flat_map f (range_with_len (first + suc m) n))
+    ∙ ap (λ (k : ℕ). f first ++ (flat_map f (range_with_len (first + 1) m) ++ flat_map f (range_with_len k n))) here
+    ∙ ap (λ (text : List ℕ). f first ++ text) (lines-behind f (first + 1) m n)
+    ∙ ap (λ (k : ℕ). flat_map f (range_with_len first k)) same
+
+pub lines-join : (f : ℕ → List ℕ) (middle last : ℕ) → middle ≤ last →
+    flat_map f (range_with_len 0 (middle - 0)) ++ flat_map f (range_with_len middle (last - middle)) ≡ flat_map f (range_with_len 0 (last - 0))
+lines-join f middle last high =
+    let none : middle - 0 ≡ middle = omega arith in
+    let whole : middle + (last - middle) ≡ last - 0 = omega arith in
+    ap (λ (k : ℕ). flat_map f (range_with_len 0 k) ++ flat_map f (range_with_len middle (last - middle))) none
+    ∙ ap (λ (k : ℕ). flat_map f (range_with_len 0 middle) ++ flat_map f (range_with_len k (last - middle))) (let e : middle ≡ 0 + middle = omega arith in e)
+    ∙ lines-behind f 0 middle (last - middle)
+    ∙ ap (λ (k : ℕ). flat_map f (range_with_len 0 k)) whole

@@ -1,3 +1,4 @@
 pub mod NetLemmas
 pub mod PlacedLemmas
 pub mod BufferLemmas
+pub mod BlockLemmas

@@ -1,5 +1,5 @@
 -- The text of the buffers in the trees of a design's nets.
-use Rattle.std.specs.Prelude.{◌≡◌, ℕ, List, [], ◌++◌, length, filter, count_by, Option, Some, None, is_some, unwrap_or, option_and_then, slice_get, if◌then◌else◌, IsTrue, IsSomeAnd, codes}
+use Rattle.std.specs.Prelude.{◌≡◌, ℕ, ◌-◌, List, [], ◌++◌, length, filter, count_by, Option, Some, None, is_some, unwrap_or, option_and_then, slice_get, if◌then◌else◌, IsTrue, IsSomeAnd, codes}
 use Rattle.std.specs.Fmt.{decimal, signed_decimal}
 use Rattle.std.specs.List.{flat_map, range_with_len}
 use Rattle.gr_base.specs.Designs.{DesignView, centre_of, is_routed}
@@ -52,16 +52,22 @@ abbrev pub net_buffers : DesignView → LibraryView → List (Option TreeView) �
 net_buffers d lib trees plans net =
     if is_routed d net then plan_text d.frame lib (slice_get d.nets net) (tree_at trees net) (plan_at plans net) else []
 
+-- the lines of the routed nets from the first number on, below the last
+abbrev pub net_lines : DesignView → LibraryView → List (Option TreeView) → List (Option Plan) → (first last : ℕ) → List ℕ
+net_lines d lib trees plans first last = flat_map (net_buffers d lib trees plans) (range_with_len first (last - first))
+
 -- how many buffers a plan has, if there is one
 abbrev pub buffers_in : Option Plan → ℕ
 buffers_in None = 0
 buffers_in (Some plan) = count_by is_some plan.placement
 
--- how many buffers the routed nets have together, and the lines of each of these nets in the design's order
+-- how many buffers the routed nets have together
+abbrev pub total_line : DesignView → List (Option Plan) → List ℕ
+total_line d plans = number_line (codes "buffers") (sum_routed d (λ net. buffers_in (plan_at plans net)))
+
+-- that line, and the lines of each of these nets in the design's order
 abbrev pub buffers_text : DesignView → LibraryView → List (Option TreeView) → List (Option Plan) → List ℕ
-buffers_text d lib trees plans =
-    number_line (codes "buffers") (sum_routed d (λ net. buffers_in (plan_at plans net)))
-    ++ flat_map (net_buffers d lib trees plans) (range_with_len 0 (length d.nets))
+buffers_text d lib trees plans = total_line d plans ++ net_lines d lib trees plans 0 (length d.nets)
 
 -- a plan for a tree of the design, with kinds of the library
 pub record IsPlanFor (d : DesignView) (lib : LibraryView) (t : TreeView) (plan : Plan) : Type 0 where

@@ -1,3 +1,4 @@
 pub mod Texts
 pub mod BufferTexts
 pub mod Placed
+pub mod BufferBlocks

@@ -1,12 +1,12 @@
 //! The text of buffers.
-ghost use Rattle.std.specs.Prelude.{◌≡◌, ◌<◌, ◌++◌, All, length, Some, IfOk, OnOk};
+ghost use Rattle.std.specs.Prelude.{◌≡◌, ◌<◌, ◌≤◌, ◌++◌, All, length, Some, IfOk, OnOk};
 ghost use Rattle.std.specs.List.{flat_map};
 ghost use Rattle.gr_base.specs.Grid.{cells_of};
 ghost use Rattle.gr_base.specs.Sums.{sum_routed};
 ghost use Rattle.gr_base.specs.Trees.{IsTree};
 ghost use Rattle.elmore_delay.specs.PlanLists.{plan_at};
 ghost use Rattle.solution_text.specs.WrittenText.{point_text};
-ghost use Rattle.report_text.specs.BufferTexts.{kind_line, plan_line, net_buffers, buffers_in, buffers_text, ArePlanned};
+ghost use Rattle.report_text.specs.BufferTexts.{kind_line, plan_line, net_buffers, net_lines, buffers_in, total_line, buffers_text, ArePlanned};
 ghost use Rattle.report_text.specs.Placed.{buffered_nodes, rising_buffers};
 
 use crate::lines::put_number_line;
@@ -38,12 +38,49 @@ pub fn buffers(
     ensures { IfOk result (λ text. text ≡ buffers_text design.now library.now routes.now plans.now) }
 {
     let mut text = Text::new(alloc);
-    let mut found = Vec::new(alloc);
-    put_number_line(&mut text, b"buffers", total(design, plans))?;
-    for net in 0..design.nets() {
-        put_net(&mut text, &mut found, design, library, routes, plans, net)?;
-    }
+    put_total(&mut text, design, plans)?;
+    put_nets(
+        &mut text,
+        alloc,
+        design,
+        library,
+        routes,
+        plans,
+        0,
+        design.nets(),
+    )?;
     Ok(text)
+}
+
+/// Puts the line with the number of all buffers at the end of the text.
+pub(crate) fn put_total(text: &mut Text, design: &Design, plans: &Plans) -> Result<(), AllocError>
+    ensures { OnOk result (text.new ≡ text.old ++ total_line design.now plans.now) }
+{
+    put_number_line(text, b"buffers", total(design, plans))
+}
+
+/// Puts the lines of the nets from a number on, below another, at the end of the text.
+pub(crate) fn put_nets(
+    text: &mut Text,
+    alloc: Global,
+    design: &Design,
+    library: &Library,
+    routes: &Routes,
+    plans: &Plans,
+    first: u32,
+    last: u32,
+) -> Result<(), AllocError>
+    requires plans { ArePlanned design.now library.now routes.now plans.now }
+    requires first { first ≤ last }
+    requires last { last ≤ length design.now.nets }
+    ensures { OnOk result
+        (text.new ≡ text.old ++ net_lines design.now library.now routes.now plans.now first last) }
+{
+    let mut found = Vec::new(alloc);
+    for net in first..last {
+        put_net(text, &mut found, design, library, routes, plans, net)?;
+    }
+    Ok(())
 }
 
 /// How many buffers the routed nets have together.

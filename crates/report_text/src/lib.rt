@@ -1,10 +1,12 @@
 //! The texts that tell a verdict on routes.
 #![tactic(auto)]
 
+mod buffer_blocks;
 mod buffer_text;
 mod lines;
 mod texts;
 
+pub use buffer_blocks::buffers_by;
 pub use buffer_text::buffers;
 pub use lines::put_number_line;
 pub use texts::{report, unjoined};

@@ -16,7 +16,7 @@ use gr_base::{Design, RouteTree, Routes};
 use gr_io::{Shelf, Sink, write_whole};
 use gr_text::Text;
 use rc_library::Library;
-use report_text::buffers;
+use report_text::buffers_by;
 use route_evaluator::{TreeError, TreeMaker};
 use route_reader::Solution;
 use std::alloc::{AllocError, Global};
@@ -98,8 +98,8 @@ fn solution_tree(
     }
 }
 
-/// The text of the buffers that are placed on trees, planned by so many workers. The only error is want
-/// of memory.
+/// The text of the buffers that are placed on trees, planned and put together by so many workers. The
+/// only error is want of memory.
 pub(crate) fn buffers_on<R: Threads + Sync>(
     rt: &R,
     alloc: Global,
@@ -114,5 +114,5 @@ pub(crate) fn buffers_on<R: Threads + Sync>(
     ensures { IfOk result (IsBuffersText design.now library.now trees.now) }
 {
     let plans = plan_all(rt, alloc, design, library, trees, workers)?;
-    buffers(alloc, design, library, trees, &plans)
+    buffers_by(rt, alloc, design, library, trees, &plans, workers)
 }

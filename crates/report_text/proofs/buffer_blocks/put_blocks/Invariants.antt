@@ -1,0 +1,9 @@
+use Rattle.std.proofs.Common.{◌≡◌, ◌++◌}
+use Rattle.report_text.specs.BufferTexts.{net_lines}
+use Rattle.report_text.specs.BufferBlocks.{block_start}
+use Rattle.report_text.proofs.buffer_blocks.put_blocks.Given as goal
+
+-- the texts of the blocks so far
+abbrev pub invariant-loop-block : goal.invariant-loop-block
+invariant-loop-block l =
+    l.text ≡ l.fn.text ++ net_lines l.design l.library l.routes l.plans 0 (block_start l.design l.size l.block-index)
