@@ -108,7 +108,7 @@ fn text_of(
 {
     let mut routes = Routes::new(alloc, 1)?;
     routes.set(0, tree);
-    let mut plans = Vec::new(alloc);
-    plans.push(Some(plan))?;
-    buffers(alloc, design, library, &routes, &Plans::of(plans))
+    let mut plans = Plans::new(alloc, 1)?;
+    plans.set(0, plan);
+    buffers(alloc, design, library, &routes, &plans)
 }
