@@ -1,5 +1,4 @@
-//! Worked rows of texts, as tests alone: devices, tokens, trees of nets, verdicts on trees, and texts
-//! that are written.
+//! Worked rows of texts, as tests alone: devices, tokens, trees of nets, and texts that are written.
 #![tactic(auto)]
 
 #[cfg(test)]
@@ -12,5 +11,3 @@ mod net_trees;
 mod texts;
 #[cfg(test)]
 mod tokens;
-#[cfg(test)]
-mod verdicts;

@@ -1,5 +1,5 @@
 use Rattle.std.proofs.Common.{take}
-use Rattle.router_top.proofs.RouteLemmas.{held-tree, routes-routed, routes-trees, chosen-routes}
+use Rattle.router_top.proofs.RouteLemmas.{held-tree, routes-trees, chosen-routes}
 use Rattle.router_top.proofs.routing.judged_routes.Goals as goal
 
 pub returns : goal.returns
