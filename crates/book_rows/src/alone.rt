@@ -3,9 +3,8 @@ ghost use Rattle.std.specs.Prelude.{◌≡◌, ◌<◌, ◌≤◌, length, IsTru
 ghost use Rattle.book_state.specs.Books.{nets_of};
 ghost use Rattle.gr_base.specs.Grid.{has_edge};
 ghost use Rattle.grid_demand.specs.Tables.{capacity_of};
-ghost use Rattle.book_rows.specs.Rows.{AreOfTwo, first_edge};
+ghost use Rattle.book_rows.specs.Rows.{AreOfRow, first_edge};
 
-use crate::designs::of_two;
 use crate::single::{mark_to, reply_to};
 use crate::steps::{Step, Which};
 use crate::turns::EDGE;
@@ -61,20 +60,15 @@ const MARKS: [Act; 5] = [
 ];
 
 /// Prints what the book answers, and what is read of it.
-pub(crate) fn show<R: Threads + Print + Sync>(rt: &R, alloc: Global) -> io::Result<()> {
-    println!(rt; "a book for one thread")?;
-    let (design, tree) = of_two(alloc)?;
-    over(rt, alloc, &design, &tree)
-}
-
-fn over<R: Threads + Print + Sync>(
+pub(crate) fn show<R: Threads + Print + Sync>(
     rt: &R,
     alloc: Global,
     design: &Design,
     tree: &RouteTree,
 ) -> io::Result<()>
-    requires { AreOfTwo (capacity_of design.now) design.now tree.now }
+    requires { AreOfRow (capacity_of design.now) design.now tree.now }
 {
+    println!(rt; "a book for one thread")?;
     let capacity = Capacity::of(alloc, design)?;
     for acts in [TURNS.as_slice(), MARKS.as_slice()] {
         game(rt, alloc, design, &capacity, tree, acts)?;
@@ -91,7 +85,7 @@ fn game<R: Threads + Print + Sync>(
     tree: &RouteTree,
     acts: &[Act],
 ) -> io::Result<()>
-    requires { AreOfTwo capacity.now design.now tree.now }
+    requires { AreOfRow capacity.now design.now tree.now }
 {
     let mut book = BookState::new(alloc, design)?;
     for act in acts {
@@ -109,7 +103,7 @@ fn perform<R: Threads + Print + Sync>(
     tree: &RouteTree,
     act: Act,
 ) -> io::Result<()>
-    requires of_two { AreOfTwo capacity.now design.now tree.now }
+    requires of_row { AreOfRow capacity.now design.now tree.now }
     requires book { book.old.capacity ≡ capacity.now }
     ensures { book.new.capacity ≡ book.old.capacity }
 {
@@ -130,7 +124,7 @@ fn play<R: Print>(
     tree: &RouteTree,
     steps: &[Step],
 ) -> io::Result<()>
-    requires nets { nets_of book.old.capacity ≡ 2 }
+    requires nets { 2 ≤ nets_of book.old.capacity }
     requires shape { tree.now.shape ≡ book.old.capacity.shape }
     ensures { book.new.capacity ≡ book.old.capacity }
 {

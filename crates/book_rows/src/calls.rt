@@ -1,5 +1,6 @@
 //! Calls to the shared book.
-ghost use Rattle.std.specs.Prelude.{◌≡◌, ◌<◌};
+ghost use Rattle.std.specs.Prelude.{◌≡◌, ◌<◌, ◌≤◌, OnOk};
+ghost use mathlib.Core.List.{IsPrefix};
 ghost use Rattle.book_state.specs.Books.{nets_of};
 
 use crate::steps::Step;
@@ -18,7 +19,7 @@ pub(crate) fn reply_to<N: BookName, R: Wait>(
     tree: &RouteTree,
     step: Step,
 ) -> Result<Reply, AllocError>
-    requires nets { nets_of N.capacity ≡ 2 }
+    requires nets { 2 ≤ nets_of N.capacity }
     requires shape { tree.now.shape ≡ N.capacity.shape }
 {
     match step {
@@ -28,8 +29,8 @@ pub(crate) fn reply_to<N: BookName, R: Wait>(
     }
 }
 
-/// The reply to a claim of a net with a copy of the tree.
-fn claim<N: BookName, R: Wait>(
+/// The reply to a claim of a net with a copy of the tree. The pass has seen what it had, and more.
+pub(crate) fn claim<N: BookName, R: Wait>(
     rt: &R,
     alloc: Global,
     book: &TrackBook<N>,
@@ -40,6 +41,7 @@ fn claim<N: BookName, R: Wait>(
 ) -> Result<Reply, AllocError>
     requires net { net < nets_of N.capacity }
     requires shape { tree.now.shape ≡ N.capacity.shape }
+    ensures { OnOk result (IsPrefix pass.old.seen pass.new.seen) }
 {
     let claim = Claim {
         net,

@@ -1,15 +1,15 @@
-//! Calls of threads with a pass each.
+//! Threads with a pass each.
 ghost use Rattle.std.specs.Prelude.{◌≡◌, ◌≤◌};
 ghost use Rattle.book_state.specs.Books.{IsLegal};
 ghost use Rattle.grid_demand.specs.Tables.{capacity_of};
-ghost use Rattle.book_rows.specs.Rows.{AreOfTwo};
+ghost use Rattle.book_rows.specs.Rows.{AreOfRow};
 
 use crate::calls::reply_to;
+use crate::claims;
 use crate::closing::closed;
-use crate::designs::made;
+use crate::games::{Game, Task};
 use crate::heard::{Heard, are_told};
 use crate::replay::is_replayed;
-use crate::steps::{Step, Which};
 use book_state::{History, Replica, Reply};
 use gr_base::{Design, RouteTree};
 use std::alloc::{AllocError, Global};
@@ -19,80 +19,35 @@ use std::sync::Wait;
 use std::thread::{Threads, map_vec};
 use track_book::{Blank, BookName, Pass, TrackBook};
 
-/// What the threads call.
-#[derive(Clone, Copy)]
-pub(crate) enum Game {
-    /// The one claims a and marks, the other claims b and releases it.
-    Pair,
-    /// Each claims and releases both nets in turn, and sometimes marks.
-    Crowd,
-}
-
-impl Game {
-    /// How many threads there are.
-    fn threads(self) -> u32
-        ensures some { 1 ≤ result }
-        ensures few { result ≤ 64 }
-    {
-        match self {
-            Game::Pair => 2,
-            Game::Crowd => 4,
-        }
-    }
-
-    /// How many calls each makes.
-    fn turns(self) -> u32 {
-        match self {
-            Game::Pair => 2,
-            Game::Crowd => 10_000,
-        }
-    }
-
-    /// The call of a thread's turn.
-    fn step(self, number: u32, turn: u32) -> Step {
-        match self {
-            Game::Pair => pair(number, turn),
-            Game::Crowd => crowd(turn),
-        }
-    }
-}
-
-fn pair(number: u32, turn: u32) -> Step {
-    let net = if number == 0 { Which::A } else { Which::B };
-    if turn == 0 {
-        Step::Claim(net, Some(0))
-    } else if number == 0 {
-        Step::Mark
-    } else {
-        Step::Release(net)
-    }
-}
-
-fn crowd(turn: u32) -> Step {
-    let net = if turn / 2 % 2 == 0 {
-        Which::A
-    } else {
-        Which::B
-    };
-    if turn % 101 == 100 {
-        Step::Mark
-    } else if turn % 2 == 0 {
-        Step::Claim(net, Some(0))
-    } else {
-        Step::Release(net)
-    }
-}
-
-/// Prints what holds of the calls in whatever order they come.
+/// Prints what holds of a game's calls in whatever order they come.
 pub(crate) fn show<R: Threads + Wait + Print + Sync>(
     rt: &R,
     alloc: Global,
+    design: &Design,
+    tree: &RouteTree,
     game: Game,
-) -> io::Result<()> {
-    let threads = game.threads();
-    println!(rt; "{threads} threads")?;
-    let (design, tree, blank) = made(alloc, threads)?;
-    play::<Brand, R>(rt, alloc, &design, &tree, blank, game, threads)
+) -> io::Result<()>
+    requires { AreOfRow (capacity_of design.now) design.now tree.now }
+{
+    let task = Task::Play(game);
+    println!(rt; "{} threads", task.threads())?;
+    run(rt, alloc, design, tree, task)
+}
+
+/// Starts the threads, and prints what holds of a game's calls, or how many entries the book has in
+/// the end where claims are timed.
+pub(crate) fn run<R: Threads + Wait + Print + Sync>(
+    rt: &R,
+    alloc: Global,
+    design: &Design,
+    tree: &RouteTree,
+    task: Task,
+) -> io::Result<()>
+    requires { AreOfRow (capacity_of design.now) design.now tree.now }
+{
+    let threads = task.threads();
+    let blank = Blank::new(alloc, design, threads)?;
+    play::<Brand, R>(rt, alloc, design, tree, blank, task, threads)
 }
 
 fn play<N: BookName + Send + Sync, R: Threads + Wait + Print + Sync>(
@@ -101,12 +56,12 @@ fn play<N: BookName + Send + Sync, R: Threads + Wait + Print + Sync>(
     design: &Design,
     tree: &RouteTree,
     blank: Blank,
-    game: Game,
+    task: Task,
     threads: u32,
 ) -> io::Result<()>
     requires word { blank.word ≡ N.word }
     requires capacity { blank.capacity ≡ N.capacity }
-    requires of_two { AreOfTwo N.capacity design.now tree.now }
+    requires of_row { AreOfRow N.capacity design.now tree.now }
     requires passes { blank.passes ≡ N.passes }
     requires threads { N.passes ≡ threads }
 {
@@ -116,30 +71,37 @@ fn play<N: BookName + Send + Sync, R: Threads + Wait + Print + Sync>(
         rt,
         passes,
         &|pass: Pass<N>| -> Result<Heard<N>, AllocError>
-            requires { AreOfTwo N.capacity design.now tree.now }
-        { calls(rt, alloc, shared, pass, design, tree, game) },
+            requires { AreOfRow N.capacity design.now tree.now }
+        { called(rt, alloc, shared, pass, design, tree, task) },
     )?;
-    report(rt, alloc, book, heard, design, threads)
+    match task {
+        Task::Play(_) => report(rt, alloc, book, heard, design, threads),
+        Task::Time(_) => println!(rt; "{}", entries(&book, heard)?),
+    }
 }
 
-/// The calls of one thread. It follows the book with a new replica after its first call, and again
-/// after each 3,000 more.
-fn calls<N: BookName, R: Wait>(
+/// The calls of one thread.
+fn called<N: BookName, R: Wait>(
     rt: &R,
     alloc: Global,
     book: &TrackBook<N>,
     pass: Pass<N>,
     design: &Design,
     tree: &RouteTree,
-    game: Game,
+    task: Task,
 ) -> Result<Heard<N>, AllocError>
-    requires { AreOfTwo N.capacity design.now tree.now }
+    requires { AreOfRow N.capacity design.now tree.now }
 {
     let mut heard = Heard::new(alloc, pass);
-    make(rt, alloc, book, &mut heard, design, tree, game)?;
+    match task {
+        Task::Play(game) => make(rt, alloc, book, &mut heard, design, tree, game)?,
+        Task::Time(some) => claims::make(rt, alloc, book, &mut heard.pass, design, tree, some)?,
+    }
     Ok(heard)
 }
 
+/// The thread follows the book with a new replica after its first call, and again after each 3,000
+/// more.
 fn make<N: BookName, R: Wait>(
     rt: &R,
     alloc: Global,
@@ -149,7 +111,7 @@ fn make<N: BookName, R: Wait>(
     tree: &RouteTree,
     game: Game,
 ) -> Result<(), AllocError>
-    requires { AreOfTwo N.capacity design.now tree.now }
+    requires { AreOfRow N.capacity design.now tree.now }
 {
     for turn in 0..game.turns() {
         let step = game.step(heard.pass.number(), turn);
@@ -222,21 +184,25 @@ fn report<N: BookName, R: Wait + Print>(
     } = answers_of(alloc, all)?;
     let known = met(rt, &book, &mut passes);
     let closed = closed(book, passes, threads)?;
-    println!(rt; "each call is seen by its caller: {grew}")?;
-    println!(rt; "the last pass meets the others: known {known}")?;
-    compare(rt, alloc, closed.state().history(), &replies, design)
+    let history = closed.state().history();
+    tell(rt, alloc, history, &replies, grew, known, design)
 }
 
-/// Prints whether the replies are those of the history, and whether a book for one thread gives them.
-fn compare<R: Print>(
+/// Prints what the threads were told, whether the replies are those of the history, and whether a
+/// book for one thread gives them.
+fn tell<R: Print>(
     rt: &R,
     alloc: Global,
     history: &History,
     replies: &[Vec<Reply>],
+    grew: bool,
+    known: u64,
     design: &Design,
 ) -> io::Result<()>
     requires { IsLegal (capacity_of design.now) history.now }
 {
+    println!(rt; "each call is seen by its caller: {grew}")?;
+    println!(rt; "the last pass meets the others: known {known}")?;
     println!(rt;
         "closed: {} entries, replies as told: {}",
         history.len(),
@@ -267,4 +233,17 @@ fn met<N: BookName, R: Wait>(rt: &R, book: &TrackBook<N>, passes: &mut [Pass<N>]
         book.meet(rt, last, pass);
     }
     last.known()
+}
+
+/// How many entries the book has.
+fn entries<N: BookName>(
+    book: &TrackBook<N>,
+    all: Vec<Result<Heard<N>, AllocError>>,
+) -> Result<u64, AllocError> {
+    let mut entries = 0;
+    for heard in all {
+        let mut heard = heard?;
+        entries = book.front(&mut heard.pass);
+    }
+    Ok(entries)
 }

@@ -1,6 +1,6 @@
 //! Calls of a book for one thread. Of a book they promise only that it stays one of the same design,
 //! so that the games that make many calls know little of each.
-ghost use Rattle.std.specs.Prelude.{◌≡◌, ◌<◌};
+ghost use Rattle.std.specs.Prelude.{◌≡◌, ◌<◌, ◌≤◌};
 ghost use Rattle.book_state.specs.Books.{nets_of};
 
 use crate::steps::Step;
@@ -15,7 +15,7 @@ pub(crate) fn reply_to(
     tree: &RouteTree,
     step: Step,
 ) -> Result<Reply, AllocError>
-    requires nets { nets_of book.old.capacity ≡ 2 }
+    requires nets { 2 ≤ nets_of book.old.capacity }
     requires shape { tree.now.shape ≡ book.old.capacity.shape }
     ensures { book.new.capacity ≡ book.old.capacity }
 {

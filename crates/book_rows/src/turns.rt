@@ -1,13 +1,12 @@
 //! A few calls by one thread with two passes.
-ghost use Rattle.std.specs.Prelude.{◌≡◌, IsTrue};
+ghost use Rattle.std.specs.Prelude.{◌≡◌, ◌≤◌, IsTrue};
 ghost use Rattle.book_state.specs.Books.{nets_of};
 ghost use Rattle.gr_base.specs.Grid.{has_edge};
 ghost use Rattle.grid_demand.specs.Tables.{capacity_of};
-ghost use Rattle.book_rows.specs.Rows.{AreOfTwo, first_edge};
+ghost use Rattle.book_rows.specs.Rows.{AreOfRow, first_edge};
 
 use crate::calls::reply_to;
 use crate::closing::closed;
-use crate::designs::made;
 use crate::steps::{Step, Which};
 use book_state::Replica;
 use gr_base::{Design, Edge, RouteTree, Way};
@@ -24,10 +23,17 @@ pub(crate) const EDGE: Edge = Edge {
 };
 
 /// Prints what the calls answer.
-pub(crate) fn show<R: Wait + Print>(rt: &R, alloc: Global) -> io::Result<()> {
+pub(crate) fn show<R: Wait + Print>(
+    rt: &R,
+    alloc: Global,
+    design: &Design,
+    tree: &RouteTree,
+) -> io::Result<()>
+    requires { AreOfRow (capacity_of design.now) design.now tree.now }
+{
     println!(rt; "one thread")?;
-    let (design, tree, blank) = made(alloc, 2)?;
-    play::<Brand, R>(rt, alloc, &design, &tree, blank)
+    let blank = Blank::new(alloc, design, 2)?;
+    play::<Brand, R>(rt, alloc, design, tree, blank)
 }
 
 fn play<N: BookName, R: Wait + Print>(
@@ -39,7 +45,7 @@ fn play<N: BookName, R: Wait + Print>(
 ) -> io::Result<()>
     requires word { blank.word ≡ N.word }
     requires capacity { blank.capacity ≡ N.capacity }
-    requires of_two { AreOfTwo N.capacity design.now tree.now }
+    requires of_row { AreOfRow N.capacity design.now tree.now }
     requires passes { blank.passes ≡ N.passes }
     requires two { N.passes ≡ 2 }
 {
@@ -57,7 +63,7 @@ fn game<N: BookName, R: Wait + Print>(
     design: &Design,
     tree: &RouteTree,
 ) -> io::Result<()>
-    requires { AreOfTwo N.capacity design.now tree.now }
+    requires { AreOfRow N.capacity design.now tree.now }
 {
     let Some((one, others)) = passes.split_last_mut() else {
         return Ok(());
@@ -79,7 +85,7 @@ fn by_turns<N: BookName, R: Wait + Print>(
     design: &Design,
     tree: &RouteTree,
 ) -> io::Result<()>
-    requires { AreOfTwo N.capacity design.now tree.now }
+    requires { AreOfRow N.capacity design.now tree.now }
 {
     call(rt, alloc, book, zero, tree, Step::Claim(Which::A, Some(0)))?;
     call(rt, alloc, book, one, tree, Step::Claim(Which::B, Some(0)))?;
@@ -103,7 +109,7 @@ fn call<N: BookName, R: Wait + Print>(
     tree: &RouteTree,
     step: Step,
 ) -> io::Result<()>
-    requires nets { nets_of N.capacity ≡ 2 }
+    requires nets { 2 ≤ nets_of N.capacity }
     requires shape { tree.now.shape ≡ N.capacity.shape }
 {
     let reply = reply_to(rt, alloc, book, pass, tree, step)?;

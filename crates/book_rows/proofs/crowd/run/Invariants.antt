@@ -1,4 +1,4 @@
-use Rattle.book_rows.proofs.crowd.show.Given as goal
+use Rattle.book_rows.proofs.crowd.run.Given as goal
 
 -- the book's name
 abbrev pub ghosts-play : goal.ghosts-play

@@ -1,6 +1,6 @@
 use Rattle.std.proofs.Common.{take}
 use Rattle.book_state.specs.Replicas.{StandsFor}
-use Rattle.book_times.proofs.calls.make.Given as goal
+use Rattle.book_rows.proofs.claims.repeat.Given as goal
 
 -- the replica stands for a first part of what the pass has seen
 abbrev pub invariant-loop : goal.invariant-loop

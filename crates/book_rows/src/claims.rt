@@ -1,0 +1,93 @@
+//! Claims and releases by one thread, for timing.
+ghost use Rattle.std.specs.Prelude.{◌≡◌, ◌<◌, take, OnOk};
+ghost use Rattle.book_state.specs.Books.{nets_of};
+ghost use Rattle.book_state.specs.Replicas.{StandsFor};
+ghost use Rattle.book_rows.specs.Rows.{AreOfRow};
+
+use crate::calls::claim;
+use crate::games::Claims;
+use book_state::Replica;
+use gr_base::{Design, RouteTree};
+use std::alloc::{AllocError, Global};
+use std::sync::Wait;
+use track_book::{BookName, Pass, TrackBook};
+
+/// The net of a pass's number, around the nets of the design, is claimed and released so often.
+pub(crate) fn make<N: BookName, R: Wait>(
+    rt: &R,
+    alloc: Global,
+    book: &TrackBook<N>,
+    pass: &mut Pass<N>,
+    design: &Design,
+    tree: &RouteTree,
+    claims: Claims,
+) -> Result<(), AllocError>
+    requires { AreOfRow N.capacity design.now tree.now }
+{
+    let net = pass.number() % design.nets();
+    let mut replica = Replica::new(alloc, design)?;
+    repeat(rt, alloc, book, pass, &mut replica, tree, net, claims)
+}
+
+/// The replica follows the book where its turn has come. It stands for a first part of what the pass
+/// has seen.
+fn repeat<N: BookName, R: Wait>(
+    rt: &R,
+    alloc: Global,
+    book: &TrackBook<N>,
+    pass: &mut Pass<N>,
+    replica: &mut Replica,
+    tree: &RouteTree,
+    net: u32,
+    claims: Claims,
+) -> Result<(), AllocError>
+    requires net { net < nets_of N.capacity }
+    requires shape { tree.now.shape ≡ N.capacity.shape }
+    requires stands { StandsFor N.capacity (take replica.old.front pass.old.seen) replica.old }
+{
+    let mut left = claims.every;
+    for _ in 0..claims.count {
+        claim_once(rt, alloc, book, pass, replica, tree, net)?;
+        left = follow(rt, book, pass, replica, left, claims.every)?;
+    }
+    Ok(())
+}
+
+/// The replica follows the book if one turn is left. The answer is how many are left then.
+fn follow<N: BookName, R: Wait>(
+    rt: &R,
+    book: &TrackBook<N>,
+    pass: &mut Pass<N>,
+    replica: &mut Replica,
+    left: u32,
+    every: u32,
+) -> Result<u32, AllocError>
+    requires { StandsFor N.capacity (take replica.old.front pass.old.seen) replica.old }
+    ensures { OnOk result (StandsFor N.capacity (take replica.new.front pass.new.seen) replica.new) }
+{
+    if left != 1 {
+        return Ok(left.saturating_sub(1));
+    }
+    book.sync(rt, pass, replica)?;
+    Ok(every)
+}
+
+/// Claims and releases the net.
+fn claim_once<N: BookName, R: Wait>(
+    rt: &R,
+    alloc: Global,
+    book: &TrackBook<N>,
+    pass: &mut Pass<N>,
+    replica: &Replica,
+    tree: &RouteTree,
+    net: u32,
+) -> Result<(), AllocError>
+    requires net { net < nets_of N.capacity }
+    requires shape { tree.now.shape ≡ N.capacity.shape }
+    requires stands { StandsFor N.capacity (take replica.now.front pass.old.seen) replica.now }
+    ensures { OnOk result (StandsFor N.capacity (take replica.now.front pass.new.seen) replica.now) }
+{
+    claim(rt, alloc, book, pass, tree, net, Some(0))?;
+    book.release(rt, pass, net)?;
+    Ok(())
+}

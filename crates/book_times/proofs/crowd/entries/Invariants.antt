@@ -1,5 +1,0 @@
-use Rattle.book_times.proofs.crowd.entries.Given as goal
-
--- the book's name
-abbrev pub ghosts-play : goal.ghosts-play
-ghosts-play g a = record { word = a.blank.word; capacity = a.blank.capacity; passes = a.blank.passes }
