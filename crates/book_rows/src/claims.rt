@@ -12,25 +12,26 @@ use std::alloc::{AllocError, Global};
 use std::sync::Wait;
 use track_book::{BookName, Pass, TrackBook};
 
-/// The net of a pass's number, around the nets of the design, is claimed and released so often.
-pub(crate) fn make<N: BookName, R: Wait>(
+/// Claims and releases a net so often.
+pub(crate) fn make_claims<N: BookName, R: Wait>(
     rt: &R,
     alloc: Global,
     book: &TrackBook<N>,
     pass: &mut Pass<N>,
     design: &Design,
     tree: &RouteTree,
+    net: u32,
     claims: Claims,
 ) -> Result<(), AllocError>
-    requires { AreOfRow N.capacity design.now tree.now }
+    requires of_row { AreOfRow N.capacity design.now tree.now }
+    requires net { net < nets_of N.capacity }
 {
-    let net = pass.number() % design.nets();
     let mut replica = Replica::new(alloc, design)?;
     repeat(rt, alloc, book, pass, &mut replica, tree, net, claims)
 }
 
-/// The replica follows the book where its turn has come. It stands for a first part of what the pass
-/// has seen.
+/// The same, and the replica follows the book where its turn has come. It stands for a first part of
+/// what the pass has seen.
 fn repeat<N: BookName, R: Wait>(
     rt: &R,
     alloc: Global,
@@ -47,7 +48,8 @@ fn repeat<N: BookName, R: Wait>(
 {
     let mut left = claims.every;
     for _ in 0..claims.count {
-        claim_once(rt, alloc, book, pass, replica, tree, net)?;
+        claim(rt, alloc, book, pass, tree, net, Some(0))?;
+        book.release(rt, pass, net)?;
         left = follow(rt, book, pass, replica, left, claims.every)?;
     }
     Ok(())
@@ -70,24 +72,4 @@ fn follow<N: BookName, R: Wait>(
     }
     book.sync(rt, pass, replica)?;
     Ok(every)
-}
-
-/// Claims and releases the net.
-fn claim_once<N: BookName, R: Wait>(
-    rt: &R,
-    alloc: Global,
-    book: &TrackBook<N>,
-    pass: &mut Pass<N>,
-    replica: &Replica,
-    tree: &RouteTree,
-    net: u32,
-) -> Result<(), AllocError>
-    requires net { net < nets_of N.capacity }
-    requires shape { tree.now.shape ≡ N.capacity.shape }
-    requires stands { StandsFor N.capacity (take replica.now.front pass.old.seen) replica.now }
-    ensures { OnOk result (StandsFor N.capacity (take replica.now.front pass.new.seen) replica.now) }
-{
-    claim(rt, alloc, book, pass, tree, net, Some(0))?;
-    book.release(rt, pass, net)?;
-    Ok(())
 }

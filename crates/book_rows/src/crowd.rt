@@ -5,7 +5,7 @@ ghost use Rattle.grid_demand.specs.Tables.{capacity_of};
 ghost use Rattle.book_rows.specs.Rows.{AreOfRow};
 
 use crate::calls::reply_to;
-use crate::claims;
+use crate::claims::make_claims;
 use crate::closing::closed;
 use crate::games::{Game, Task};
 use crate::heard::{Heard, are_told};
@@ -19,23 +19,8 @@ use std::sync::Wait;
 use std::thread::{Threads, map_vec};
 use track_book::{Blank, BookName, Pass, TrackBook};
 
-/// Prints what holds of a game's calls in whatever order they come.
-pub(crate) fn show<R: Threads + Wait + Print + Sync>(
-    rt: &R,
-    alloc: Global,
-    design: &Design,
-    tree: &RouteTree,
-    game: Game,
-) -> io::Result<()>
-    requires { AreOfRow (capacity_of design.now) design.now tree.now }
-{
-    let task = Task::Play(game);
-    println!(rt; "{} threads", task.threads())?;
-    run(rt, alloc, design, tree, task)
-}
-
-/// Starts the threads, and prints what holds of a game's calls, or how many entries the book has in
-/// the end where claims are timed.
+/// Starts the threads. Of a game it prints what holds of the calls in whatever order they come, and of
+/// claims that are timed how many entries the book has in the end.
 pub(crate) fn run<R: Threads + Wait + Print + Sync>(
     rt: &R,
     alloc: Global,
@@ -46,6 +31,9 @@ pub(crate) fn run<R: Threads + Wait + Print + Sync>(
     requires { AreOfRow (capacity_of design.now) design.now tree.now }
 {
     let threads = task.threads();
+    if let Task::Play(_) = task {
+        println!(rt; "{threads} threads")?;
+    }
     let blank = Blank::new(alloc, design, threads)?;
     play::<Brand, R>(rt, alloc, design, tree, blank, task, threads)
 }
@@ -80,7 +68,8 @@ fn play<N: BookName + Send + Sync, R: Threads + Wait + Print + Sync>(
     }
 }
 
-/// The calls of one thread.
+/// The calls of one thread. Claims that are timed are of the net of its number, around those of the
+/// design.
 fn called<N: BookName, R: Wait>(
     rt: &R,
     alloc: Global,
@@ -95,7 +84,10 @@ fn called<N: BookName, R: Wait>(
     let mut heard = Heard::new(alloc, pass);
     match task {
         Task::Play(game) => make(rt, alloc, book, &mut heard, design, tree, game)?,
-        Task::Time(some) => claims::make(rt, alloc, book, &mut heard.pass, design, tree, some)?,
+        Task::Time(claims) => {
+            let net = heard.pass.number() % design.nets();
+            make_claims(rt, alloc, book, &mut heard.pass, design, tree, net, claims)?;
+        }
     }
     Ok(heard)
 }

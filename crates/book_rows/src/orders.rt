@@ -83,8 +83,8 @@ fn rows<R: Threads + Wait + Print + Sync>(
 {
     alone::show(rt, alloc, design, tree)?;
     turns::show(rt, alloc, design, tree)?;
-    crowd::show(rt, alloc, design, tree, Game::Pair)?;
-    crowd::show(rt, alloc, design, tree, Game::Crowd)
+    crowd::run(rt, alloc, design, tree, Task::Play(Game::Pair))?;
+    crowd::run(rt, alloc, design, tree, Task::Play(Game::Crowd))
 }
 
 /// How many nodes so many copies of the tree have.
