@@ -1,23 +1,21 @@
 -- Rows of tiles, trees along them, and the nets of their designs.
-use Rattle.std.proofs.Common.{◌≡◌, ℕ, ◌+◌, ◌*◌, ◌<◌, ◌≤◌, true, false, ◌||◌, ◌==◌, nat_lt, List, [], ◌∷◌, ◌++◌, length, Option, Some, None, IsTrue, refl, sym, ap, subst, ◌∙◌, arith, length-append}
-use Rattle.std.proofs.lemmas.Bool.{cases_Bool, cases_eq, cases_lt}
+use Rattle.std.proofs.Common.{◌≡◌, ℕ, ◌+◌, ◌*◌, ◌<◌, ◌≤◌, true, false, ◌||◌, ◌==◌, nat_lt, [], ◌∷◌, length, None, IsTrue, refl, sym, ap, subst, ◌∙◌, arith, length-append}
 use Rattle.std.proofs.lemmas.Bool.Decides.{nat_tests}
+use Rattle.std.proofs.lemmas.List.{length-map}
 use Rattle.std.proofs.lemmas.List.Sums.{sum_by-append}
-use Rattle.gr_base.specs.Designs.{DesignView, IsNet, with_net, net_from, net_with_id, pins_of}
-use Rattle.gr_base.specs.Grid.{cells_of, number_of, IsInside, place_at, gap, steps_between, AreNeighbours, edge_of, edge_at, beyond, has_edge}
-use Rattle.gr_base.specs.Names.{is_token}
-use Rattle.gr_base.specs.Trees.{TreeView, holds, is_among, IsStep, IsWalkTo, AddsCells}
+use Rattle.gr_base.specs.Designs.{DesignView, with_net, net_with_id}
+use Rattle.gr_base.specs.Grid.{cells_of, number_of, IsInside, place_at, gap, AreNeighbours, beyond, has_edge}
+use Rattle.gr_base.specs.Trees.{TreeView, holds, is_among, IsWalkTo, AddsCells}
 use Rattle.gr_base.specs.declared.frame.Net.{Net}
 use Rattle.gr_base.specs.declared.grid.Cell.{Cell}
 use Rattle.gr_base.specs.declared.grid.Shape.{Shape}
 use Rattle.gr_base.specs.declared.grid.Way.TheVariants.{East}
 use Rattle.gr_base.proofs.GridLemmas.{place-number, edge-of-beyond}
 use Rattle.gr_base.proofs.DesignLemmas.{net_from-none}
-use Rattle.std.proofs.lemmas.List.{length-map}
-use Rattle.book_rows.specs.Rows.{IsRow, IsLine, HasNets, IsAlong, IsPlayed, first_edge}
+use Rattle.book_rows.specs.Rows.{IsRow, HasNets, IsAlong, IsPlayed, first_edge}
 
 -- a row has as many cells as columns
-pub line-cells : (g : Shape) → g.rows ≡ 1 → g.layers ≡ 1 → cells_of g ≡ g.columns
+line-cells : (g : Shape) → g.rows ≡ 1 → g.layers ≡ 1 → cells_of g ≡ g.columns
 line-cells g rows layers =
     ap (λ (n : ℕ × ℕ). g.columns * n.0 * n.1) (λ i. (rows i, layers i)) ∙ omega arith
 

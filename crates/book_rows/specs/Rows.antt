@@ -1,5 +1,5 @@
 -- The designs of the rows, and calls of a book.
-use Rattle.std.specs.Prelude.{◌≡◌, ℕ, ◌+◌, ◌*◌, ◌≤◌, length, nat_lt, Option, None, IsTrue}
+use Rattle.std.specs.Prelude.{◌≡◌, ℕ, ◌+◌, ◌*◌, ◌≤◌, length, nat_lt, None, IsTrue}
 use Rattle.book_state.specs.Books.{nets_of}
 use Rattle.book_state.specs.Views.{BookView}
 use Rattle.gr_base.specs.Designs.{DesignView, net_with_id, pins_of}

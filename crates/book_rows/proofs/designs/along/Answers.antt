@@ -1,4 +1,4 @@
-use Rattle.std.proofs.Common.{◌≡◌, ◌+◌, ◌-◌, ◌<◌, ◌≤◌, ◌∙◌, sym, arith}
+use Rattle.std.proofs.Common.{◌-◌, arith}
 use Rattle.book_rows.proofs.Lines.{walks-back}
 use Rattle.book_rows.proofs.designs.along.Goals as goal
 

@@ -1,4 +1,4 @@
-use Rattle.std.proofs.Common.{◌≡◌, ℕ, ◌≤◌, subst, arith}
+use Rattle.std.proofs.Common.{◌≡◌, ℕ, subst, arith}
 use Rattle.book_rows.specs.Rows.{HasNets}
 use Rattle.book_rows.proofs.Lines.{is-played}
 use Rattle.book_rows.proofs.designs.design.Goals as goal

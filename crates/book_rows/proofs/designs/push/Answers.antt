@@ -1,4 +1,4 @@
-use Rattle.std.proofs.Common.{◌≡◌, ◌+◌, length, sym, ap, subst}
+use Rattle.std.proofs.Common.{◌+◌, length, sym, ap, subst}
 use Rattle.book_rows.specs.Rows.{HasNets}
 use Rattle.book_rows.proofs.Lines.{nets-next}
 use Rattle.book_rows.proofs.designs.push.Goals as goal
