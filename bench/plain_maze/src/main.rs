@@ -1,5 +1,5 @@
 //! Least walks by plain Rust, to compare times with: `plain_maze SIDE COUNT`. It takes the same
-//! costs, windows and ends as `planning_times mazes SIDE COUNT`, and prints the same sum, and on
+//! costs, windows and ends as `plan_rows mazes SIDE COUNT`, and prints the same sum, and on
 //! its second line how many cells were settled.
 use std::cmp::Reverse;
 use std::collections::BinaryHeap;

@@ -1,27 +1,16 @@
-//! The cost formulas and the watches.
+//! The formulas of cost and the watches.
+ghost use Rattle.cost_rules.specs.Formulas.{IsInRange};
+
+use crate::numbers::{at, great};
 use crate::own_rule::flat_by_cases;
 use cost_rules::{
-    CostRule, Formula, Going, MOST_COST, Rules, Sight, Site, Watch, Watcher, first_cost, flat_cost,
-    goal, never, steep_cost, still,
+    CostRule, Formula, Rules, Sight, Site, Watch, Watcher, first_cost, flat_cost, goal, never,
+    steep_cost, still,
 };
-use std::process::Abort;
+use std::io;
 
-const BUSY: Site = Site {
-    demand: 3,
-    capacity: 2,
-    need: 2,
-    marks: 4,
-};
-
-const FULLEST: Site = Site {
-    demand: 4_611_686_018_427_387_904,
-    capacity: 0,
-    need: 0,
-    marks: 0,
-};
-
-#[test]
-fn each_formula_and_watch_has_its_answers(rt: HostRuntime) {
+/// Prints what a site costs, or what the watches say of a sight.
+pub(crate) fn tell<R: Print>(rt: &R, command: &str, numbers: &[u64]) -> io::Result<()> {
     let rules = Rules::new(
         CostRule::new(Formula::First, first_cost),
         CostRule::new(Formula::Steep, steep_cost),
@@ -30,38 +19,55 @@ fn each_formula_and_watch_has_its_answers(rt: HostRuntime) {
         Watcher::new(Watch::Still, still),
         Watcher::new(Watch::Goal, goal),
     );
-    let own = CostRule::new(Formula::Flat, flat_by_cases);
-    for (rule, formula, cost) in [
-        (rules.first(), Formula::First, 29),
-        (rules.steep(), Formula::Steep, 41),
-        (rules.flat(), Formula::Flat, 4),
-        (&own, Formula::Flat, 4),
-    ] {
-        assert_eq!(rt; rule.formula(), formula);
-        assert_eq!(rt; rule.cost(BUSY), cost);
-        assert_eq!(rt; rule.cost(FULLEST), MOST_COST);
+    if command == "cost" {
+        tell_site(rt, &rules, numbers)
+    } else {
+        tell_sight(rt, &rules, numbers)
     }
-    check_watches(&rt, &rules);
 }
 
-fn check_watches(rt: &impl Abort, rules: &Rules) {
-    for (overflow, before, still, goal) in [
-        (3, None, Going::On, Going::On),
-        (2, None, Going::On, Going::Stop),
-        (3, Some(4), Going::On, Going::On),
-        (4, Some(4), Going::Stop, Going::On),
-        (2, Some(1), Going::Stop, Going::Stop),
-    ] {
-        let sight = Sight {
-            overflow,
-            before,
-            goal: 2,
-        };
-        assert_eq!(rt; rules.never().look(sight), Going::On);
-        assert_eq!(rt; rules.still().look(sight), still);
-        assert_eq!(rt; rules.goal().look(sight), goal);
+/// Prints what a site costs.
+fn tell_site<R: Print>(rt: &R, rules: &Rules, numbers: &[u64]) -> io::Result<()> {
+    let site = Site {
+        demand: great(numbers, 0),
+        capacity: great(numbers, 1),
+        need: great(numbers, 2),
+        marks: at(numbers, 3),
+    };
+    let is_in_range = site.demand <= 1 << 62
+        && site.capacity <= 1_000_000
+        && site.need <= 2_000
+        && site.marks <= 1_048_576;
+    if !is_in_range {
+        return Ok(());
     }
-    assert_eq!(rt; rules.never().watch(), Watch::Never);
-    assert_eq!(rt; rules.still().watch(), Watch::Still);
-    assert_eq!(rt; rules.goal().watch(), Watch::Goal);
+    tell_cost(rt, rules.first(), site)?;
+    tell_cost(rt, rules.steep(), site)?;
+    tell_cost(rt, rules.flat(), site)?;
+    let own = CostRule::new(Formula::Flat, flat_by_cases);
+    tell_cost(rt, &own, site)
+}
+
+/// Prints what a rule makes of a site.
+fn tell_cost<R: Print>(rt: &R, rule: &CostRule, site: Site) -> io::Result<()>
+    requires { IsInRange site }
+{
+    println!(rt; "{:?}: cost {}", rule.formula(), rule.cost(site))
+}
+
+/// Prints what the watches say of a sight.
+fn tell_sight<R: Print>(rt: &R, rules: &Rules, numbers: &[u64]) -> io::Result<()> {
+    let sight = Sight {
+        overflow: u128::from(great(numbers, 0)),
+        goal: u128::from(great(numbers, 1)),
+        before: numbers.get(2).map(|before| u128::from(*before)),
+    };
+    tell_look(rt, rules.never(), sight)?;
+    tell_look(rt, rules.still(), sight)?;
+    tell_look(rt, rules.goal(), sight)
+}
+
+/// Prints what a watcher says of a sight.
+fn tell_look<R: Print>(rt: &R, watcher: &Watcher, sight: Sight) -> io::Result<()> {
+    println!(rt; "{:?}: {:?}", watcher.watch(), watcher.look(sight))
 }

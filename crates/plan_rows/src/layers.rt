@@ -1,87 +1,92 @@
-ghost use Rattle.std.specs.Prelude.{◌≡◌};
-ghost use Rattle.layer_assign.specs.Assignments.{IsFlat};
+//! Layers of the edges of flat trees.
+ghost use Rattle.std.specs.Prelude.{◌≡◌, ◌<◌, ◌≤◌, length, IsTrue};
+ghost use Rattle.gr_base.specs.Grid.{cells_of};
+ghost use Rattle.gr_base.specs.Trees.{holds, IsTree};
+ghost use Rattle.layer_assign.specs.Assignments.{IsFlat, ArePins, tile_count, tile_of};
 
+use crate::numbers::{at, from};
 use crate::priced::Priced;
-use gr_base::{Edge, RouteTree, Shape, Way};
-use layer_assign::{LayerRoom, assign, raise};
-use std::process::Abort;
+use crate::trees::{stepped, tell_nodes};
+use gr_base::{RouteTree, Shape, Way};
+use layer_assign::{LayerRoom, Layers, assign, raise};
+use std::alloc::Global;
+use std::io;
 
-/// A grid with three layers, and its floor.
-fn grids(rt: &impl Abort, columns: u32, rows: u32) -> (Shape, Shape)
-    ensures columns { result.0.columns ≡ columns }
-    ensures rows { result.0.rows ≡ rows }
-    ensures layers { result.0.layers ≡ 3 }
-    ensures floor { IsFlat result.0 result.1 }
-{
-    let shape = Shape::new(columns, rows, 3).expect(rt, "a grid");
-    let floor = Shape::new(columns, rows, 1).expect(rt, "a floor");
-    (shape, floor)
-}
-
-#[test]
-fn a_wire_climbs_to_a_cheaper_layer(rt: HostRuntime) {
-    let alloc = rt.alloc();
-    let (shape, floor) = grids(&rt, 2, 1);
-    let mut room = LayerRoom::new(alloc, shape).expect(&rt, "memory");
-    let mut flat = RouteTree::start(alloc, floor, 0).expect(&rt, "memory");
-    flat.attach(&[1, 0]).expect(&rt, "memory");
-    let costs = Priced::but_one(shape, 1, 10);
-    let layers = assign(alloc, &costs, shape, &flat, &[0, 1], &mut room).expect(&rt, "memory");
-    assert_eq!(rt; layers.layer(1), 1);
-    let tree = raise(alloc, shape, &flat, &layers, &[0, 1], &mut room).expect(&rt, "memory");
-    assert_eq!(rt; tree.len(), 4);
-    for (node, low, way) in [(1, 0, Way::Up), (2, 2, Way::East), (3, 1, Way::Up)] {
-        assert!(rt; node < tree.len());
-        let edge = shape.edge_between(tree.cell(node), tree.cell(tree.parent(node)));
-        assert_eq!(rt; edge, Some(Edge { low, way }));
-    }
-}
-
-/// A star of three edges, with uneven costs and with an edge that is dear on layer 0: the layers
-/// are those that a search through all assignments gave.
-#[test]
-fn the_first_least_assignments_of_a_star(rt: HostRuntime) {
-    let alloc = rt.alloc();
-    let (shape, floor) = grids(&rt, 3, 2);
-    let mut room = LayerRoom::new(alloc, shape).expect(&rt, "memory");
-    let mut flat = RouteTree::start(alloc, floor, 1).expect(&rt, "memory");
-    flat.attach(&[0, 1]).expect(&rt, "memory");
-    flat.attach(&[2, 1]).expect(&rt, "memory");
-    flat.attach(&[4, 1]).expect(&rt, "memory");
-    let uneven = Priced {
-        shape,
-        factor: 3,
-        low: 99,
-        high: 99,
-        cost: 1,
+/// Prints the layers of a flat tree's edges on a grid of three layers, and the tree raised from it.
+pub(crate) fn tell<R: Print>(rt: &R, alloc: Global, numbers: &[u64]) -> io::Result<()> {
+    let (columns, rows) = (at(numbers, 0), at(numbers, 1));
+    let Some(shape) = Shape::new(columns, rows, 3) else {
+        return Ok(());
     };
-    let layers = assign(alloc, &uneven, shape, &flat, &[12, 2], &mut room).expect(&rt, "memory");
-    assert_eq!(rt;
-        [layers.layer(1), layers.layer(2), layers.layer(3)],
-        [2, 1, 1]
-    );
-    let tree = raise(alloc, shape, &flat, &layers, &[12, 2], &mut room).expect(&rt, "memory");
-    assert_eq!(rt; tree.len(), 6);
-    let dear = Priced::but_one(shape, 1, 9);
-    let layers = assign(alloc, &dear, shape, &flat, &[0, 2], &mut room).expect(&rt, "memory");
-    assert_eq!(rt;
-        [layers.layer(1), layers.layer(2), layers.layer(3)],
-        [1, 0, 0]
-    );
+    let Some(floor) = Shape::new(columns, rows, 1) else {
+        return Ok(());
+    };
+    let start = at(numbers, 8);
+    if start >= floor.cells() {
+        return Ok(());
+    }
+    let flat = stepped(alloc, floor, start, from(numbers, 9))?;
+    tell_over(rt, alloc, shape, &flat, numbers)
 }
 
-#[test]
-fn a_lone_tile_climbs_between_its_pins(rt: HostRuntime) {
-    let alloc = rt.alloc();
-    let (shape, floor) = grids(&rt, 1, 1);
-    let mut room = LayerRoom::new(alloc, shape).expect(&rt, "memory");
-    let flat = RouteTree::start(alloc, floor, 0).expect(&rt, "memory");
-    let costs = Priced::but_one(shape, 1, 1);
-    let layers = assign(alloc, &costs, shape, &flat, &[2, 0], &mut room).expect(&rt, "memory");
-    let tree = raise(alloc, shape, &flat, &layers, &[2, 0], &mut room).expect(&rt, "memory");
-    assert_eq!(rt; tree.len(), 3);
-    for (node, cell) in [(0, 2), (1, 1), (2, 0)] {
-        assert!(rt; node < tree.len());
-        assert_eq!(rt; tree.cell(node), cell);
+/// Prints them for the tree and the numbers of its pins and costs.
+fn tell_over<R: Print>(
+    rt: &R,
+    alloc: Global,
+    shape: Shape,
+    flat: &RouteTree,
+    numbers: &[u64],
+) -> io::Result<()>
+    requires { IsFlat shape flat.now.shape }
+{
+    let (a, b) = (at(numbers, 6), at(numbers, 7));
+    if !is_pin(shape, flat, a) || !is_pin(shape, flat, b) {
+        return Ok(());
     }
+    let costs = Priced::but_one(shape, at(numbers, 2), numbers, 3);
+    let mut room = LayerRoom::new(alloc, shape)?;
+    tell_in(rt, alloc, &costs, flat, &[a, b], &mut room)
+}
+
+/// Whether the cell lies over a tile of the tree.
+fn is_pin(shape: Shape, flat: &RouteTree, cell: u32) -> bool
+    ensures inside { IsTrue result → cell < cells_of shape }
+    ensures tile { IsTrue result → IsTrue (holds flat.now (tile_of shape cell)) }
+    ensures tree { IsTrue result → IsTree flat.now }
+{
+    let tiles = shape.stride(Way::Up);
+    if cell >= shape.cells() || tiles == 0 {
+        return false;
+    }
+    flat.node_at(cell % tiles).is_some()
+}
+
+/// Prints them for these costs and pins.
+fn tell_in<R: Print>(
+    rt: &R,
+    alloc: Global,
+    costs: &Priced,
+    flat: &RouteTree,
+    pins: &[u32],
+    room: &mut LayerRoom,
+) -> io::Result<()>
+    requires flat { IsFlat costs.now.shape flat.now.shape }
+    requires tree { IsTree flat.now }
+    requires pins { ArePins costs.now.shape flat.now pins.now }
+    requires room { tile_count costs.now.shape ≤ room.old }
+{
+    let layers = assign(alloc, costs, costs.shape, flat, pins, room)?;
+    tell_layers(rt, flat, &layers)?;
+    let tree = raise(alloc, costs.shape, flat, &layers, pins, room)?;
+    tell_nodes(rt, &tree)
+}
+
+/// Prints the layers of the edges of a tree's nodes.
+fn tell_layers<R: Print>(rt: &R, flat: &RouteTree, layers: &Layers) -> io::Result<()>
+    requires { length layers.now ≡ length flat.now.nodes }
+{
+    for node in 1..flat.len() {
+        println!(rt; "layer {}", layers.layer(node))?;
+    }
+    Ok(())
 }

@@ -1,112 +1,135 @@
 //! Capacity and loads.
-ghost use Rattle.std.specs.Prelude.{◌≡◌, IfOk};
+ghost use Rattle.std.specs.Prelude.{◌≡◌, IfOk, IfSome, IsTrue};
+ghost use Rattle.gr_base.specs.Grid.{has_edge, is_wire};
+ghost use Rattle.gr_base.specs.Trees.{IsTree};
 ghost use Rattle.grid_demand.specs.LoadSums.{no_loads, added, marked};
 
-use crate::designs::{ALONG_COLUMNS, ALONG_ROWS, design, narrow, small_frame_of};
-use gr_base::{Design, Edge, Layer, RouteTree, Shape, Way};
+use crate::numbers::{at, from};
+use crate::trees::stepped;
+use gr_base::{Design, Edge, RouteTree, Shape, Way};
 use grid_demand::{Capacity, Loads, loads_are_sums};
 use std::alloc::{AllocError, Global};
-use std::process::Abort;
+use std::io;
 
-/// A layer for wires along rows.
-const LOW: Layer = Layer {
-    width: 2,
-    ..ALONG_ROWS
-};
-
-/// A layer for wires along columns, wider and further apart.
-const HIGH: Layer = Layer {
-    vertical: 6,
-    width: 5,
-    spacing: 2,
-    ..ALONG_COLUMNS
-};
-
-/// A design on a grid of 3 by 2 tiles with one net, and two adjustments of the edge of cells 0 and 1.
-fn narrow_design(rt: &impl Abort, alloc: Global) -> Design
-    ensures columns { result.frame.shape.columns ≡ 3 }
-    ensures rows { result.frame.shape.rows ≡ 2 }
-    ensures layers { result.frame.shape.layers ≡ 2 }
-{
-    let mut design = design(rt, alloc, small_frame_of(LOW, HIGH), 3, &[0]);
-    narrow(rt, &mut design, 9);
-    narrow(rt, &mut design, 2);
-    design
-}
-
-#[test]
-fn the_last_adjustment_counts(rt: HostRuntime) {
-    let design = narrow_design(&rt, rt.alloc());
-    let capacity = Capacity::of(rt.alloc(), &design).expect(&rt, "memory");
-    let shape = capacity.shape();
-    for (a, b, most, usable, need) in [
-        (0, 1, 2, true, 4),
-        (1, 2, 4, true, 4),
-        (0, 3, 0, false, 4),
-        (7, 10, 6, true, 7),
-    ] {
-        assert!(rt; a < shape.cells() && b < shape.cells());
-        let e = shape.edge_between(a, b).expect(&rt, "neighbours");
-        assert!(rt; e.way != Way::Up);
-        assert_eq!(rt;
-            (capacity.at(e), capacity.usable(e)),
-            (most, usable),
-            "edge {e:?}"
-        );
-        assert_eq!(rt; capacity.need(0, e), need, "edge {e:?}");
+/// Prints what a line asks for of the capacity and the loads of a design.
+pub(crate) fn tell<R: Print>(
+    rt: &R,
+    alloc: Global,
+    design: &Design,
+    command: &str,
+    numbers: &[u64],
+) -> io::Result<()> {
+    let capacity = Capacity::of(alloc, design)?;
+    let Some(e) = wire(capacity.shape(), at(numbers, 0), at(numbers, 1)) else {
+        return Ok(());
+    };
+    match command {
+        "capacity" => tell_capacity(rt, &capacity, e),
+        "charge" => tell_charge(rt, alloc, &capacity, e),
+        _ => tell_loads(rt, alloc, &capacity, e, from(numbers, 2)),
     }
 }
 
-/// A tree that goes east, up and north from cell 0 to cell 10.
-fn bent_tree(alloc: Global, shape: Shape) -> Result<RouteTree, AllocError>
-    requires columns { shape.columns ≡ 3 }
-    requires rows { shape.rows ≡ 2 }
-    requires layers { shape.layers ≡ 2 }
-    ensures { IfOk result (λ tree. tree.shape ≡ shape) }
+/// The wire edge between two cells.
+fn wire(shape: Shape, a: u32, b: u32) -> Option<Edge>
+    ensures edge { IfSome result (λ e. IsTrue (has_edge shape e)) }
+    ensures wire { IfSome result (λ e. IsTrue (is_wire e)) }
 {
-    let mut tree = RouteTree::start(alloc, shape, 0)?;
-    tree.attach(&[10, 7, 1, 0])?;
-    Ok(tree)
+    if a >= shape.cells() || b >= shape.cells() {
+        return None;
+    }
+    let e = shape.edge_between(a, b)?;
+    match e.way {
+        Way::East | Way::North => Some(e),
+        Way::Up => None,
+    }
+}
+
+/// Prints an edge's capacity, whether wires may use it, and what net 0 needs of it.
+fn tell_capacity<R: Print>(rt: &R, capacity: &Capacity, e: Edge) -> io::Result<()>
+    requires edge { IsTrue (has_edge capacity.now.shape e) }
+    requires wire { IsTrue (is_wire e) }
+{
+    println!(rt; "{e:?}: capacity {}", capacity.at(e))?;
+    println!(rt;
+        "usable {}, need {}",
+        capacity.usable(e),
+        capacity.need(0, e)
+    )
+}
+
+/// Prints the demand for an edge that one net is charged for.
+fn tell_charge<R: Print>(rt: &R, alloc: Global, capacity: &Capacity, e: Edge) -> io::Result<()>
+    requires edge { IsTrue (has_edge capacity.now.shape e) }
+    requires wire { IsTrue (is_wire e) }
+{
+    let mut loads = Loads::new(alloc, capacity)?;
+    loads.charge(capacity, 0, e);
+    println!(rt;
+        "demand {}, over by {}",
+        loads.demand(e),
+        loads.over_total(capacity)
+    )
+}
+
+/// Prints loads with the tree of the numbers, and without it.
+fn tell_loads<R: Print>(
+    rt: &R,
+    alloc: Global,
+    capacity: &Capacity,
+    e: Edge,
+    numbers: &[u64],
+) -> io::Result<()>
+    requires edge { IsTrue (has_edge capacity.now.shape e) }
+    requires wire { IsTrue (is_wire e) }
+{
+    let (shape, start) = (capacity.shape(), at(numbers, 0));
+    if start >= shape.cells() {
+        return Ok(());
+    }
+    let tree = stepped(alloc, shape, start, from(numbers, 1))?;
+    tell_added(rt, alloc, capacity, e, &tree)
+}
+
+/// Prints the loads with this tree, and without it.
+fn tell_added<R: Print>(
+    rt: &R,
+    alloc: Global,
+    capacity: &Capacity,
+    e: Edge,
+    tree: &RouteTree,
+) -> io::Result<()>
+    requires edge { IsTrue (has_edge capacity.now.shape e) }
+    requires wire { IsTrue (is_wire e) }
+    requires tree { tree.now.shape ≡ capacity.now.shape }
+{
+    let mut loads = marked_loads(alloc, capacity, tree)?;
+    tell_over(rt, capacity, &loads)?;
+    println!(rt; "demand {}, marks {}", loads.demand(e), loads.marks(e))?;
+    loads.take(capacity, 0, tree);
+    loads_are_sums();
+    tell_over(rt, capacity, &loads)
+}
+
+/// Prints the total overflow and the greatest one.
+fn tell_over<R: Print>(rt: &R, capacity: &Capacity, loads: &Loads) -> io::Result<()>
+    requires { capacity.now.shape ≡ loads.now.shape }
+{
+    println!(rt;
+        "over by {}, at most {}",
+        loads.over_total(capacity),
+        loads.over_max(capacity)
+    )
 }
 
 /// Loads with one tree of net 0, marked once.
 fn marked_loads(alloc: Global, capacity: &Capacity, tree: &RouteTree) -> Result<Loads, AllocError>
     requires { tree.now.shape ≡ capacity.now.shape }
-    ensures { IfOk result (λ loads. loads ≡ marked capacity.now (added capacity.now 0 tree.now (no_loads capacity.now.shape))) }
+    ensures tree { IfOk result (λ _. IsTree tree.now) }
+    ensures loads { IfOk result (λ loads. loads ≡ marked capacity.now (added capacity.now 0 tree.now (no_loads capacity.now.shape))) }
 {
     let mut loads = Loads::new(alloc, capacity)?;
     loads.add(capacity, 0, tree);
     loads.mark(capacity);
     Ok(loads)
-}
-
-#[test]
-fn a_tree_is_added_and_taken(rt: HostRuntime) {
-    let design = narrow_design(&rt, rt.alloc());
-    let capacity = Capacity::of(rt.alloc(), &design).expect(&rt, "memory");
-    let tree = bent_tree(rt.alloc(), capacity.shape()).expect(&rt, "memory");
-    let mut loads = marked_loads(rt.alloc(), &capacity, &tree).expect(&rt, "memory");
-    let over = (loads.over_total(&capacity), loads.over_max(&capacity));
-    assert_eq!(rt; over, (3, 2));
-    let e = Edge {
-        low: 7,
-        way: Way::North,
-    };
-    assert_eq!(rt; (loads.demand(e), loads.marks(e)), (7, 1));
-    loads.take(&capacity, 0, &tree);
-    assert_eq!(rt; loads.over_total(&capacity), 0);
-    loads_are_sums();
-}
-
-#[test]
-fn one_edge_is_charged(rt: HostRuntime) {
-    let design = narrow_design(&rt, rt.alloc());
-    let capacity = Capacity::of(rt.alloc(), &design).expect(&rt, "memory");
-    let mut loads = Loads::new(rt.alloc(), &capacity).expect(&rt, "memory");
-    let e = Edge {
-        low: 7,
-        way: Way::North,
-    };
-    loads.charge(&capacity, 0, e);
-    assert_eq!(rt; (loads.demand(e), loads.over_total(&capacity)), (7, 1));
 }

@@ -1,86 +1,78 @@
+//! Topologies of tiles.
+ghost use Rattle.std.specs.Prelude.{◌<◌, ◌≤◌, length};
+
+use crate::draws::Draws;
+use crate::numbers::at;
 use std::alloc::{AllocError, Global};
-use steiner_topology::{Point, Tile, Topology, TopologyRoom, topology};
+use std::io;
+use steiner_topology::{Tile, Topology, TopologyRoom, topology};
 
-/// The topology's points, by its methods.
-fn points_of(alloc: Global, topology: &Topology) -> Result<Vec<Point>, AllocError> {
-    let mut points = Vec::new(alloc);
-    for point in 0..topology.len() {
-        points.push(Point {
-            tile: topology.tile(point),
-            parent: topology.parent(point),
-        })?;
+/// Prints the topology of the tiles whose columns and rows the numbers are.
+pub(crate) fn tell<R: Print>(rt: &R, alloc: Global, numbers: &[u64]) -> io::Result<()> {
+    let tiles = tiles_of(alloc, numbers)?;
+    if tiles.is_empty() || tiles.len() > 20 {
+        return Ok(());
     }
-    Ok(points)
+    tell_topology(rt, alloc, &tiles)
 }
 
-/// The distance between two tiles.
-fn distance(a: Tile, b: Tile) -> u64 {
-    u64::from(a.0.abs_diff(b.0)) + u64::from(a.1.abs_diff(b.1))
-}
-
-/// The sum of the distances from the points to their parents.
-fn length_of(points: &[Point]) -> u64 {
-    let mut length = 0u64;
-    for point in points {
-        if let Some(parent) = points.get(point.parent as usize) {
-            length = length.saturating_add(distance(point.tile, parent.tile));
-        }
-    }
-    length
-}
-
-/// Rows of tiles by column and row, and the topology that the rule gives by hand or by a plain
-/// program: its points by column, row and parent, and its length.
-const ROWS: &str = "55: 550, length 0\n\
-    21 35: 210 350, length 5\n\
-    00 40 23: 000 403 233 200, length 7\n\
-    31 02 24 20: 310 024 245 204 215 210, length 8\n\
-    66 16 35 61 14: 660 166 355 615 146 650 152, length 12\n\
-    34 46 03 52 65 06: 340 467 038 526 657 068 440 456 040, length 14\n\
-    46 43 52 14 41 00 65: 460 439 528 149 418 003 657 450 421 447, length 16\n\
-    15 55 21 31 50 33 61: 150 557 213 315 508 337 618 350 513, length 13";
-
-/// The tiles of a row.
-fn tiles_of(alloc: Global, row: &str) -> Result<Vec<Tile>, AllocError> {
+/// The tiles whose columns and rows the numbers are.
+fn tiles_of(alloc: Global, numbers: &[u64]) -> Result<Vec<Tile>, AllocError> {
     let mut tiles = Vec::new(alloc);
-    for word in row.split_whitespace() {
-        let place: u32 = word.parse().unwrap_or(0);
-        tiles.push((place / 10, place % 10))?;
+    for pair in 0..numbers.len() / 2 {
+        tiles.push((at(numbers, 2 * pair), at(numbers, 2 * pair + 1)))?;
     }
     Ok(tiles)
 }
 
-/// The points and the length as a row has them.
-fn told(alloc: Global, points: &[Point]) -> Result<String, AllocError> {
-    let mut told = String::new(alloc);
-    for (at, Point { tile, parent }) in points.iter().enumerate() {
-        let space = if at == 0 { "" } else { " " };
-        told.push_str(&format!(in alloc; "{space}{}{}{parent}", tile.0, tile.1)?)?;
+/// Prints the points of the tiles' topology, and its length.
+fn tell_topology<R: Print>(rt: &R, alloc: Global, tiles: &[Tile]) -> io::Result<()>
+    requires some { 0 < length tiles.now }
+    requires few { length tiles.now ≤ 20 }
+{
+    let mut room = TopologyRoom::new(alloc);
+    let net = topology(alloc, tiles, &mut room)?;
+    for point in 0..net.len() {
+        println!(rt; "tile {:?}, parent {}", net.tile(point), net.parent(point))?;
     }
-    told.push_str(&format!(in alloc; ", length {}", length_of(points))?)?;
-    Ok(told)
+    println!(rt; "length {}", wirelength(&net))
 }
 
-#[test]
-fn points_parents_and_ties_are_those_of_the_rule(rt: HostRuntime) {
-    let mut room = TopologyRoom::new(rt.alloc());
-    for row in ROWS.lines() {
-        let (tiles, wanted) = row.split_once(": ").unwrap_or((row, ""));
-        let tiles = tiles_of(rt.alloc(), tiles).expect(&rt, "memory");
-        assert!(rt; !tiles.is_empty() && tiles.len() <= 7);
-        let topology = topology(rt.alloc(), &tiles, &mut room).expect(&rt, "memory");
-        let points = points_of(rt.alloc(), &topology).expect(&rt, "memory");
-        let told = told(rt.alloc(), &points).expect(&rt, "memory");
-        assert_eq!(rt; told.as_str(), wanted);
+/// The length of a topology, as a number that wraps.
+fn wirelength(net: &Topology) -> u64 {
+    let mut sum: u64 = 0;
+    for point in 0..net.len() {
+        let (x, y) = net.tile(point);
+        let (u, v) = net.tile(net.parent(point));
+        sum = sum.wrapping_add(u64::from(x.abs_diff(u)));
+        sum = sum.wrapping_add(u64::from(y.abs_diff(v)));
     }
+    sum
 }
 
-#[test]
-fn tiles_at_the_ends_of_their_type_have_a_topology(rt: HostRuntime) {
-    let last = u32::MAX;
-    let mut room = TopologyRoom::new(rt.alloc());
-    let tiles = [(0, 0), (last, 0), (0, last), (last, last)];
-    let topology = topology(rt.alloc(), &tiles, &mut room).expect(&rt, "memory");
-    let points = points_of(rt.alloc(), &topology).expect(&rt, "memory");
-    assert_eq!(rt; length_of(&points), 3 * u64::from(last));
+/// The tiles of a net of 2 to 20 pins.
+fn drawn(alloc: Global, draws: &mut Draws) -> Result<Vec<Tile>, AllocError> {
+    let count = 2 + draws.below(19);
+    let mut tiles = Vec::new(alloc);
+    for _ in 0..count {
+        tiles.push((draws.below(300), draws.below(300)))?;
+    }
+    Ok(tiles)
+}
+
+/// The sum of the lengths of so many topologies.
+pub(crate) fn sum(alloc: Global, count: u32) -> Result<u64, AllocError> {
+    let mut draws = Draws::new();
+    let mut room = TopologyRoom::new(alloc);
+    let mut sum: u64 = 0;
+    for _ in 0..count {
+        let tiles = drawn(alloc, &mut draws)?;
+        if tiles.is_empty() || tiles.len() > 20 {
+            continue;
+        }
+        let topology = topology(alloc, &tiles, &mut room)?;
+        sum = sum.wrapping_add(wirelength(&topology));
+        room.give_back(topology);
+    }
+    Ok(sum)
 }

@@ -7,7 +7,7 @@ use Rattle.gr_base.specs.declared.grid.Shape.{Shape}
 use Rattle.grid_demand.specs.LoadSums.{no_loads}
 use Rattle.net_plan.specs.Prices.{HasBoundedDemand}
 use Rattle.net_plan.proofs.FlatLemmas.{if-then}
-use Rattle.plan_rows.proofs.designs.empty_loads.Goals as goal
+use Rattle.plan_rows.proofs.plans.empty_loads.Goals as goal
 
 zero-there : (n k : ℕ) → slice_index (replicate n 0) k ≡ 0
 zero-there n k =

@@ -1,15 +1,36 @@
+//! Sums over many planned nets.
 ghost use Rattle.std.specs.Prelude.{◌≡◌, ◌+◌, ◌<◌, ◌≤◌, IsTrue};
 ghost use Rattle.gr_base.specs.Grid.{cells_of, place_at};
 ghost use Rattle.maze_route.specs.Windows.{IsWindow, in_window};
 
 use crate::draws::Draws;
-use crate::walks::Uneven;
-use gr_base::{RouteTree, Shape};
-use maze_route::{Window, least_walk};
+use crate::mazes::walk_of;
+use crate::numbers::at;
+use crate::priced::Priced;
+use crate::{topologies, walks};
+use gr_base::Shape;
+use maze_route::Window;
 use std::alloc::{AllocError, Global};
+use std::io;
 
-/// The columns and rows of the grid.
+/// The columns and rows of the grid of mazes.
 const SIDE: u32 = 300;
+
+/// Prints the sum that a line asks for.
+pub(crate) fn tell<R: Print>(
+    rt: &R,
+    alloc: Global,
+    command: &str,
+    numbers: &[u64],
+) -> io::Result<()> {
+    let (first, second) = (at(numbers, 0), at(numbers, 1));
+    let sum = match command {
+        "mazes" => mazes(alloc, first, second)?,
+        "walks" => walks::sum(alloc, first, second)?,
+        _ => topologies::sum(alloc, first)?,
+    };
+    println!(rt; "{sum}")
+}
 
 /// A square window of the grid.
 fn window(draws: &mut Draws, shape: Shape, side: u32) -> Window
@@ -48,7 +69,7 @@ fn cell(draws: &mut Draws, shape: Shape, window: Window, side: u32) -> u32
 /// The sum of the cells of the least walk between two cells of a window.
 fn walk_sum(
     alloc: Global,
-    costs: &Uneven,
+    costs: &Priced,
     window: Window,
     from: u32,
     to: u32,
@@ -57,10 +78,8 @@ fn walk_sum(
     requires from { IsTrue (in_window costs.now.shape window from) }
     requires inside { from < cells_of costs.now.shape }
     requires to { IsTrue (in_window costs.now.shape window to) }
-    requires layers { 0 < costs.now.shape.layers }
 {
-    let tree = RouteTree::start(alloc, costs.shape, from)?;
-    let walk = least_walk(alloc, costs, window, &tree, &[to])?;
+    let walk = walk_of(alloc, costs, window, from, &[to])?;
     let mut sum: u64 = 0;
     for cell in walk.as_slice() {
         sum = sum.wrapping_add(u64::from(*cell));
@@ -70,14 +89,14 @@ fn walk_sum(
 
 /// The sum of the cells of so many least walks in square windows of a grid of 300 by 300 tiles and
 /// six layers.
-pub(crate) fn sum(alloc: Global, side: u32, count: u32) -> Result<u64, AllocError> {
+fn mazes(alloc: Global, side: u32, count: u32) -> Result<u64, AllocError> {
     let Some(shape) = Shape::new(SIDE, SIDE, 6) else {
         return Ok(0);
     };
     if side == 0 || side > SIDE {
         return Ok(0);
     }
-    let costs = Uneven { shape };
+    let costs = Priced::steep(shape);
     let mut draws = Draws::new();
     let mut sum: u64 = 0;
     for _ in 0..count {
