@@ -19,15 +19,16 @@ pub(crate) fn tell<R: Print>(rt: &R, command: &str, numbers: &[u64]) -> io::Resu
         Watcher::new(Watch::Still, still),
         Watcher::new(Watch::Goal, goal),
     );
+    let own = CostRule::new(Formula::Flat, flat_by_cases);
     if command == "cost" {
-        tell_site(rt, &rules, numbers)
+        tell_site(rt, &rules, &own, numbers)
     } else {
         tell_sight(rt, &rules, numbers)
     }
 }
 
 /// Prints what a site costs.
-fn tell_site<R: Print>(rt: &R, rules: &Rules, numbers: &[u64]) -> io::Result<()> {
+fn tell_site<R: Print>(rt: &R, rules: &Rules, own: &CostRule, numbers: &[u64]) -> io::Result<()> {
     let site = Site {
         demand: great(numbers, 0),
         capacity: great(numbers, 1),
@@ -44,8 +45,7 @@ fn tell_site<R: Print>(rt: &R, rules: &Rules, numbers: &[u64]) -> io::Result<()>
     tell_cost(rt, rules.first(), site)?;
     tell_cost(rt, rules.steep(), site)?;
     tell_cost(rt, rules.flat(), site)?;
-    let own = CostRule::new(Formula::Flat, flat_by_cases);
-    tell_cost(rt, &own, site)
+    tell_cost(rt, own, site)
 }
 
 /// Prints what a rule makes of a site.
