@@ -50,8 +50,8 @@ pub(crate) fn claim<N: BookName, R: Wait>(
         front: 0,
         kind: PlanKind::Pattern,
     };
-    match book.claim(rt, pass, claim) {
-        Ok(reply) => Ok(reply),
-        Err(_) => Err(AllocError),
-    }
+    let Ok(reply) = book.claim(rt, pass, claim) else {
+        return Err(AllocError);
+    };
+    Ok(reply)
 }

@@ -32,8 +32,8 @@ pub(crate) fn closed<N: BookName>(
     if !are_by_number(&passes, count) {
         return Err(AllocError);
     }
-    match book.close(passes) {
-        Ok(closed) => Ok(closed),
-        Err(_) => Err(AllocError),
-    }
+    let Ok(closed) = book.close(passes) else {
+        return Err(AllocError);
+    };
+    Ok(closed)
 }

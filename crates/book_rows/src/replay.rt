@@ -54,8 +54,8 @@ fn claim(
         front: claim.front,
         kind: claim.kind,
     };
-    match book.claim(number, again) {
-        Ok(reply) => Ok(reply),
-        Err(_) => Err(AllocError),
-    }
+    let Ok(reply) = book.claim(number, again) else {
+        return Err(AllocError);
+    };
+    Ok(reply)
 }

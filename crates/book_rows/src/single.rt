@@ -45,10 +45,10 @@ fn claim(
         front: book.history().len(),
         kind: PlanKind::Pattern,
     };
-    match book.claim(1, claim) {
-        Ok(reply) => Ok(reply),
-        Err(_) => Err(AllocError),
-    }
+    let Ok(reply) = book.claim(1, claim) else {
+        return Err(AllocError);
+    };
+    Ok(reply)
 }
 
 /// Adds marks to the history until it has this length.
