@@ -10,7 +10,7 @@ use Rattle.book_state.proofs.LegalHistories.{legal-nothing}
 use Rattle.book_state.specs.Cuts.{cut}
 use Rattle.round_core.specs.Attempts.{Rests}
 use Rattle.round_core.specs.RunHistories.{Setting, IsRunHistory}
-use Rattle.round_core.specs.WorldRules.{stage_in, stage_at, is_holding_net, IsPhaseRight, IsRunning, IsWorld}
+use Rattle.round_core.specs.WorldRules.{KeepsRules, stage_in, stage_at, is_holding_net, IsPhaseRight, IsRunning, IsWorld}
 use Rattle.round_core.specs.Worlds.{WorldView, phase_in, phase_before_end, phase_at, since_of, at_first}
 use Rattle.round_core.specs.declared.steps.Phase.{Phase}
 use Rattle.round_core.specs.declared.steps.Phase.TheVariants.{Idle, Ended}
@@ -49,17 +49,21 @@ first-running t = record {
   apart = none-apart t.design;
 }
 
+-- a history without entries keeps all rules
+pub first-rules : (t : Setting) → KeepsRules t []
+first-rules t = record {
+  legal = legal-nothing (capacity_of t.design);
+  numbers = λ p e there. absurd (none-some e there);
+  plans = λ p e there. absurd (none-some e there);
+  granted = λ p e there. absurd (none-some e there);
+  whole = λ p e there. absurd (none-some e there);
+  due = λ p e there. absurd (none-some e there);
+  asked = λ p e there. absurd (none-some e there);
+}
+
 pub first-world : (t : Setting) → IsWorld (at_first t)
 first-world t = record {
-  rules = record {
-    legal = legal-nothing (capacity_of t.design);
-    numbers = λ p e there. absurd (none-some e there);
-    plans = λ p e there. absurd (none-some e there);
-    granted = λ p e there. absurd (none-some e there);
-    whole = λ p e there. absurd (none-some e there);
-    due = λ p e there. absurd (none-some e there);
-    asked = λ p e there. absurd (none-some e there);
-  };
+  rules = first-rules t;
   running = λ still. first-running t;
   ended = λ over. absurd (both_ways false refl over);
 }
