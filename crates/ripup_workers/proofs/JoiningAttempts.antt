@@ -1,21 +1,18 @@
 -- What the workers have attempted together.
 use Rattle.std.proofs.Common.{◌≡◌, ℕ, suc, zero, ◌+◌, ◌<◌, inl, inr, Bool, true, false, cond, ◌==◌, List, [], ◌∷◌, ◌++◌, length, map, take, get_or, All, Some, Result, Ok, OnOk, slice_get, sum_by, refl, sym, ap, subst, ◌∙◌, arith, append_assoc}
-use Rattle.std.specs.List.{fold}
 use Rattle.std.proofs.lemmas.Bool.{cases_eq}
 use Rattle.std.proofs.lemmas.Bool.Decides.{nat_tests}
-use Rattle.std.proofs.lemmas.List.{append-nil, length-map, take_more}
+use Rattle.std.proofs.lemmas.List.{length-map, take_more}
 use Rattle.std.proofs.lemmas.List.Elements.{All-cons, All-get_or}
-use Rattle.std.proofs.lemmas.List.Sums.{fold-append, sum_by-cons, sum_by-append}
+use Rattle.std.proofs.lemmas.List.Sums.{sum_by-cons, sum_by-append}
 use Rattle.std.proofs.lemmas.List.Folds.{fold-map}
 use Rattle.std.proofs.lemmas.Option.{none-some, same_Some, slice_get_within, slice_get-get_or, get_or_from_slice_get}
 use Rattle.cost_rules.specs.declared.sight.Watch.TheVariants.{Never}
 use Rattle.cost_rules.specs.declared.site.Formula.{Formula}
 use Rattle.gr_base.specs.Designs.{DesignView}
 use Rattle.grid_demand.specs.Tables.{CapacityView, capacity_of}
-use Rattle.book_front.proofs.Prefixes.{prefix-all, prefix-then}
 use Rattle.book_state.specs.Books.{IsLegal}
-use Rattle.book_state.specs.declared.entry.Entry.{Entry}
-use Rattle.round_core.specs.Attempts.{Stage, Rests, stage_after, begins}
+use Rattle.round_core.specs.Attempts.{Rests}
 use Rattle.round_core.specs.RunHistories.{Setting, asked_for}
 use Rattle.track_book.specs.Passes.{PassView}
 use Rattle.work_share.specs.Views.{ShareView, HandView, IsHandOf, IsNewHand, AreHandsOf, IsDealt, times}
@@ -23,6 +20,7 @@ use Rattle.ripup_workers.specs.Crews.{IsWorked, HasAttemptedOver}
 use Rattle.ripup_workers.specs.Rounding.{HaveAttempted}
 use Rattle.ripup_workers.specs.Working.{HasAttempted}
 use Rattle.ripup_workers.proofs.JoiningPasses.{item-at}
+use Rattle.ripup_workers.proofs.TurningStages.{led-nothing, led-then}
 
 -- parts of items that are taken off a list one by one
 pub parts-next : {A B : Type 0} (part : A → B) (done : List B) (x : A) (rest before : List A) (new all : List B) → done ++ map part before ≡ all → before ≡ x ∷ rest → new ≡ done ++ part x ∷ [] →
@@ -43,44 +41,14 @@ dealt-each nets workers s hands dealt at h there = record {
   of = dealt.hands_are.each at h there;
 }
 
--- no attempt
-nothing-attempted : (t : Setting) (round : ℕ) (p : PassView) → IsLegal (capacity_of t.design) p.seen → HasAttempted t round [] p p
-nothing-attempted t round p legal = record {
-  number = refl;
-  begins = prefix-all p.seen;
-  legal = legal;
-  added = [];
-  mine = sym (append-nil p.mine);
-  whole = refl;
-  each = λ net. refl;
-  planned = λ planned. planned;
-}
-
--- attempts after others
-attempted-then : (t : Setting) (round : ℕ) (xs ys : List ℕ) (p q r : PassView) → HasAttempted t round xs p q → HasAttempted t round ys q r → HasAttempted t round (xs ++ ys) p r
-attempted-then t round xs ys p q r first second = record {
-  number = second.number ∙ first.number;
-  begins = prefix-then p.seen q.seen r.seen first.begins second.begins;
-  legal = second.legal;
-  added = first.added ++ second.added;
-  mine = second.mine ∙ ap (λ (l : List Entry). l ++ second.added) first.mine ∙ append_assoc p.mine first.added second.added;
-  whole = fold-append (stage_after round) Rests first.added second.added
-      ∙ ap (λ (s : Stage). fold (stage_after round) s second.added) first.whole ∙ second.whole;
-  each = λ net.
-      let one = first.each net in
-      let other = second.each net in
-      sum_by-append (λ (x : Entry). cond {A = ℕ} (begins round net x) 1 0) first.added second.added ∙ omega (arith, one, other)
-      ∙ sym (sum_by-append (λ (other : ℕ). cond {A = ℕ} (other == net) 1 0) xs ys);
-  planned = λ planned. second.planned (first.planned planned);
-}
-
+-- no attempt, and attempts after others
 pub tried-none : (d : DesignView) (formula : Formula) (c : CapacityView) (round : ℕ) (p : PassView) → c ≡ capacity_of d → IsLegal c p.seen → HasAttemptedOver d formula round [] p p
 tried-none d formula c round p is legal =
-    λ t over. nothing-attempted t round p (subst (λ (k : CapacityView). IsLegal k p.seen) (is ∙ ap capacity_of (sym over.design)) legal)
+    λ t over. led-nothing t round Rests p (subst (λ (k : CapacityView). IsLegal k p.seen) (is ∙ ap capacity_of (sym over.design)) legal)
 
 pub tried-then : (d : DesignView) (formula : Formula) (round : ℕ) (xs ys : List ℕ) (p q r : PassView) → HasAttemptedOver d formula round xs p q → HasAttemptedOver d formula round ys q r →
     HasAttemptedOver d formula round (xs ++ ys) p r
-tried-then d formula round xs ys p q r first second = λ t over. attempted-then t round xs ys p q r (first t over) (second t over)
+tried-then d formula round xs ys p q r first second = λ t over. led-then t round Rests Rests Rests xs ys p q r (first t over) (second t over)
 
 -- one more of a list of nets
 pub tried-next : (d : DesignView) (formula : Formula) (round : ℕ) (nets : List ℕ) (at net : ℕ) (p q r : PassView) → at < length nets → net ≡ get_or nets at 0 →
@@ -259,7 +227,7 @@ have-attempted t round nets rest old mid new hands q s mid_count hands_count eac
     by [] each at x y part x_there y_there part_there = absurd (none-some part part_there)
     by (h ∷ hs) each zero x y part x_there y_there part_there =
         subst (λ (ns : List ℕ). HasAttempted t round ns x y) (same_Some (h.taken ++ rest) part part_there)
-        (attempted-then t round h.taken rest x q y (each 0 x q h x_there q_there refl)
+        (led-then t round Rests Rests Rests h.taken rest x q y (each 0 x q h x_there q_there refl)
         (subst (λ (k : PassView). HasAttempted t round rest q k) (same_Some s y (sym s_there ∙ y_there)) last))
     by (h ∷ hs) each (suc at) x y part x_there y_there part_there =
         let k = part-at (λ (k : HandView). k.taken) hs at part part_there in

@@ -33,9 +33,10 @@ use Rattle.round_core.proofs.RangeCounts.{times-kept}
 use Rattle.round_core.proofs.RoutedTrees.{attempts-stand}
 use Rattle.round_core.proofs.StandLemmas.{victims-routed, mark-stands, least-place, least-call, some-least}
 use Rattle.round_core.proofs.TurnLemmas.{routed-below, routed-within}
+use Rattle.round_core.proofs.WorldEnds.{first-rules}
 use Rattle.track_book.specs.Passes.{PassView, IsNew, IsIn, IsClosed}
 use Rattle.ripup_workers.specs.Closing.{AreNew}
-use Rattle.ripup_workers.specs.Rounding.{AreOf, HasSeen, IsNext, HasEnded, AreBefore, AreBehind, HaveRun, is_stop, is_stop_at}
+use Rattle.ripup_workers.specs.Rounding.{AreOf, HasSeen, IsNext, HasEnded, AreBefore, AreBehind, IsRoundOver, HaveRun, is_stop, is_stop_at}
 use Rattle.work_share.specs.Views.{times}
 use Rattle.ripup_workers.proofs.JoiningLists.{all-prefix, same-history}
 use Rattle.ripup_workers.proofs.JoiningPasses.{item-at}
@@ -56,15 +57,7 @@ first-next : (t : Setting) → IsNext t 0 (routed_nets t.design) None []
 unfolding cut
 first-next t = record {
   done = record {
-    rules = record {
-      legal = legal-nothing (capacity_of t.design);
-      numbers = λ p e there. absurd (none-some e there);
-      plans = λ p e there. absurd (none-some e there);
-      granted = λ p e there. absurd (none-some e there);
-      whole = λ p e there. absurd (none-some e there);
-      due = λ p e there. absurd (none-some e there);
-      asked = λ p e there. absurd (none-some e there);
-    };
+    rules = first-rules t;
     round_is = refl;
     segment = refl;
   };
@@ -178,7 +171,7 @@ module _ (t : Setting) (round overflow : ℕ) (before : Option ℕ) (found nets 
     overflow_is = ap (λ (o : Overflows). o.last) ended.overflows_are;
   }
 
-  pub goes-on : (coordinator : PassView) (workers : List PassView) → AreBehind t round overflow before found coordinator workers → 0 < length nets → is_stop_at t overflow before ≡ false →
+  goes-on : (coordinator : PassView) (workers : List PassView) → AreBehind t round overflow before found coordinator workers → 0 < length nets → is_stop_at t overflow before ≡ false →
       round + 1 ≤ t.rounds → AreBefore t (round + 1) nets (Some overflow) coordinator workers
   goes-on coordinator workers behind some on most = record {
     h = behind.h;
@@ -201,9 +194,18 @@ module _ (t : Setting) (round overflow : ℕ) (before : Option ℕ) (found nets 
       by (inr (inl stop)) = inr (inr (said h ended ∙ stop-said (says_at t.watch t.goal before (Some overflow)) stop))
       by (inr (inr all)) = let round_is = ended.done.round_is in inl (omega (arith, round_is, all))
 
-  pub stops : (coordinator : PassView) (workers : List PassView) → AreBehind t round overflow before found coordinator workers →
+  stops : (coordinator : PassView) (workers : List PassView) → AreBehind t round overflow before found coordinator workers →
       (nets ≡ []) ⊎ ((is_stop_at t overflow before ≡ true) ⊎ (round ≡ t.rounds)) → HaveRun t coordinator workers
   stops coordinator workers behind over = record { h = behind.h; at = behind.at; run = λ numbers. run-from behind.h (behind.ended numbers) over }
+
+-- the same of a round that has been run
+module _ (t : Setting) (round overflow : ℕ) (before : Option ℕ) (nets kept : List ℕ) (coordinator new : PassView) (workers after : List PassView)
+    (over : IsRoundOver t round overflow nets kept coordinator new workers after) (at : AreBefore t round nets before coordinator workers) where
+  pub round-goes_on : 0 < length kept → is_stop_at t overflow before ≡ false → round + 1 ≤ t.rounds → AreBefore t (round + 1) kept (Some overflow) new after
+  round-goes_on = goes-on t round overflow before over.victims kept over.kept_are new after (over.behind before at)
+
+  pub round-stops : (kept ≡ []) ⊎ ((is_stop_at t overflow before ≡ true) ⊎ (round ≡ t.rounds)) → HaveRun t new after
+  round-stops = stops t round overflow before over.victims kept over.kept_are new after (over.behind before at)
 
 -- once the book is closed, all its entries are the callers', and lie before the last mark
 pub run-closed : (t : Setting) (coordinator : PassView) (workers : List PassView) (h : List Entry) → HaveRun t coordinator workers → IsClosed (capacity_of t.design) (coordinator ∷ workers) h →

@@ -298,7 +298,7 @@ module _ (t : Setting) (round : ℕ) (nets : List ℕ) (h : List Entry) (coordin
             let next_number : place + 1 ≡ suc place = omega arith in
             let calls : calls_of (suc place) segment ≡ w.attempted.added =
             subst (λ (n : ℕ). calls_of n segment ≡ w.attempted.added) next_number (of-worker place w) in
-            let unmarked = subst (All (λ (e : Entry). is_mark e ≡ false)) (sym calls) (whole-unmarked round w.attempted.added w.attempted.whole) in
+            let unmarked = subst (All (λ (e : Entry). is_mark e ≡ false)) (sym calls) (whole-unmarked round w.attempted.added w.attempted.led) in
             let own = filter_passes (λ (e : Entry). e.number == suc place) segment in
             λ i d within. (
             let test = own i d within in
@@ -324,7 +324,7 @@ module _ (t : Setting) (round : ℕ) (nets : List ℕ) (h : List Entry) (coordin
           let w = in-round place within in
           let next_number : place + 1 ≡ suc place = omega arith in
           ap (λ (n : ℕ). stage_of round (calls_of n segment)) (sym next_number)
-          ∙ ap (λ (l : List Entry). stage_of round l) (of-worker place w) ∙ w.attempted.whole
+          ∙ ap (λ (l : List Entry). stage_of round l) (of-worker place w) ∙ w.attempted.led
       | inr past ↦ ap (λ (l : List Entry). stage_of round l) (calls-none t.workers (suc place) segment of-segment (omega (arith, past)))
     ]
 

@@ -15,7 +15,7 @@ use Rattle.track_book.specs.Passes.{PassView}
 use Rattle.ripup_workers.specs.Turning.{IsOver, HasWorked}
 use Rattle.work_share.specs.Views.{times}
 use Rattle.ripup_workers.specs.Working.{HasAttempted}
-use Rattle.ripup_workers.proofs.TurningStages.{led-nothing, led-then, attempted, attempts-led, over-capacity}
+use Rattle.ripup_workers.proofs.TurningStages.{led-nothing, led-then, over-capacity}
 
 -- what holds of all holds of each that stands among them
 pub all-of : (P : ℕ → Type 0) (nets : List ℕ) (net : ℕ) → All P nets → 0 < times net nets → P net
@@ -36,8 +36,7 @@ pub worked-nothing : (t : Setting) (d : DesignView) (formula : Formula) (c : Cap
 worked-nothing t d formula c r taken p over same legal = record {
   nets = [];
   taken_is = sym (append-nil taken);
-  attempted = attempted t r [] p p
-      (led-nothing t r Rests p (subst (λ (x : CapacityView). IsLegal x p.seen) (over-capacity t d formula c over same) legal));
+  attempted = led-nothing t r Rests p (subst (λ (x : CapacityView). IsLegal x p.seen) (over-capacity t d formula c over same) legal);
 }
 
 -- and one more net
@@ -46,8 +45,7 @@ pub worked-more : (t : Setting) (r net : ℕ) (before taken more : List ℕ) (p 
 worked-more t r net before taken more p q s worked is done = record {
   nets = worked.nets ++ net ∷ [];
   taken_is = is ∙ ap (λ (nets : List ℕ). nets ++ net ∷ []) worked.taken_is ∙ append_assoc before worked.nets (net ∷ []);
-  attempted = attempted t r (worked.nets ++ net ∷ []) p s
-      (led-then t r Rests Rests Rests worked.nets (net ∷ []) p q s (attempts-led t r worked.nets p q worked.attempted) (attempts-led t r (net ∷ []) q s done));
+  attempted = led-then t r Rests Rests Rests worked.nets (net ∷ []) p q s worked.attempted done;
 }
 
 -- a worker's pass has seen no less than before

@@ -1,6 +1,7 @@
 -- Where a worker's entries of a round lead.
 use Rattle.std.proofs.Common.{◌≡◌, ℕ, suc, zero, ◌*◌, ◌<◌, Bool, true, cond, ◌&&◌, ◌==◌, List, [], ◌∷◌, ◌++◌, length, take, Option, Some, None, slice_get, Result, Ok, Err, IfOk, OnOk, if◌then◌else◌, refl, sym, ap, subst, ◌∙◌, arith, append_assoc}
 use Rattle.std.specs.List.{fold}
+use mathlib.Core.List.{IsPrefix}
 use Rattle.std.proofs.lemmas.Bool.Decides.{nat_tests}
 use Rattle.std.proofs.lemmas.List.{append-nil, take_at}
 use Rattle.std.proofs.lemmas.List.Sums.{fold-append, sum_by-append}
@@ -33,23 +34,27 @@ use Rattle.round_core.specs.RunHistories.{Setting, IsPlanOver, IsPlanned}
 use Rattle.round_core.proofs.StageSteps.{attempts-push}
 use Rattle.round_core.proofs.TurnLemmas.{plan-after}
 use Rattle.track_book.specs.Passes.{PassView, IsPass, IsAnswered, HasLearnt}
-use Rattle.ripup_workers.specs.Turning.{IsOver, HasFollowed, HasLed, IsPlanFor, HasTried}
+use Rattle.ripup_workers.specs.Turning.{IsOver, HasFollowed, IsPlanFor, HasTried}
 use Rattle.work_share.specs.Views.{times}
-use Rattle.ripup_workers.specs.Working.{ArePlanned, HasAttempted}
+use Rattle.ripup_workers.specs.Working.{ArePlanned, HasLed}
 use Rattle.ripup_workers.proofs.TurningPasses.{own-learnt, own-answered, answered-others, own-place}
 
--- a pass that did nothing
-pub led-nothing : (t : Setting) (r : ℕ) (stage : Stage) (p : PassView) → IsLegal (capacity_of t.design) p.seen → HasLed t r stage stage [] p p
-led-nothing t r stage p legal = record {
-  number = refl;
-  begins = prefix-all p.seen;
+-- a pass that added nothing
+led-still : (t : Setting) (r : ℕ) (stage : Stage) (p q : PassView) → q.number ≡ p.number → IsPrefix p.seen q.seen → IsLegal (capacity_of t.design) q.seen → q.mine ≡ p.mine →
+    (ArePlanned t p → ArePlanned t q) → HasLed t r stage stage [] p q
+led-still t r stage p q number begins legal mine planned = record {
+  number = number;
+  begins = begins;
   legal = legal;
   added = [];
-  mine = sym (append-nil p.mine);
+  mine = mine ∙ sym (append-nil p.mine);
   led = refl;
   each = λ net. refl;
-  planned = λ planned. planned;
+  planned = planned;
 }
+
+pub led-nothing : (t : Setting) (r : ℕ) (stage : Stage) (p : PassView) → IsLegal (capacity_of t.design) p.seen → HasLed t r stage stage [] p p
+led-nothing t r stage p legal = led-still t r stage p p refl (prefix-all p.seen) legal refl (λ planned. planned)
 
 -- one step after another
 pub led-then : (t : Setting) (r : ℕ) (a b c : Stage) (nets more : List ℕ) (p q s : PassView) → HasLed t r a b nets p q → HasLed t r b c more q s → HasLed t r a c (nets ++ more) p s
@@ -68,31 +73,6 @@ led-then t r a b c nets more p q s first second = record {
       let two = second.each net in
       omega (arith, begun, stand, one, two);
   planned = λ planned. second.planned (first.planned planned);
-}
-
--- steps that lead from rest to rest are whole attempts
-pub attempted : (t : Setting) (r : ℕ) (nets : List ℕ) (p q : PassView) → HasLed t r Rests Rests nets p q → HasAttempted t r nets p q
-attempted t r nets p q led = record {
-  number = led.number;
-  begins = led.begins;
-  legal = led.legal;
-  added = led.added;
-  mine = led.mine;
-  whole = led.led;
-  each = led.each;
-  planned = led.planned;
-}
-
-pub attempts-led : (t : Setting) (r : ℕ) (nets : List ℕ) (p q : PassView) → HasAttempted t r nets p q → HasLed t r Rests Rests nets p q
-attempts-led t r nets p q done = record {
-  number = done.number;
-  begins = done.begins;
-  legal = done.legal;
-  added = done.added;
-  mine = done.mine;
-  led = done.whole;
-  each = done.each;
-  planned = done.planned;
 }
 
 -- one entry leads from a stage to another
@@ -262,16 +242,8 @@ followed t d formula c p q over same learnt one two =
     }
 
 pub followed-led : (t : Setting) (r : ℕ) (stage : Stage) (p q : PassView) → HasFollowed t p q → HasLed t r stage stage [] p q
-followed-led t r stage p q follows = record {
-  number = follows.learnt.number;
-  begins = follows.learnt.begins;
-  legal = follows.learnt.legal;
-  added = [];
-  mine = follows.learnt.mine ∙ sym (append-nil p.mine);
-  led = refl;
-  each = λ net. refl;
-  planned = follows.planned;
-}
+followed-led t r stage p q follows =
+    led-still t r stage p q follows.learnt.number follows.learnt.begins follows.learnt.legal follows.learnt.mine follows.planned
 
 -- a claim for a plan over all that the pass had seen
 pub tried-so : (t : Setting) (d : DesignView) (formula : Formula) (c : CapacityView) (net : ℕ) (kind : PlanKind) (slack : Option ℕ) (tree : TreeView) (reply : Reply) (p q : PassView) →

@@ -1,11 +1,13 @@
 -- What stands between rounds, and what a round leaves.
 use Rattle.std.specs.Prelude.{◌≡◌, ℕ, ◌+◌, ◌<◌, ◌≤◌, Bool, true, false, List, [], All, length, Option, Some, slice_get, sum_by, if◌then◌else◌, IsTrue}
+use Rattle.std.specs.List.{filter}
 use denote.Param.Members.{Mut}
 use mathlib.Core.List.{IsPrefix}
 use Rattle.cost_rules.specs.declared.sight.Going.{Going}
 use Rattle.cost_rules.specs.declared.sight.Going.TheVariants.{On, Stop}
 use Rattle.cost_rules.specs.declared.sight.Sight.{Sight}
 use Rattle.cost_rules.specs.declared.site.Site.{Site}
+use Rattle.gr_base.specs.Designs.{is_routed}
 use Rattle.grid_demand.specs.Tables.{CapacityView, capacity_of}
 use Rattle.book_state.specs.Books.{victims}
 use Rattle.book_state.specs.Cuts.{cut}
@@ -104,6 +106,15 @@ pub record AreBehind (t : Setting) (round overflow : ℕ) (before : Option ℕ) 
   pub h : List Entry
   pub at : AreAt t h coordinator workers
   pub ended : AreOf t.workers coordinator.seen → HasEnded t round overflow before nets h
+
+-- a round of some nets has been run: where the callers stood before it, they stand at its end, and the nets that are
+-- kept for the next one are the victims that are routed
+pub record IsRoundOver (t : Setting) (round overflow : ℕ) (nets kept : List ℕ) (coordinator new : PassView)
+    (workers after : List PassView) : Type 0 where
+  pub victims : List ℕ
+  pub kept_are : kept ≡ filter (is_routed t.design) victims
+  pub behind : (before : Option ℕ) → AreBefore t round nets before coordinator workers →
+      AreBehind t round overflow before victims new after
 
 -- they stand at the end of a run history, as far as the entries are theirs
 pub record HaveRun (t : Setting) (coordinator : PassView) (workers : List PassView) : Type 0 where

@@ -1,12 +1,10 @@
 -- The steps of a net's turn in a round, as a worker adds them.
 use Rattle.std.specs.Prelude.{◌≡◌, ℕ, List, [], ◌∷◌, ◌++◌, length, Option, Some, None}
-use Rattle.std.specs.List.{fold}
 use mathlib.Core.List.{IsPrefix}
 use Rattle.cost_rules.specs.declared.site.Formula.{Formula}
 use Rattle.gr_base.specs.Designs.{DesignView, IsDesign, pins_at}
 use Rattle.gr_base.specs.Trees.{TreeView}
 use Rattle.grid_demand.specs.Tables.{CapacityView, capacity_of}
-use Rattle.book_state.specs.Books.{IsLegal}
 use Rattle.book_state.specs.declared.entry.Call.TheVariants.{Claim as Claims}
 use Rattle.book_state.specs.declared.entry.Claim.{Claim}
 use Rattle.book_state.specs.declared.entry.Entry.{Entry}
@@ -15,12 +13,11 @@ use Rattle.book_state.specs.declared.entry.PlanKind.TheVariants.{Maze}
 use Rattle.book_state.specs.declared.entry.Reply.{Reply}
 use Rattle.maze_route.specs.declared.window.Window.{Window}
 use Rattle.net_plan.specs.Mazes.{window_of}
-use Rattle.round_core.specs.Attempts.{Stage, Rests, Claiming, stage_after, attempts_at}
+use Rattle.round_core.specs.Attempts.{Rests, Claiming}
 use Rattle.round_core.specs.Rounds.{IsPlanAfter, IsRouteOfNet}
 use Rattle.round_core.specs.RunHistories.{Setting}
 use Rattle.track_book.specs.Passes.{PassView, IsAnswered, HasLearnt}
-use Rattle.work_share.specs.Views.{times}
-use Rattle.ripup_workers.specs.Working.{ArePlanned, HasAttempted}
+use Rattle.ripup_workers.specs.Working.{ArePlanned, HasLed, HasAttempted}
 
 -- a design, and its capacity
 pub record HasCapacity (d : DesignView) (c : CapacityView) : Type 0 where
@@ -31,18 +28,6 @@ pub record HasCapacity (d : DesignView) (c : CapacityView) : Type 0 where
 pub record IsOver (d : DesignView) (formula : Formula) (t : Setting) : Type 0 where
   pub design : t.design ≡ d
   pub formula_is : t.formula ≡ formula
-
--- a pass has added entries of a round that lead from one stage to another, and begun as many attempts at each net as it
--- stands among these; its claims are planned
-pub record HasLed (t : Setting) (round : ℕ) (from to : Stage) (nets : List ℕ) (old new : PassView) : Type 0 where
-  pub number : new.number ≡ old.number
-  pub begins : IsPrefix old.seen new.seen
-  pub legal : IsLegal (capacity_of t.design) new.seen
-  pub added : List Entry
-  pub mine : new.mine ≡ old.mine ++ added
-  pub led : fold (stage_after round) from added ≡ to
-  pub each : (net : ℕ) → attempts_at round net added ≡ times net nets
-  pub planned : ArePlanned t old → ArePlanned t new
 
 -- after a claim with room within capacity alone: where there is a next plan, the claims go on at the slacks that are
 -- left, and else the net's attempt is whole

@@ -1,5 +1,6 @@
 -- What a worker adds to the shared history in a round.
 use Rattle.std.specs.Prelude.{◌≡◌, ℕ, List, ◌++◌}
+use Rattle.std.specs.List.{fold}
 use mathlib.Core.List.{IsPrefix}
 use Rattle.grid_demand.specs.Tables.{capacity_of}
 use Rattle.book_state.specs.Books.{IsLegal}
@@ -7,7 +8,7 @@ use Rattle.book_state.specs.Entries.{AtEach}
 use Rattle.book_state.specs.declared.entry.Call.TheVariants.{Claim as Claims}
 use Rattle.book_state.specs.declared.entry.Claim.{Claim}
 use Rattle.book_state.specs.declared.entry.Entry.{Entry}
-use Rattle.round_core.specs.Attempts.{Rests, stage_of, attempts_at}
+use Rattle.round_core.specs.Attempts.{Stage, Rests, stage_after, attempts_at}
 use Rattle.round_core.specs.RunHistories.{Setting, IsPlanned}
 use Rattle.track_book.specs.Passes.{PassView}
 use Rattle.work_share.specs.Views.{times}
@@ -18,13 +19,18 @@ ArePlanned t p =
     AtEach (λ before e. e.number ≡ p.number → (claim : Claim) → e.call ≡ Claims claim →
     IsPlanned t before e.number claim) p.seen
 
--- a pass has added whole attempts of a round, as many at each net as it stands among these, and its claims are planned
-pub record HasAttempted (t : Setting) (round : ℕ) (nets : List ℕ) (old new : PassView) : Type 0 where
+-- a pass has added entries of a round that lead from one stage to another, and begun as many attempts at each net as it
+-- stands among these; its claims are planned
+pub record HasLed (t : Setting) (round : ℕ) (from to : Stage) (nets : List ℕ) (old new : PassView) : Type 0 where
   pub number : new.number ≡ old.number
   pub begins : IsPrefix old.seen new.seen
   pub legal : IsLegal (capacity_of t.design) new.seen
   pub added : List Entry
   pub mine : new.mine ≡ old.mine ++ added
-  pub whole : stage_of round added ≡ Rests
+  pub led : fold (stage_after round) from added ≡ to
   pub each : (net : ℕ) → attempts_at round net added ≡ times net nets
   pub planned : ArePlanned t old → ArePlanned t new
+
+-- a pass has added whole attempts of a round, as many at each net as it stands among these, and its claims are planned
+abbrev pub HasAttempted : Setting → ℕ → List ℕ → PassView → PassView → Type 0
+HasAttempted t round nets old new = HasLed t round Rests Rests nets old new

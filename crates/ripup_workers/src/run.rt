@@ -5,12 +5,12 @@ ghost use Rattle.gr_base.specs.Designs.{is_routed};
 ghost use Rattle.grid_demand.specs.Tables.{capacity_of};
 ghost use Rattle.track_book.specs.Passes.{AreBegun, AreAll, IsClosed};
 ghost use Rattle.ripup_workers.specs.Closing.{AreNew, IsMadeBook};
-ghost use Rattle.ripup_workers.specs.Rounding.{setting_of, is_stop_at, HaveRun};
+ghost use Rattle.ripup_workers.specs.Rounding.{setting_of, is_stop_at, IsRoundOver, HaveRun};
 
 use crate::asked::Asked;
 use crate::gate::Gate;
 use crate::round::attempt_nets;
-use crate::team::Coordinator;
+use crate::team::{Coordinator, RoundEnd};
 use crate::worker::Worker;
 use book_state::Replica;
 use cost_rules::{Going, Sight};
@@ -87,18 +87,58 @@ fn run_rounds<N: BookName + Send + Sync, R: Threads + Wait + Sync, G: Gate + Syn
     let mut nets = routed_nets(alloc, asked.design)?;
     let mut before = None;
     for round in 0..asked.rounds + 1 {
-        workers = attempt_nets(rt, alloc, asked, round, &nets, book, gate, workers)?;
-        let marked = coordinator.end_round(rt, book, &mut workers, asked.workers)?;
-        nets = routed_of(alloc, asked.design, marked.victims.as_slice())?;
+        let end = run_round(
+            rt,
+            alloc,
+            asked,
+            round,
+            nets,
+            book,
+            gate,
+            coordinator,
+            workers,
+        )?;
+        workers = end.workers;
+        nets = end.nets;
         if nets.is_empty() {
             return Ok(workers);
         }
-        if is_stopped(asked, marked.overflow, before) {
+        if is_stopped(asked, end.overflow, before) {
             return Ok(workers);
         }
-        before = Some(marked.overflow);
+        before = Some(end.overflow);
     }
     Ok(workers)
+}
+
+/// A round of these nets, up to and with its mark.
+fn run_round<N: BookName + Send + Sync, R: Threads + Wait + Sync, G: Gate + Sync>(
+    rt: &R,
+    alloc: Global,
+    asked: &Asked,
+    round: u32,
+    nets: Vec<u32>,
+    book: &TrackBook<N>,
+    gate: &G,
+    coordinator: &mut Coordinator<N>,
+    workers: Vec<Worker<N>>,
+) -> Result<RoundEnd<N>, AllocError>
+    requires capacity { N.capacity ≡ capacity_of asked.now.design.now }
+    requires round { round ≤ asked.now.rounds }
+    requires nets { All (λ net. IsTrue (is_routed asked.now.design.now net)) nets.items }
+    requires count { length workers.items ≡ asked.now.workers }
+    ensures { IfOk result (λ end. IsRoundOver (setting_of asked.now) round end.overflow nets.items end.nets.items
+        coordinator.old.pass coordinator.new.pass
+        (map (λ w. w.pass) workers.items) (map (λ w. w.pass) end.workers.items)) }
+{
+    let mut workers = attempt_nets(rt, alloc, asked, round, &nets, book, gate, workers)?;
+    let marked = coordinator.end_round(rt, book, &mut workers, asked.workers)?;
+    let kept = routed_of(alloc, asked.design, marked.victims.as_slice())?;
+    Ok(RoundEnd {
+        workers,
+        nets: kept,
+        overflow: marked.overflow,
+    })
 }
 
 /// Whether the watcher says Stop at this overflow, after that one.

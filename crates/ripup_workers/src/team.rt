@@ -19,6 +19,14 @@ pub(crate) struct Marked {
     pub(crate) victims: Cells,
 }
 
+/// How a round ended: its workers, the nets of the next one, and the total overflow at its mark.
+#[derive(Drop)]
+pub(crate) struct RoundEnd<N: BookName> {
+    pub(crate) workers: Vec<Worker<N>>,
+    pub(crate) nets: Vec<u32>,
+    pub(crate) overflow: u128,
+}
+
 /// A worker in a round, with its hand. Memory may have been wanting.
 #[derive(Drop)]
 pub(crate) struct Member<N: BookName> {

@@ -10,8 +10,8 @@ ghost use Rattle.net_plan.specs.Prices.{HasBoundedDemand};
 ghost use Rattle.round_core.specs.Attempts.{kind_of, Rests, Claiming};
 ghost use Rattle.round_core.specs.Rounds.{slacks_of_turn, IsFull};
 ghost use Rattle.round_core.specs.RunHistories.{Setting};
-ghost use Rattle.ripup_workers.specs.Turning.{HasCapacity, IsOver, HasFollowed, HasTried, HasLed, HasLedOn, IsPlanFor, IsWindowOf, WasPlanned};
-ghost use Rattle.ripup_workers.specs.Working.{HasAttempted};
+ghost use Rattle.ripup_workers.specs.Turning.{HasCapacity, IsOver, HasFollowed, HasTried, HasLedOn, IsPlanFor, IsWindowOf, WasPlanned};
+ghost use Rattle.ripup_workers.specs.Working.{HasLed, HasAttempted};
 
 use crate::gate::{Gate, Stop};
 use crate::worker::Worker;

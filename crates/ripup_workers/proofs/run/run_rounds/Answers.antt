@@ -1,9 +1,8 @@
-use Rattle.std.proofs.Common.{ℕ, ◌≤◌, List, All, IsTrue, inl, inr, sym, ap, subst, ◌∙◌, arith, length, vec_len}
-use Rattle.std.specs.List.{filter, range_with_len}
+use Rattle.std.proofs.Common.{ℕ, ◌≤◌, All, IsTrue, inl, inr, sym, subst, ◌∙◌, arith, length, vec_len}
+use Rattle.std.specs.List.{range_with_len}
 use Rattle.gr_base.specs.Designs.{is_routed}
 use Rattle.ripup_workers.specs.Rounding.{setting_of}
-use Rattle.ripup_workers.proofs.JoiningRounds.{round-over}
-use Rattle.ripup_workers.proofs.JoiningEnds.{rounds-begin, goes-on, stops, none-nets, some-nets, filter-passed, victims-of_design}
+use Rattle.ripup_workers.proofs.JoiningEnds.{rounds-begin, round-goes_on, round-stops, none-nets, some-nets, filter-passed}
 use Rattle.ripup_workers.proofs.run.run_rounds.Goals as goal
 
 pub loop-round-init : goal.loop-round-init
@@ -15,55 +14,36 @@ loop-round-init g c =
       routed = subst (All (λ (net : ℕ). IsTrue (is_routed d net))) (sym c.in_ok-nets.ensures.nets) (filter-passed (is_routed d) (range_with_len 0 (length d.nets)));
     }
 
-pub routed_of-requires : goal.routed_of-requires
-routed_of-requires g c =
-    victims-of_design c.args.asked.now.design.now g.N.BookName.capacity _ c.as_slice.result.now c.in_ok-marked.marked.victims c.requires.capacity c.as_slice.ensures
-    c.in_ok-marked.ensures.mark.victims_are
-
 pub loop-round-preserved : goal.loop-round-preserved
 loop-round-preserved g c =
     let t = setting_of c.args.asked.now in
-    let d = c.args.asked.now.design.now in
-    let r = c.loop-round.round in
+    let nets = c.in_ok-end.end.nets in
+    let over = c.in_ok-end.ensures in
     let below = c.loop-round-test.true in
-    let few : r ≤ c.args.asked.now.rounds = omega (arith, below) in
-    let ok = c.in_ok-nets-2.nets.ok.0 in
-    let kept = c.in_ok-nets-2.ensures ∙ ap (λ (ns : List ℕ). filter (is_routed d) ns) c.as_slice.ensures in
-    let behind = round-over t g.N.BookName.capacity r c.loop-round.nets.items c.deref.result.now c.loop-round.before _ _ _ _ _ c.in_ok-marked.marked c.requires.capacity
-    c.deref.ensures.value (c.loop-round.invariant.before few) c.in_ok-workers.ensures c.in_ok-marked.ensures in
+    let few : c.loop-round.round ≤ c.args.asked.now.rounds = omega (arith, below) in
+    let at = c.loop-round.invariant.before few in
+    let ok = nets.ok.0 in
     record {
       before = λ more.
-          goes-on t r c.in_ok-marked.marked.overflow c.loop-round.before c.in_ok-marked.marked.victims c.in_ok-nets-2.nets.items kept _ _ behind
-          (some-nets (vec_len c.in_ok-nets-2.nets) c.in_ok-nets-2.nets.items (omega (arith, ok)) c.if-is_empty.ensures) (sym c.is_stopped.ensures ∙ c.if-is_stopped.false) more;
+          round-goes_on t c.loop-round.round _ c.loop-round.before _ nets.items _ _ _ _ over at
+          (some-nets (vec_len nets) nets.items (omega (arith, ok)) c.if-is_empty.ensures) (sym c.is_stopped.ensures ∙ c.if-is_stopped.false) more;
       over = λ past.
-          stops t r c.in_ok-marked.marked.overflow c.loop-round.before c.in_ok-marked.marked.victims c.in_ok-nets-2.nets.items kept _ _ behind (inr (inr (omega (arith, past, few))));
-      routed = subst (All (λ (net : ℕ). IsTrue (is_routed d net))) (sym kept) (filter-passed (is_routed d) c.in_ok-marked.marked.victims);
+          round-stops t c.loop-round.round _ c.loop-round.before _ nets.items _ _ _ _ over at (inr (inr (omega (arith, past, few))));
+      routed = subst (All (λ (net : ℕ). IsTrue (is_routed t.design net))) (sym over.kept_are) (filter-passed (is_routed t.design) over.victims);
     }
 
 pub returns-then-is_empty : goal.returns-then-is_empty
 returns-then-is_empty g c =
-    let t = setting_of c.args.asked.now in
-    let d = c.args.asked.now.design.now in
-    let r = c.loop-round.round in
+    let nets = c.in_ok-end.end.nets in
     let below = c.loop-round-test.true in
-    let few : r ≤ c.args.asked.now.rounds = omega (arith, below) in
-    let ok = c.in_ok-nets-2.nets.ok.0 in
-    let kept = c.in_ok-nets-2.ensures ∙ ap (λ (ns : List ℕ). filter (is_routed d) ns) c.as_slice.ensures in
-    let behind = round-over t g.N.BookName.capacity r c.loop-round.nets.items c.deref.result.now c.loop-round.before _ _ _ _ _ c.in_ok-marked.marked c.requires.capacity
-    c.deref.ensures.value (c.loop-round.invariant.before few) c.in_ok-workers.ensures c.in_ok-marked.ensures in
-    stops t r c.in_ok-marked.marked.overflow c.loop-round.before c.in_ok-marked.marked.victims c.in_ok-nets-2.nets.items kept _ _ behind
-    (inl (none-nets (vec_len c.in_ok-nets-2.nets) c.in_ok-nets-2.nets.items (omega (arith, ok)) c.if-is_empty.ensures))
+    let few : c.loop-round.round ≤ c.args.asked.now.rounds = omega (arith, below) in
+    let ok = nets.ok.0 in
+    round-stops (setting_of c.args.asked.now) c.loop-round.round _ c.loop-round.before _ nets.items _ _ _ _ c.in_ok-end.ensures (c.loop-round.invariant.before few)
+    (inl (none-nets (vec_len nets) nets.items (omega (arith, ok)) c.if-is_empty.ensures))
 
 pub returns-then-is_stopped : goal.returns-then-is_stopped
 returns-then-is_stopped g c =
-    let t = setting_of c.args.asked.now in
-    let d = c.args.asked.now.design.now in
-    let r = c.loop-round.round in
     let below = c.loop-round-test.true in
-    let few : r ≤ c.args.asked.now.rounds = omega (arith, below) in
-    let ok = c.in_ok-nets-2.nets.ok.0 in
-    let kept = c.in_ok-nets-2.ensures ∙ ap (λ (ns : List ℕ). filter (is_routed d) ns) c.as_slice.ensures in
-    let behind = round-over t g.N.BookName.capacity r c.loop-round.nets.items c.deref.result.now c.loop-round.before _ _ _ _ _ c.in_ok-marked.marked c.requires.capacity
-    c.deref.ensures.value (c.loop-round.invariant.before few) c.in_ok-workers.ensures c.in_ok-marked.ensures in
-    stops t r c.in_ok-marked.marked.overflow c.loop-round.before c.in_ok-marked.marked.victims c.in_ok-nets-2.nets.items kept _ _ behind
-    (inr (inl (sym c.is_stopped.ensures ∙ c.if-is_stopped.true)))
+    let few : c.loop-round.round ≤ c.args.asked.now.rounds = omega (arith, below) in
+    round-stops (setting_of c.args.asked.now) c.loop-round.round _ c.loop-round.before _ c.in_ok-end.end.nets.items _ _ _ _ c.in_ok-end.ensures
+    (c.loop-round.invariant.before few) (inr (inl (sym c.is_stopped.ensures ∙ c.if-is_stopped.true)))

@@ -2,9 +2,8 @@ use Rattle.std.proofs.Common.{ℕ, [], ◌∷◌, sym, subst}
 use Rattle.std.proofs.lemmas.Result.{IfOk-weaker}
 use Rattle.round_core.specs.Attempts.{Rests, Claiming}
 use Rattle.round_core.specs.Rounds.{slacks_of_turn}
-use Rattle.ripup_workers.specs.Turning.{HasLed}
-use Rattle.ripup_workers.specs.Working.{HasAttempted}
-use Rattle.ripup_workers.proofs.TurningStages.{led-then, freed-so, attempted, later}
+use Rattle.ripup_workers.specs.Working.{HasLed, HasAttempted}
+use Rattle.ripup_workers.proofs.TurningStages.{led-then, freed-so, later}
 use Rattle.ripup_workers.proofs.turn.attempt.Goals as goal
 
 pub returns-then-round-eq0 : goal.returns-then-round-eq0
@@ -13,7 +12,7 @@ returns-then-round-eq0 g c = λ t over.
     let p = c.args.worker.now.pass in
     let q = c.claim_first.new.worker.pass in
     IfOk-weaker c.claim_first.result (λ _. HasLed t 0 Rests Rests (net ∷ []) p q) (λ _. HasAttempted t c.args.round (net ∷ []) p q)
-    (λ _ led. subst (λ (round : ℕ). HasAttempted t round (net ∷ []) p q) (sym c.if-round-eq0.true) (attempted t 0 (net ∷ []) p q led))
+    (λ _ led. subst (λ (round : ℕ). HasAttempted t round (net ∷ []) p q) (sym c.if-round-eq0.true) led)
     (c.claim_first.ensures t over)
 
 pub returns : goal.returns
@@ -26,5 +25,5 @@ returns g c = λ t over.
     let some = later round c.if-round-eq0.false in
     let freed = freed-so t _ _ _ round net c.in_ok-release.field-0 p q over c.requires.capacity some c.in_ok-release.ensures.before c.in_ok-release.ensures.pass c.in_ok-release.ensures.reply in
     IfOk-weaker c.claim_until_got.result (λ _. HasLed t round (Claiming net slacks_of_turn) Rests [] q s) (λ _. HasAttempted t round (net ∷ []) p s)
-    (λ _ led. attempted t round (net ∷ []) p s (led-then t round Rests (Claiming net slacks_of_turn) Rests (net ∷ []) [] p q s freed led))
+    (λ _ led. led-then t round Rests (Claiming net slacks_of_turn) Rests (net ∷ []) [] p q s freed led)
     (c.claim_until_got.ensures t round over some c.kind_of.ensures)
