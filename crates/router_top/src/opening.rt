@@ -18,6 +18,18 @@ use rc_library::{Library, LibraryError, read_library};
 use route_reader::{Solution, SolutionError, read_solution};
 use std::alloc::Global;
 
+/// What a reader gives, where each error of its own is why a command stops.
+macro_rules! read_or_stop {
+    ($read:expr, $error:ident, $fault:ident) => {
+        match $read {
+            Ok(read) => Ok(read),
+            Err($error::Fault { fault, token }) => Err(Stop::$fault { fault, token }),
+            Err($error::Failed) => Err(Stop::ReadFailed),
+            Err($error::NoMemory) => Err(Stop::NoMemory),
+        }
+    };
+}
+
 /// Reads the design that is held under a name.
 pub(crate) fn open_design<S: Shelf>(
     alloc: Global,
@@ -30,12 +42,7 @@ pub(crate) fn open_design<S: Shelf>(
     ensures design { IfOk result IsDesign }
 {
     reach(alloc, shelf, Slot::Design, name)?;
-    match read_design(alloc, shelf) {
-        Ok(design) => Ok(design),
-        Err(DesignError::Fault { fault, token }) => Err(Stop::DesignFault { fault, token }),
-        Err(DesignError::Failed) => Err(Stop::ReadFailed),
-        Err(DesignError::NoMemory) => Err(Stop::NoMemory),
-    }
+    read_or_stop!(read_design(alloc, shelf), DesignError, DesignFault)
 }
 
 /// Reads the library that is held under a name, for this design.
@@ -52,12 +59,11 @@ pub(crate) fn open_library<S: Shelf>(
     ensures library { IfOk result (IsLibraryOf design.now) }
 {
     reach(alloc, shelf, Slot::Library, name)?;
-    match read_library(alloc, shelf, design) {
-        Ok(library) => Ok(library),
-        Err(LibraryError::Fault { fault, token }) => Err(Stop::LibraryFault { fault, token }),
-        Err(LibraryError::Failed) => Err(Stop::ReadFailed),
-        Err(LibraryError::NoMemory) => Err(Stop::NoMemory),
-    }
+    read_or_stop!(
+        read_library(alloc, shelf, design),
+        LibraryError,
+        LibraryFault
+    )
 }
 
 /// Reads the solution that is held under a name, for this design.
@@ -67,20 +73,19 @@ pub(crate) fn open_solution<S: Shelf>(
     design: &Design,
     name: &str,
 ) -> Result<Solution, Stop>
-    ensures opens { Opens (reading_of S.tells S.held S.faults S.misses shelf.old shelf.new)
-        (S.held shelf.old SolutionSlot name.now) (solution_said (S.held shelf.old) name.now design.now) SolutionFault
-        result }
     ensures solution { IfOk result (IsOf design.now) }
     ensures covered { IfOk result
         (λ s. IsTrue S.tells → IsCovered design.now (S.held shelf.old SolutionSlot name.now) s) }
+    ensures opens { Opens (reading_of S.tells S.held S.faults S.misses shelf.old shelf.new)
+        (S.held shelf.old SolutionSlot name.now) (solution_said (S.held shelf.old) name.now design.now) SolutionFault
+        result }
 {
     reach(alloc, shelf, Slot::Solution, name)?;
-    match read_solution(alloc, shelf, design) {
-        Ok(solution) => Ok(solution),
-        Err(SolutionError::Fault { fault, token }) => Err(Stop::SolutionFault { fault, token }),
-        Err(SolutionError::Failed) => Err(Stop::ReadFailed),
-        Err(SolutionError::NoMemory) => Err(Stop::NoMemory),
-    }
+    read_or_stop!(
+        read_solution(alloc, shelf, design),
+        SolutionError,
+        SolutionFault
+    )
 }
 
 /// Opens the text that is held under a name.

@@ -128,21 +128,17 @@ fn route_design<R: Threads + Wait + Sync, G: Gate + Sync>(
     })
 }
 
-/// Routes a design, and judges the trees that are booked at the first mark of least overflow. The
-/// only error is want of memory.
-pub(crate) fn judged_routes<R: Threads + Wait + Sync, G: Gate + Sync>(
-    rt: &R,
+/// Judges booked routes. The only error is want of memory.
+pub(crate) fn judged_routes(
     alloc: Global,
     design: &Design,
+    booked: BookedRoutes,
     options: Options,
-    gate: &G,
-    rules: &Rules,
 ) -> Result<JudgedRoutes, AllocError>
-    requires design { IsDesign design.now }
+    requires booked { AreBookedRoutes design.now options booked }
     requires options { AreInRange options }
     ensures { IfOk result (AreJudgedRoutes design.now options) }
 {
-    let booked = booked_routes(rt, alloc, design, options, gate, rules)?;
     let verdict = verdict_on(alloc, design, &booked, options)?;
     Ok(JudgedRoutes {
         rounds: booked.rounds,
@@ -153,7 +149,7 @@ pub(crate) fn judged_routes<R: Threads + Wait + Sync, G: Gate + Sync>(
 
 /// Routes a design, and copies the trees that are booked at the first mark of least overflow. The
 /// only error is want of memory.
-fn booked_routes<R: Threads + Wait + Sync, G: Gate + Sync>(
+pub(crate) fn booked_routes<R: Threads + Wait + Sync, G: Gate + Sync>(
     rt: &R,
     alloc: Global,
     design: &Design,
@@ -232,7 +228,7 @@ fn verdict_and_buffers<R: Threads + Sync>(
     let workers = options.workers;
     if workers == 1 {
         let verdict = verdict_on(alloc, design, booked, options)?;
-        let buffers = buffers_on(rt, alloc, design, library, &booked.routes, workers)?;
+        let buffers = buffers_on(rt, alloc, workers, design, library, &booked.routes)?;
         return Ok((verdict, buffers));
     }
     let (verdict, buffers) = join(
@@ -245,7 +241,7 @@ fn verdict_and_buffers<R: Threads + Sync>(
         || -> Result<Text, AllocError>
             requires { IsLibraryOf design.now library.now × AreRoutesOf design.now booked.now.routes × (0 < workers) }
             ensures { IfOk result (IsBuffersText design.entry.now library.entry.now booked.entry.now.routes) }
-        { buffers_on(rt, alloc, design, library, &booked.routes, workers) },
+        { buffers_on(rt, alloc, workers, design, library, &booked.routes) },
     );
     Ok((verdict?, buffers?))
 }

@@ -11,7 +11,7 @@ ghost use Rattle.router_top.specs.Said.{report_of};
 ghost use Rattle.word_reader.specs.Orders.{IsTrial};
 
 use crate::left::Left;
-use crate::routing::judged_routes;
+use crate::routing::{booked_routes, judged_routes};
 use crate::stop::{Outcome, Stop};
 use cost_rules::{Formula, Rules};
 use design_maker::{Made, made_text};
@@ -55,7 +55,10 @@ pub(crate) fn trial<R: Threads + Wait + Sync, O: Sink, G: Gate + Sync>(
     let Ok(design) = made_design(alloc, made) else {
         return Left::without_rounds(Err(Stop::NoMemory));
     };
-    let Ok(judged) = judged_routes(rt, alloc, &design, options, gate, rules) else {
+    let Ok(booked) = booked_routes(rt, alloc, &design, options, gate, rules) else {
+        return Left::without_rounds(Err(Stop::NoMemory));
+    };
+    let Ok(judged) = judged_routes(alloc, &design, booked, options) else {
         return Left::without_rounds(Err(Stop::NoMemory));
     };
     let end = write_report(alloc, out, &judged.verdict);

@@ -5,8 +5,8 @@ use Rattle.router_top.proofs.routing.judged_routes.Goals as goal
 pub returns : goal.returns
 returns g c =
     let d = c.args.design.now in
-    let r = c.in_ok-booked.booked in
-    let are = c.in_ok-booked.ensures in
+    let r = c.args.booked in
+    let are = c.requires.booked in
     let h = take r.rounds.chosen r.rounds.book.state.history in
     let trees = c.in_ok-verdict.ensures.trees in
     record {
