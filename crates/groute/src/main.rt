@@ -1,12 +1,9 @@
 //! `groute`: a global router over files and standard streams.
 #![tactic(auto)]
 
-use cost_rules::{
-    CostRule, Formula, Rules, Watch, Watcher, first_cost, flat_cost, goal, never, steep_cost, still,
-};
 use gr_io::{HostShelf, HostSink, write_whole};
 use ripup_workers::OpenGate;
-use router_top::run;
+use router_top::{own_rules, run};
 use std::env::Env;
 use std::io::ErrorKind;
 use std::mem::forget;
@@ -39,14 +36,7 @@ fn main(rt: HostRuntime) -> ExitCode {
         Err(_) => Vec::new(rt.alloc()),
     };
     // Functions are made here and handed in, so that their contracts go with them.
-    let rules = Rules::new(
-        CostRule::new(Formula::First, first_cost),
-        CostRule::new(Formula::Steep, steep_cost),
-        CostRule::new(Formula::Flat, flat_cost),
-        Watcher::new(Watch::Never, never),
-        Watcher::new(Watch::Still, still),
-        Watcher::new(Watch::Goal, goal),
-    );
+    let rules = own_rules!();
     let ended = run(
         &rt,
         rt.alloc(),

@@ -14,11 +14,10 @@ mod history;
 mod runs;
 mod world;
 
-use cost_rules::{
-    CostRule, Formula, Rules, Watch, Watcher, first_cost, flat_cost, goal, never, steep_cost, still,
-};
+use cost_rules::Rules;
 use gr_io::{HostSink, write_whole};
 use gr_text::Text;
+use router_top::own_rules;
 use std::alloc::{AllocError, Global};
 use std::io;
 use std::rt::Files;
@@ -48,14 +47,7 @@ fn echoed(alloc: Global, line: &str) -> Result<Text, AllocError> {
 }
 
 fn main(rt: HostRuntime) -> io::Result<()> {
-    let rules = Rules::new(
-        CostRule::new(Formula::First, first_cost),
-        CostRule::new(Formula::Steep, steep_cost),
-        CostRule::new(Formula::Flat, flat_cost),
-        Watcher::new(Watch::Never, never),
-        Watcher::new(Watch::Still, still),
-        Watcher::new(Watch::Goal, goal),
-    );
+    let rules = own_rules!();
     let mut out = HostSink::new(rt.stdout());
     for line in rt.lines(rt.alloc()) {
         let told = carry_out(&rt, &rules, &line?)?;

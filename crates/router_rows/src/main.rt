@@ -24,22 +24,13 @@ mod lines;
 mod told;
 
 use crate::bench::Bench;
-use cost_rules::{
-    CostRule, Formula, Rules, Watch, Watcher, first_cost, flat_cost, goal, never, steep_cost, still,
-};
 use gr_io::{HostSink, write_whole};
 use gr_text::Text;
+use router_top::own_rules;
 use std::io;
 
 fn main(rt: HostRuntime) -> io::Result<()> {
-    let rules = Rules::new(
-        CostRule::new(Formula::First, first_cost),
-        CostRule::new(Formula::Steep, steep_cost),
-        CostRule::new(Formula::Flat, flat_cost),
-        Watcher::new(Watch::Never, never),
-        Watcher::new(Watch::Still, still),
-        Watcher::new(Watch::Goal, goal),
-    );
+    let rules = own_rules!();
     let mut out = HostSink::new(rt.stdout());
     let mut bench = Bench::new(rt.alloc());
     for line in rt.lines(rt.alloc()) {

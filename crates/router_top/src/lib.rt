@@ -7,6 +7,7 @@ mod left;
 mod making;
 mod opening;
 mod routing;
+mod rules;
 mod stop;
 mod top;
 mod trial;
