@@ -1,126 +1,98 @@
 //! Devices over memory, devices that never fail, files and streams.
-ghost use Rattle.std.specs.Prelude.{◌<◌};
+ghost use Rattle.std.specs.Prelude.{IsTrue};
 
+use crate::tellings::{number_in, put_end, put_error, size_in};
 use gr_base::Name;
 use gr_io::{
-    HostShelf, HostSink, MemoryShelf, MemorySink, ReachError, Shelf, Sink, Slot, SureShelf,
-    SureSink, write_whole,
+    HostShelf, HostSink, MemoryShelf, MemorySink, Shelf, Slot, SureShelf, SureSink, write_whole,
 };
 use gr_text::Text;
-use std::alloc::Global;
+use std::alloc::{AllocError, Global};
 use std::io::{self, ErrorKind, Write};
-use std::test::Fail;
-use std::{fs, process};
+use std::rt::Files;
 
-/// The text of a name, read four bytes at a time, or None where a call isn't `Ok`.
-fn text_of<S: Shelf>(alloc: Global, shelf: &mut S, name: &str) -> Option<Vec<u8>> {
-    let mut text = Vec::new(alloc);
-    let mut buf = [0; 4];
-    shelf.reach(alloc, Slot::Library, name).ok()?;
+/// Puts the text of a name, as it is read, at the end of the text, or why it isn't read.
+fn put_read<S: Shelf>(
+    alloc: Global,
+    shelf: &mut S,
+    name: &str,
+    told: &mut Text,
+) -> Result<(), AllocError> {
+    match shelf.reach(alloc, Slot::Library, name) {
+        Ok(()) => put_pieces(shelf, told),
+        Err(error) => put_error(alloc, &error, told),
+    }
+}
+
+/// Puts the pieces in which a text comes, each of 8 bytes at most, at the end of the text.
+fn put_pieces<S: Shelf>(shelf: &mut S, told: &mut Text) -> Result<(), AllocError>
+    requires { IsTrue (S.reached shelf.old Slot.Library) }
+{
+    let mut buf = [0; 8];
     for _piece in 0..u64::MAX {
-        let count = shelf.read(Slot::Library, &mut buf).ok()?;
+        let Ok(count) = shelf.read(Slot::Library, &mut buf) else {
+            return put_end(false, told);
+        };
         if count == 0 {
             break;
         }
-        text.extend_from_slice(&buf[..count]).ok()?;
+        told.put(&buf[..count])?;
+        told.put(b" ")?;
     }
-    Some(text)
+    put_end(true, told)
 }
 
-/// What is read under a name from a shelf that holds "xyz" under "b" and gives it byte by byte, where
-/// the call of this number fails: the text and an end, or nothing.
-fn read(alloc: Global, failing: u64, name: &str) -> Result<Text, Fail> {
-    let mut shelf = MemoryShelf::new(alloc, vec![in alloc; failing]?);
+/// The text of a name on a shelf that holds "xyz" under "b" and gives it byte by byte, where a call
+/// fails.
+pub(crate) fn put_shelf(alloc: Global, rest: &str, told: &mut Text) -> Result<(), AllocError> {
+    let (call, name) = number_in(rest);
+    let mut shelf = MemoryShelf::new(alloc, vec![in alloc; call]?);
     shelf.hold(alloc, "b", b"xyz")?;
     shelf.piece(1);
-    let mut told = Text::new(alloc);
-    if let Some(text) = text_of(alloc, &mut shelf, name) {
-        told.put(&text)?;
-        told.put(b"!")?;
-    }
-    Ok(told)
+    put_read(alloc, &mut shelf, name, told)
 }
 
-/// Calls that fail, names, and what is read: one call opens the text, three read it, and one finds
-/// its end.
-const READ: [(u64, &str, &str); 6] = [
-    (1, "b", ""),
-    (2, "b", ""),
-    (5, "b", ""),
-    (6, "b", "xyz!"),
-    (0, "b", "xyz!"),
-    (0, "a", ""),
-];
-
-#[test]
-fn a_shelf_fails_exactly_at_listed_calls(rt: HostRuntime) -> Result<(), Fail> {
-    for (failing, name, text) in READ {
-        let told = read(rt.alloc(), failing, name)?;
-        assert_eq!(rt; told.bytes(), text.as_bytes(), "{name}, call {failing}");
-    }
-    Ok(())
+/// The text of a name on a shelf that never fails, and how a sink that never fails takes a text.
+pub(crate) fn put_sure(alloc: Global, name: &str, told: &mut Text) -> Result<(), AllocError> {
+    let mut shelf = sure_shelf(alloc)?;
+    put_read(alloc, &mut shelf, name, told)?;
+    put_end(write_whole(&mut SureSink::new(), b"abcdef").is_ok(), told)
 }
 
-/// What is written of "abcdef" to a sink with this room that takes at most so many bytes at once,
-/// where the call of this number fails: the bytes that it got, and an end where all were written.
-fn written(alloc: Global, room: u64, most: u32, failing: u64) -> Result<Text, Fail>
-    requires { 0 < most }
-{
-    let mut sink = MemorySink::new(alloc, room, most, vec![in alloc; failing]?)?;
-    let ok = write_whole(&mut sink, b"abcdef").is_ok();
-    let mut told = Text::new(alloc);
-    told.put(sink.bytes())?;
-    if ok {
-        told.put(b"!")?;
-    }
-    Ok(told)
+/// A shelf that never fails.
+fn sure_shelf(alloc: Global) -> Result<SureShelf, AllocError> {
+    let design = Name::from_bytes(alloc, b"design")?;
+    let library = Name::from_bytes(alloc, b"library")?;
+    let solution = Name::from_bytes(alloc, b"solution")?;
+    Ok(SureShelf::new(design, library, solution))
 }
 
-/// Rooms, greatest pieces, calls that fail, and what is written.
-const WRITTEN: [(u64, u32, u64, &str); 5] = [
-    (6, 4, 0, "abcdef!"),
-    (6, 1, 7, "abcdef!"),
-    (6, 2, 3, "abcd"),
-    (5, 9, 0, "abcde"),
-    (0, 1, 0, ""),
-];
-
-#[test]
-fn a_sink_keeps_what_it_takes(rt: HostRuntime) -> Result<(), Fail> {
-    for (room, most, failing, kept) in WRITTEN {
-        assert!(rt; most > 0);
-        let told = written(rt.alloc(), room, most, failing)?;
-        assert_eq!(rt; told.bytes(), kept.as_bytes(), "room {room}, most {most}");
-    }
-    Ok(())
+/// The text of a file.
+pub(crate) fn put_file<R: AllocGlobal + Files>(
+    rt: &R,
+    name: &str,
+    told: &mut Text,
+) -> Result<(), AllocError> {
+    let mut shelf = HostShelf::new(rt);
+    put_read(rt.alloc(), &mut shelf, name, told)
 }
 
-#[test]
-fn sure_devices_never_fail(rt: HostRuntime) -> Result<(), Fail> {
-    let design = Name::from_bytes(rt.alloc(), b"design")?;
-    let library = Name::from_bytes(rt.alloc(), b"library")?;
-    let solution = Name::from_bytes(rt.alloc(), b"solution")?;
-    let mut shelf = SureShelf::new(design, library, solution);
-    let text = text_of(rt.alloc(), &mut shelf, "any name").ok_or("any name")?;
-    assert_eq!(rt; text.as_slice(), b"library".as_slice());
-    assert!(rt; write_whole(&mut SureSink::new(), text.as_slice()).is_ok());
-    Ok(())
+/// What a sink of memory gets of "abcdef", by its room, the most bytes that it takes in a call, and
+/// the call that fails.
+pub(crate) fn put_sink(alloc: Global, rest: &str, told: &mut Text) -> Result<(), AllocError> {
+    let (room, rest) = number_in(rest);
+    let (most, rest) = size_in(rest);
+    let (call, _) = number_in(rest);
+    let mut sink = MemorySink::new(alloc, room, most, vec![in alloc; call]?)?;
+    let whole = write_whole(&mut sink, b"abcdef").is_ok();
+    put_kept(sink.bytes(), whole, told)
 }
 
-#[test]
-fn a_file_is_read_to_its_end(rt: HostRuntime) -> Result<(), Fail> {
-    let path = format!(in rt.alloc(); "/tmp/gr_io_shelf_{}", process::id(rt.process()))?;
-    fs::write(&rt, path.as_str(), "text")?;
-    let mut shelf = HostShelf::new(&rt);
-    let missing = shelf.reach(rt.alloc(), Slot::Design, "/tmp/no such folder/file");
-    assert_eq!(rt; missing, Err(ReachError::Missing));
-    shelf.reach(rt.alloc(), Slot::Design, path.as_str())?;
-    let mut buf = [0; 8];
-    assert_eq!(rt; shelf.read(Slot::Design, &mut buf)?, 4);
-    assert_eq!(rt; &buf[..4], b"text".as_slice());
-    assert_eq!(rt; shelf.read(Slot::Design, &mut buf)?, 0);
-    fs::remove_file(&rt, path.as_str())?;
-    Ok(())
+/// Puts what a sink got, and whether that was all.
+fn put_kept(bytes: &[u8], whole: bool, told: &mut Text) -> Result<(), AllocError> {
+    told.put(bytes)?;
+    told.put(b" ")?;
+    put_end(whole, told)
 }
 
 /// A writer whose first call is interrupted, and that then takes so many bytes in all.
@@ -146,18 +118,9 @@ impl Write for Interrupted {
     }
 }
 
-#[test]
-fn a_write_that_takes_nothing_fails(rt: HostRuntime) {
-    for (room, ok) in [(6, true), (5, false), (0, false)] {
-        let mut sink = HostSink::new(Interrupted { calls: 0, room });
-        let written = write_whole(&mut sink, b"abcdef");
-        assert_eq!(rt; written.is_ok(), ok, "room {room}");
-    }
-}
-
-#[test]
-fn a_stream_gets_the_bytes(rt: HostRuntime) -> Result<(), Fail> {
-    let mut sink = HostSink::new(rt.stdout());
-    assert_eq!(rt; sink.write(b"written\n")?, 8);
-    Ok(())
+/// Whether such a writer takes "abcdef".
+pub(crate) fn put_stream(rest: &str, told: &mut Text) -> Result<(), AllocError> {
+    let room = number_in(rest).0 as usize;
+    let mut sink = HostSink::new(Interrupted { calls: 0, room });
+    put_end(write_whole(&mut sink, b"abcdef").is_ok(), told)
 }

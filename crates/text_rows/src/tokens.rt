@@ -1,161 +1,253 @@
 //! Tokens, the words and numbers that are read of them, and how far a text is read ahead.
-ghost use Rattle.std.specs.Prelude.{◌<◌, IsTrue};
+ghost use Rattle.std.specs.Prelude.{◌≡◌, ◌<◌, IsTrue};
 
-use crate::given::reached;
+use crate::given::shelf_of;
+use crate::tellings::{number_in, put_end, put_error, put_number_line, size_in};
 use gr_io::{Shelf, Slot};
 use gr_text::{
-    Ends, ReadError, Text, TokenReader, Tokens, natural_of, next_token_or_end, number, whole_of,
-    word,
+    Ends, ReadError, Text, TokenReader, TokenSource, Tokens, next_token_or_end, number, word,
 };
-use std::alloc::Global;
-use std::test::Fail;
+use std::alloc::{AllocError, Global};
 
-/// The tokens that are read of a text, each with its number, and how the text ends.
-fn told(alloc: Global, text: &[u8], piece: u32, limit: u64) -> Result<Text, Fail>
+/// What is read of a text.
+#[derive(Clone, Copy)]
+pub(crate) enum Reading {
+    /// Each token.
+    All,
+    /// The next token, twice.
+    Next,
+    /// A word, a number, a token or the end, and a word.
+    Steps,
+    /// The first token, and how many bytes were not read then.
+    Ahead,
+}
+
+/// The faults of a text that ends and of one that goes on, by number.
+const ENDS: Ends<u8> = Ends {
+    ended: 1,
+    too_long: 13,
+};
+
+/// The most bytes of a text of which little is read, and of its pieces.
+const MUCH: u32 = 1_000_000;
+
+/// Puts what is read of the text that a line's words say.
+pub(crate) fn put_reading(
+    alloc: Global,
+    reading: Reading,
+    rest: &str,
+    told: &mut Text,
+) -> Result<(), AllocError> {
+    let (piece, rest) = size_in(rest);
+    let (limit, words) = number_in(rest);
+    let text = text_of(alloc, words)?;
+    put_text(alloc, reading, text.bytes(), piece, limit, told)
+}
+
+/// Puts how much is left of a long text once its first token was taken.
+pub(crate) fn put_ahead(alloc: Global, rest: &str, told: &mut Text) -> Result<(), AllocError> {
+    let size = number_in(rest).0 as usize;
+    let mut text = b"grid".to_vec(alloc)?;
+    text.resize(size, b' ')?;
+    put_text(alloc, Reading::Ahead, &text, MUCH, u64::from(MUCH), told)
+}
+
+/// The text that words make.
+fn text_of(alloc: Global, words: &str) -> Result<Text, AllocError> {
+    let mut text = Text::new(alloc);
+    for word in words.split_whitespace() {
+        text.put(bytes_of(word))?;
+    }
+    Ok(text)
+}
+
+/// The bytes for which a word stands.
+fn bytes_of(word: &str) -> &[u8] {
+    match word {
+        "CR" => b"\r",
+        "LF" => b"\n",
+        "TAB" => b"\t",
+        "BLANK" => b" ",
+        _ => word.as_bytes(),
+    }
+}
+
+/// Puts what is read of a text.
+fn put_text(
+    alloc: Global,
+    reading: Reading,
+    text: &[u8],
+    piece: u32,
+    limit: u64,
+    told: &mut Text,
+) -> Result<(), AllocError>
     requires { 0 < piece }
 {
-    let mut shelf = reached(alloc, Slot::Design, text, piece, 0)?;
-    let mut tokens = Tokens::new(alloc, Slot::Design, limit)?;
-    let mut told = Text::new(alloc);
-    for _ in 0..u64::MAX {
-        match tokens.advance(&mut shelf) {
-            Ok(true) => put_token(&mut told, &tokens)?,
-            Ok(false) => return Ok(told),
-            Err(error) => {
-                told.put(format!(in alloc; "{error}")?.as_bytes())?;
-                return Ok(told);
-            }
-        }
+    match shelf_of(alloc, Slot::Design, text, piece) {
+        Some(mut shelf) => put_tokens(alloc, reading, &mut shelf, limit, told),
+        None => told.put(b"no text\n"),
     }
-    Ok(told)
 }
 
-/// Puts the token in hand and its number at the end of the text.
-fn put_token(told: &mut Text, tokens: &Tokens) -> Result<(), Fail> {
-    told.put_number(tokens.number())?;
-    told.put(b":")?;
-    told.put(tokens.word())?;
-    told.put(b" ")?;
-    Ok(())
-}
-
-/// Texts, how many bytes come at once, the most bytes that are read, and the tokens.
-const TOKENS: [(&str, u32, u64, &str); 4] = [
-    ("\r\ngrid\t3", 2, 100, "1:grid 2:3 "),
-    (
-        "grid 3 2 2",
-        3,
-        8,
-        "1:grid 2:3 the text is too long, at token 3",
-    ),
-    ("grid 3 2 2", 3, 10, "1:grid 2:3 3:2 4:2 "),
-    (" \t", 1, 2, ""),
-];
-
-#[test]
-fn tokens_are_given_up_to_the_limit(rt: HostRuntime) -> Result<(), Fail> {
-    for (text, piece, limit, tokens) in TOKENS {
-        assert!(rt; piece > 0);
-        let told = told(rt.alloc(), text.as_bytes(), piece, limit)?;
-        assert_eq!(rt; told.bytes(), tokens.as_bytes());
-    }
-    Ok(())
-}
-
-#[test]
-fn a_token_is_given_with_its_number(rt: HostRuntime) -> Result<(), Fail> {
-    let mut shelf = reached(rt.alloc(), Slot::Design, b" grid", 2, 0)?;
-    let mut tokens = Tokens::new(rt.alloc(), Slot::Design, 100)?;
-    let token = tokens.next(&mut shelf)?.ok_or("none")?;
-    assert_eq!(rt; token.number, 1);
-    assert_eq!(rt; token.text.bytes(), b"grid".as_slice());
-    assert!(rt; tokens.next(&mut shelf)?.is_none());
-    assert!(rt; !tokens.broken());
-    Ok(())
-}
-
-/// How many bytes a slot's text has left.
-fn left<S: Shelf>(shelf: &mut S) -> Result<usize, Fail>
+fn put_tokens<S: Shelf>(
+    alloc: Global,
+    reading: Reading,
+    shelf: &mut S,
+    limit: u64,
+    told: &mut Text,
+) -> Result<(), AllocError>
     requires { IsTrue (S.reached shelf.old Slot.Design) }
 {
-    let mut left: usize = 0;
+    let mut tokens = Tokens::new(alloc, Slot::Design, limit)?;
+    match reading {
+        Reading::Next => put_twice(alloc, &mut tokens, shelf, told),
+        Reading::Ahead => put_first(alloc, &mut tokens, shelf, told),
+        _ => put_source(
+            alloc,
+            reading,
+            &mut TokenReader {
+                tokens: &mut tokens,
+                shelf,
+            },
+            told,
+        ),
+    }
+}
+
+/// Puts the tokens that a source gives, or what is read by steps of a grammar.
+fn put_source<S: TokenSource>(
+    alloc: Global,
+    reading: Reading,
+    source: &mut S,
+    told: &mut Text,
+) -> Result<(), AllocError> {
+    match reading {
+        Reading::Steps => put_steps(alloc, source, told),
+        _ => put_all(alloc, source, told),
+    }
+}
+
+/// Puts each token with its number, and how the text ends.
+fn put_all<S: TokenSource>(
+    alloc: Global,
+    source: &mut S,
+    told: &mut Text,
+) -> Result<(), AllocError> {
+    for _ in 0..u64::MAX {
+        match source.advance() {
+            Ok(true) => put_token(source.number(), source.word(), told)?,
+            Ok(false) => break,
+            Err(error) => return put_error(alloc, &error, told),
+        }
+    }
+    put_end(true, told)
+}
+
+/// Puts a token behind its number.
+fn put_token(number: u64, text: &[u8], told: &mut Text) -> Result<(), AllocError> {
+    told.put_number(number)?;
+    told.put(b":")?;
+    told.put(text)?;
+    told.put(b" ")
+}
+
+/// Puts the next token, the one behind it, and whether a read failed.
+fn put_twice<S: Shelf>(
+    alloc: Global,
+    tokens: &mut Tokens,
+    shelf: &mut S,
+    told: &mut Text,
+) -> Result<(), AllocError>
+    requires { IsTrue (S.reached shelf.old tokens.old.slot) }
+{
+    put_next(alloc, tokens, shelf, told)?;
+    put_next(alloc, tokens, shelf, told)?;
+    if tokens.broken() {
+        told.put(b"broken\n")
+    } else {
+        told.put(b"whole\n")
+    }
+}
+
+/// Puts the next token.
+fn put_next<S: Shelf>(
+    alloc: Global,
+    tokens: &mut Tokens,
+    shelf: &mut S,
+    told: &mut Text,
+) -> Result<(), AllocError>
+    requires { IsTrue (S.reached shelf.old tokens.old.slot) }
+    ensures { IsTrue (S.reached shelf.new tokens.new.slot) }
+{
+    match tokens.next(shelf) {
+        Ok(Some(token)) => put_token(token.number, token.text.bytes(), told),
+        Ok(None) => told.put(b"end "),
+        Err(error) => put_error(alloc, &error, told),
+    }
+}
+
+/// Puts what is read by steps of a grammar, or the fault.
+fn put_steps<S: TokenSource>(
+    alloc: Global,
+    source: &mut S,
+    told: &mut Text,
+) -> Result<(), AllocError> {
+    match read_steps(source) {
+        Ok((value, more)) => put_step(value, more, told)?,
+        Err(error) => return put_error(alloc, &error, told),
+    }
+    match word(source, ENDS, 2, b"end") {
+        Ok(()) => put_end(true, told),
+        Err(error) => put_error(alloc, &error, told),
+    }
+}
+
+/// A number behind the word "grid", and whether a token follows it.
+fn read_steps<S: TokenSource>(source: &mut S) -> Result<(i64, bool), ReadError<u8>> {
+    word(source, ENDS, 2, b"grid")?;
+    let value = number(source, ENDS, 3, 0, 9)?;
+    let more = next_token_or_end(source, ENDS)?;
+    Ok((value, more))
+}
+
+fn put_step(value: i64, more: bool, told: &mut Text) -> Result<(), AllocError> {
+    told.put_number(value)?;
+    if more {
+        told.put(b" token ")
+    } else {
+        told.put(b" end ")
+    }
+}
+
+/// Puts how many bytes are not read once the first token was taken.
+fn put_first<S: Shelf>(
+    alloc: Global,
+    tokens: &mut Tokens,
+    shelf: &mut S,
+    told: &mut Text,
+) -> Result<(), AllocError>
+    requires slot { tokens.old.slot ≡ Slot.Design }
+    requires reached { IsTrue (S.reached shelf.old Slot.Design) }
+{
+    match tokens.advance(shelf) {
+        Ok(true) => put_left(shelf, told),
+        Ok(false) => put_end(true, told),
+        Err(error) => put_error(alloc, &error, told),
+    }
+}
+
+/// Puts how many bytes of the text are not read.
+fn put_left<S: Shelf>(shelf: &mut S, told: &mut Text) -> Result<(), AllocError>
+    requires { IsTrue (S.reached shelf.old Slot.Design) }
+{
+    let mut left: u64 = 0;
     let mut buf = [0; 4096];
     for _piece in 0..u64::MAX {
-        let count = shelf.read(Slot::Design, &mut buf)?;
-        if count == 0 {
-            break;
+        match shelf.read(Slot::Design, &mut buf) {
+            Ok(0) => break,
+            Ok(count) => left = left.saturating_add(count as u64),
+            Err(_) => return put_end(false, told),
         }
-        left = left.saturating_add(count);
     }
-    Ok(left)
-}
-
-#[test]
-fn little_is_read_ahead(rt: HostRuntime) -> Result<(), Fail> {
-    let mut text = b"grid".to_vec(rt.alloc())?;
-    text.resize(200_000, b' ')?;
-    let mut shelf = reached(rt.alloc(), Slot::Design, &text, 1_000_000, 0)?;
-    let mut tokens = Tokens::new(rt.alloc(), Slot::Design, 1_000_000)?;
-    assert!(rt; tokens.advance(&mut shelf)?);
-    assert_eq!(rt; left(&mut shelf)?, 200_000 - 65_536);
-    Ok(())
-}
-
-/// Texts, ranges, and the numbers that the texts write.
-const WHOLE: [(&str, i64, i64, Option<i64>); 9] = [
-    ("12", 0, 12, Some(12)),
-    ("12", 0, 11, None),
-    ("-007", -7, 0, Some(-7)),
-    ("-0", 0, 0, Some(0)),
-    ("+1", 0, 9, None),
-    ("-", -9, 9, None),
-    ("", -9, 9, None),
-    ("99999999999999999999", 0, i64::MAX, None),
-    ("-9223372036854775808", i64::MIN, 0, Some(i64::MIN)),
-];
-
-#[test]
-fn whole_numbers_in_a_range(rt: HostRuntime) {
-    for (text, low, high, value) in WHOLE {
-        assert_eq!(rt; whole_of(text.as_bytes(), low, high), value, "{text}");
-    }
-}
-
-/// Texts, and the numbers up to 64 that they write in at most 20 digits.
-const NATURALS: [(&str, Option<u32>); 6] = [
-    ("64", Some(64)),
-    ("65", None),
-    ("00000000000000000064", Some(64)),
-    ("000000000000000000064", None),
-    ("", None),
-    ("-1", None),
-];
-
-#[test]
-fn naturals_of_few_digits(rt: HostRuntime) {
-    for (text, value) in NATURALS {
-        assert_eq!(rt; natural_of(text.as_bytes(), 20, 64), value, "{text}");
-    }
-}
-
-#[test]
-fn words_and_numbers_are_read(rt: HostRuntime) -> Result<(), Fail> {
-    let mut shelf = reached(rt.alloc(), Slot::Design, b"grid 3 x", 4, 0)?;
-    let mut tokens = Tokens::new(rt.alloc(), Slot::Design, 100)?;
-    let mut reader = TokenReader {
-        tokens: &mut tokens,
-        shelf: &mut shelf,
-    };
-    let ends = Ends {
-        ended: 1u8,
-        too_long: 13,
-    };
-    word(&mut reader, ends, 2, b"grid")?;
-    assert_eq!(rt; number(&mut reader, ends, 3, 0, 9)?, 3);
-    assert!(rt; next_token_or_end(&mut reader, ends)?);
-    assert_eq!(rt;
-        word(&mut reader, ends, 2, b"end"),
-        Err(ReadError::Fault { fault: 1, token: 4 })
-    );
-    Ok(())
+    put_number_line(left, told)
 }

@@ -1,0 +1,94 @@
+//! Tells rows of devices, tokens, numbers, trees of nets and reports, as standard input says.
+//!
+//! Each line of standard input is printed. One of these has its answer behind it:
+//!
+//! - `shelf CALL NAME` reads the text of a name from a shelf of memory that holds "xyz" under "b",
+//!   gives it byte by byte, and fails at the call of this number (0: none);
+//! - `sure NAME` reads it from a shelf that never fails, and writes to a sink that never fails;
+//! - `file NAME` reads a file;
+//! - `sink ROOM MOST CALL` writes "abcdef" to a sink of memory with so much room that takes at most
+//!   so many bytes in a call, and fails at the call of this number;
+//! - `stream ROOM` writes it to a stream whose first call is interrupted, and that takes so many
+//!   bytes in all;
+//! - `tokens PIECE LIMIT WORD ..` reads the tokens of a text, which comes in pieces of so many bytes
+//!   and may have so many. The text is the words without blanks between them, but that `CR`, `LF`,
+//!   `TAB` and `BLANK` stand for these bytes;
+//! - `next PIECE LIMIT WORD ..` takes the next token of such a text twice;
+//! - `steps PIECE LIMIT WORD ..` reads of such a text the word "grid", a number from 0 to 9, a token
+//!   or the end, and the word "end";
+//! - `ahead SIZE` takes the first token of a text of so many bytes that is "grid" and blanks, and
+//!   counts the bytes that were not read;
+//! - `whole LOW HIGH TEXT` reads a whole number in a range, `natural TEXT` one up to 64 in at most 20
+//!   digits;
+//! - `join NUMBER NUMBER` puts a word and numbers together;
+//! - `tree ROUTE` and `runs ROUTE` tell the tree and the straight runs of the edges of a net;
+//! - `greatest` tells the report with the greatest numbers.
+#![tactic(auto)]
+
+mod devices;
+mod edges;
+mod given;
+mod numbers;
+mod tellings;
+mod texts;
+mod tokens;
+
+use crate::edges::Asked;
+use crate::tokens::Reading;
+use gr_io::{HostSink, Sink, write_whole};
+use gr_text::Text;
+use std::alloc::AllocError;
+use std::io;
+use std::io::ErrorKind;
+use std::rt::Files;
+
+/// Puts a line and its answer at the end of the text.
+fn put_row<R: AllocGlobal + Files>(rt: &R, line: &str, told: &mut Text) -> Result<(), AllocError> {
+    tellings::put_line(line.as_bytes(), told)?;
+    let (command, rest) = line.split_once(' ').unwrap_or((line, ""));
+    let alloc = rt.alloc();
+    match command {
+        "shelf" => devices::put_shelf(alloc, rest, told),
+        "sure" => devices::put_sure(alloc, rest, told),
+        "file" => devices::put_file(rt, rest, told),
+        "sink" => devices::put_sink(alloc, rest, told),
+        "stream" => devices::put_stream(rest, told),
+        "tokens" => tokens::put_reading(alloc, Reading::All, rest, told),
+        "next" => tokens::put_reading(alloc, Reading::Next, rest, told),
+        "steps" => tokens::put_reading(alloc, Reading::Steps, rest, told),
+        "ahead" => tokens::put_ahead(alloc, rest, told),
+        "whole" => numbers::put_whole(rest, told),
+        "natural" => numbers::put_natural(rest, told),
+        "join" => numbers::put_joined(rest, told),
+        "tree" => edges::put_edges(alloc, Asked::Tree, rest, told),
+        "runs" => edges::put_edges(alloc, Asked::Runs, rest, told),
+        "greatest" => texts::put_greatest(alloc, told),
+        _ => Ok(()),
+    }
+}
+
+/// Puts each line of standard input and its answer at the end of the text.
+fn put_rows(rt: &HostRuntime, told: &mut Text) -> io::Result<()> {
+    for line in rt.lines(rt.alloc()) {
+        put_row(rt, &line?, told)?;
+    }
+    Ok(())
+}
+
+/// Writes a line in one call, and puts how many bytes that took at the end of the text.
+fn put_written<K: Sink>(out: &mut K, told: &mut Text) -> Result<(), AllocError> {
+    let count = out.write(b"written\n").unwrap_or(0);
+    tellings::put_number_line(count, told)
+}
+
+fn main(rt: HostRuntime) -> io::Result<()> {
+    texts::worked_rows();
+    let mut told = Text::new(rt.alloc());
+    let mut out = HostSink::new(rt.stdout());
+    put_written(&mut out, &mut told)?;
+    put_rows(&rt, &mut told)?;
+    if write_whole(&mut out, told.bytes()).is_err() {
+        return Err(io::Error::from(ErrorKind::BrokenPipe));
+    }
+    Ok(())
+}
