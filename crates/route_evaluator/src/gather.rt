@@ -1,19 +1,21 @@
-//! The edges that the runs of a net cover.
+//! The edges that the runs of a net cover, and the straight runs of these edges.
 ghost use Rattle.std.specs.Prelude.{◌≡◌, ◌<◌, ◌*◌, length, All, IfOk, OnOk};
 ghost use Rattle.gr_base.specs.Grid.{cells_of};
 ghost use Rattle.solution_text.specs.Covers.{covers};
-ghost use Rattle.solution_text.specs.Runs.{LieIn};
+ghost use Rattle.solution_text.specs.Runs.{LieIn, runs_of};
 ghost use Rattle.route_reader.specs.Solutions.{IsOf, IsRun, edges_by};
 ghost use Rattle.route_evaluator.specs.EdgeNumbers.{edges_numbered};
 ghost use Rattle.route_evaluator.specs.Gathers.{covered_by, Adds};
 ghost use Rattle.route_evaluator.specs.NumberSets.{empty_set};
 
-use crate::edge_numbers::edge_number;
+use crate::edge_numbers::{edge_number, edges_with_numbers};
 use crate::number_set::NumberSet;
+use crate::straight_list::Straight;
 use gr_base::{Design, Edge, Shape};
 use route_reader::Solution;
 use solution_text::Run;
 use std::alloc::{AllocError, Global};
+use straight_runs::gather_runs;
 
 /// Puts the edges that a run covers into a set of edges.
 fn add_run(edges: &mut NumberSet, shape: Shape, run: Run) -> Result<(), AllocError>
@@ -54,9 +56,9 @@ pub(crate) fn gather_net(
     solution: &Solution,
     net: u32,
 ) -> Result<(), AllocError>
+    requires empty { edges.old ≡ empty_set (3 * cells_of design.now.frame.shape) }
     requires of { IsOf design.now solution.now }
     requires net { net < length design.now.nets }
-    requires empty { edges.old ≡ empty_set (3 * cells_of design.now.frame.shape) }
     ensures bound { OnOk result (edges.new.bound ≡ 3 * cells_of design.now.frame.shape) }
     ensures edges { OnOk result (edges_numbered edges.new.numbers ≡ edges_by solution.now net) }
     ensures grid { OnOk result (LieIn design.now.frame.shape (edges_numbered edges.new.numbers)) }
@@ -81,4 +83,24 @@ pub(crate) fn edges_of_net(
     let mut edges = NumberSet::new(alloc, 3 * design.frame().shape.cells())?;
     gather_net(&mut edges, design, solution, net)?;
     Ok(edges)
+}
+
+/// The maximal straight runs of a net's edges in a solution, in the order in which they are written.
+/// The only error is want of memory.
+pub fn straight(
+    alloc: Global,
+    design: &Design,
+    solution: &Solution,
+    net: u32,
+) -> Result<Straight, AllocError>
+    requires of { IsOf design.now solution.now }
+    requires net { net < length design.now.nets }
+    ensures { IfOk result (λ straight. straight ≡ runs_of design.now.frame.shape (edges_by solution.now net)) }
+{
+    let set = edges_of_net(alloc, design, solution, net)?;
+    let edges = edges_with_numbers(alloc, set.numbers())?;
+    let mut runs = Vec::new(alloc);
+    let mut lows = Vec::new(alloc);
+    gather_runs(&mut runs, &mut lows, design.frame().shape, &edges)?;
+    Ok(Straight { runs })
 }

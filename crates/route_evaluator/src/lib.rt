@@ -7,7 +7,6 @@ mod flood;
 mod gather;
 mod judgement;
 mod net_count;
-mod net_runs;
 mod net_tree;
 mod number_set;
 mod reached;
@@ -16,8 +15,8 @@ mod tally;
 mod tree_error;
 mod verdict;
 
+pub use gather::straight;
 pub use judgement::{evaluate, evaluate_routes};
-pub use net_runs::straight;
 pub use net_tree::{TreeMaker, tree_of};
 pub use straight_list::Straight;
 pub use tree_error::TreeError;

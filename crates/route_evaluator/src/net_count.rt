@@ -33,9 +33,9 @@ pub(crate) fn count_edges(
     shape: Shape,
     pins: &[u32],
 ) -> Result<NetCount, AllocError>
+    requires reached { reached.old.cells ≡ empty_set (cells_of shape) }
     requires edges { edges.now.bound ≡ 3 * cells_of shape }
     requires grid { LieIn shape (edges_numbered edges.now.numbers) }
-    requires reached { reached.old.cells ≡ empty_set (cells_of shape) }
     requires pins { All (λ pin. pin < cells_of shape) pins.now }
     requires driver { 0 < length pins.now }
     ensures count { IfOk result (IsCountOf shape (edges_numbered edges.now.numbers) pins.now) }

@@ -1,2 +1,3 @@
 pub mod RouteTexts
 pub mod Blocks
+pub mod Written

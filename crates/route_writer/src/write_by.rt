@@ -1,8 +1,7 @@
-ghost use Rattle.std.specs.Prelude.{◌≡◌, ◌+◌, ◌*◌, ◌<◌, ◌≤◌, ◌++◌, min, length, Err, IsTrue, OnOk, OnErr};
+ghost use Rattle.std.specs.Prelude.{◌≡◌, ◌+◌, ◌*◌, ◌<◌, ◌≤◌, min, length, Err, OnOk, OnErr};
 ghost use Rattle.gr_io.specs.Counts.{Rose};
-ghost use Rattle.gr_io.specs.Parts.{AppendsPart};
 ghost use Rattle.straight_runs.specs.Routed.{AreRouted};
-ghost use Rattle.route_writer.specs.RouteTexts.{routes_text};
+ghost use Rattle.route_writer.specs.Written.{AddsRoutes, AddsPart};
 
 use crate::blocks::{MOST_IN_BLOCK, blocks, put_blocks, write_blocks};
 use crate::error::WriteError;
@@ -31,11 +30,9 @@ pub fn write_solution_by<R: Threads + Sync, K: Sink>(
 ) -> Result<(), WriteError>
     requires routed { AreRouted design.now routes.now }
     requires workers { 0 < workers }
-    ensures ok { OnOk result
-        (IsTrue K.tells → K.written sink.new ≡ K.written sink.old ++ routes_text design.now routes.now) }
+    ensures ok { OnOk result (AddsRoutes K.tells K.written design.now routes.now sink.old sink.new) }
     ensures quiet { OnOk result (K.faults sink.new ≡ K.faults sink.old) }
-    ensures prefix { OnErr result
-        (IsTrue K.tells → AppendsPart (K.written sink.old) (K.written sink.new) (routes_text design.now routes.now)) }
+    ensures prefix { OnErr result (AddsPart K.tells K.written design.now routes.now sink.old sink.new) }
     ensures failed { result ≡ Err WriteError.Failed → Rose (K.faults sink.old) (K.faults sink.new) }
     ensures no_memory { result ≡ Err WriteError.NoMemory → K.faults sink.new ≡ K.faults sink.old }
     ensures faults_kept { K.faults sink.old ≤ K.faults sink.new }

@@ -7,7 +7,7 @@ use Rattle.gr_base.specs.Grid.{has_edge}
 use Rattle.solution_text.specs.Runs.{runs_of}
 use Rattle.route_evaluator.specs.EdgeNumbers.{edge_numbered}
 use Rattle.route_evaluator.proofs.ListedLemmas.{listed, listed-inside}
-use Rattle.route_evaluator.proofs.net_runs.straight.Goals as goal
+use Rattle.route_evaluator.proofs.gather.straight.Goals as goal
 
 pub gather_runs-requires : goal.gather_runs-requires
 gather_runs-requires c =
