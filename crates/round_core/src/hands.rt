@@ -19,6 +19,13 @@ pub struct Places {
     places: Vec<u64>,
 }
 
+/// The places in a history of the entries of the caller with this number.
+#[derive(Debug, Drop)]
+pub struct HandLog {
+    pub number: u32,
+    pub places: Places,
+}
+
 impl Model for Places {
     ghost use Rattle.std.specs.Prelude.{ℕ, List};
 
@@ -49,13 +56,6 @@ impl Places {
     {
         &self.places
     }
-}
-
-/// The places in a history of the entries of the caller with this number.
-#[derive(Debug, Drop)]
-pub struct HandLog {
-    pub number: u32,
-    pub places: Places,
 }
 
 /// The logs of the callers whose numbers are below this. The only error is want of memory.
