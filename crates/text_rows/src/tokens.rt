@@ -101,7 +101,7 @@ fn put_tokens<S: Shelf>(
     let mut tokens = Tokens::new(alloc, Slot::Design, limit)?;
     match reading {
         Reading::Next => put_twice(alloc, &mut tokens, shelf, told),
-        Reading::Ahead => put_first(alloc, &mut tokens, shelf, told),
+        Reading::Ahead => put_first(&mut tokens, shelf, told),
         _ => put_source(
             alloc,
             reading,
@@ -221,7 +221,6 @@ fn put_step(value: i64, more: bool, told: &mut Text) -> Result<(), AllocError> {
 
 /// Puts how many bytes are not read once the first token was taken.
 fn put_first<S: Shelf>(
-    alloc: Global,
     tokens: &mut Tokens,
     shelf: &mut S,
     told: &mut Text,
@@ -231,8 +230,7 @@ fn put_first<S: Shelf>(
 {
     match tokens.advance(shelf) {
         Ok(true) => put_left(shelf, told),
-        Ok(false) => put_end(true, told),
-        Err(error) => put_error(alloc, &error, told),
+        _ => told.put(b"no token\n"),
     }
 }
 
