@@ -100,7 +100,7 @@ fn put_tokens<S: Shelf>(
 {
     let mut tokens = Tokens::new(alloc, Slot::Design, limit)?;
     match reading {
-        Reading::Next => put_twice(alloc, &mut tokens, shelf, told),
+        Reading::Next => put_twice(&mut tokens, shelf, told),
         Reading::Ahead => put_first(&mut tokens, shelf, told),
         _ => put_source(
             alloc,
@@ -153,15 +153,14 @@ fn put_token(number: u64, text: &[u8], told: &mut Text) -> Result<(), AllocError
 
 /// Puts the next token, the one behind it, and whether a read failed.
 fn put_twice<S: Shelf>(
-    alloc: Global,
     tokens: &mut Tokens,
     shelf: &mut S,
     told: &mut Text,
 ) -> Result<(), AllocError>
     requires { IsTrue (S.reached shelf.old tokens.old.slot) }
 {
-    put_next(alloc, tokens, shelf, told)?;
-    put_next(alloc, tokens, shelf, told)?;
+    put_next(tokens, shelf, told)?;
+    put_next(tokens, shelf, told)?;
     if tokens.broken() {
         told.put(b"broken\n")
     } else {
@@ -170,19 +169,14 @@ fn put_twice<S: Shelf>(
 }
 
 /// Puts the next token.
-fn put_next<S: Shelf>(
-    alloc: Global,
-    tokens: &mut Tokens,
-    shelf: &mut S,
-    told: &mut Text,
-) -> Result<(), AllocError>
+fn put_next<S: Shelf>(tokens: &mut Tokens, shelf: &mut S, told: &mut Text) -> Result<(), AllocError>
     requires { IsTrue (S.reached shelf.old tokens.old.slot) }
     ensures { IsTrue (S.reached shelf.new tokens.new.slot) }
 {
     match tokens.next(shelf) {
         Ok(Some(token)) => put_token(token.number, token.text.bytes(), told),
         Ok(None) => told.put(b"end "),
-        Err(error) => put_error(alloc, &error, told),
+        Err(_) => told.put(b"failed "),
     }
 }
 
