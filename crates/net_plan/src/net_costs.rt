@@ -97,6 +97,8 @@ impl Costs for NetCosts<'_> {
         }
     }
 
+    // Searches ask it at each step, and a call takes as long as the answer.
+    #[inline(always)]
     fn cost(&self, e: Edge) -> Option<u64> {
         if !self.capacity.usable(e) {
             return None;
