@@ -45,7 +45,7 @@ pub(crate) fn buffer<R: Threads + Sync, S: Shelf, O: Sink>(
     let library = open_library(alloc, shelf, &design, library)?;
     let solution = open_solution(alloc, shelf, &design, solution)?;
     let trees = solution_trees(alloc, &design, &solution)?;
-    let Ok(text) = buffers_on(rt, alloc, ONE_WORKER, &design, &library, &trees) else {
+    let Ok(text) = buffers_on(rt, alloc, &design, &library, &trees, ONE_WORKER) else {
         return Err(Stop::NoMemory);
     };
     match write_whole(out, text.bytes()) {
@@ -103,13 +103,13 @@ fn solution_tree(
 pub(crate) fn buffers_on<R: Threads + Sync>(
     rt: &R,
     alloc: Global,
-    workers: u32,
     design: &Design,
     library: &Library,
     trees: &Routes,
+    workers: u32,
 ) -> Result<Text, AllocError>
-    requires workers { 0 < workers }
     requires library { IsLibraryOf design.now library.now }
+    requires workers { 0 < workers }
     requires trees { AreRoutesOf design.now trees.now }
     ensures { IfOk result (IsBuffersText design.now library.now trees.now) }
 {

@@ -228,7 +228,7 @@ fn verdict_and_buffers<R: Threads + Sync>(
     let workers = options.workers;
     if workers == 1 {
         let verdict = verdict_on(alloc, design, booked, options)?;
-        let buffers = buffers_on(rt, alloc, workers, design, library, &booked.routes)?;
+        let buffers = buffers_on(rt, alloc, design, library, &booked.routes, workers)?;
         return Ok((verdict, buffers));
     }
     let (verdict, buffers) = join(
@@ -241,7 +241,7 @@ fn verdict_and_buffers<R: Threads + Sync>(
         || -> Result<Text, AllocError>
             requires { IsLibraryOf design.now library.now × AreRoutesOf design.now booked.now.routes × (0 < workers) }
             ensures { IfOk result (IsBuffersText design.entry.now library.entry.now booked.entry.now.routes) }
-        { buffers_on(rt, alloc, workers, design, library, &booked.routes) },
+        { buffers_on(rt, alloc, design, library, &booked.routes, workers) },
     );
     Ok((verdict?, buffers?))
 }
