@@ -143,12 +143,12 @@ fn carry_out<R: Threads + Wait + Sync, S: Shelf, O: Sink, E: Sink, G: Gate + Syn
     rules: &Rules,
 ) -> Left
     requires { IfSome order AsksInRange }
-    ensures leaves { LeavesFor (option_map named order)
+    ensures leaves { LeavesFor (option_map named order.entry)
         (reading_of S.tells S.held S.faults S.misses shelf.old shelf.new)
         (device_of O.tells O.faults O.written out.old out.new)
         (device_of E.tells E.faults E.written err.old err.new)
         (rounds_back result.rounds) result.end }
-    ensures makes { IsTrue (makes_design (option_map named order)) → IsApart shelf.old shelf.new result.end }
+    ensures makes { IsTrue (makes_design (option_map named order.entry)) → IsApart shelf.old shelf.new result.end }
 {
     match order {
         Some(
