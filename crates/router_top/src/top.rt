@@ -1,12 +1,11 @@
 //! The public call.
-ghost use Rattle.std.specs.Prelude.{◌≡◌, [], None, map, string_bytes, IfSome, IsTrue};
-ghost use Rattle.std.specs.Option.{option_map};
+ghost use Rattle.std.specs.Prelude.{◌≡◌, [], None, map, string_bytes, IsTrue};
 ghost use Rattle.gr_io.specs.Devices.{device_of, reading_of};
 ghost use Rattle.router_top.specs.Commands.{handed_back, rounds_back};
 ghost use Rattle.router_top.specs.Ends.{LeavesFor, Ends};
 ghost use Rattle.router_top.specs.Making.{makes_design, IsApart, IsApartBy};
 ghost use Rattle.router_top.specs.Statuses.{IsByStatus};
-ghost use Rattle.word_reader.specs.Orders.{order_of, named, AsksInRange};
+ghost use Rattle.word_reader.specs.Orders.{order_of};
 
 use crate::buffering::buffer;
 use crate::judging::judge;
@@ -115,43 +114,32 @@ pub fn run<R: Threads + Wait + Sync, S: Shelf, O: Sink, E: Sink, G: Gate + Sync>
         → IsApartBy shelf.old shelf.new result.status }
     ensures hands { result.book ≡ None → result.hands.items ≡ [] }
 {
-    let left = carry_out(rt, alloc, order_given(words), shelf, out, err, gate, rules);
+    let left = carry_out(rt, alloc, words, shelf, out, err, gate, rules);
     let status = finish(alloc, err, left.end);
     Ended::of(alloc, status, left.rounds, left.spent)
 }
 
-/// The order of the words, if they give one.
-fn order_given(words: &[String]) -> Option<Order<'_>>
-    ensures order { option_map named result ≡ order_of (map string_bytes words.now) }
-    ensures range { IfSome result AsksInRange }
-{
-    match read_words(words) {
-        Ok(order) => Some(order),
-        Err(_) => None,
-    }
-}
-
-/// Carries out an order, and tells no stop.
+/// Carries out the command that the words give, and tells no stop.
 fn carry_out<R: Threads + Wait + Sync, S: Shelf, O: Sink, E: Sink, G: Gate + Sync>(
     rt: &R,
     alloc: Global,
-    order: Option<Order<'_>>,
+    words: &[String],
     shelf: &mut S,
     out: &mut O,
     err: &mut E,
     gate: &G,
     rules: &Rules,
 ) -> Left
-    requires { IfSome order AsksInRange }
-    ensures leaves { LeavesFor (option_map named order.entry)
+    ensures leaves { LeavesFor (order_of (map string_bytes words.now))
         (reading_of S.tells S.held S.faults S.misses shelf.old shelf.new)
         (device_of O.tells O.faults O.written out.old out.new)
         (device_of E.tells E.faults E.written err.old err.new)
         (rounds_back result.rounds) result.end }
-    ensures makes { IsTrue (makes_design (option_map named order.entry)) → IsApart shelf.old shelf.new result.end }
+    ensures makes { IsTrue (makes_design (order_of (map string_bytes words.now)))
+        → IsApart shelf.old shelf.new result.end }
 {
-    match order {
-        Some(
+    match read_words(words) {
+        Ok(
             Order::Route {
                 design,
                 library,
@@ -160,28 +148,28 @@ fn carry_out<R: Threads + Wait + Sync, S: Shelf, O: Sink, E: Sink, G: Gate + Syn
         ) => route(
             rt, alloc, shelf, out, err, design, library, options, gate, rules,
         ),
-        Some(
+        Ok(
             Order::Evaluate {
                 design,
                 solution,
                 via_cost,
             },
         ) => Left::without_rounds(judge(alloc, shelf, out, design, solution, via_cost)),
-        Some(
+        Ok(
             Order::Buffer {
                 design,
                 library,
                 solution,
             },
         ) => Left::without_rounds(buffer(rt, alloc, shelf, out, design, library, solution)),
-        Some(Order::Make { made }) => Left::without_rounds(make_design(alloc, out, err, made)),
-        Some(
+        Ok(Order::Make { made }) => Left::without_rounds(make_design(alloc, out, err, made)),
+        Ok(
             Order::Trial {
                 made,
                 rounds,
                 workers,
             },
         ) => trial(rt, alloc, out, made, rounds, workers, gate, rules),
-        None => Left::without_rounds(Err(Stop::Usage)),
+        Err(_) => Left::without_rounds(Err(Stop::Usage)),
     }
 }

@@ -3,7 +3,7 @@ use Rattle.router_top.proofs.RouteLemmas.{held-tree, routes-trees, chosen-routes
 use Rattle.router_top.proofs.routing.judged_routes.Goals as goal
 
 pub returns : goal.returns
-returns g c =
+returns c =
     let d = c.args.design.now in
     let r = c.args.booked in
     let are = c.requires.booked in
