@@ -1,9 +1,9 @@
 -- The tables of a capacity.
-use Rattle.std.proofs.Common.{◌≡◌, ℕ, suc, zero, ◌+◌, ◌-◌, ◌*◌, ◌/◌, ◌<◌, ◌≤◌, Bool, true, false, List, [], ◌∷◌, ◌++◌, map, reverse, length, take, get_or, replicate, All, slice_set, slice_get, find, Option, Some, None, IfSome, option_map, unwrap_or, if◌then◌else◌, IsTrue, refl, sym, ap, subst, ◌∙◌, arith}
+use Rattle.std.proofs.Common.{◌≡◌, ℕ, suc, zero, ◌+◌, ◌-◌, ◌*◌, ◌/◌, ◌<◌, ◌≤◌, inl, inr, Bool, true, false, List, [], ◌∷◌, ◌++◌, map, reverse, length, take, get_or, replicate, All, slice_index, slice_set, slice_get, find, Option, Some, None, IfSome, option_map, unwrap_or, if◌then◌else◌, IsTrue, refl, sym, ap, subst, ◌∙◌, arith}
 use Rattle.std.proofs.lemmas.Bool.Decides.{nat_tests}
 use Rattle.std.proofs.Math.Nat.{div-div-eq-div-mul}
 use Rattle.std.proofs.lemmas.Nat.{div-mul-add}
-use Rattle.std.proofs.lemmas.List.{append-nil, append_assoc, reverse-append, replicate_more, take_all, take_more, map-append}
+use Rattle.std.proofs.lemmas.List.{length-append, get_or_append_left, get_or-append-add, append-nil, append_assoc, reverse-append, replicate_more, take_all, take_more, map-append}
 use Rattle.std.proofs.lemmas.List.Elements.{All-head, All-tail, All-map, All-weaker}
 use Rattle.std.proofs.lemmas.List.FromFn.{length-map-range_with_len, get_or-map-range_with_len, map-range_with_len_more}
 use Rattle.std.proofs.lemmas.List.Sorted.{All-permutation, IsPermutation-reverse}
@@ -24,13 +24,24 @@ use Rattle.gr_base.specs.declared.grid.Edge.{Edge}
 use Rattle.gr_base.specs.declared.grid.Shape.{Shape}
 use Rattle.gr_base.specs.declared.grid.Way.{Way}
 use Rattle.gr_base.specs.declared.grid.Way.TheVariants.{East, North, Up}
-use Rattle.grid_demand.proofs.WireLemmas.{table-edge, table-set, table-same, length-table, wires-more}
-use Rattle.grid_demand.specs.Tables.{capacity_of, capacity_at, IsCapacity, cell_layers}
+use Rattle.grid_demand.proofs.PlaneLemmas.{StandsAt, stands, placed, length-by_number, by_number-at}
+use Rattle.grid_demand.proofs.WireLemmas.{table-edge, table-set, table-same, table-is, length-table, number-below, wire_at-east, wire_at-north}
+use Rattle.grid_demand.specs.Planes.{place_of, by_number}
+use Rattle.grid_demand.specs.Tables.{CapacityView, capacity_of, capacity_at, IsCapacity, cell_layers, stated_table, stated_along_way}
 
 -- the table of a design has the capacity of each wire edge
 pub capacity-table : (d : DesignView) (e : Edge) → IsTrue (has_edge d.frame.shape e) → IsTrue (is_wire e) →
     capacity_at (capacity_of d) e ≡ capacity d e
 capacity-table d e edge wire = table-edge d.frame.shape (capacity d) e edge wire
+
+-- where a wire edge's capacity stands
+pub capacity-place : (c now : CapacityView) (capacities : List ℕ) (wires : ℕ) (e : Edge) (place : ℕ) → IsCapacity c → c ≡ now →
+    by_number 0 capacities ≡ c.capacities → IsTrue (has_edge now.shape e) → wires ≡ length capacities → place ≡ place_of wires (wire_number e) →
+    StandsAt 0 capacities (wire_number e) place
+capacity-place c now capacities wires e place tables same is edge all at =
+    let inside : wire_number e < 2 * cells_of c.shape = subst (λ (v : CapacityView). wire_number e < 2 * cells_of v.shape) (sym same) (number-below now.shape e edge) in
+    let long : length capacities ≡ 2 * cells_of c.shape = sym (length-by_number 0 capacities) ∙ ap length is ∙ tables.wires in
+    stands 0 capacities wires (wire_number e) place (omega (arith, inside, long)) all at
 
 -- the first elements and the next one
 pub take-next : {X : Type 0} (xs : List X) (k : ℕ) (x : X) → slice_get xs k ≡ Some x → take (k + 1) xs ≡ take k xs ++ x ∷ []
@@ -64,6 +75,15 @@ adjusted-table frame adjustments k a old is edge wire before =
     (λ e _. sym (capacity_by-push frame (take k adjustments) a e))
     ∙ sym (ap G (take-next adjustments k a is))
 
+-- where the next adjustment goes in a table in planes, and the table then
+pub adjusted-place : (g : Shape) (f : Edge → ℕ) (capacities : List ℕ) (wires : ℕ) (e : Edge) (place : ℕ) → by_number 0 capacities ≡ map f (wires_from_cells g) →
+    IsTrue (has_edge g e) → wires ≡ length capacities → place ≡ place_of wires (wire_number e) →
+    (length capacities ≡ 2 * cells_of g) × StandsAt 0 capacities (wire_number e) place
+adjusted-place g f capacities wires e place is edge all at =
+    let long : length capacities ≡ 2 * cells_of g = sym (length-by_number 0 capacities) ∙ ap length is ∙ length-table g f in
+    let inside = number-below g e edge in
+    (long, stands 0 capacities wires (wire_number e) place (omega (arith, inside, long)) all at)
+
 -- the widths of the first nets and the next one
 pub widths-more : (nets : List Net) (k : ℕ) (net : Net) (old : List ℕ) → slice_get nets k ≡ Some net →
     old ≡ map (λ (n : Net). n.width) (take k nets) → old ++ net.width ∷ [] ≡ map (λ (n : Net). n.width) (take (k + 1) nets)
@@ -77,25 +97,21 @@ pub layer-of : (g : Shape) (layer tile : ℕ) → tile < g.columns * g.rows → 
 layer-of g layer tile below =
     div-div-eq-div-mul (layer * (g.columns * g.rows) + tile) g.columns g.rows ∙ div-mul-add layer (g.columns * g.rows) tile below
 
--- the layers of the cells below a layer, and of so many of its own
-layers-run : (g : Shape) (layer n : ℕ) → n ≤ g.columns * g.rows →
-    map (λ (c : ℕ). (place_at g c).layer) (range_with_len 0 (layer * (g.columns * g.rows) + n))
-    ≡ map (λ (c : ℕ). (place_at g c).layer) (range_with_len 0 (layer * (g.columns * g.rows))) ++ replicate n layer
-layers-run g layer zero few =
-    let L : ℕ → ℕ = λ c. (place_at g c).layer in
-    let none : layer * (g.columns * g.rows) + 0 ≡ layer * (g.columns * g.rows) = omega arith in
-    ap (λ (k : ℕ). map L (range_with_len 0 k)) none ∙ sym (append-nil (map L (range_with_len 0 (layer * (g.columns * g.rows)))))
-layers-run g layer (suc n) few =
-    let L : ℕ → ℕ = λ c. (place_at g c).layer in
-    let at = layer * (g.columns * g.rows) + n in
-    let before : List ℕ = map L (range_with_len 0 (layer * (g.columns * g.rows))) in
-    let more : layer * (g.columns * g.rows) + suc n ≡ at + 1 = omega arith in
+-- what the cells below one and so many from it have, where those have one value
+run : (f : ℕ → ℕ) (first n value : ℕ) → ((k : ℕ) → k < n → f (first + k) ≡ value) →
+    map f (range_with_len 0 (first + n)) ≡ map f (range_with_len 0 first) ++ replicate n value
+run f first zero value each =
+    let none : first + 0 ≡ first = omega arith in
+    ap (λ (k : ℕ). map f (range_with_len 0 k)) none ∙ sym (append-nil (map f (range_with_len 0 first)))
+run f first (suc n) value each =
+    let before : List ℕ = map f (range_with_len 0 first) in
+    let more : first + suc n ≡ (first + n) + 1 = omega arith in
     let count : n + 1 ≡ suc n = omega arith in
-    ap (λ (k : ℕ). map L (range_with_len 0 k)) more ∙ map-range_with_len_more L 0 at at (omega arith)
-    ∙ ap (λ (k : ℕ). map L (range_with_len 0 at) ++ k ∷ []) (layer-of g layer n (omega arith))
-    ∙ ap (λ (xs : List ℕ). xs ++ layer ∷ []) (layers-run g layer n (omega arith))
-    ∙ append_assoc before (replicate n layer) (layer ∷ [])
-    ∙ ap (λ (xs : List ℕ). before ++ xs) (replicate_more n layer ∙ ap (λ (k : ℕ). replicate k layer) count)
+    ap (λ (k : ℕ). map f (range_with_len 0 k)) more ∙ map-range_with_len_more f 0 (first + n) (first + n) (omega arith)
+    ∙ ap (λ (k : ℕ). map f (range_with_len 0 (first + n)) ++ k ∷ []) (each n (omega arith))
+    ∙ ap (λ (xs : List ℕ). xs ++ value ∷ []) (run f first n value (λ k below. each k (omega (arith, below))))
+    ∙ append_assoc before (replicate n value) (value ∷ [])
+    ∙ ap (λ (xs : List ℕ). before ++ xs) (replicate_more n value ∙ ap (λ (k : ℕ). replicate k value) count)
 
 -- a list that is filled up with copies
 filled : (old new : List ℕ) (end long cells value : ℕ) → long ≡ length old → end ≡ length old + cells →
@@ -105,39 +121,58 @@ filled old new end long cells value whole ends is =
     is ∙ ap (λ (n : ℕ). take end old ++ replicate n value) some
     ∙ ap (λ (xs : List ℕ). xs ++ replicate cells value) (take_all end old (omega (arith, ends)))
 
--- the layers of the cells below the next layer
-pub layers-more : (g : Shape) (layer end long cells : ℕ) (old new : List ℕ) → long ≡ length old → end ≡ length old + cells → cells ≡ g.columns * g.rows →
-    new ≡ take end old ++ replicate (end - long) layer →
-    old ≡ map (λ (c : ℕ). (place_at g c).layer) (range_with_len 0 (layer * (g.columns * g.rows))) →
-    new ≡ map (λ (c : ℕ). (place_at g c).layer) (range_with_len 0 ((layer + 1) * (g.columns * g.rows)))
-layers-more g layer end long cells old new whole ends many is before =
-    let L : ℕ → ℕ = λ c. (place_at g c).layer in
-    let next : layer * (g.columns * g.rows) + g.columns * g.rows ≡ (layer + 1) * (g.columns * g.rows) = omega arith in
-    filled old new end long cells layer whole ends is ∙ ap (λ (n : ℕ). old ++ replicate n layer) many
-    ∙ ap (λ (xs : List ℕ). xs ++ replicate (g.columns * g.rows) layer) before
-    ∙ sym (layers-run g layer (g.columns * g.rows) (omega arith)) ∙ ap (λ (k : ℕ). map L (range_with_len 0 k)) next
+-- what the cells below the next layer have, where each layer's cells have one value
+pub layers-more : (f : ℕ → ℕ) (layer tiles value end long cells : ℕ) (start old new : List ℕ) → long ≡ length old → end ≡ length old + cells → cells ≡ tiles →
+    new ≡ take end old ++ replicate (end - long) value → ((k : ℕ) → k < tiles → f (layer * tiles + k) ≡ value) →
+    old ≡ start ++ map f (range_with_len 0 (layer * tiles)) → new ≡ start ++ map f (range_with_len 0 ((layer + 1) * tiles))
+layers-more f layer tiles value end long cells start old new whole ends many is each before =
+    let next : layer * tiles + tiles ≡ (layer + 1) * tiles = omega arith in
+    filled old new end long cells value whole ends is ∙ ap (λ (n : ℕ). old ++ replicate n value) many
+    ∙ ap (λ (xs : List ℕ). xs ++ replicate tiles value) before
+    ∙ append_assoc start (map f (range_with_len 0 (layer * tiles))) (replicate tiles value)
+    ∙ ap (λ (xs : List ℕ). start ++ xs) (sym (run f (layer * tiles) tiles value each) ∙ ap (λ (k : ℕ). map f (range_with_len 0 k)) next)
 
 -- all layers have all cells
 pub all-cells : (g : Shape) (layer : ℕ) → layer ≡ g.layers → layer * (g.columns * g.rows) ≡ cells_of g
 all-cells g layer is = ap (λ (n : ℕ). n * (g.columns * g.rows)) is ∙ omega arith
 
--- what the layers state for the first cells and the next one, which is on a layer
-pub stated-more : (frame : Frame) (layer tile : ℕ) (blank : Layer) (old one two : List ℕ) → length frame.layers ≡ 16 → layer < 16 →
-    tile < frame.shape.columns * frame.shape.rows → one ≡ old ++ (get_or frame.layers layer blank).horizontal ∷ [] →
-    two ≡ one ++ (get_or frame.layers layer blank).vertical ∷ [] →
-    old ≡ map (stated frame) (map wire_at (range_with_len 0 (2 * (layer * (frame.shape.columns * frame.shape.rows) + tile)))) →
-    two ≡ map (stated frame) (map wire_at (range_with_len 0 (2 * (layer * (frame.shape.columns * frame.shape.rows) + (tile + 1)))))
-stated-more frame layer tile blank old one two long below inside first second before =
-    let cell = layer * (frame.shape.columns * frame.shape.rows) + tile in
-    let next : cell + 1 ≡ layer * (frame.shape.columns * frame.shape.rows) + (tile + 1) = omega arith in
-    let is : slice_get frame.layers (place_at frame.shape cell).layer ≡ Some (get_or frame.layers layer blank) =
-    ap (λ (k : ℕ). slice_get frame.layers k) (layer-of frame.shape layer tile inside) ∙ slice_get-get_or frame.layers layer blank (omega arith) in
-    let east : (get_or frame.layers layer blank).horizontal ≡ stated frame (edge_at cell East) = sym (ap (λ (o : Option Layer). stated_along East o) is) in
-    let north : (get_or frame.layers layer blank).vertical ≡ stated frame (edge_at cell North) = sym (ap (λ (o : Option Layer). stated_along North o) is) in
-    second ∙ ap (λ (m : ℕ). one ++ m ∷ []) north
-    ∙ ap (λ (xs : List ℕ). xs ++ stated frame (edge_at cell North) ∷ []) (first ∙ ap (λ (m : ℕ). old ++ m ∷ []) east ∙ ap (λ (xs : List ℕ). xs ++ stated frame (edge_at cell East) ∷ []) before)
-    ∙ sym (wires-more (stated frame) cell)
-    ∙ ap (λ (n : ℕ). map (stated frame) (map wire_at (range_with_len 0 (2 * n)))) next
+-- what a layer states for its cells
+pub stated-layer : (frame : Frame) (way : Way) (layer tile value : ℕ) (blank : Layer) → length frame.layers ≡ 16 → layer < 16 →
+    tile < frame.shape.columns * frame.shape.rows → value ≡ stated_along way (Some (get_or frame.layers layer blank)) →
+    stated frame (edge_at (layer * (frame.shape.columns * frame.shape.rows) + tile) way) ≡ value
+stated-layer frame way layer tile value blank long below inside is =
+    ap (λ (k : ℕ). stated_along way (slice_get frame.layers k)) (layer-of frame.shape layer tile inside)
+    ∙ ap (stated_along way) (slice_get-get_or frame.layers layer blank (omega (arith, below, long))) ∙ sym is
+
+-- what the layers state, in planes
+pub stated-planes : (frame : Frame) (xs : List ℕ) →
+    xs ≡ stated_along_way frame East (cells_of frame.shape) ++ stated_along_way frame North (cells_of frame.shape) → by_number 0 xs ≡ stated_table frame
+stated-planes frame xs is =
+    let cells = cells_of frame.shape in
+    let plane : Way → ℕ → ℕ = λ way cell. stated frame (edge_at cell way) in
+    let east : List ℕ = stated_along_way frame East cells in
+    let north : List ℕ = stated_along_way frame North cells in
+    let east_long : length east ≡ cells = length-map-range_with_len (plane East) 0 cells in
+    let north_long : length north ≡ cells = length-map-range_with_len (plane North) 0 cells in
+    let long : length xs ≡ 2 * cells = ap length is ∙ length-append east north ∙ omega (arith, east_long, north_long) in
+    table-is frame.shape (stated frame) (by_number 0 xs) (length-by_number 0 xs ∙ long)
+    (λ n below.
+    let place = placed cells n in
+    by_number-at 0 xs n (omega (arith, below, long)) ∙ ap (λ (w : ℕ). slice_index xs (place_of w n)) long
+    ∙ ap (λ (ys : List ℕ). slice_index ys (place_of (2 * cells) n)) is
+    ∙ elim place.either [
+      | inl first ↦
+          let inside : place.low < cells = let number = first.0 in omega (arith, below, number) in
+          ap (λ (k : ℕ). slice_index (east ++ north) k) first.1 ∙ get_or_append_left east north 0 place.low (omega (arith, inside, east_long))
+          ∙ get_or-map-range_with_len (plane East) 0 cells place.low place.low 0 inside (omega arith)
+          ∙ ap (stated frame) (sym (ap wire_at first.0 ∙ wire_at-east place.low))
+      | inr second ↦
+          let inside : place.low < cells = let number = second.0 in omega (arith, below, number) in
+          ap (λ (k : ℕ). slice_index (east ++ north) k) (second.1 ∙ ap (λ (k : ℕ). k + place.low) (sym east_long))
+          ∙ get_or-append-add east north place.low 0
+          ∙ get_or-map-range_with_len (plane North) 0 cells place.low place.low 0 inside (omega arith)
+          ∙ ap (stated frame) (sym (ap wire_at second.0 ∙ wire_at-north place.low))
+    ])
 
 -- the layer that stands beside a cell
 pub length-layers : (g : Shape) (xs : List ℕ) → xs ≡ cell_layers g → length xs ≡ cells_of g

@@ -1,5 +1,5 @@
 -- Loads that one edge is charged to.
-use Rattle.std.proofs.Common.{◌≡◌, ℕ, ◌+◌, Bool, true, false, List, slice_index, slice_set, if◌then◌else◌, IsTrue, refl, sym, ap, subst, ◌∙◌, arith}
+use Rattle.std.proofs.Common.{◌≡◌, ℕ, ◌+◌, ◌*◌, Bool, true, false, List, length, slice_index, slice_set, if◌then◌else◌, IsTrue, refl, sym, ap, subst, ◌∙◌, arith}
 use Rattle.std.proofs.lemmas.Bool.{both_ways}
 use Rattle.gr_base.proofs.TreeDistinct.{is_edge-same}
 use Rattle.gr_base.specs.EdgeSets.{is_edge}
@@ -7,8 +7,10 @@ use Rattle.gr_base.specs.Grid.{has_edge, is_wire}
 use Rattle.gr_base.specs.Sums.{wire_at, wire_number}
 use Rattle.gr_base.specs.declared.grid.Edge.{Edge}
 use Rattle.grid_demand.proofs.LoadLemmas.{no_demand}
+use Rattle.grid_demand.proofs.PlaneLemmas.{StandsAt, written-at}
 use Rattle.grid_demand.proofs.WireLemmas.{table-at, table-same, table-self, table-set, table-edge, length-table}
 use Rattle.grid_demand.specs.LoadSums.{LoadsView, demand_at, charged, AreLoads}
+use Rattle.grid_demand.specs.Planes.{by_number}
 use Rattle.grid_demand.specs.Tables.{CapacityView, need_at}
 
 -- the charged edge has the sum, another what it had
@@ -52,10 +54,12 @@ demand-charged c net e l f edge wire =
     table-edge l.shape (λ x. demand_at l x + (if is_edge x e then need_at c net x else 0)) f edge wire
 
 -- a sum that is written over what was read
-pub written : (xs : List ℕ) (i j x m n : ℕ) → i ≡ j → x ≡ slice_index xs j → m ≡ n → slice_set xs i (x + m) ≡ slice_set xs j (slice_index xs j + n)
-written xs i j x m n place value more =
-    ap (λ (k : ℕ). slice_set xs k (x + m)) place ∙ ap (λ (k : ℕ). slice_set xs j (k + m)) value
-    ∙ ap (λ (k : ℕ). slice_set xs j (slice_index xs j + k)) more
+pub written : (xs : List ℕ) (cells number place x m n : ℕ) → length xs ≡ 2 * cells → StandsAt 0 xs number place → x ≡ slice_index xs place → m ≡ n →
+    by_number 0 (slice_set xs place (x + m)) ≡ slice_set (by_number 0 xs) number (slice_index (by_number 0 xs) number + n)
+written xs cells number place x m n long is value more =
+    written-at xs cells number place (x + m) long is
+    ∙ ap (λ (k : ℕ). slice_set (by_number 0 xs) number (k + m)) (value ∙ is.value)
+    ∙ ap (λ (k : ℕ). slice_set (by_number 0 xs) number (slice_index (by_number 0 xs) number + k)) more
 
 -- the loads after the write
 abbrev pub with_demands : LoadsView → List ℕ → LoadsView

@@ -1,4 +1,5 @@
 pub mod WireLemmas
+pub mod PlaneLemmas
 pub mod CapacityLemmas
 pub mod TreeTimes
 pub mod LoadSteps

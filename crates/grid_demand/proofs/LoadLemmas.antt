@@ -1,7 +1,8 @@
 -- Loads as sums of tables.
-use Rattle.std.proofs.Common.{◌≡◌, ℕ, suc, zero, ◌+◌, ◌-◌, ◌*◌, ◌<◌, ◌≤◌, inl, inr, max, Bool, true, false, ◌||◌, nat_lt, List, [], ◌∷◌, map, filter, fold, zip, sum_by, length, get_or, All, slice_index, IsTrue, refl, sym, ap, subst, ◌∙◌, arith}
+use Rattle.std.proofs.Common.{◌≡◌, ℕ, suc, zero, ◌+◌, ◌-◌, ◌*◌, ◌<◌, ◌≤◌, inl, inr, max, Bool, true, false, ◌||◌, nat_lt, List, [], ◌∷◌, map, filter, fold, zip, sum_by, length, get_or, replicate, All, slice_index, slice_index_or, IsTrue, refl, sym, ap, subst, ◌∙◌, arith}
 use Rattle.std.proofs.lemmas.Bool.{cases_Bool, both_ways}
-use Rattle.std.proofs.lemmas.List.Elements.{All-head, All-tail, All-map}
+use Rattle.std.proofs.lemmas.List.{length-replicate, get_or-replicate}
+use Rattle.std.proofs.lemmas.List.Elements.{All-head, All-tail, All-map, All-replicate}
 use Rattle.std.proofs.lemmas.List.FromFn.{get_or-map-range_with_len}
 use Rattle.std.proofs.lemmas.List.Sums.{sum_by-cons}
 use Rattle.std.specs.List.{list_any}
@@ -15,9 +16,12 @@ use Rattle.gr_base.specs.declared.grid.Edge.{Edge}
 use Rattle.gr_base.specs.declared.grid.Shape.{Shape}
 use Rattle.grid_demand.proofs.CapacityLemmas.{capacity-table}
 use Rattle.grid_demand.proofs.LoadSteps.{tree-edge}
-use Rattle.grid_demand.proofs.WireLemmas.{table-at, table-is, table-self, length-table, length-wires, number-wire_at, wire-wire_at}
+use Rattle.grid_demand.proofs.PlaneLemmas.{StandsAt, stands, place-below, length-by_number, by_number-at, by_number-zeros, each-number, sum-tables, most-tables, sum-planes, most-planes}
+use Rattle.grid_demand.proofs.WireLemmas.{table-at, table-is, table-self, length-table, length-wires, number-below, number-wire_at, wire-wire_at}
 use Rattle.gr_base.specs.Limits.{most_marks}
-use Rattle.grid_demand.specs.LoadSums.{LoadsView, demand_at, marks_at, share, added, taken, mark_of, marked, marks_told, AreLoads}
+use Rattle.grid_demand.specs.LoadSums.{LoadsView, no_loads, demand_at, marks_at, share, added, taken, mark_of, marked, marks_told, AreLoads}
+use Rattle.grid_demand.specs.Overfull.{AreOverfull}
+use Rattle.grid_demand.specs.Planes.{place_of, by_number}
 use Rattle.grid_demand.specs.Tables.{CapacityView, capacity_of, capacity_at, IsCapacity}
 
 -- an edge that leaves the grid has no demand
@@ -31,6 +35,23 @@ no_share c net t e tree out =
       | inl inside ↦ absurd (both_ways (has_edge t.shape e) out (tree-edge t e (tree-grid_edges t tree) inside))
       | inr outside ↦ rw outside refl
     ]
+
+-- loads of zeros
+pub no-loads : (g : Shape) → AreLoads (no_loads g)
+no-loads g = record {
+  demands = length-replicate (2 * cells_of g) 0;
+  marks = length-replicate (2 * cells_of g) 0;
+  inside = λ number below out. get_or-replicate (2 * cells_of g) number 0 0 below;
+  most = All-replicate (λ (marks : ℕ). marks ≤ most_marks) (2 * cells_of g) 0 (omega arith);
+}
+
+pub loads-new : (g : Shape) (demands marks : List ℕ) → demands ≡ replicate (2 * cells_of g) 0 → marks ≡ [] →
+    record { shape = g; demands = by_number 0 demands; marks = by_number 0 (marks_told (2 * cells_of g) marks) } ≡ no_loads g
+loads-new g demands marks zeros none =
+    let L : List ℕ → List ℕ → LoadsView = λ xs ys. record { shape = g; demands = xs; marks = ys } in
+    let same = by_number-zeros (2 * cells_of g) in
+    ap (λ (xs : List ℕ). L xs (by_number 0 (marks_told (2 * cells_of g) marks))) (ap (λ (xs : List ℕ). by_number 0 xs) zeros ∙ same)
+    ∙ ap (L (replicate (2 * cells_of g) 0)) (ap (λ (ys : List ℕ). by_number 0 (marks_told (2 * cells_of g) ys)) none ∙ same)
 
 -- loads stay loads
 pub added-loads : (c : CapacityView) (net : ℕ) (t : TreeView) (l : LoadsView) → AreLoads l → IsTree t → t.shape ≡ l.shape → AreLoads (added c net t l)
@@ -110,19 +131,6 @@ pub none-marked : (demands capacities marks : List ℕ) → length capacities �
     slice_index marks n ≡ mark_of (slice_index demands n) (slice_index capacities n) (slice_index marks n)
 none-marked demands capacities marks long none n below = rw (none-over demands capacities long none n below) refl
 
--- sums and maxima of two tables side by side
-sum-tables : (f h : Edge → ℕ) (edges : List Edge) →
-    sum_by (λ (p : ℕ × ℕ). p.0 - p.1) (zip (map f edges) (map h edges)) ≡ sum_by (overflow f h) edges
-sum-tables f h [] = refl
-sum-tables f h (e ∷ edges) =
-    sum_by-cons (λ (p : ℕ × ℕ). p.0 - p.1) (f e, h e) (zip (map f edges) (map h edges))
-    ∙ ap (λ (n : ℕ). (f e - h e) + n) (sum-tables f h edges) ∙ sym (sum_by-cons (overflow f h) e edges)
-
-most-tables : (f h : Edge → ℕ) (edges : List Edge) (a : ℕ) →
-    fold (λ m (p : ℕ × ℕ). max m (p.0 - p.1)) a (zip (map f edges) (map h edges)) ≡ fold max a (map (overflow f h) edges)
-most-tables f h [] a = refl
-most-tables f h (e ∷ edges) a = most-tables f h edges (max a (f e - h e))
-
 -- items that count nothing may be left out
 sum-kept : (f : Edge → ℕ) (keep : Edge → Bool) (edges : List Edge) → All (λ e. keep e ≡ false → f e ≡ 0) edges → sum_by f edges ≡ sum_by f (filter keep edges)
 sum-kept f keep [] all = refl
@@ -179,6 +187,66 @@ most-of-tables l c loads tables same =
     ∙ most-tables (demand_at l) (capacity_at c) (wires_from_cells l.shape) 0
     ∙ most-kept (overflow (demand_at l) (capacity_at c)) (has_edge l.shape) (wires_from_cells l.shape) 0 (out-none l c loads)
 
+-- the tables in planes are as long
+pub demands-long : (l : LoadsView) (demands : List ℕ) → AreLoads l → by_number 0 demands ≡ l.demands → length demands ≡ 2 * cells_of l.shape
+demands-long l demands loads is = sym (length-by_number 0 demands) ∙ ap length is ∙ loads.demands
+
+pub capacities-long : (l : LoadsView) (c : CapacityView) (capacities : List ℕ) → IsCapacity c → c.shape ≡ l.shape → by_number 0 capacities ≡ c.capacities →
+    length capacities ≡ 2 * cells_of l.shape
+capacities-long l c capacities tables same is =
+    sym (length-by_number 0 capacities) ∙ ap length is ∙ tables.wires ∙ ap (λ (g : Shape). 2 * cells_of g) same
+
+pub marks-long : (l : LoadsView) (marks : List ℕ) → AreLoads l → by_number 0 (marks_told (2 * cells_of l.shape) marks) ≡ l.marks →
+    length (marks_told (2 * cells_of l.shape) marks) ≡ 2 * cells_of l.shape
+marks-long l marks loads is = sym (length-by_number 0 (marks_told (2 * cells_of l.shape) marks)) ∙ ap length is ∙ loads.marks
+
+-- where a wire edge's demand stands
+pub demand-place : (l now : LoadsView) (demands : List ℕ) (wires : ℕ) (e : Edge) (place : ℕ) → AreLoads l → l ≡ now → by_number 0 demands ≡ l.demands →
+    IsTrue (has_edge now.shape e) → wires ≡ length demands → place ≡ place_of wires (wire_number e) → StandsAt 0 demands (wire_number e) place
+demand-place l now demands wires e place loads same is edge all at =
+    let inside : wire_number e < 2 * cells_of l.shape = subst (λ (v : LoadsView). wire_number e < 2 * cells_of v.shape) (sym same) (number-below now.shape e edge) in
+    let long = demands-long l demands loads is in
+    stands 0 demands wires (wire_number e) place (omega (arith, inside, long)) all at
+
+-- what is read of a list that tells marks
+told-read : (wires : ℕ) (marks : List ℕ) (place : ℕ) → place < wires → slice_index marks place ≡ slice_index (marks_told wires marks) place
+told-read wires [] place below = sym (get_or-replicate wires place 0 0 below)
+told-read wires (mark ∷ marks) place below = refl
+
+pub mark-read : (l now : LoadsView) (demands marks : List ℕ) (wires : ℕ) (e : Edge) (place result : ℕ) → AreLoads l → l ≡ now → by_number 0 demands ≡ l.demands →
+    by_number 0 (marks_told (2 * cells_of l.shape) marks) ≡ l.marks → IsTrue (has_edge now.shape e) → wires ≡ length demands →
+    place ≡ place_of wires (wire_number e) → result ≡ slice_index marks place → result ≡ marks_at now e
+mark-read l now demands marks wires e place result loads same is told edge all at read =
+    let list : List ℕ = marks_told (2 * cells_of l.shape) marks in
+    let demand = demand-place l now demands wires e place loads same is edge all at in
+    let long = demands-long l demands loads is in
+    let marks_all = marks-long l marks loads told in
+    let here = stands 0 list wires (wire_number e) place (let inside = demand.inside in omega (arith, inside, long, marks_all)) (all ∙ long ∙ sym marks_all) at in
+    read ∙ told-read (2 * cells_of l.shape) marks place (let below = demand.below in omega (arith, below, long)) ∙ here.value
+    ∙ ap (λ (xs : List ℕ). slice_index xs (wire_number e)) told ∙ ap (λ (v : LoadsView). marks_at v e) same
+
+-- which wire edges have more demand than capacity, by number
+pub overfull-table : (c : CapacityView) (l : LoadsView) (demands capacities : List ℕ) (over : List Bool) → AreLoads l → IsCapacity c → c.shape ≡ l.shape →
+    by_number 0 demands ≡ l.demands → by_number 0 capacities ≡ c.capacities → length over ≡ length demands →
+    ((n : ℕ) → n < length demands → slice_index_or over n false ≡ nat_lt (slice_index capacities n) (slice_index demands n)) →
+    AreOverfull c l (by_number false over)
+overfull-table c l demands capacities over loads tables same same_demands same_capacities long each =
+    let wires = demands-long l demands loads same_demands in
+    let limits = capacities-long l c capacities tables same same_capacities in
+    record {
+      long = length-by_number false over ∙ long ∙ wires;
+      each = λ n below.
+          let inside : n < length over = omega (arith, below, long, wires) in
+          let p = place_of (length over) n in
+          let demand : slice_index demands p ≡ slice_index l.demands n =
+          ap (λ (w : ℕ). slice_index demands (place_of w n)) long ∙ sym (by_number-at 0 demands n (omega (arith, below, wires))) ∙ ap (λ (xs : List ℕ). slice_index xs n) same_demands in
+          let capacity_is : slice_index capacities p ≡ slice_index c.capacities n =
+          ap (λ (w : ℕ). slice_index capacities (place_of w n)) (long ∙ wires ∙ sym limits) ∙ sym (by_number-at 0 capacities n (omega (arith, below, limits)))
+          ∙ ap (λ (xs : List ℕ). slice_index xs n) same_capacities in
+          by_number-at false over n inside ∙ each p (let place = place-below (length over) n inside in omega (arith, place, long))
+          ∙ ap (λ (k : ℕ). nat_lt k (slice_index demands p)) capacity_is ∙ ap (λ (k : ℕ). nat_lt (slice_index c.capacities n) k) demand;
+    }
+
 -- the loads after new demands
 pub added-whole : (c : CapacityView) (net : ℕ) (t : TreeView) (l : LoadsView) (new : List ℕ) → AreLoads l → IsTree t → t.shape ≡ l.shape →
     new ≡ map (λ e. demand_at l e + share c net t e) (wires_from_cells t.shape) → AreLoads (record { shape = l.shape; demands = new; marks = l.marks })
@@ -204,21 +272,31 @@ marked-is c l demands capacities new loads same_demands same_capacities long eac
     ∙ ap (λ (xs : List ℕ). mark_of (slice_index l.demands n) (slice_index xs n) (slice_index l.marks n)) same_capacities)
 
 -- the loads after new marks that a list tells
-pub marked-told : (c : CapacityView) (l : LoadsView) (demands capacities old new : List ℕ) → AreLoads l → demands ≡ l.demands → capacities ≡ c.capacities →
-    l.marks ≡ marks_told (2 * cells_of l.shape) old → length (marks_told (length demands) new) ≡ length demands →
+pub marked-told : (c : CapacityView) (l : LoadsView) (demands capacities old new : List ℕ) → AreLoads l → IsCapacity c → c.shape ≡ l.shape →
+    by_number 0 demands ≡ l.demands → by_number 0 capacities ≡ c.capacities →
+    l.marks ≡ by_number 0 (marks_told (2 * cells_of l.shape) old) → length (marks_told (length demands) new) ≡ length demands →
     ((n : ℕ) → n < length demands →
     slice_index (marks_told (length demands) new) n ≡ mark_of (slice_index demands n) (slice_index capacities n) (slice_index (marks_told (length demands) old) n)) →
-    marks_told (2 * cells_of l.shape) new ≡ (marked c l).marks
-marked-told c l demands capacities old new loads same_demands same_capacities told long each =
-    let wires : length demands ≡ 2 * cells_of l.shape = ap length same_demands ∙ loads.demands in
-    let whole : length (marks_told (2 * cells_of l.shape) new) ≡ 2 * cells_of l.shape = subst (λ (k : ℕ). length (marks_told k new) ≡ k) wires long in
-    let P : ℕ → Type 0 = λ k. (n : ℕ) → n < k →
+    by_number 0 (marks_told (2 * cells_of l.shape) new) ≡ (marked c l).marks
+marked-told c l demands capacities old new loads tables same same_demands same_capacities told long each =
+    let wires = demands-long l demands loads same_demands in
+    let limits = capacities-long l c capacities tables same same_capacities in
+    let P : ℕ → Type 0 = λ k. length (marks_told k new) ≡ k in
+    let Q : ℕ → Type 0 = λ k. (n : ℕ) → n < k →
     slice_index (marks_told k new) n ≡ mark_of (slice_index demands n) (slice_index capacities n) (slice_index (marks_told k old) n) in
-    let all : P (2 * cells_of l.shape) = subst P wires each in
-    marked-is c l demands capacities (marks_told (2 * cells_of l.shape) new) loads same_demands same_capacities (whole ∙ sym loads.marks)
+    let before : List ℕ = marks_told (2 * cells_of l.shape) old in
+    let after : List ℕ = marks_told (2 * cells_of l.shape) new in
+    let whole : length after ≡ 2 * cells_of l.shape = subst P wires long in
+    let marks_long : length before ≡ 2 * cells_of l.shape = sym (length-by_number 0 before) ∙ sym (ap length told) ∙ loads.marks in
+    let R : ℕ → ℕ → ℕ → ℕ → Type 0 = λ m d k o. m ≡ mark_of d k o in
+    let all : Q (2 * cells_of l.shape) = subst Q wires each in
+    let by = each-number R after demands capacities before (wires ∙ sym whole) (limits ∙ sym whole) (marks_long ∙ sym whole)
+    (λ n below. all n (omega (arith, below, whole))) in
+    marked-is c l (by_number 0 demands) (by_number 0 capacities) (by_number 0 after) loads same_demands same_capacities
+    (length-by_number 0 after ∙ whole ∙ sym loads.marks)
     (λ n below.
-    let within : n < 2 * cells_of l.shape = let h = loads.marks in omega (arith, h) in
-    all n within ∙ ap (λ (xs : List ℕ). mark_of (slice_index demands n) (slice_index capacities n) (slice_index xs n)) (sym told))
+    let within : n < length after = let h = loads.marks in omega (arith, h, below, whole) in
+    by n within ∙ ap (λ (xs : List ℕ). mark_of (slice_index (by_number 0 demands) n) (slice_index (by_number 0 capacities) n) (slice_index xs n)) (sym told))
 
 pub marked-whole : (c : CapacityView) (l : LoadsView) (new : List ℕ) → AreLoads l → new ≡ (marked c l).marks → AreLoads (record { shape = l.shape; demands = l.demands; marks = new })
 marked-whole c l new loads is =
@@ -290,21 +368,27 @@ most-design l c d same is =
     most_overflow-same l.shape (demand_at l) (demand_at l) (capacity_at c) (capacity d) (λ e edge wire. refl) (design-agrees l c d same is)
 
 pub total-of : (l now : LoadsView) (c : CapacityView) (demands capacities : List ℕ) (result : ℕ) → AreLoads l → IsCapacity c → l ≡ now → c.shape ≡ now.shape →
-    demands ≡ l.demands → capacities ≡ c.capacities → result ≡ sum_by (λ (p : ℕ × ℕ). p.0 - p.1) (zip demands capacities) →
+    by_number 0 demands ≡ l.demands → by_number 0 capacities ≡ c.capacities → result ≡ sum_by (λ (p : ℕ × ℕ). p.0 - p.1) (zip demands capacities) →
     result ≡ total_overflow now.shape (demand_at now) (capacity_at c)
 total-of l now c demands capacities result loads tables is same same_demands same_capacities sum_is =
     let P : LoadsView → Type 0 = λ v. result ≡ total_overflow v.shape (demand_at v) (capacity_at c) in
+    let shape : c.shape ≡ l.shape = same ∙ sym (ap (λ (v : LoadsView). v.shape) is) in
     subst P is
-    (sum_is ∙ ap (λ (xs : List ℕ). sum_by (λ (p : ℕ × ℕ). p.0 - p.1) (zip xs capacities)) same_demands
+    (sum_is
+    ∙ sum-planes demands capacities (cells_of l.shape) (demands-long l demands loads same_demands) (capacities-long l c capacities tables shape same_capacities)
+    ∙ ap (λ (xs : List ℕ). sum_by (λ (p : ℕ × ℕ). p.0 - p.1) (zip xs (by_number 0 capacities))) same_demands
     ∙ ap (λ (ys : List ℕ). sum_by (λ (p : ℕ × ℕ). p.0 - p.1) (zip l.demands ys)) same_capacities
-    ∙ total-tables l c loads tables (same ∙ sym (ap (λ (v : LoadsView). v.shape) is)))
+    ∙ total-tables l c loads tables shape)
 
 pub most-of : (l now : LoadsView) (c : CapacityView) (demands capacities : List ℕ) (result : ℕ) → AreLoads l → IsCapacity c → l ≡ now → c.shape ≡ now.shape →
-    demands ≡ l.demands → capacities ≡ c.capacities → result ≡ fold (λ m (p : ℕ × ℕ). max m (p.0 - p.1)) 0 (zip demands capacities) →
+    by_number 0 demands ≡ l.demands → by_number 0 capacities ≡ c.capacities → result ≡ fold (λ m (p : ℕ × ℕ). max m (p.0 - p.1)) 0 (zip demands capacities) →
     result ≡ most_overflow now.shape (demand_at now) (capacity_at c)
 most-of l now c demands capacities result loads tables is same same_demands same_capacities sum_is =
     let P : LoadsView → Type 0 = λ v. result ≡ most_overflow v.shape (demand_at v) (capacity_at c) in
+    let shape : c.shape ≡ l.shape = same ∙ sym (ap (λ (v : LoadsView). v.shape) is) in
     subst P is
-    (sum_is ∙ ap (λ (xs : List ℕ). fold (λ m (p : ℕ × ℕ). max m (p.0 - p.1)) 0 (zip xs capacities)) same_demands
+    (sum_is
+    ∙ most-planes demands capacities (cells_of l.shape) (demands-long l demands loads same_demands) (capacities-long l c capacities tables shape same_capacities)
+    ∙ ap (λ (xs : List ℕ). fold (λ m (p : ℕ × ℕ). max m (p.0 - p.1)) 0 (zip xs (by_number 0 capacities))) same_demands
     ∙ ap (λ (ys : List ℕ). fold (λ m (p : ℕ × ℕ). max m (p.0 - p.1)) 0 (zip l.demands ys)) same_capacities
-    ∙ most-of-tables l c loads tables (same ∙ sym (ap (λ (v : LoadsView). v.shape) is)))
+    ∙ most-of-tables l c loads tables shape)

@@ -14,9 +14,11 @@ use Rattle.gr_base.specs.declared.grid.Edge.{Edge}
 use Rattle.gr_base.specs.declared.grid.Shape.{Shape}
 use Rattle.gr_base.specs.declared.tree.Node.{Node}
 use Rattle.grid_demand.proofs.CapacityLemmas.{take-next}
+use Rattle.grid_demand.proofs.PlaneLemmas.{StandsAt, stands, length-by_number, written-at}
 use Rattle.grid_demand.proofs.TreeTimes.{times, times-append, times-one, one_if-true, one_if-false, times-set, edges_before, edges_before-more, edge-next}
 use Rattle.grid_demand.proofs.WireLemmas.{number-below, table-same, table-self, table-set, table-edge, length-table}
 use Rattle.grid_demand.specs.LoadSums.{changed_by}
+use Rattle.grid_demand.specs.Planes.{place_of, by_number}
 use Rattle.grid_demand.specs.declared.loads.Change.{Change}
 use Rattle.grid_demand.specs.declared.loads.Change.TheVariants.{Gain, Lose}
 use Rattle.gr_base.specs.ParentEdges.{wire_only, wire_to_parent}
@@ -199,34 +201,36 @@ pub length-changed : (g : Shape) (change : ℕ → ℕ → ℕ) (base : List ℕ
 length-changed g change base need edges = length-table g (λ e. change (slice_index base (wire_number e)) (need e * times e edges))
 
 -- a turn of the loop over a tree's nodes that comes to a wire edge
-pub record IsTurn (t : TreeView) (k : ℕ) (base now : List ℕ) (e : Edge) (number : ℕ) : Type 0 where
+pub record IsTurn (t : TreeView) (k : ℕ) (base now : List ℕ) (e : Edge) (place : ℕ) : Type 0 where
   pub next : IsNext t k e
-  pub at : number ≡ wire_number e
-  pub within : number < length now
-  pub before : slice_index now number ≡ slice_index base (wire_number e)
+  pub long : length now ≡ 2 * cells_of t.shape
+  pub stands : StandsAt 0 now (wire_number e) place
+  pub before : slice_index now place ≡ slice_index base (wire_number e)
 
-pub turn : (t : TreeView) (k : ℕ) (change : ℕ → ℕ → ℕ) (base now : List ℕ) (need : Edge → ℕ) (e : Edge) (number : ℕ) → Adds change →
-    now ≡ changed t.shape change base need (edges_before t k) → IsTree t → k < length t.nodes → wire_to_parent t k ≡ Some e →
-    number ≡ wire_number e → IsTurn t k base now e number
-turn t k change base now need e number all is tree below edge at =
+pub turn : (t : TreeView) (k : ℕ) (change : ℕ → ℕ → ℕ) (base now : List ℕ) (need : Edge → ℕ) (e : Edge) (wires place : ℕ) → Adds change →
+    by_number 0 now ≡ changed t.shape change base need (edges_before t k) → IsTree t → k < length t.nodes → wire_to_parent t k ≡ Some e →
+    wires ≡ length now → place ≡ place_of wires (wire_number e) → IsTurn t k base now e place
+turn t k change base now need e wires place all is tree below edge whole at =
     let next = next-wire t k e tree below edge in
-    let long = ap length is ∙ length-changed t.shape change base need (edges_before t k) in
+    let long : length now ≡ 2 * cells_of t.shape = sym (length-by_number 0 now) ∙ ap length is ∙ length-changed t.shape change base need (edges_before t k) in
     let inside = number-below t.shape e next.edge in
+    let there = stands 0 now wires (wire_number e) place (omega (arith, long, inside)) whole at in
     record {
       next = next;
-      at = at;
-      within = omega (arith, at, long, inside);
-      before = ap (λ (n : ℕ). slice_index now n) at ∙ next-before t k change base now need e all next is;
+      long = long;
+      stands = there;
+      before = there.value ∙ next-before t k change base (by_number 0 now) need e all next is;
     }
 
 -- what is written in it
-pub turn-written : (t : TreeView) (k : ℕ) (change : ℕ → ℕ → ℕ) (base now : List ℕ) (need : Edge → ℕ) (e : Edge) (number read taken new : ℕ) → Adds change →
-    now ≡ changed t.shape change base need (edges_before t k) → IsTurn t k base now e number →
-    read ≡ slice_index now number → taken ≡ need e → new ≡ change read taken →
-    slice_set now number new ≡ changed t.shape change base need (edges_before t (k + 1))
-turn-written t k change base now need e number read taken new all is turn_is reads takes makes =
-    let value : new ≡ change (slice_index now (wire_number e)) (need e) =
-    makes ∙ ap (λ (n : ℕ). change n taken) (reads ∙ ap (λ (n : ℕ). slice_index now n) turn_is.at)
-    ∙ ap (λ (n : ℕ). change (slice_index now (wire_number e)) n) takes in
-    ap (λ (n : ℕ). slice_set now n new) turn_is.at ∙ ap (λ (n : ℕ). slice_set now (wire_number e) n) value
-    ∙ next-changed t k change base now need e all turn_is.next is
+pub turn-written : (t : TreeView) (k : ℕ) (change : ℕ → ℕ → ℕ) (base now : List ℕ) (need : Edge → ℕ) (e : Edge) (place read taken new : ℕ) → Adds change →
+    by_number 0 now ≡ changed t.shape change base need (edges_before t k) → IsTurn t k base now e place →
+    read ≡ slice_index now place → taken ≡ need e → new ≡ change read taken →
+    by_number 0 (slice_set now place new) ≡ changed t.shape change base need (edges_before t (k + 1))
+turn-written t k change base now need e place read taken new all is turn_is reads takes makes =
+    let value : new ≡ change (slice_index (by_number 0 now) (wire_number e)) (need e) =
+    makes ∙ ap (λ (n : ℕ). change n taken) (reads ∙ turn_is.stands.value)
+    ∙ ap (λ (n : ℕ). change (slice_index (by_number 0 now) (wire_number e)) n) takes in
+    written-at now (cells_of t.shape) (wire_number e) place new turn_is.long turn_is.stands
+    ∙ ap (λ (n : ℕ). slice_set (by_number 0 now) (wire_number e) n) value
+    ∙ next-changed t k change base (by_number 0 now) need e all turn_is.next is

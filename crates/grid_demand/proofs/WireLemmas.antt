@@ -40,7 +40,7 @@ pub wire_at-number : (e : Edge) → IsTrue (is_wire e) → wire_at (wire_number 
 wire_at-number e wire = at-number e.low e.way wire
 
 -- a number is even or odd
-halves : (n : ℕ) → (n ≡ 2 * (n / 2)) ⊎ (n ≡ 2 * (n / 2) + 1)
+pub halves : (n : ℕ) → (n ≡ 2 * (n / 2)) ⊎ (n ≡ 2 * (n / 2) + 1)
 halves n =
     elim (cases_eq (n % 2) 0) [
       | inl even ↦ inl (omega arith)
@@ -149,21 +149,3 @@ table-set g f a v edge wire =
           let test = (is_edge-number n a wire).1 other in
           rw test (get_or-set_other (map f (wires_from_cells g)) (wire_number a) n v 0 other ∙ table-at g f n below)
     ])
-
--- the numbers of one more cell
-pub wires-more : (f : Edge → ℕ) (cell : ℕ) →
-    map f (map wire_at (range_with_len 0 (2 * (cell + 1)))) ≡ (map f (map wire_at (range_with_len 0 (2 * cell))) ++ f (edge_at cell East) ∷ []) ++ f (edge_at cell North) ∷ []
-wires-more f cell =
-    let F : ℕ → List ℕ = λ n. map f (map wire_at (range_with_len 0 n)) in
-    let two : 2 * (cell + 1) ≡ 2 * cell + 1 + 1 = omega arith in
-    ap F two ∙ one_more (2 * cell + 1) ∙ ap (λ (e : Edge). F (2 * cell + 1) ++ f e ∷ []) (wire_at-north cell)
-    ∙ ap (λ (xs : List ℕ). xs ++ f (edge_at cell North) ∷ []) (one_more (2 * cell) ∙ ap (λ (e : Edge). F (2 * cell) ++ f e ∷ []) (wire_at-east cell))
-  where
-    one_more : (n : ℕ) → map f (map wire_at (range_with_len 0 (n + 1))) ≡ map f (map wire_at (range_with_len 0 n)) ++ f (wire_at n) ∷ []
-    one_more n =
-        ap (map f) (map-range_with_len_more wire_at 0 n n (omega arith))
-        ∙ appended (map wire_at (range_with_len 0 n)) (wire_at n)
-      where
-        appended : (es : List Edge) (e : Edge) → map f (es ++ e ∷ []) ≡ map f es ++ f e ∷ []
-        appended [] e = refl
-        appended (x ∷ es) e = ap (λ (ys : List ℕ). f x ∷ ys) (appended es e)

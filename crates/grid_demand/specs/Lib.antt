@@ -1,3 +1,4 @@
+pub mod Planes
 pub mod Tables
 pub mod CapacityStore
 pub mod LoadSums

@@ -3,13 +3,14 @@ use Rattle.std.specs.Prelude.{◌≡◌, ℕ, ◌*◌, ◌≤◌, Bool, List, Al
 use Rattle.std.specs.List.{range_with_len}
 use Rattle.gr_base.specs.Capacities.{stated, capacity, usable_along, need_along, width_in, widths_of}
 use Rattle.gr_base.specs.Designs.{DesignView, IsLayer}
-use Rattle.gr_base.specs.Grid.{cells_of, place_at}
+use Rattle.gr_base.specs.Grid.{cells_of, edge_at, place_at}
 use Rattle.gr_base.specs.Limits.{most_capacity, most_width}
-use Rattle.gr_base.specs.Sums.{wire_at, wire_number, wires_from_cells}
+use Rattle.gr_base.specs.Sums.{wire_number, wires_from_cells}
 use Rattle.gr_base.specs.declared.frame.Frame.{Frame}
 use Rattle.gr_base.specs.declared.frame.Layer.{Layer}
 use Rattle.gr_base.specs.declared.grid.Edge.{Edge}
 use Rattle.gr_base.specs.declared.grid.Shape.{Shape}
+use Rattle.gr_base.specs.declared.grid.Way.{Way}
 
 -- what a design says of capacity: its grid and layers, the widths of its nets, and the capacities of wire edges by number
 pub record CapacityView : Type 0 where
@@ -22,9 +23,9 @@ pub record CapacityView : Type 0 where
 abbrev pub stated_table : Frame → List ℕ
 stated_table frame = map (stated frame) (wires_from_cells frame.shape)
 
--- what the layers below one state for their wire edges
-abbrev pub stated_below : Frame → ℕ → List ℕ
-stated_below frame layer = map (stated frame) (map wire_at (range_with_len 0 (2 * (layer * (frame.shape.columns * frame.shape.rows)))))
+-- what the layers state for the wire edges from the first cells that go a way
+abbrev pub stated_along_way : Frame → Way → ℕ → List ℕ
+stated_along_way frame way cells = map (λ cell. stated frame (edge_at cell way)) (range_with_len 0 cells)
 
 abbrev pub capacity_table : DesignView → List ℕ
 capacity_table d = map (capacity d) (wires_from_cells d.frame.shape)

@@ -1,13 +1,14 @@
 //! The capacity of wire edges, and what nets need of them.
-ghost use Rattle.std.specs.Prelude.{◌≡◌, ℕ, ◌+◌, ◌*◌, ◌<◌, ◌≤◌, IfOk, OnOk, IsTrue, map, slice_get, Some};
+ghost use Rattle.std.specs.Prelude.{◌≡◌, ℕ, ◌*◌, ◌≤◌, ◌++◌, IfOk, OnOk, IsTrue, map, slice_get, Some};
 ghost use Rattle.gr_base.specs.Designs.{DesignView, IsFrame, IsLayer};
-ghost use Rattle.gr_base.specs.Capacities.{stated, capacity, usable, need, widths_of};
-ghost use Rattle.gr_base.specs.Grid.{place_at, has_edge, is_wire};
+ghost use Rattle.gr_base.specs.Capacities.{stated_along, capacity, usable, need, widths_of};
+ghost use Rattle.gr_base.specs.Grid.{cells_of, place_at, has_edge, is_wire};
 ghost use Rattle.gr_base.specs.Limits.{most_capacity, most_width};
 ghost use Rattle.gr_base.specs.Sums.{wires_from_cells};
-ghost use Rattle.grid_demand.specs.Tables.{capacity_of, stated_table, stated_below, capacity_table, capacity_at, usable_at, need_at, cell_layers, IsCapacity};
+ghost use Rattle.grid_demand.specs.Planes.{by_number};
+ghost use Rattle.grid_demand.specs.Tables.{capacity_of, stated_table, stated_along_way, capacity_table, capacity_at, usable_at, need_at, cell_layers, IsCapacity};
 
-use crate::wires::wire_number;
+use crate::wires::place;
 use gr_base::{Design, Edge, Frame, Layer, Shape, Way};
 use std::alloc::{AllocError, Global};
 use std::marker::Model;
@@ -35,7 +36,7 @@ impl Capacity {
             layers: frame.layers,
             cell_layers: layers_by_cell(alloc, frame.shape)?,
             widths: widths_by_net(alloc, design)?,
-            capacities: capacities_by_wire(alloc, design)?,
+            capacities: capacities_by_place(alloc, design)?,
         })
     }
 
@@ -49,6 +50,7 @@ impl Capacity {
 
     /// The capacity of a wire edge: that in its last adjustment, else what its layer states, the
     /// horizontal capacity for East and the vertical one for North.
+    #[inline(always)]
     pub fn at(&self, e: Edge) -> u64
         requires edge { IsTrue (has_edge self.now.shape e) }
         requires wire { IsTrue (is_wire e) }
@@ -56,7 +58,7 @@ impl Capacity {
         ensures design { (d : DesignView) → self.now ≡ capacity_of d → result ≡ capacity d e }
         ensures most { result ≤ most_capacity }
     {
-        u64::from(self.capacities[wire_number(e)])
+        u64::from(self.capacities[place(e, self.capacities.len())])
     }
 
     /// Whether wires may use an edge: a wire edge where its layer states a capacity for its way,
@@ -100,9 +102,9 @@ impl Capacity {
         self.layers[self.cell_layers[e.low as usize] as usize]
     }
 
-    /// The capacities by the numbers of wire edges.
+    /// The capacities by the places of wire edges.
     pub(crate) fn table(&self) -> &[u32]
-        ensures table { result.now ≡ self.now.capacities }
+        ensures table { by_number 0 result.now ≡ self.now.capacities }
         ensures tables { IsCapacity self.now }
     {
         &self.capacities
@@ -151,42 +153,51 @@ fn widths_by_net(alloc: Global, design: &Design) -> Result<Vec<u32>, AllocError>
     Ok(widths)
 }
 
-/// What the layers state for the wire edges, by number.
-fn stated_by_wire(alloc: Global, frame: &Frame) -> Result<Vec<u32>, AllocError>
+/// What the layers state for the wire edges, by place.
+fn stated_by_place(alloc: Global, frame: &Frame) -> Result<Vec<u32>, AllocError>
     requires { IsFrame frame.now }
-    ensures { IfOk result (λ capacities. capacities.items ≡ stated_table frame.now) }
+    ensures { IfOk result (λ capacities. by_number 0 capacities.items ≡ stated_table frame.now) }
 {
-    let shape = frame.shape;
-    let mut capacities = Vec::with_capacity(alloc, 2 * shape.cells() as usize)?;
-    for layer in 0..shape.layers {
-        push_stated(&mut capacities, frame, layer)?;
-    }
+    let mut capacities = Vec::with_capacity(alloc, 2 * frame.shape.cells() as usize)?;
+    push_plane(&mut capacities, frame, Way::East)?;
+    push_plane(&mut capacities, frame, Way::North)?;
     Ok(capacities)
 }
 
-/// Puts what a layer states for its wire edges behind what the layers below it state.
-fn push_stated(capacities: &mut Vec<u32>, frame: &Frame, layer: u32) -> Result<(), AllocError>
-    requires frame { IsFrame frame.now }
-    requires layer { layer < frame.now.shape.layers }
-    requires below { capacities.old.items ≡ stated_below frame.now layer }
-    ensures { OnOk result (capacities.new.items ≡ stated_below frame.now (layer + 1)) }
+/// Puts what the layers state for the wire edges that go a way behind what is there.
+fn push_plane(capacities: &mut Vec<u32>, frame: &Frame, way: Way) -> Result<(), AllocError>
+    requires { IsFrame frame.now }
+    ensures { OnOk result (capacities.new.items
+        ≡ capacities.old.items ++ stated_along_way frame.now way (cells_of frame.now.shape)) }
 {
-    let stated = frame.layers[layer as usize];
-    for _ in 0..cells_a_layer(frame.shape) {
-        capacities.push(stated.horizontal)?;
-        capacities.push(stated.vertical)?;
+    let cells = cells_a_layer(frame.shape) as usize;
+    for layer in 0..frame.shape.layers {
+        let stated = stated_for(&frame.layers[layer as usize], way);
+        capacities.resize(capacities.len() + cells, stated)?;
     }
     Ok(())
 }
 
-/// The capacities of the wire edges, by number.
-fn capacities_by_wire(alloc: Global, design: &Design) -> Result<Vec<u32>, AllocError>
-    ensures { IfOk result (λ capacities. capacities.items ≡ capacity_table design.now) }
+/// What a layer states for the wire edges that go a way.
+fn stated_for(layer: &Layer, way: Way) -> u32
+    ensures { result ≡ stated_along way (Some layer.now) }
 {
-    let mut capacities = stated_by_wire(alloc, design.frame())?;
+    match way {
+        Way::East => layer.horizontal,
+        Way::North => layer.vertical,
+        Way::Up => 0,
+    }
+}
+
+/// The capacities of the wire edges, by place.
+fn capacities_by_place(alloc: Global, design: &Design) -> Result<Vec<u32>, AllocError>
+    ensures { IfOk result (λ capacities. by_number 0 capacities.items ≡ capacity_table design.now) }
+{
+    let mut capacities = stated_by_place(alloc, design.frame())?;
     for at in 0..design.adjustments() {
         let adjustment = design.adjustment(at);
-        capacities[wire_number(adjustment.edge)] = adjustment.capacity;
+        let place = place(adjustment.edge, capacities.len());
+        capacities[place] = adjustment.capacity;
     }
     Ok(capacities)
 }

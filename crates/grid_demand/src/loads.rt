@@ -8,11 +8,12 @@ ghost use Rattle.gr_base.specs.Grid.{cells_of, has_edge, is_wire};
 ghost use Rattle.gr_base.specs.Sums.{wire_number as number_of, wires_from_cells, total_overflow, most_overflow};
 ghost use Rattle.gr_base.specs.Limits.{most_marks, most_width};
 ghost use Rattle.gr_base.specs.Trees.{IsTree, edges_of};
+ghost use Rattle.grid_demand.specs.Planes.{by_number};
 ghost use Rattle.grid_demand.specs.Tables.{capacity_of, capacity_at, need_at};
 ghost use Rattle.grid_demand.specs.LoadSums.{no_loads, demand_at, marks_at, share, charged, added, taken, marked, mark_of, HasRoom, HasShare, AreLoads, Fits, changed_by, marks_told};
 
 use crate::capacity::Capacity;
-use crate::wires::wire_number;
+use crate::wires::place;
 use gr_base::{Edge, MOST_MARKS, RouteTree, Shape};
 use std::alloc::{AllocError, Global};
 use std::marker::Model;
@@ -44,16 +45,18 @@ impl Loads {
     }
 
     /// The demand for a wire edge.
+    #[inline(always)]
     pub fn demand(&self, e: Edge) -> u64
         requires edge { IsTrue (has_edge self.now.shape e) }
         requires wire { IsTrue (is_wire e) }
         ensures demand { result ≡ demand_at self.now e }
         ensures loads { AreLoads self.now }
     {
-        self.demands[wire_number(e)]
+        self.demands[place(e, self.demands.len())]
     }
 
     /// The marks of a wire edge, at most 1,048,576.
+    #[inline(always)]
     pub fn marks(&self, e: Edge) -> u32
         requires edge { IsTrue (has_edge self.now.shape e) }
         requires wire { IsTrue (is_wire e) }
@@ -61,7 +64,10 @@ impl Loads {
         ensures most { result ≤ most_marks }
         ensures loads { AreLoads self.now }
     {
-        self.marks.get(wire_number(e)).copied().unwrap_or(0)
+        self.marks
+            .get(place(e, self.demands.len()))
+            .copied()
+            .unwrap_or(0)
     }
 
     /// Puts one wire edge of a net in: the edge gains the net's need.
@@ -74,7 +80,8 @@ impl Loads {
         ensures whole { AreLoads self.new }
     {
         let need = capacity.need(net, e);
-        self.demands[wire_number(e)] += need;
+        let at = place(e, self.demands.len());
+        self.demands[at] += need;
     }
 
     /// Puts a net's tree in: each wire edge of the tree gains the net's need.
@@ -111,9 +118,9 @@ impl Loads {
         mark_edges(&mut self.marks, &self.demands, capacity.table());
     }
 
-    /// The demand for each wire edge, by number.
+    /// The demand for each wire edge, by place.
     pub(crate) fn demands(&self) -> &[u64]
-        ensures demands { result.now ≡ self.now.demands }
+        ensures demands { by_number 0 result.now ≡ self.now.demands }
         ensures loads { AreLoads self.now }
     {
         &self.demands
@@ -170,9 +177,9 @@ fn change_along(
     requires long { length demands.old.items ≡ 2 * cells_of tree.now.shape }
     requires shape { capacity.now.shape ≡ tree.now.shape }
     requires fits { (e : Edge) → IsTrue (edges_of tree.now e) → IsTrue (is_wire e) →
-        Fits change (slice_index demands.old.items (number_of e)) (need_at capacity.now net e) }
-    ensures demands { demands.new.items ≡
-        map (λ e. changed_by change (slice_index demands.old.items (number_of e)) (share capacity.now net tree.now e))
+        Fits change (slice_index (by_number 0 demands.old.items) (number_of e)) (need_at capacity.now net e) }
+    ensures demands { by_number 0 demands.new.items ≡
+        map (λ e. changed_by change (slice_index (by_number 0 demands.old.items) (number_of e)) (share capacity.now net tree.now e))
         (wires_from_cells tree.now.shape) }
     ensures tree { IsTree tree.now }
 {
@@ -180,8 +187,8 @@ fn change_along(
         let Some(e) = tree.wire_to_parent(node) else {
             continue;
         };
-        let number = wire_number(e);
-        demands[number] = changed(change, demands[number], capacity.need(net, e));
+        let at = place(e, demands.len());
+        demands[at] = changed(change, demands[at], capacity.need(net, e));
     }
 }
 

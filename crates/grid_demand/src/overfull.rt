@@ -5,7 +5,7 @@ ghost use Rattle.grid_demand.specs.Overfull.{AreOverfull};
 
 use crate::capacity::Capacity;
 use crate::loads::Loads;
-use crate::wires::wire_number;
+use crate::wires::place;
 use gr_base::Edge;
 use std::alloc::{AllocError, Global};
 use std::marker::Model;
@@ -18,11 +18,13 @@ pub struct Overfull {
 }
 
 impl Model for Overfull {
-    ghost use Rattle.std.specs.Prelude.{List, Bool};
+    ghost use Rattle.std.specs.Prelude.{List, Bool, false};
 
     ghost Value = { List Bool };
 
-    ghost view = { λ o. o.over.items };
+    ghost use Rattle.grid_demand.specs.Planes.{by_number};
+
+    ghost view = { λ o. by_number false o.over.items };
 }
 
 impl Loads {
@@ -38,15 +40,16 @@ impl Loads {
 
 impl Overfull {
     /// Whether a wire edge has more demand than capacity.
+    #[inline(always)]
     pub fn has(&self, e: Edge) -> bool
         requires { number_of e < length self.now }
         ensures { result ≡ slice_index_or self.now (number_of e) false }
     {
-        self.over[wire_number(e)]
+        self.over[place(e, self.over.len())]
     }
 }
 
-/// By number, whether a demand is above a capacity.
+/// By place, whether a demand is above a capacity.
 fn over_table(alloc: Global, demands: &[u64], capacities: &[u32]) -> Result<Vec<bool>, AllocError>
     requires { length capacities.now ≡ length demands.now }
     ensures long { IfOk result (λ over. length over.items ≡ length demands.now) }

@@ -1,17 +1,19 @@
-//! The numbers of wire edges in tables.
+//! The places of wire edges in tables.
 ghost use Rattle.std.specs.Prelude.{◌≡◌};
 ghost use Rattle.gr_base.specs.Sums.{wire_number as number_of};
+ghost use Rattle.grid_demand.specs.Planes.{place_of};
 
 use gr_base::{Edge, Way};
 
-/// The number of a wire edge in tables: each cell has two numbers, its East edge's and its North
-/// edge's.
-pub(crate) fn wire_number(e: Edge) -> usize
-    ensures { result ≡ number_of e }
+/// The place of a wire edge in a table of so many: the East edges fill its first half by the numbers
+/// of their low ends, the North edges its second half. So edges of one layer and way stand together.
+#[inline(always)]
+pub(crate) fn place(e: Edge, wires: usize) -> usize
+    ensures { result ≡ place_of wires (number_of e) }
 {
-    let first = 2 * e.low as usize;
-    match e.way {
-        Way::North => first + 1,
-        Way::East | Way::Up => first,
-    }
+    let first = match e.way {
+        Way::North => wires / 2,
+        Way::East | Way::Up => 0,
+    };
+    first + e.low as usize
 }

@@ -1,5 +1,6 @@
 use Rattle.std.proofs.Common.{◌≡◌}
 use Rattle.grid_demand.specs.LoadSums.{changed_by}
+use Rattle.grid_demand.specs.Planes.{by_number}
 use Rattle.grid_demand.specs.Tables.{need_at}
 use Rattle.grid_demand.proofs.LoadSteps.{changed}
 use Rattle.grid_demand.proofs.TreeTimes.{edges_before}
@@ -7,4 +8,4 @@ use Rattle.grid_demand.proofs.loads.change_along.Given as goal
 
 abbrev pub invariant-loop-node : goal.invariant-loop-node
 invariant-loop-node l =
-    l.demands.items ≡ changed l.tree.shape (changed_by l.change) l.fn.demands.items (need_at l.capacity l.net) (edges_before l.tree l.node)
+    by_number 0 l.demands.items ≡ changed l.tree.shape (changed_by l.change) (by_number 0 l.fn.demands.items) (need_at l.capacity l.net) (edges_before l.tree l.node)

@@ -1,19 +1,35 @@
-use Rattle.std.proofs.Common.{◌≡◌, ℕ, ◌<◌, ◌*◌, IsTrue, get_or, subst, sym, ap, ◌∙◌, arith}
+use Rattle.std.proofs.Common.{IsTrue, refl, ap, subst, ◌∙◌, arith}
 use Rattle.std.proofs.lemmas.List.{get_or_read}
-use Rattle.gr_base.specs.Grid.{cells_of, has_edge}
+use Rattle.gr_base.specs.Grid.{has_edge}
+use Rattle.gr_base.specs.Limits.{most_capacity}
 use Rattle.gr_base.specs.Sums.{wire_number}
-use Rattle.grid_demand.specs.Tables.{CapacityView, capacity_at}
-use Rattle.grid_demand.proofs.CapacityLemmas.{capacity-table}
-use Rattle.grid_demand.proofs.WireLemmas.{number-below}
+use Rattle.grid_demand.specs.CapacityStore.{seen}
+use Rattle.grid_demand.specs.Tables.{CapacityView, capacity_at, IsCapacity}
+use Rattle.grid_demand.proofs.CapacityLemmas.{capacity-place, capacity-table}
+use Rattle.grid_demand.proofs.LoadLemmas.{index-most}
 use Rattle.grid_demand.proofs.capacity.Capacity.at.Goals as goal
+
+pub index-requires : goal.index-requires
+index-requires c =
+    let here = capacity-place (seen c.self.inside) c.args.self.now c.self.inside.capacities.items c.len.result c.args.e c.place.result
+    c.self.invariant.tables c.self.view_is refl c.requires.edge (omega (arith, c.len.ensures, c.self.inside.capacities.ok.0)) c.place.ensures in
+    omega (arith, here.below, c.self.inside.capacities.ok.0)
+
+pub returns-clause-value : goal.returns-clause-value
+returns-clause-value c =
+    let here = capacity-place (seen c.self.inside) c.args.self.now c.self.inside.capacities.items c.len.result c.args.e c.place.result
+    c.self.invariant.tables c.self.view_is refl c.requires.edge (omega (arith, c.len.ensures, c.self.inside.capacities.ok.0)) c.place.ensures in
+    c.from.ensures ∙ get_or_read c.self.inside.capacities.items c.place.result c.index.result.now here.below c.index.ensures 0 ∙ here.value
+    ∙ ap (λ (v : CapacityView). capacity_at v c.args.e) c.self.view_is
 
 pub returns-clause-design : goal.returns-clause-design
 returns-clause-design c d is =
-    let xs = c.self.inside.capacities.items in
-    let B : CapacityView → Type 0 = λ v. wire_number c.args.e < 2 * cells_of v.shape in
-    let below = subst B (sym c.self.view_is) (number-below c.args.self.now.shape c.args.e c.requires.edge) in
-    let read = get_or_read xs c.wire_number.result c.index.result.now (omega (arith, below, c.wire_number.ensures, c.self.invariant.tables.wires)) c.index.ensures 0 in
-    let V : CapacityView → Type 0 = λ v. c.from.result ≡ capacity_at v c.args.e in
-    let value = subst V c.self.view_is (c.from.ensures ∙ read ∙ ap (λ (n : ℕ). get_or xs n 0) c.wire_number.ensures) in
-    let P : CapacityView → Type 0 = λ v. IsTrue (has_edge v.shape c.args.e) in
-    value ∙ ap (λ (v : CapacityView). capacity_at v c.args.e) is ∙ capacity-table d c.args.e (subst P is c.requires.edge) c.requires.wire
+    returns-clause-value c ∙ ap (λ (v : CapacityView). capacity_at v c.args.e) is
+    ∙ capacity-table d c.args.e (subst (λ (v : CapacityView). IsTrue (has_edge v.shape c.args.e)) is c.requires.edge) c.requires.wire
+
+pub returns-clause-most : goal.returns-clause-most
+returns-clause-most c =
+    let value = returns-clause-value c in
+    let tables : IsCapacity c.args.self.now = subst (λ (v : CapacityView). IsCapacity v) c.self.view_is c.self.invariant.tables in
+    let most = index-most most_capacity c.args.self.now.capacities (wire_number c.args.e) tables.capacities in
+    omega (arith, value, most)

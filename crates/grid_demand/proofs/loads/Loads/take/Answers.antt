@@ -1,18 +1,26 @@
-use Rattle.std.proofs.Common.{sym, ap, ◌∙◌}
+use Rattle.std.proofs.Common.{◌*◌, refl, sym, ap, ◌∙◌}
+use Rattle.gr_base.specs.Grid.{cells_of}
+use Rattle.gr_base.specs.declared.grid.Shape.{Shape}
 use Rattle.grid_demand.specs.LoadSums.{LoadsView}
 use Rattle.grid_demand.specs.LoadsStore.{seen}
-use Rattle.grid_demand.proofs.LoadLemmas.{taken-whole}
+use Rattle.grid_demand.specs.Planes.{by_number}
+use Rattle.grid_demand.proofs.LoadLemmas.{demands-long, taken-whole}
 use Rattle.grid_demand.proofs.loads.Loads.take.Goals as goal
+
+pub change_along-requires-clause-long : goal.change_along-requires-clause-long
+change_along-requires-clause-long c =
+    demands-long (seen c.self.inside) c.self.inside.demands.items c.self.invariant.loads refl
+    ∙ ap (λ (l : LoadsView). 2 * cells_of l.shape) c.self.view_is ∙ sym (ap (λ (g : Shape). 2 * cells_of g) c.requires.tree)
 
 pub invariant_of-self : goal.invariant_of-self
 invariant_of-self c = record {
   loads =
-      taken-whole c.args.capacity.now c.args.net c.args.tree.now (seen c.self.inside) c.change_along.new.demands.items c.self.invariant.loads
+      taken-whole c.args.capacity.now c.args.net c.args.tree.now (seen c.self.inside) (by_number 0 c.change_along.new.demands.items) c.self.invariant.loads
       (c.requires.tree ∙ sym (ap (λ (l : LoadsView). l.shape) c.self.view_is)) c.change_along.ensures.demands;
   room = c.self.invariant.room;
 }
 
 pub returns-clause-whole : goal.returns-clause-whole
 returns-clause-whole c =
-    taken-whole c.args.capacity.now c.args.net c.args.tree.now (seen c.self.inside) c.change_along.new.demands.items c.self.invariant.loads
+    taken-whole c.args.capacity.now c.args.net c.args.tree.now (seen c.self.inside) (by_number 0 c.change_along.new.demands.items) c.self.invariant.loads
     (c.requires.tree ∙ sym (ap (λ (l : LoadsView). l.shape) c.self.view_is)) c.change_along.ensures.demands

@@ -1,0 +1,23 @@
+use Rattle.std.proofs.Common.{◌≡◌, ℕ, ◌*◌, ◌≤◌, List, replicate, sym, ap, subst, ◌∙◌}
+use Rattle.std.specs.Vec.{vec_capacity}
+use Rattle.gr_base.specs.declared.grid.Shape.{Shape}
+use Rattle.grid_demand.specs.LoadSums.{LoadsView, AreLoads, no_loads}
+use Rattle.grid_demand.proofs.LoadLemmas.{no-loads, loads-new}
+use Rattle.grid_demand.proofs.loads.Loads.new.Goals as goal
+
+pub invariant_of-result : goal.invariant_of-result
+invariant_of-result c =
+    let zeros = c.in_ok-vec.ensures.items_if_clones_equal (λ y e. e) ∙ ap (λ (n : ℕ). replicate (2 * n) 0) c.cells.ensures.cells in
+    record {
+      loads =
+          subst (λ (l : LoadsView). AreLoads l)
+          (sym (loads-new c.shape-shape.result c.in_ok-vec.field-0.items c.in_ok-with_capacity.field-0.items zeros c.in_ok-with_capacity.ensures.items))
+          (no-loads c.shape-shape.result);
+      room = subst (λ (n : ℕ). 2 * n ≤ vec_capacity c.in_ok-with_capacity.field-0) c.cells.ensures.cells c.in_ok-with_capacity.ensures.capacity;
+    }
+
+pub returns : goal.returns
+returns c =
+    let zeros = c.in_ok-vec.ensures.items_if_clones_equal (λ y e. e) ∙ ap (λ (n : ℕ). replicate (2 * n) 0) c.cells.ensures.cells in
+    loads-new c.shape-shape.result c.in_ok-vec.field-0.items c.in_ok-with_capacity.field-0.items zeros c.in_ok-with_capacity.ensures.items
+    ∙ ap (λ (g : Shape). no_loads g) c.shape-shape.ensures.shape

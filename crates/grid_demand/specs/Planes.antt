@@ -1,0 +1,12 @@
+-- Tables of wire edges in planes: the East edges by the numbers of their low ends, then the North edges.
+use Rattle.std.specs.Prelude.{ℕ, ◌+◌, ◌/◌, ◌%◌, ◌*◌, ◌==◌, List, map, length, slice_index_or, if◌then◌else◌}
+use Rattle.std.specs.List.{range_with_len}
+
+-- where the wire edge with a number stands in a table of so many wire edges
+abbrev pub place_of : ℕ → ℕ → ℕ
+place_of wires number = (if number % 2 == 0 then 0 else wires / 2) + number / 2
+
+-- what a table in planes has for each wire edge, by number
+abbrev pub by_number : {X : Type 0} → X → List X → List X
+by_number blank xs =
+    map (λ number. slice_index_or xs (place_of (length xs) number) blank) (range_with_len 0 (length xs))
