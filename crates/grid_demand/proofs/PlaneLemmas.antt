@@ -1,11 +1,11 @@
 -- Tables of wire edges in planes, and what they have by number.
-use Rattle.std.proofs.Common.{◌≡◌, ℕ, suc, zero, ◌+◌, ◌-◌, ◌*◌, ◌/◌, ◌%◌, ◌==◌, ◌<◌, ◌⊎◌, inl, inr, max, true, false, List, [], ◌∷◌, ◌++◌, map, zip, fold, sum_by, length, get_or, replicate, slice_index, slice_index_or, slice_set, refl, sym, ap, subst, ◌∙◌, arith}
+use Rattle.std.proofs.Common.{◌≡◌, ℕ, suc, zero, ◌+◌, ◌-◌, ◌*◌, ◌/◌, ◌%◌, ◌==◌, ◌<◌, ◌⊎◌, inl, inr, max, true, false, List, [], ◌∷◌, map, zip, fold, sum_by, length, replicate, slice_index, slice_index_or, slice_set, refl, sym, ap, subst, ◌∙◌, arith}
 use Rattle.std.proofs.lemmas.Bool.{cases_Bool, cases_eq}
 use Rattle.std.proofs.lemmas.Bool.Decides.{nat_tests}
 use Rattle.std.proofs.lemmas.Grind.{same_number_lists}
 use Rattle.std.proofs.lemmas.List.{length-replicate, get_or-replicate, length-set, get_or-set_same, get_or-set_other}
 use Rattle.std.proofs.lemmas.List.FromFn.{length-map-range_with_len, get_or-map-range_with_len, map-range_with_len_more, sum_by-map-range_with_len_more}
-use Rattle.std.proofs.lemmas.List.Sums.{sum_by-append, sum_by-cons, fold_push}
+use Rattle.std.proofs.lemmas.List.Sums.{sum_by-cons, fold_push}
 use Rattle.std.specs.List.{range_with_len}
 use Rattle.grid_demand.proofs.WireLemmas.{halves}
 use Rattle.grid_demand.specs.Planes.{place_of, by_number}
@@ -51,13 +51,13 @@ place-apart cells m n m_below n_below same =
     let b = placed cells n in
     elim a.either [
       | inl east ↦ elim b.either [
-          | inl also ↦ let e = east.0 in let f = east.1 in let g = also.0 in let h = also.1 in omega (arith, e, f, g, h, same)
-          | inr north ↦ let e = east.0 in let f = east.1 in let g = north.0 in let h = north.1 in omega (arith, e, f, g, h, same, m_below, n_below)
-        ]
+        | inl also ↦ let e = east.0 in let f = east.1 in let g = also.0 in let h = also.1 in omega (arith, e, f, g, h, same)
+        | inr north ↦ let e = east.0 in let f = east.1 in let g = north.0 in let h = north.1 in omega (arith, e, f, g, h, same, m_below, n_below)
+      ]
       | inr north ↦ elim b.either [
-          | inl east ↦ let e = east.0 in let f = east.1 in let g = north.0 in let h = north.1 in omega (arith, e, f, g, h, same, m_below, n_below)
-          | inr also ↦ let e = north.0 in let f = north.1 in let g = also.0 in let h = also.1 in omega (arith, e, f, g, h, same)
-        ]
+        | inl east ↦ let e = east.0 in let f = east.1 in let g = north.0 in let h = north.1 in omega (arith, e, f, g, h, same, m_below, n_below)
+        | inr also ↦ let e = north.0 in let f = north.1 in let g = also.0 in let h = also.1 in omega (arith, e, f, g, h, same)
+      ]
     ]
 
 -- what a table has by number

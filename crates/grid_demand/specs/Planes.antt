@@ -1,5 +1,5 @@
 -- Tables of wire edges in planes: the East edges by the numbers of their low ends, then the North edges.
-use Rattle.std.specs.Prelude.{ℕ, ◌+◌, ◌/◌, ◌%◌, ◌*◌, ◌==◌, List, map, length, slice_index_or, if◌then◌else◌}
+use Rattle.std.specs.Prelude.{ℕ, ◌+◌, ◌/◌, ◌%◌, ◌==◌, List, map, length, slice_index_or, if◌then◌else◌}
 use Rattle.std.specs.List.{range_with_len}
 
 -- where the wire edge with a number stands in a table of so many wire edges

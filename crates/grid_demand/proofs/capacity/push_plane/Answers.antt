@@ -1,8 +1,8 @@
-use Rattle.std.proofs.Common.{ℕ, ◌+◌, ◌*◌, ◌++◌, ap, sym, ◌∙◌, arith}
+use Rattle.std.proofs.Common.{ℕ, ◌+◌, ◌*◌, ◌++◌, ap, ◌∙◌, arith}
 use Rattle.std.proofs.lemmas.Bool.Decides.{nat_tests}
 use Rattle.std.specs.Vec.{vec_len}
 use Rattle.gr_base.specs.Capacities.{stated}
-use Rattle.gr_base.specs.Grid.{cells_of, edge_at}
+use Rattle.gr_base.specs.Grid.{edge_at}
 use Rattle.gr_base.specs.declared.frame.Layer.{Layer}
 use Rattle.grid_demand.specs.Tables.{stated_along_way}
 use Rattle.grid_demand.proofs.CapacityLemmas.{layers-more, stated-layer, all-cells}
