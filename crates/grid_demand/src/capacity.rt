@@ -196,8 +196,8 @@ fn capacities_by_place(alloc: Global, design: &Design) -> Result<Vec<u32>, Alloc
     let mut capacities = stated_by_place(alloc, design.frame())?;
     for at in 0..design.adjustments() {
         let adjustment = design.adjustment(at);
-        let place = place(adjustment.edge, capacities.len());
-        capacities[place] = adjustment.capacity;
+        let wire = place(adjustment.edge, capacities.len());
+        capacities[wire] = adjustment.capacity;
     }
     Ok(capacities)
 }

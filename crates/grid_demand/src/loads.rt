@@ -5,10 +5,10 @@ ghost use Rattle.std.specs.Vec.{vec_capacity};
 ghost use Rattle.gr_base.specs.Capacities.{capacity as capacity_in};
 ghost use Rattle.gr_base.specs.Designs.{DesignView};
 ghost use Rattle.gr_base.specs.Grid.{cells_of, has_edge, is_wire};
-ghost use Rattle.gr_base.specs.Sums.{wire_number as number_of, wires_from_cells, total_overflow, most_overflow};
+ghost use Rattle.gr_base.specs.Sums.{wires_from_cells, total_overflow, most_overflow};
 ghost use Rattle.gr_base.specs.Limits.{most_marks, most_width};
 ghost use Rattle.gr_base.specs.Trees.{IsTree, edges_of};
-ghost use Rattle.grid_demand.specs.Planes.{by_number};
+ghost use Rattle.grid_demand.specs.Planes.{by_number, in_planes};
 ghost use Rattle.grid_demand.specs.Tables.{capacity_of, capacity_at, need_at};
 ghost use Rattle.grid_demand.specs.LoadSums.{no_loads, demand_at, marks_at, share, charged, added, taken, marked, mark_of, HasRoom, HasShare, AreLoads, Fits, changed_by, marks_told};
 
@@ -21,8 +21,8 @@ use std::marker::Model;
 /// The demand for each wire edge of a grid, in units of width, and the marks of each: how often it
 /// was over its capacity when the loads were marked.
 ///
-/// The list of marks is empty until an edge gets its first mark. Its memory is taken before, so that
-/// `mark` needs none, and isn't touched until then.
+/// Both lists go by the places of wire edges. That of marks is empty until an edge gets its first
+/// mark. Its memory is taken before, so that `mark` needs none, and isn't touched until then.
 #[derive(Debug, Drop)]
 pub struct Loads {
     shape: Shape,
@@ -177,9 +177,9 @@ fn change_along(
     requires long { length demands.old.items ≡ 2 * cells_of tree.now.shape }
     requires shape { capacity.now.shape ≡ tree.now.shape }
     requires fits { (e : Edge) → IsTrue (edges_of tree.now e) → IsTrue (is_wire e) →
-        Fits change (slice_index (by_number 0 demands.old.items) (number_of e)) (need_at capacity.now net e) }
+        Fits change (in_planes demands.old.items e) (need_at capacity.now net e) }
     ensures demands { by_number 0 demands.new.items ≡
-        map (λ e. changed_by change (slice_index (by_number 0 demands.old.items) (number_of e)) (share capacity.now net tree.now e))
+        map (λ e. changed_by change (in_planes demands.old.items e) (share capacity.now net tree.now e))
         (wires_from_cells tree.now.shape) }
     ensures tree { IsTree tree.now }
 {
