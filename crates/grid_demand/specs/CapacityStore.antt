@@ -6,7 +6,12 @@ use Rattle.grid_demand.specs.declared.capacity.Capacity.TheInside.{Inside}
 
 -- what the fields say
 abbrev pub seen : Inside → CapacityView
-seen c = record { shape = c.shape; layers = c.layers; widths = c.widths.items; capacities = by_number 0 c.capacities.items }
+seen c = record {
+  shape = c.shape;
+  layers = c.layers;
+  widths = c.widths.items;
+  capacities = by_number 0 c.capacities.items;
+}
 
 -- the tables are whole, and each cell's layer stands beside it
 pub record Keeps (c : Inside) : Type 0 where
