@@ -30,6 +30,7 @@ pub(crate) fn renew(
 }
 
 /// Takes the first pair out of bucket 0.
+#[inline(always)]
 pub(crate) fn take_first(
     slots: &mut Vec<Slot>,
     heads: &mut [Option<u32>; 65],

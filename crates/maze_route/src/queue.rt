@@ -68,6 +68,7 @@ impl BucketQueue {
     }
 
     /// Takes a pair of least key out. None exactly where the queue is empty. It takes no memory.
+    #[inline(always)]
     pub fn pop(&mut self) -> Option<(u64, u32)>
         ensures { Pops result self.old self.new }
     {

@@ -21,6 +21,7 @@ use std::alloc::{AllocError, Global};
 const MOST_DISTANCE: u64 = 1_152_921_504_606_846_976;
 
 /// Gives the end of a step from a cell with this label a label of its own, if that is lower.
+#[inline(always)]
 fn reach(front: &mut Front, from: u64, step: Option<Step>) -> Result<(), AllocError>
     requires from { from ≤ most_distance }
     requires small { IfSome step (λ s. s.cost ≤ most_cost) }

@@ -161,6 +161,7 @@ pub(crate) fn cell_beside(pane: Pane, spot: Spot, side: Side) -> Option<u32>
 }
 
 /// The step to the neighbour on a side, if there is one.
+#[inline(always)]
 pub(crate) fn step_beside<C: Costs>(
     costs: &C,
     pane: Pane,
