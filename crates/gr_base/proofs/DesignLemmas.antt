@@ -1,11 +1,9 @@
 -- Nets and their ids.
-use Rattle.std.proofs.Common.{◌≡◌, ℕ, ◌+◌, ◌<◌, ◌≤◌, ◌⊎◌, inl, inr, true, false, ◌==◌, nat_eq, cond, List, [], ◌∷◌, ◌++◌, length, map, Some, None, refl, sym, ap, subst, ◌∙◌, arith, length-append, zero, suc, if◌then◌else◌}
-use Rattle.std.specs.List.{position_from, slice_get, list_any, position}
+use Rattle.std.proofs.Common.{◌≡◌, ℕ, ◌+◌, ◌<◌, ◌≤◌, ◌⊎◌, inl, inr, true, ◌==◌, nat_eq, cond, List, [], ◌∷◌, ◌++◌, length, map, Some, None, refl, ap, subst, ◌∙◌, arith, length-append, zero, suc}
+use Rattle.std.specs.List.{position_from, slice_get}
 use Rattle.std.proofs.lemmas.Bool.{cases_Bool}
 use Rattle.std.proofs.lemmas.List.Elements.{All-push}
-use Rattle.std.proofs.lemmas.List.{map-append}
 use Rattle.std.proofs.lemmas.List.Sums.{sum_by-append}
-use Rattle.std.proofs.lemmas.Iterator.Adapters.{position_from-zero}
 use Rattle.gr_base.specs.Limits.{most_nets, most_pins}
 use Rattle.gr_base.specs.Designs.{DesignView, IsNet, IsDesign, net_from, net_with_id, pins_of}
 use Rattle.gr_base.specs.declared.frame.Net.{Net}
@@ -17,9 +15,6 @@ ids_of nets = map (λ net. net.id) nets
 pub net_from-position : (number id : ℕ) (nets : List Net) → position_from (nat_eq id) number (ids_of nets) ≡ net_from number id nets
 net_from-position number id [] = refl
 net_from-position number id (net ∷ nets) = ap (λ o. cond (nat_eq id net.id) (Some number) o) (net_from-position (number + 1) id nets)
-
-pub net_with_id-position : (id : ℕ) (nets : List Net) → position (nat_eq id) (ids_of nets) ≡ net_from 0 id nets
-net_with_id-position id nets = position_from-zero (nat_eq id) (ids_of nets) ∙ net_from-position 0 id nets
 
 -- a net that is found stays found when others come behind
 pub net_from-found : (number id place : ℕ) (nets more : List Net) → net_from number id nets ≡ Some place → net_from number id (nets ++ more) ≡ Some place
@@ -80,21 +75,7 @@ IsDesign-push_net d net design is_net fresh room pins = record {
   few_adjustments = design.few_adjustments;
 }
 
--- a new id goes behind the ids of the set
-pub ids-insert : (id : ℕ) (nets : List Net) → net_from 0 id nets ≡ None → list_any (nat_eq id) (ids_of nets) ≡ false
-ids-insert id nets none = none_any 0 id nets none
-  where
-    none_any : (number id : ℕ) (nets : List Net) → net_from number id nets ≡ None → list_any (nat_eq id) (ids_of nets) ≡ false
-    none_any number id [] none = refl
-    none_any number id (net ∷ nets) none =
-        elim (cases_Bool (id == net.id)) [
-          | inl same ↦ let here = rw same at none in cc
-          | inr other ↦ let later = rw other at none in rw other (none_any (number + 1) id nets later)
-        ]
-
-pub keys-push : (keys new : List ℕ) (nets : List Net) (net : Net) → keys ≡ ids_of nets → net_from 0 net.id nets ≡ None →
-    new ≡ (if list_any (nat_eq net.id) keys then keys else keys ++ net.id ∷ []) → new ≡ ids_of (nets ++ net ∷ [])
-keys-push keys new nets net are none is =
-    let absent : list_any (nat_eq net.id) keys ≡ false = ap (list_any (nat_eq net.id)) are ∙ ids-insert net.id nets none in
-    let grown = rw absent at is in
-    grown ∙ ap (λ (ks : List ℕ). ks ++ net.id ∷ []) are ∙ sym (map-append (λ (n : Net). n.id) nets (net ∷ []))
+-- an id that no net has is none of the nets' ids
+pub ids-fresh : (ids : List ℕ) (id : ℕ) (nets : List Net) → ids ≡ ids_of nets → net_from 0 id nets ≡ None →
+    position_from (nat_eq id) 0 ids ≡ None
+ids-fresh ids id nets are none = ap (position_from (nat_eq id) 0) are ∙ net_from-position 0 id nets ∙ none

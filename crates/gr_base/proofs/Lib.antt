@@ -2,6 +2,7 @@ pub mod General
 pub mod GridLemmas
 pub mod ChipLemmas
 pub mod DesignLemmas
+pub mod IdLemmas
 pub mod TreeLemmas
 pub mod TreeEdges
 pub mod TreeGrowth

@@ -7,7 +7,7 @@ use Rattle.gr_base.specs.declared.design.Design.TheInside.{Inside}
 abbrev pub seen : Inside → DesignView
 seen d = record { frame = d.frame; nets = d.nets.items; adjustments = d.adjustments.items }
 
--- the fields make a design, and the set of ids has the nets' ids in their order
+-- the fields make a design, and the ids are the nets' in their order
 pub record Keeps (d : Inside) : Type 0 where
   pub design : IsDesign (seen d)
-  pub ids : d.ids.keys ≡ map (λ net. net.id) d.nets.items
+  pub ids : d.ids ≡ map (λ net. net.id) d.nets.items

@@ -6,8 +6,8 @@ ghost use Rattle.gr_base.specs.Designs.{IsFrame, IsNet, IsAdjustment, IsDesign, 
 
 use crate::chip::{middle, tile_at};
 use crate::frame::{Adjustment, Frame, Net, Point};
+use crate::ids::Ids;
 use crate::limits::MOST_ROUTED_PINS;
-use indexmap::IndexSet;
 use std::alloc::{AllocError, Global};
 use std::marker::Model;
 
@@ -22,7 +22,7 @@ pub struct NetRefused {
 pub struct Design {
     frame: Frame,
     nets: Vec<Net>,
-    ids: IndexSet<u32>,
+    ids: Ids,
     adjustments: Vec<Adjustment>,
 }
 
@@ -35,7 +35,7 @@ impl Design {
         Ok(Design {
             frame,
             nets: Vec::new(alloc),
-            ids: IndexSet::new(alloc),
+            ids: Ids::new(alloc),
             adjustments: Vec::new(alloc),
         })
     }
@@ -53,7 +53,7 @@ impl Design {
         if self.nets.reserve(1).is_err() {
             return Err(NetRefused { net });
         }
-        let Ok(_new) = self.ids.insert(net.id) else {
+        let Ok(()) = self.ids.push(net.id) else {
             return Err(NetRefused { net });
         };
         self.nets.push_reserved(net);
@@ -114,10 +114,7 @@ impl Design {
     pub fn net_of_id(&self, id: u32) -> Option<u32>
         ensures { result ≡ net_with_id self.now id }
     {
-        match self.ids.get_index_of(&id) {
-            Some(net) => Some(net as u32),
-            None => None,
-        }
+        self.ids.place_of(id)
     }
 
     /// Whether a net is routed: whether it has 1 to 1,000 pins.

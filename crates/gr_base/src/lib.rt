@@ -7,6 +7,7 @@ mod design;
 mod edges;
 mod frame;
 mod grid;
+mod ids;
 mod limits;
 mod name;
 mod node_index;
