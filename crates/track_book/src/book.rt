@@ -15,8 +15,13 @@ use book_state::{Call, Claim, ClaimRefused, Replica, Reply};
 use gr_base::Cells;
 use grid_demand::Capacity;
 use std::alloc::AllocError;
-use std::sync::{Arc, Mutex, Wait};
+use std::hint::spin_loop;
+use std::sync::{Arc, Mutex, MutexGuard, Wait};
 use std::thread::Threads;
+
+/// How often a caller looks whether the lock is free before it sleeps. Most calls hold the lock for a
+/// microsecond or two, and waking a sleeper takes far longer.
+const LOOKS: u32 = 1_000;
 
 /// The book N, which threads share. Each call is one entry of one history, and its reply is the one
 /// that a book for one thread gives there. `claim`, `release`, `mark`, `hold`, `sync`, `victims` and
@@ -38,6 +43,17 @@ impl<N: BookName> TrackBook<N> {
         &self.capacity
     }
 
+    /// What lies under the lock, once no other caller holds it.
+    fn locked<R: Wait>(&self, rt: &R) -> MutexGuard<'_, Locked<N>> {
+        for _ in 0..LOOKS {
+            if let Some(guard) = self.lock.try_lock() {
+                return guard;
+            }
+            spin_loop();
+        }
+        self.lock.lock(rt)
+    }
+
     /// Books a net with a tree, where it isn't booked and the tree's wire edges have room within
     /// capacity and slack. The pass then has seen a history that ends with this call and its reply.
     /// The claim comes back only for want of memory, and pass and book are then as they were.
@@ -52,7 +68,7 @@ impl<N: BookName> TrackBook<N> {
         ensures err { OnErr result (pass.new ≡ pass.old) }
         ensures back { IfErr result (λ refused. refused.claim ≡ claim) }
     {
-        let reply = self.lock.lock(rt).claim(&self.front, pass, claim)?;
+        let reply = self.locked(rt).claim(&self.front, pass, claim)?;
         pass.let_go();
         Ok(reply)
     }
@@ -68,7 +84,7 @@ impl<N: BookName> TrackBook<N> {
         ensures reply { IfOk result (λ reply. IsAnswered N.capacity pass.old pass.new (Call.Release net) reply) }
         ensures err { OnErr result (pass.new ≡ pass.old) }
     {
-        let reply = self.lock.lock(rt).release(&self.front, pass, net)?;
+        let reply = self.locked(rt).release(&self.front, pass, net)?;
         pass.let_go();
         Ok(reply)
     }
@@ -79,7 +95,7 @@ impl<N: BookName> TrackBook<N> {
         ensures reply { IfOk result (λ reply. IsAnswered N.capacity pass.old pass.new Call.Mark reply) }
         ensures err { OnErr result (pass.new ≡ pass.old) }
     {
-        self.lock.lock(rt).mark(&self.front, pass)
+        self.locked(rt).mark(&self.front, pass)
     }
 
     /// The pass sees the whole history, and holds it, so that replicas can read it when the lock is free
@@ -89,7 +105,7 @@ impl<N: BookName> TrackBook<N> {
         ensures held { OnOk result (pass.new.held ≡ length pass.new.seen) }
         ensures err { OnErr result (pass.new ≡ pass.old) }
     {
-        self.lock.lock(rt).sync(&self.front, pass)?;
+        self.locked(rt).sync(&self.front, pass)?;
         pass.let_go();
         Ok(())
     }
@@ -128,7 +144,7 @@ impl<N: BookName> TrackBook<N> {
         ensures victims { IfOk result (λ nets. nets ≡ victims_of N.capacity pass.new.seen) }
         ensures err { OnErr result (pass.new ≡ pass.old) }
     {
-        self.lock.lock(rt).victims(rt, &self.front, pass, blocks)
+        self.locked(rt).victims(rt, &self.front, pass, blocks)
     }
 
     /// Both passes come to have seen one history, which begins with what each had seen.
@@ -139,7 +155,7 @@ impl<N: BookName> TrackBook<N> {
         ensures knew { (IsPass N.capacity one.old) × (IsPass N.capacity other.old) }
         ensures know { (IsPass N.capacity one.new) × (IsPass N.capacity other.new) }
     {
-        self.lock.lock(rt).meet(&self.front, one, other);
+        self.locked(rt).meet(&self.front, one, other);
     }
 
     /// How many entries the history has, at least. It waits for nobody.
