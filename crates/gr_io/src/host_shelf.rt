@@ -122,14 +122,26 @@ impl<R: Files> Shelf for HostShelf<R> {
         ensures others { self.new.left ≡ set_slot self.old.left slot (at_slot self.new.left slot) }
     {
         let mut file = self.files.take(slot).unwrap();
-        let outcome = read_some(&mut file, buf);
+        let result = read_or_count(&mut file, buf, &mut self.faults);
         self.files.set(slot, Some(file));
-        match outcome {
-            Ok(count) => Ok(count),
-            Err(_) => {
-                self.faults = self.faults.saturating_add(1);
-                Err(Failed)
-            }
+        result
+    }
+}
+
+/// Reads some bytes, and counts a fault where that fails.
+fn read_or_count<F: Read>(file: &mut F, buf: &mut [u8], faults: &mut u64) -> Result<usize, Failed>
+    ensures within { IfOk result (λ count. count ≤ length buf.old) }
+    ensures bytes { ReadConsumes (F.remaining file.old) (F.remaining file.new) result buf.new }
+    ensures failed { OnErr result (Rose faults.old faults.new) }
+    ensures counted { OnErr result (faults.new ≡ one_more faults.old) }
+    ensures quiet { OnOk result (faults.new ≡ faults.old) }
+    ensures kept { faults.old ≤ faults.new }
+{
+    match read_some(file, buf) {
+        Ok(count) => Ok(count),
+        Err(_) => {
+            *faults = faults.saturating_add(1);
+            Err(Failed)
         }
     }
 }
