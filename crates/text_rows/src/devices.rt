@@ -1,6 +1,8 @@
 //! Devices over memory, devices that never fail, files and streams.
 ghost use Rattle.std.specs.Prelude.{IsTrue};
 
+use crate::calls::{Calls, Stream};
+use crate::files::DigitFiles;
 use crate::tellings::{number_in, put_end, put_error, size_in};
 use gr_base::Name;
 use gr_io::{
@@ -8,7 +10,6 @@ use gr_io::{
 };
 use gr_text::Text;
 use std::alloc::{AllocError, Global};
-use std::io::{self, ErrorKind, Write};
 use std::rt::Files;
 
 /// Puts the text of a name, as it is read, at the end of the text, or why it isn't read.
@@ -95,32 +96,25 @@ fn put_kept(bytes: &[u8], whole: bool, told: &mut Text) -> Result<(), AllocError
     put_end(whole, told)
 }
 
-/// A writer whose first call is interrupted, and that then takes so many bytes in all.
-#[derive(Drop)]
-struct Interrupted {
-    calls: u32,
-    room: usize,
+/// What a stream gets of "abcdef", by its room, the most bytes that it takes in a call, and which of
+/// its calls fail.
+pub(crate) fn put_stream(alloc: Global, rest: &str, told: &mut Text) -> Result<(), AllocError> {
+    let (room, rest) = number_in(rest);
+    let (most, rest) = size_in(rest);
+    let mut stream = Stream {
+        bytes: Vec::new(alloc),
+        room: room as usize,
+        most: most as usize,
+        calls: Calls::new(rest),
+    };
+    let whole = write_whole(&mut HostSink::new(&mut stream), b"abcdef").is_ok();
+    put_kept(&stream.bytes, whole, told)
 }
 
-impl Write for Interrupted {
-    fn write(&mut self, buf: &[u8]) -> io::Result<usize> {
-        self.calls = self.calls.saturating_add(1);
-        if self.calls == 1 {
-            return Err(io::Error::from(ErrorKind::Interrupted));
-        }
-        let count = self.room.min(buf.len());
-        self.room -= count;
-        Ok(count)
-    }
-
-    fn flush(&mut self) -> io::Result<()> {
-        Ok(())
-    }
-}
-
-/// Whether such a writer takes "abcdef".
-pub(crate) fn put_stream(rest: &str, told: &mut Text) -> Result<(), AllocError> {
-    let room = number_in(rest).0 as usize;
-    let mut sink = HostSink::new(Interrupted { calls: 0, room });
-    put_end(write_whole(&mut sink, b"abcdef").is_ok(), told)
+/// The text of a file some of whose calls fail.
+pub(crate) fn put_digits(alloc: Global, rest: &str, told: &mut Text) -> Result<(), AllocError> {
+    let files = DigitFiles {
+        calls: Calls::new(rest),
+    };
+    put_read(alloc, &mut HostShelf::new(files), "digits", told)
 }

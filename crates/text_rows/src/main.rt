@@ -8,8 +8,11 @@
 //! - `file NAME` reads a file;
 //! - `sink ROOM MOST CALL` writes "abcdef" to a sink of memory with so much room that takes at most
 //!   so many bytes in a call, and fails at the call of this number;
-//! - `stream ROOM` writes it to a stream whose first call is interrupted, and that takes so many
-//!   bytes in all;
+//! - `stream ROOM MOST INTERRUPTED BROKEN` writes it to a stream with so much room that takes at most
+//!   so many bytes in a call, whose first calls, so many, are interrupted, and of which the call of
+//!   the last number fails (0: none);
+//! - `digits INTERRUPTED BROKEN` reads a file with such calls, which gives three bytes, one in a call:
+//!   the last digit of the call's number;
 //! - `tokens PIECE LIMIT WORD ..` reads the tokens of a text, which comes in pieces of so many bytes
 //!   and may have so many. The text is the words without blanks between them, but that `CR`, `LF`,
 //!   `TAB` and `BLANK` stand for these bytes;
@@ -25,8 +28,10 @@
 //! - `greatest` tells the report with the greatest numbers.
 #![tactic(auto)]
 
+mod calls;
 mod devices;
 mod edges;
+mod files;
 mod given;
 mod numbers;
 mod tellings;
@@ -52,7 +57,8 @@ fn put_row<R: AllocGlobal + Files>(rt: &R, line: &str, told: &mut Text) -> Resul
         "sure" => devices::put_sure(alloc, rest, told),
         "file" => devices::put_file(rt, rest, told),
         "sink" => devices::put_sink(alloc, rest, told),
-        "stream" => devices::put_stream(rest, told),
+        "stream" => devices::put_stream(alloc, rest, told),
+        "digits" => devices::put_digits(alloc, rest, told),
         "tokens" => tokens::put_reading(alloc, Reading::All, rest, told),
         "next" => tokens::put_reading(alloc, Reading::Next, rest, told),
         "steps" => tokens::put_reading(alloc, Reading::Steps, rest, told),
