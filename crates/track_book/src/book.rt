@@ -21,7 +21,11 @@ use std::thread::Threads;
 
 /// How often a caller looks whether the lock is free before it sleeps. Most calls hold the lock for a
 /// microsecond or two, and waking a sleeper takes far longer.
-const LOOKS: u32 = 1_000;
+const LOOKS: u32 = 64;
+
+/// From which look on pauses grow no longer: each before is twice as long as the one before it. A look
+/// takes the lock's memory from the caller that holds it.
+const LONGEST: u32 = 4;
 
 /// The book N, which threads share. Each call is one entry of one history, and its reply is the one
 /// that a book for one thread gives there. `claim`, `release`, `mark`, `hold`, `sync`, `victims` and
@@ -45,11 +49,11 @@ impl<N: BookName> TrackBook<N> {
 
     /// What lies under the lock, once no other caller holds it.
     fn locked<R: Wait>(&self, rt: &R) -> MutexGuard<'_, Locked<N>> {
-        for _ in 0..LOOKS {
+        for look in 0..LOOKS {
             if let Some(guard) = self.lock.try_lock() {
                 return guard;
             }
-            spin_loop();
+            pause(1 << look.min(LONGEST));
         }
         self.lock.lock(rt)
     }
@@ -184,5 +188,12 @@ impl<N: BookName> TrackBook<N> {
             lock,
         } = self;
         Ok(close(front, lock.into_inner(), passes, seats))
+    }
+}
+
+/// Lets so many short pauses go by.
+fn pause(times: u32) {
+    for _ in 0..times {
+        spin_loop();
     }
 }
