@@ -11,21 +11,22 @@ use Rattle.gr_base.specs.Trees.{TreeView, tree_at}
 use Rattle.gr_io.specs.Devices.{Device, Reading, IsUntouched}
 use Rattle.gr_io.specs.Counts.{Rose}
 use Rattle.gr_io.specs.declared.shelf.Slot.{Slot}
-use Rattle.gr_io.specs.declared.shelf.Slot.TheVariants.{Library, Solution}
+use Rattle.gr_io.specs.declared.shelf.Slot.TheVariants.{Solution}
 use Rattle.ispd_reader.specs.declared.fault.DesignFault.{DesignFault as DesignFaultKind}
 use Rattle.rc_library.specs.Libraries.{LibraryView}
-use Rattle.rc_library.specs.LibraryText.{library_of}
 use Rattle.rc_library.specs.declared.fault.LibraryFault.{LibraryFault as LibraryFaultKind}
 use Rattle.route_reader.specs.SolutionText.{solution_of}
 use Rattle.solution_text.specs.declared.fault.SolutionFault.{SolutionFault as SolutionFaultKind}
 use Rattle.round_core.proofs.TurnLemmas.{IsNetOf, routed-net}
 use Rattle.route_reader.specs.Solutions.{SolutionView, edges_by}
 use Rattle.solution_text.specs.Cover.{cover}
-use Rattle.router_top.specs.Buffering.{HasTree, IsTreeBy, AreTreesBy, StopsAtNet, AreAccepted, IsBuffersText, IsBuffering, RefusesNet, GivesTree, GiveTrees, buffering}
+use Rattle.router_top.specs.Buffering.{HasTree, IsTreeBy, AreTreesBy, StopsAtNet, AreAccepted, IsBuffersText, IsPlacedText, IsBuffering, RefusesNet, GivesTree, StopsAtTrees, buffering}
+use Rattle.router_top.proofs.LeavingLemmas.{written-one}
 use Rattle.router_top.specs.Commands.{checked}
-use Rattle.router_top.specs.Leaving.{IsMissing, LeavesOut}
+use Rattle.router_top.specs.Leaving.{IsMissing, LeavesOut, WritesOne}
 use Rattle.router_top.specs.Opening.{IsCovered, Opens}
 use Rattle.router_top.specs.Said.{design_said, library_said, solution_said}
+use Rattle.router_top.specs.declared.stop.Outcome.{Outcome}
 use Rattle.router_top.specs.declared.stop.Stop.{Stop}
 use Rattle.router_top.specs.declared.stop.Stop.TheVariants.{Usage, DesignFault, LibraryFault, SolutionFault, NotTree, ReadFailed, WriteFailed, NoMemory}
 
@@ -40,18 +41,18 @@ pub record AreRead (shelf : Reading) (design_name library_name solution_name : L
   pub files : AreAccepted shelf design_name library_name solution_name
   pub covered : IsTrue shelf.tells → IsCovered files.design (shelf.held Solution solution_name) files.solution
 
--- once they were opened one after another, each where the shelf held what it held at first
+-- once the solution was opened last, where the shelf held what it held at first
 abbrev pub are-read : (shelf : Reading) (design_name library_name solution_name : List ℕ) (d : DesignView) (lib : LibraryView) (s : SolutionView)
-    (library solution : Option (List ℕ)) → (IsTrue shelf.tells → design_said shelf.held design_name ≡ Some (Ok d)) →
-    library ≡ shelf.held Library library_name → (IsTrue shelf.tells → option_map (library_of d) library ≡ Some (Ok lib)) →
+    (solution : Option (List ℕ)) → (IsTrue shelf.tells → design_said shelf.held design_name ≡ Some (Ok d)) →
+    (IsTrue shelf.tells → library_said shelf.held library_name d ≡ Some (Ok lib)) →
     solution ≡ shelf.held Solution solution_name → (IsTrue shelf.tells → option_map (solution_of d) solution ≡ Some (Ok s)) →
     (IsTrue shelf.tells → IsCovered d solution s) → AreRead shelf design_name library_name solution_name
-are-read shelf design_name library_name solution_name d lib s library solution said same library_read kept solution_read covered = record {
+are-read shelf design_name library_name solution_name d lib s solution said library_read kept solution_read covered = record {
   files = record {
     design = d;
     said = said;
     library = lib;
-    library_read = λ tells. ap (option_map (library_of d)) (sym same) ∙ library_read tells;
+    library_read = library_read;
     solution = s;
     solution_read = λ tells. ap (option_map (solution_of d)) (sym kept) ∙ solution_read tells;
   };
@@ -61,7 +62,7 @@ are-read shelf design_name library_name solution_name d lib s library solution s
 -- the texts of a buffering, all of which are accepted
 module _ (shelf : Reading) (design_name library_name solution_name : List ℕ) (files : AreAccepted shelf design_name library_name solution_name)
     (covered : IsTrue shelf.tells → IsCovered files.design (shelf.held Solution solution_name) files.solution) where
-  pub is-buffering : (trees : List (Option TreeView)) (text : List ℕ) → AreTreesBy files.design (edges_by files.solution) trees →
+  is-buffering : (trees : List (Option TreeView)) (text : List ℕ) → AreTreesBy files.design (edges_by files.solution) trees →
       IsBuffersText files.design files.library trees text → IsBuffering shelf design_name library_name solution_name text
   is-buffering trees text are says = record {
     files = files;
@@ -78,26 +79,30 @@ module _ (shelf : Reading) (design_name library_name solution_name : List ℕ) (
     covered = λ tells. by-cover (λ sets. StopsAtNet files.design sets stop) files.design files.solution (shelf.held Solution solution_name) (covered tells) first;
   }
 
-  -- a stop for a net is for nothing else
-  no_net : (stop : Stop) → StopsAtNet files.design (edges_by files.solution) stop → ((id : ℕ) → stop ≡ NotTree id → ⊥) → ⊥
-  no_net stop first other = other first.net.id first.is
+  -- what was written, or the stop before it, is what the command leaves
+  pub placed : (out : Device) (end : Result Outcome Stop) → shelf.faults_after ≡ shelf.faults →
+      WritesOne (IsPlacedText files.design files.library (edges_by files.solution)) (StopsAtNet files.design (edges_by files.solution)) out end →
+      LeavesOut (buffering design_name library_name solution_name) shelf out end
+  placed out end reads is =
+      written-one (buffering design_name library_name solution_name) shelf out reads (IsPlacedText files.design files.library (edges_by files.solution))
+      (λ outcome text is. (is.whole, refl, refl, is-buffering is.trees text is.are is.says))
+      (StopsAtNet files.design (edges_by files.solution)) (λ stop first. (first.net.id, first.is)) refused end is
 
-  -- a command that stopped at the solution's trees
-  pub stopped : (out : Device) (stop : Stop) → shelf.faults_after ≡ shelf.faults → IsUntouched out →
-      GiveTrees files.design (edges_by files.solution) (Err stop) → LeavesOut (buffering design_name library_name solution_name) shelf out (Err stop)
-  stopped out NoMemory reads unwritten given err untouched = (inl (unwritten, refl), untouched)
-  stopped out (NotTree id) reads unwritten given err untouched =
-      (record { reads = reads; refuses = refused (NotTree id) given; unwritten = unwritten }, (untouched, refl))
-  stopped out Usage reads unwritten given err untouched = absurd (no_net Usage given (λ id is. cc))
-  stopped out (DesignFault fault token) reads unwritten given err untouched = absurd (no_net (DesignFault fault token) given (λ id is. cc))
-  stopped out (LibraryFault fault token) reads unwritten given err untouched = absurd (no_net (LibraryFault fault token) given (λ id is. cc))
-  stopped out (SolutionFault fault token) reads unwritten given err untouched = absurd (no_net (SolutionFault fault token) given (λ id is. cc))
-  stopped out ReadFailed reads unwritten given err untouched = absurd (no_net ReadFailed given (λ id is. cc))
-  stopped out WriteFailed reads unwritten given err untouched = absurd (no_net WriteFailed given (λ id is. cc))
+-- a stop at a solution's trees, before anything was written
+pub stops-unwritten : (d : DesignView) (sets : ℕ → Edges) (says : Outcome → List ℕ → Type 0) (out : Device) (stop : Stop) → IsUntouched out →
+    StopsAtTrees d sets stop → WritesOne says (StopsAtNet d sets) out (Err stop)
+stops-unwritten d sets says out NoMemory untouched is = untouched
+stops-unwritten d sets says out WriteFailed untouched is = absurd (let same = is.is in cc)
+stops-unwritten d sets says out Usage untouched is = (is, untouched)
+stops-unwritten d sets says out (DesignFault fault token) untouched is = (is, untouched)
+stops-unwritten d sets says out (LibraryFault fault token) untouched is = (is, untouched)
+stops-unwritten d sets says out (SolutionFault fault token) untouched is = (is, untouched)
+stops-unwritten d sets says out (NotTree id) untouched is = (is, untouched)
+stops-unwritten d sets says out ReadFailed untouched is = (is, untouched)
 
 -- a net whose edges aren't a tree, behind nets that have theirs, is a stop
 pub stops-at : (d : DesignView) (sets : ℕ → Edges) (net : ℕ) (stop : Stop) → IsTrue (is_routed d net) →
-    ((other : ℕ) → other < net → IsTrue (is_routed d other) → HasTree d sets other) → GivesTree d sets net (Err stop) → GiveTrees d sets (Err stop)
+    ((other : ℕ) → other < net → IsTrue (is_routed d other) → HasTree d sets other) → GivesTree d sets net (Err stop) → StopsAtTrees d sets stop
 stops-at d sets net stop routed before given = by stop given
   where
     one : IsNetOf d net
@@ -114,7 +119,7 @@ stops-at d sets net stop routed before given = by stop given
       is = is.0;
     }
 
-    by : (stop : Stop) → GivesTree d sets net (Err stop) → GiveTrees d sets (Err stop)
+    by : (stop : Stop) → GivesTree d sets net (Err stop) → StopsAtTrees d sets stop
     by NoMemory given = tt
     by (NotTree id) given = stopped-by (NotTree id) (given one.net one.there)
     by Usage given = stopped-by Usage (given one.net one.there)

@@ -10,10 +10,13 @@ use Rattle.route_reader.specs.Solutions.{SolutionView, edges_by}
 use Rattle.router_top.specs.Opening.{IsCovered}
 use Rattle.router_top.specs.declared.stop.Outcome.{Outcome}
 use Rattle.solution_text.specs.Cover.{cover}
-use Rattle.gr_io.specs.Devices.{Reading}
+use Rattle.gr_io.specs.Devices.{Device, Reading}
 use Rattle.router_top.specs.Said.{design_said, solution_said}
-use Rattle.router_top.specs.Judging.{IsJudging, IsCoverVerdict, outcome_of, verdict_text, HasOpenNet}
+use Rattle.router_top.specs.Judging.{judging, IsJudging, IsCoverVerdict, IsVerdictText, outcome_of, HasOpenNet}
+use Rattle.router_top.specs.Leaving.{LeavesOut, WritesOne}
+use Rattle.router_top.proofs.LeavingLemmas.{written-one}
 use Rattle.router_top.specs.declared.stop.Outcome.TheVariants.{Whole, Open}
+use Rattle.router_top.specs.declared.stop.Stop.{Stop}
 
 -- the design is said in one way
 pub one_design : (said : Option (Result DesignView (Fault × ℕ))) (d e : DesignView) → said ≡ Some (Ok d) → said ≡ Some (Ok e) → d ≡ e
@@ -66,19 +69,26 @@ covered-verdict : (d : DesignView) (s : SolutionView) (via_cost : ℕ) (v : Verd
 covered-verdict d s via_cost v judged None covered = covered
 covered-verdict d s via_cost v judged (Some bytes) covered = verdict-same d via_cost (edges_by s) (cover d bytes) v covered judged
 
--- a verdict on what was read is a judgement
-pub is-judging : (shelf : Reading) (design_name solution_name : List ℕ) (via_cost : ℕ) (d : DesignView) (s : SolutionView) (v : Verdict) (outcome : Outcome) →
-    (IsTrue shelf.tells → design_said shelf.held design_name ≡ Some (Ok d)) → (IsTrue shelf.tells → solution_said shelf.held solution_name d ≡ Some (Ok s)) →
-    IsVerdict d via_cost (edges_by s) v → (IsTrue shelf.tells → IsCovered d (shelf.held Solution solution_name) s) → outcome ≡ outcome_of v.unjoined →
-    IsJudging shelf design_name solution_name via_cost outcome (verdict_text d v)
-is-judging shelf design_name solution_name via_cost d s v outcome said read judged covered ends = record {
-  design = d;
-  said = said;
-  solution = s;
-  read = read;
-  verdict = v;
-  judged = judged;
-  covered = λ tells. covered-verdict d s via_cost v judged (shelf.held Solution solution_name) (covered tells);
-  says = refl;
-  ends = ends;
-}
+-- a verdict on what was read, as it was written, is what the command leaves
+module _ (shelf : Reading) (design_name solution_name : List ℕ) (via_cost : ℕ) (d : DesignView) (s : SolutionView)
+    (said : IsTrue shelf.tells → design_said shelf.held design_name ≡ Some (Ok d)) (read : IsTrue shelf.tells → solution_said shelf.held solution_name d ≡ Some (Ok s))
+    (covered : IsTrue shelf.tells → IsCovered d (shelf.held Solution solution_name) s) where
+  is-judging : (outcome : Outcome) (text : List ℕ) → IsVerdictText d (edges_by s) via_cost outcome text →
+      IsJudging shelf design_name solution_name via_cost outcome text
+  is-judging outcome text is = record {
+    design = d;
+    said = said;
+    solution = s;
+    read = read;
+    verdict = is.verdict;
+    judged = is.judged;
+    covered = λ tells. covered-verdict d s via_cost is.verdict is.judged (shelf.held Solution solution_name) (covered tells);
+    says = is.says;
+    ends = is.ends;
+  }
+
+  pub judged : (out : Device) (end : Result Outcome Stop) → shelf.faults_after ≡ shelf.faults →
+      WritesOne (IsVerdictText d (edges_by s) via_cost) (λ stop. ⊥) out end → LeavesOut (judging design_name solution_name via_cost) shelf out end
+  judged out end reads is =
+      written-one (judging design_name solution_name via_cost) shelf out reads (IsVerdictText d (edges_by s) via_cost)
+      (λ outcome text is. (refl, refl, is-judging outcome text is)) (λ stop. ⊥) (λ stop no. absurd no) (λ stop no. absurd no) end is

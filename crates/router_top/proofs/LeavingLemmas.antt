@@ -1,10 +1,10 @@
 -- What is left where texts are written.
-use Rattle.std.proofs.Common.{◌≡◌, ℕ, inl, inr, List, [], Option, Some, None, Result, Ok, Err, IsTrue, sym, subst, append-nil, ◌∙◌}
+use Rattle.std.proofs.Common.{◌≡◌, ℕ, inl, inr, List, [], Option, Some, None, Result, Ok, Err, IsTrue, refl, sym, subst, append-nil, ◌∙◌}
 use Rattle.gr_io.specs.Devices.{Device, Reading, IsUntouched, Gains}
 use Rattle.ripup_workers.specs.declared.rounds.Rounds.{Rounds}
 use Rattle.router_top.specs.Commands.{HandedBack, Command, rounds_back}
 use Rattle.router_top.specs.Ends.{LeavesFor}
-use Rattle.router_top.specs.Leaving.{IsDone, FailsToWrite, Leaves, LeavesOut, SomeIsCut, IsWritten}
+use Rattle.router_top.specs.Leaving.{IsDone, FailsToWrite, Leaves, LeavesOut, SomeIsCut, IsWritten, WritesOne}
 use Rattle.router_top.specs.Orders.{command_of}
 use Rattle.word_reader.specs.Orders.{Order}
 use Rattle.router_top.specs.declared.stop.Outcome.{Outcome}
@@ -60,3 +60,34 @@ written command shelf out err kept text report (Err WriteFailed) reports reads s
         })
 written command shelf out err kept text report (Err NoMemory) reports reads says is =
     (inr (record { outcome = Whole; text = text; report = report; part = is.0; says = says }), is.1)
+
+-- one of a command's texts, as it was written on out, or the stop before it, which is for a net without a tree
+module _ (command : Command) (shelf : Reading) (out : Device) (reads : shelf.faults_after ≡ shelf.faults) (says : Outcome → List ℕ → Type 0)
+    (said : (outcome : Outcome) (text : List ℕ) → says outcome text → command.says shelf None outcome text []) (stops : Stop → Type 0)
+    (is_net : (stop : Stop) → stops stop → (id : ℕ) × (stop ≡ NotTree id)) (refuses : (stop : Stop) → stops stop → command.refuses shelf stop) where
+  other : (stop : Stop) → ((id : ℕ) → stop ≡ NotTree id → ⊥) → stops stop × IsUntouched out → ⊥
+  other stop apart is = let net = is_net stop is.0 in apart net.0 net.1
+
+  pub written-one : (end : Result Outcome Stop) → WritesOne says stops out end → LeavesOut command shelf out end
+  written-one (Ok outcome) is err untouched = record {
+    reads = reads;
+    text = is.text;
+    report = [];
+    out_gains = is.gains;
+    err_gains = gains-nothing err untouched;
+    says = said outcome is.text is.said;
+  }
+  written-one (Err WriteFailed) is err untouched =
+      inl (record {
+        cause = is.cause;
+        part = record { outcome = is.outcome; text = is.text; report = []; part = is.part; says = said is.outcome is.text is.said };
+        silent = untouched;
+      })
+  written-one (Err NoMemory) is err untouched = (inl (is, refl), untouched)
+  written-one (Err (NotTree id)) is err untouched =
+      (record { reads = reads; refuses = refuses (NotTree id) is.0; unwritten = is.1 }, (untouched, refl))
+  written-one (Err Usage) is err untouched = absurd (other Usage (λ id same. cc) is)
+  written-one (Err (DesignFault fault token)) is err untouched = absurd (other (DesignFault fault token) (λ id same. cc) is)
+  written-one (Err (LibraryFault fault token)) is err untouched = absurd (other (LibraryFault fault token) (λ id same. cc) is)
+  written-one (Err (SolutionFault fault token)) is err untouched = absurd (other (SolutionFault fault token) (λ id same. cc) is)
+  written-one (Err ReadFailed) is err untouched = absurd (other ReadFailed (λ id same. cc) is)

@@ -16,6 +16,7 @@ use Rattle.solution_text.specs.Cover.{cover}
 use Rattle.buffer_plan.specs.Plans.{ArePlans}
 use Rattle.router_top.specs.Commands.{Command, checked}
 use Rattle.router_top.specs.Said.{design_said, library_said, solution_said}
+use Rattle.router_top.specs.declared.stop.Outcome.{Outcome}
 use Rattle.router_top.specs.declared.stop.Outcome.TheVariants.{Whole}
 use Rattle.router_top.specs.declared.stop.Stop.{Stop}
 use Rattle.router_top.specs.declared.stop.Stop.TheVariants.{DesignFault, LibraryFault, SolutionFault, NotTree, NoMemory}
@@ -50,6 +51,14 @@ pub record IsBuffersText (d : DesignView) (lib : LibraryView) (trees : List (Opt
   pub planned : ArePlans d lib trees plans
   pub says : text ≡ buffers_text d lib trees plans
 
+-- the plans' text of the trees of these sets of edges
+pub record IsPlacedText (d : DesignView) (lib : LibraryView) (sets : ℕ → Edges) (outcome : Outcome)
+    (text : List ℕ) : Type 0 where
+  pub whole : outcome ≡ Whole
+  pub trees : List (Option TreeView)
+  pub are : AreTreesBy d sets trees
+  pub says : IsBuffersText d lib trees text
+
 -- what the files of the command say, where all are accepted
 pub record AreAccepted (shelf : Reading) (design_name library_name solution_name : List ℕ) : Type 0 where
   pub design : DesignView
@@ -76,16 +85,21 @@ pub record RefusesNet (shelf : Reading) (design_name library_name solution_name 
   pub covered : IsTrue shelf.tells →
       IsSomeAnd (shelf.held Solution solution_name) (λ bytes. StopsAtNet files.design (cover files.design bytes) stop)
 
--- the tree of one net, or of each, or a stop
+-- the tree of one net, or a stop
 abbrev pub GivesTree : DesignView → (ℕ → Edges) → ℕ → Result TreeView Stop → Type 0
 GivesTree d sets net (Ok t) = IsTreeBy d sets net t × HasTree d sets net
 GivesTree d sets net (Err NoMemory) = Unit {0}
 GivesTree d sets net (Err stop) = (value : Net) → slice_get d.nets net ≡ Some value → (stop ≡ NotTree value.id) × ¬ HasTree d sets net
 
+-- why a solution's trees weren't all made
+abbrev pub StopsAtTrees : DesignView → (ℕ → Edges) → Stop → Type 0
+StopsAtTrees d sets NoMemory = Unit {0}
+StopsAtTrees d sets stop = StopsAtNet d sets stop
+
+-- the tree of each net, or a stop
 abbrev pub GiveTrees : DesignView → (ℕ → Edges) → Result (List (Option TreeView)) Stop → Type 0
 GiveTrees d sets (Ok trees) = AreTreesBy d sets trees
-GiveTrees d sets (Err NoMemory) = Unit {0}
-GiveTrees d sets (Err stop) = StopsAtNet d sets stop
+GiveTrees d sets (Err stop) = StopsAtTrees d sets stop
 
 abbrev pub buffering : (design library solution : List ℕ) → Command
 buffering design library solution = record {

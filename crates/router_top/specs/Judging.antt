@@ -1,6 +1,7 @@
 -- The command `evaluate`: what its files say, and what it writes.
 use Rattle.std.specs.Prelude.{◌≡◌, ℕ, false, List, [], ◌∷◌, ◌++◌, Option, Some, None, Ok, IsTrue, IsSomeAnd}
 use Rattle.gr_base.specs.Designs.{DesignView}
+use Rattle.gr_base.specs.EdgeSets.{Edges}
 use Rattle.gr_io.specs.Devices.{Reading}
 use Rattle.gr_io.specs.declared.shelf.Slot.TheVariants.{Solution}
 use Rattle.report_text.specs.Texts.{unjoined_text}
@@ -22,6 +23,14 @@ outcome_of (net ∷ nets) = Open
 -- the report of a verdict, and the nets that it finds unjoined
 abbrev pub verdict_text : DesignView → Verdict → List ℕ
 verdict_text d v = report_of v ++ unjoined_text d.nets v.unjoined
+
+-- a verdict on these sets of edges, and its text
+pub record IsVerdictText (d : DesignView) (sets : ℕ → Edges) (via_cost : ℕ) (outcome : Outcome)
+    (text : List ℕ) : Type 0 where
+  pub verdict : Verdict
+  pub judged : IsVerdict d via_cost sets verdict
+  pub says : text ≡ verdict_text d verdict
+  pub ends : outcome ≡ outcome_of verdict.unjoined
 
 -- a verdict on what the held bytes cover
 abbrev pub IsCoverVerdict : DesignView → (via_cost : ℕ) → Option (List ℕ) → Verdict → Type 0

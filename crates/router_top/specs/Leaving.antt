@@ -107,3 +107,24 @@ IsWritten text report out err (Ok outcome) = (outcome ≡ Whole) × Gains out te
 IsWritten text report out err (Err WriteFailed) = SomeIsCut text report out err
 IsWritten text report out err (Err NoMemory) = GainsPart out text × IsUntouched err
 IsWritten text report out err (Err stop) = ⊥
+
+-- out gained one of the texts that are said
+pub record HasWritten (says : Outcome → List ℕ → Type 0) (out : Device) (outcome : Outcome) : Type 0 where
+  pub text : List ℕ
+  pub said : says outcome text
+  pub gains : Gains out text
+
+-- a write to out failed, which gained a first part of one of the texts
+pub record HasCut (says : Outcome → List ℕ → Type 0) (out : Device) : Type 0 where
+  pub outcome : Outcome
+  pub text : List ℕ
+  pub said : says outcome text
+  pub cause : Rose out.faults out.faults_after
+  pub part : GainsPart out text
+
+-- what the writing of one of these texts to out leaves, by how it ends, or a stop before it
+abbrev pub WritesOne : (Outcome → List ℕ → Type 0) → (Stop → Type 0) → (out : Device) → Result Outcome Stop → Type 0
+WritesOne says stops out (Ok outcome) = HasWritten says out outcome
+WritesOne says stops out (Err WriteFailed) = HasCut says out
+WritesOne says stops out (Err NoMemory) = IsUntouched out
+WritesOne says stops out (Err stop) = stops stop × IsUntouched out

@@ -6,6 +6,7 @@ pub mod Commands
 pub mod Leaving
 pub mod Buffering
 pub mod Routing
+pub mod Opened
 pub mod Judging
 pub mod Making
 pub mod Ends

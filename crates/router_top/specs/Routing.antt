@@ -1,5 +1,5 @@
 -- The command `route`: the book of its rounds, the text of its routes, and their report.
-use Rattle.std.specs.Prelude.{◌≡◌, ℕ, ◌≤◌, true, false, List, ◌++◌, Option, Some, None, Ok, length, slice_get, take, IsTrue, IsSomeAnd}
+use Rattle.std.specs.Prelude.{◌≡◌, ℕ, ◌≤◌, true, false, List, ◌++◌, Option, Some, None, Result, Ok, length, slice_get, take, IsTrue, IsSomeAnd, IfOk, OnOk}
 use Rattle.cost_rules.specs.declared.sight.Watch.TheVariants.{Never}
 use Rattle.gr_base.specs.Designs.{DesignView, is_routed, is_routed_net}
 use Rattle.gr_base.specs.EdgeSets.{Edges, IsJoined}
@@ -14,6 +14,7 @@ use Rattle.book_state.specs.Books.{booked, demand as demand_after, IsLegal}
 use Rattle.book_state.specs.Marks.{least_mark}
 use Rattle.book_state.specs.Views.{BookView}
 use Rattle.book_state.specs.declared.entry.Entry.{Entry}
+use Rattle.route_evaluator.specs.NetTrees.{AreTrees as AreNetTrees}
 use Rattle.route_evaluator.specs.Verdicts.{IsVerdict}
 use Rattle.route_evaluator.specs.declared.verdict.Verdict.{Verdict}
 use Rattle.straight_runs.specs.Routed.{AreRouted}
@@ -92,13 +93,21 @@ pub record AreBookedRoutes (d : DesignView) (options : Options) (r : BookedRoute
   pub booked : (net : ℕ) → tree_at r.routes net ≡ booked (take r.rounds.chosen r.rounds.book.state.history) net
   pub stands : Stands d (take r.rounds.chosen r.rounds.book.state.history)
 
+-- the verdict on a design's trees
+abbrev pub IsVerdictOn : DesignView → Options → List (Option TreeView) → Verdict → Type 0
+IsVerdictOn d options trees v = IsVerdict d options.via_cost (route_edges trees) v
+
+-- the verdict on a design's trees, each of which is one, where it is given
+abbrev pub GivesVerdict : {E : Type 0} → DesignView → Options → List (Option TreeView) → Result Verdict E → Type 0
+GivesVerdict d options trees given = IfOk given (IsVerdictOn d options trees) × OnOk given (AreNetTrees d trees)
+
 -- a design's routes and the verdict on them, with the rounds that they are from
 pub record AreJudgedRoutes (d : DesignView) (options : Options) (r : JudgedRoutes) : Type 0 where
   pub made : IsBookOf d options r.rounds.book.state r.rounds.hands.items
   pub routes : AreChosenRoutes d r.rounds.book.state r.rounds.chosen r.routes
   pub trees : AreTrees d.frame.shape r.routes
   pub held : AreRoutesOf d r.routes
-  pub judged : IsVerdict d options.via_cost (route_edges r.routes) r.verdict
+  pub judged : IsVerdictOn d options r.routes r.verdict
 
 -- a design's routes and their report, with the rounds that they are from
 pub record IsRoutedDesign (d : DesignView) (lib : LibraryView) (options : Options) (r : RoutedDesign) : Type 0 where
@@ -106,7 +115,7 @@ pub record IsRoutedDesign (d : DesignView) (lib : LibraryView) (options : Option
   pub routes : AreChosenRoutes d r.rounds.book.state r.rounds.chosen r.routes
   pub trees : AreTrees d.frame.shape r.routes
   pub verdict : Verdict
-  pub judged : IsVerdict d options.via_cost (route_edges r.routes) verdict
+  pub judged : IsVerdictOn d options r.routes verdict
   pub plans : List (Option Plan)
   pub planned : ArePlans d lib r.routes plans
   pub reports : r.report ≡ routing_report d lib verdict r.routes plans

@@ -1,13 +1,14 @@
 //! The command that places buffers on a solution of a design.
-ghost use Rattle.std.specs.Prelude.{◌<◌, IsTrue, IfOk, OnOk};
+ghost use Rattle.std.specs.Prelude.{◌≡◌, ◌<◌, length, IsTrue, IfOk, IfErr, OnOk};
 ghost use Rattle.gr_base.specs.Designs.{is_routed};
 ghost use Rattle.gr_io.specs.Devices.{device_of, reading_of};
 ghost use Rattle.rc_library.specs.Libraries.{IsLibraryOf};
 ghost use Rattle.route_evaluator.specs.TreeSets.{AreSetsOf};
 ghost use Rattle.route_reader.specs.Solutions.{IsOf, edges_by};
 ghost use Rattle.buffer_plan.specs.Plans.{AreRoutesOf};
-ghost use Rattle.router_top.specs.Buffering.{IsBuffersText, GivesTree, GiveTrees, buffering};
-ghost use Rattle.router_top.specs.Leaving.{LeavesOut};
+ghost use Rattle.router_top.specs.Buffering.{AreTreesBy, StopsAtNet, StopsAtTrees, IsBuffersText, IsPlacedText, GivesTree, GiveTrees, buffering};
+ghost use Rattle.router_top.specs.Leaving.{LeavesOut, WritesOne};
+ghost use Rattle.router_top.specs.Opened.{LeavesPlaced};
 
 use crate::opening::{open_design, open_library, open_solution};
 use crate::stop::{Outcome, Stop};
@@ -43,9 +44,48 @@ pub(crate) fn buffer<R: Threads + Sync, S: Shelf, O: Sink>(
 {
     let design = open_design(alloc, shelf, design)?;
     let library = open_library(alloc, shelf, &design, library)?;
-    let solution = open_solution(alloc, shelf, &design, solution)?;
-    let trees = solution_trees(alloc, &design, &solution)?;
-    let Ok(text) = buffers_on(rt, alloc, &design, &library, &trees, ONE_WORKER) else {
+    buffer_opened(rt, alloc, shelf, out, &design, &library, solution)
+}
+
+/// Reads the solution of this name for a design and a library, places buffers on the solution's
+/// trees, and writes them on out.
+fn buffer_opened<R: Threads + Sync, S: Shelf, O: Sink>(
+    rt: &R,
+    alloc: Global,
+    shelf: &mut S,
+    out: &mut O,
+    design: &Design,
+    library: &Library,
+    solution: &str,
+) -> Result<Outcome, Stop>
+    requires { IsLibraryOf design.now library.now }
+    ensures { LeavesPlaced design.now library.now solution.now
+        (reading_of S.tells S.held S.faults S.misses shelf.old shelf.new)
+        (device_of O.tells O.faults O.written out.old out.new)
+        result }
+{
+    let solution = open_solution(alloc, shelf, design, solution)?;
+    write_buffers(rt, alloc, out, design, library, &solution)
+}
+
+/// Places buffers on the trees of a solution, and writes them on out.
+fn write_buffers<R: Threads + Sync, O: Sink>(
+    rt: &R,
+    alloc: Global,
+    out: &mut O,
+    design: &Design,
+    library: &Library,
+    solution: &Solution,
+) -> Result<Outcome, Stop>
+    requires library { IsLibraryOf design.now library.now }
+    requires solution { IsOf design.now solution.now }
+    ensures { WritesOne (IsPlacedText design.now library.now (edges_by solution.now))
+        (StopsAtNet design.now (edges_by solution.now))
+        (device_of O.tells O.faults O.written out.old out.new)
+        result }
+{
+    let trees = solution_trees(alloc, design, solution)?;
+    let Ok(text) = buffers_on(rt, alloc, design, library, &trees, ONE_WORKER) else {
         return Err(Stop::NoMemory);
     };
     match write_whole(out, text.bytes()) {
@@ -62,17 +102,51 @@ fn solution_trees(alloc: Global, design: &Design, solution: &Solution) -> Result
     let Ok(mut trees) = Routes::new(alloc, design.nets()) else {
         return Err(Stop::NoMemory);
     };
+    set_trees(alloc, design, solution, &mut trees)?;
+    Ok(trees)
+}
+
+/// Sets the tree of each routed net of a solution. It stops at the first net whose edges aren't one.
+fn set_trees(
+    alloc: Global,
+    design: &Design,
+    solution: &Solution,
+    trees: &mut Routes,
+) -> Result<(), Stop>
+    requires of { IsOf design.now solution.now }
+    requires long { length trees.old ≡ length design.now.nets }
+    ensures trees { OnOk result (AreTreesBy design.now (edges_by solution.now) trees.new) }
+    ensures stops { IfErr result (StopsAtTrees design.now (edges_by solution.now)) }
+{
     let Ok(mut maker) = TreeMaker::new(alloc, design.frame().shape) else {
         return Err(Stop::NoMemory);
     };
+    set_trees_with(alloc, design, solution, &mut maker, trees)
+}
+
+/// Sets the tree of each routed net of a solution, which this maker makes. It stops at the first net
+/// whose edges aren't one.
+fn set_trees_with(
+    alloc: Global,
+    design: &Design,
+    solution: &Solution,
+    maker: &mut TreeMaker,
+    trees: &mut Routes,
+) -> Result<(), Stop>
+    requires of { IsOf design.now solution.now }
+    requires sets { AreSetsOf design.now.frame.shape maker.old }
+    requires long { length trees.old ≡ length design.now.nets }
+    ensures trees { OnOk result (AreTreesBy design.now (edges_by solution.now) trees.new) }
+    ensures stops { IfErr result (StopsAtTrees design.now (edges_by solution.now)) }
+{
     for net in 0..design.nets() {
         if !design.routed(net) {
             continue;
         }
-        let tree = solution_tree(alloc, design, solution, net, &mut maker)?;
+        let tree = solution_tree(alloc, design, solution, net, maker)?;
         trees.set(net, tree);
     }
-    Ok(trees)
+    Ok(())
 }
 
 /// The tree of a routed net of a solution.

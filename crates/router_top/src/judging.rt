@@ -1,8 +1,9 @@
 //! The command that judges a solution of a design.
 ghost use Rattle.std.specs.Prelude.{◌≡◌, ◌<◌, ◌≤◌, length, All, IfOk};
 ghost use Rattle.gr_io.specs.Devices.{device_of, reading_of};
-ghost use Rattle.router_top.specs.Judging.{judging, outcome_of, verdict_text};
-ghost use Rattle.router_top.specs.Leaving.{LeavesOut};
+ghost use Rattle.route_reader.specs.Solutions.{IsOf, edges_by};
+ghost use Rattle.router_top.specs.Judging.{judging, outcome_of, verdict_text, IsVerdictText};
+ghost use Rattle.router_top.specs.Leaving.{LeavesOut, WritesOne};
 
 use crate::opening::{open_design, open_solution};
 use crate::stop::{Outcome, Stop};
@@ -11,6 +12,7 @@ use gr_io::{Shelf, Sink, write_whole};
 use gr_text::Text;
 use report_text::{report, unjoined};
 use route_evaluator::{Verdict, evaluate};
+use route_reader::Solution;
 use std::alloc::{AllocError, Global};
 
 /// Reads the design and the solution of these names, judges the solution's routes, and writes the
@@ -31,10 +33,27 @@ pub(crate) fn judge<S: Shelf, O: Sink>(
 {
     let design = open_design(alloc, shelf, design)?;
     let solution = open_solution(alloc, shelf, &design, solution)?;
-    let Ok(verdict) = evaluate(alloc, &design, &solution, via_cost) else {
+    write_verdict(alloc, out, &design, &solution, via_cost)
+}
+
+/// Judges a solution's routes, and writes the verdict on out.
+fn write_verdict<O: Sink>(
+    alloc: Global,
+    out: &mut O,
+    design: &Design,
+    solution: &Solution,
+    via_cost: u32,
+) -> Result<Outcome, Stop>
+    requires solution { IsOf design.now solution.now }
+    requires via_cost { via_cost ≤ 1000 }
+    ensures { WritesOne (IsVerdictText design.now (edges_by solution.now) via_cost) (λ stop. ⊥)
+        (device_of O.tells O.faults O.written out.old out.new)
+        result }
+{
+    let Ok(verdict) = evaluate(alloc, design, solution, via_cost) else {
         return Err(Stop::NoMemory);
     };
-    let Ok(text) = verdict_text(alloc, &design, &verdict) else {
+    let Ok(text) = verdict_text(alloc, design, &verdict) else {
         return Err(Stop::NoMemory);
     };
     match write_whole(out, text.bytes()) {

@@ -73,12 +73,12 @@ pub(crate) fn open_solution<S: Shelf>(
     design: &Design,
     name: &str,
 ) -> Result<Solution, Stop>
-    ensures solution { IfOk result (IsOf design.now) }
-    ensures covered { IfOk result
-        (λ s. IsTrue S.tells → IsCovered design.now (S.held shelf.old SolutionSlot name.now) s) }
     ensures opens { Opens (reading_of S.tells S.held S.faults S.misses shelf.old shelf.new)
         (S.held shelf.old SolutionSlot name.now) (solution_said (S.held shelf.old) name.now design.now) SolutionFault
         result }
+    ensures solution { IfOk result (IsOf design.now) }
+    ensures covered { IfOk result
+        (λ s. IsTrue S.tells → IsCovered design.now (S.held shelf.old SolutionSlot name.now) s) }
 {
     reach(alloc, shelf, Slot::Solution, name)?;
     read_or_stop!(

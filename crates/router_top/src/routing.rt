@@ -11,9 +11,9 @@ ghost use Rattle.router_top.specs.Leaving.{IsWritten, Leaves};
 ghost use Rattle.word_reader.specs.Orders.{AreInRange};
 ghost use Rattle.buffer_plan.specs.Plans.{AreRoutesOf};
 ghost use Rattle.route_evaluator.specs.NetTrees.{AreTrees};
-ghost use Rattle.route_evaluator.specs.Verdicts.{IsVerdict};
 ghost use Rattle.router_top.specs.Buffering.{IsBuffersText};
-ghost use Rattle.router_top.specs.Routing.{AreBookedRoutes, AreJudgedRoutes, IsRoutedDesign, routing};
+ghost use Rattle.router_top.specs.Opened.{LeavesRouted};
+ghost use Rattle.router_top.specs.Routing.{AreBookedRoutes, AreJudgedRoutes, GivesVerdict, IsRoutedDesign, IsVerdictOn, routing};
 ghost use Rattle.router_top.specs.Said.{report_of};
 
 use crate::buffering::buffers_on;
@@ -87,6 +87,31 @@ pub(crate) fn route<R: Threads + Wait + Sync, S: Shelf, O: Sink, E: Sink, G: Gat
         Ok(library) => library,
         Err(stop) => return Left::without_rounds(Err(stop)),
     };
+    route_opened(
+        rt, alloc, out, err, design, library, options, gate, rules,
+    )
+}
+
+/// Routes a design, and writes the routes on out, and the report of them and of their buffers on err.
+fn route_opened<R: Threads + Wait + Sync, O: Sink, E: Sink, G: Gate + Sync>(
+    rt: &R,
+    alloc: Global,
+    out: &mut O,
+    err: &mut E,
+    design: Design,
+    library: Library,
+    options: Options,
+    gate: &G,
+    rules: &Rules,
+) -> Left
+    requires design { IsDesign design }
+    requires library { IsLibraryOf design library }
+    requires options { AreInRange options }
+    ensures { LeavesRouted design library options
+        (device_of O.tells O.faults O.written out.old out.new)
+        (device_of E.tells E.faults E.written err.old err.new)
+        (rounds_back result.rounds) result.end }
+{
     let Ok(routed) = route_design(rt, alloc, &design, &library, options, gate, rules) else {
         return Left::without_rounds(Err(Stop::NoMemory));
     };
@@ -187,7 +212,7 @@ fn verdict_on(
 ) -> Result<Verdict, AllocError>
     requires booked { AreBookedRoutes design.now options booked.now }
     requires options { AreInRange options }
-    ensures verdict { IfOk result (IsVerdict design.now options.via_cost (route_edges booked.now.routes)) }
+    ensures verdict { IfOk result (IsVerdictOn design.now options booked.now.routes) }
     ensures trees { OnOk result (AreTrees design.now booked.now.routes) }
 {
     let book = booked.rounds.book.state();
@@ -221,29 +246,46 @@ fn verdict_and_buffers<R: Threads + Sync>(
     requires library { IsLibraryOf design.now library.now }
     requires booked { AreBookedRoutes design.now options booked.now }
     requires options { AreInRange options }
-    ensures verdict { IfOk result (λ told. IsVerdict design.now options.via_cost (route_edges booked.now.routes) told.0) }
+    ensures verdict { IfOk result (λ told. IsVerdictOn design.now options booked.now.routes told.0) }
     ensures trees { OnOk result (AreTrees design.now booked.now.routes) }
     ensures buffers { IfOk result (λ told. IsBuffersText design.now library.now booked.now.routes told.1) }
 {
-    let workers = options.workers;
-    if workers == 1 {
+    if options.workers == 1 {
         let verdict = verdict_on(alloc, design, booked, options)?;
-        let buffers = buffers_on(rt, alloc, design, library, &booked.routes, workers)?;
+        let buffers = buffers_on(rt, alloc, design, library, &booked.routes, 1)?;
         return Ok((verdict, buffers));
     }
-    let (verdict, buffers) = join(
+    let (verdict, buffers) = made_side_by_side(rt, alloc, design, library, booked, options);
+    Ok((verdict?, buffers?))
+}
+
+/// The same, where there is more than one worker.
+fn made_side_by_side<R: Threads + Sync>(
+    rt: &R,
+    alloc: Global,
+    design: &Design,
+    library: &Library,
+    booked: &BookedRoutes,
+    options: Options,
+) -> (Result<Verdict, AllocError>, Result<Text, AllocError>)
+    requires library { IsLibraryOf design.now library.now }
+    requires booked { AreBookedRoutes design.now options booked.now }
+    requires options { AreInRange options }
+    ensures verdict { GivesVerdict design.now options booked.now.routes result.0 }
+    ensures buffers { IfOk result.1 (IsBuffersText design.now library.now booked.now.routes) }
+{
+    let workers = options.workers;
+    join(
         rt,
         || -> Result<Verdict, AllocError>
             requires { AreBookedRoutes design.now options booked.now × AreInRange options }
-            ensures { IfOk result (IsVerdict design.entry.now options.via_cost (route_edges booked.entry.now.routes)) ×
-                OnOk result (AreTrees design.entry.now booked.entry.now.routes) }
+            ensures { GivesVerdict design.entry.now options booked.entry.now.routes result }
         { verdict_on(alloc, design, booked, options) },
         || -> Result<Text, AllocError>
             requires { IsLibraryOf design.now library.now × AreRoutesOf design.now booked.now.routes × (0 < workers) }
             ensures { IfOk result (IsBuffersText design.entry.now library.entry.now booked.entry.now.routes) }
         { buffers_on(rt, alloc, design, library, &booked.routes, workers) },
-    );
-    Ok((verdict?, buffers?))
+    )
 }
 
 /// The report of a verdict, with a text of buffers behind it. The only error is want of memory.

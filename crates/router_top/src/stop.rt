@@ -11,7 +11,7 @@ use solution_text::SolutionFault as SolutionFaultKind;
 use std::alloc::{AllocError, Global};
 
 /// How a command that was done found the routes.
-#[derive(Clone, Copy, Debug, PartialEq, Eq)]
+#[derive(Clone, Copy)]
 pub(crate) enum Outcome {
     Whole,
     /// Some routed net isn't joined.
@@ -19,7 +19,7 @@ pub(crate) enum Outcome {
 }
 
 /// Why a command stopped.
-#[derive(Clone, Copy, Debug, PartialEq, Eq)]
+#[derive(Clone, Copy)]
 pub(crate) enum Stop {
     Usage,
     DesignFault {

@@ -2,7 +2,7 @@ use Rattle.std.proofs.Common.{◌≡◌, length}
 use Rattle.route_reader.specs.Solutions.{edges_by}
 use Rattle.route_evaluator.specs.TreeSets.{AreSetsOf}
 use Rattle.router_top.proofs.BufferingLemmas.{AreTreesBelow}
-use Rattle.router_top.proofs.buffering.solution_trees.Given as goal
+use Rattle.router_top.proofs.buffering.set_trees_with.Given as goal
 
 abbrev pub invariant-loop-net : goal.invariant-loop-net
 invariant-loop-net l = record {
