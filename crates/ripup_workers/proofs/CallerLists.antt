@@ -1,5 +1,5 @@
 -- The callers' passes, as lists.
-use Rattle.std.proofs.Common.{◌≡◌, ℕ, suc, zero, ◌+◌, List, [], ◌∷◌, ◌++◌, map, get_or, All, Some, slice_get, refl, sym, ap, subst, ◌∙◌, arith}
+use Rattle.std.proofs.Common.{◌≡◌, ℕ, suc, zero, ◌+◌, ◌<◌, List, [], ◌∷◌, ◌++◌, map, length, get_or, slice_index_or, All, Some, slice_get, remove, refl, sym, ap, subst, ◌∙◌, arith}
 use Rattle.std.proofs.lemmas.List.{append-nil}
 use Rattle.std.proofs.lemmas.Option.{same_Some, slice_get-get_or}
 use Rattle.round_core.specs.RunHistories.{Setting}
@@ -12,24 +12,21 @@ pub rest-seen : (count : ℕ) (all : List PassView) (first : PassView) (rest : L
 rest-seen count all first rest begun is = λ i d within.
     (begun.each (suc i) (get_or rest i d) (ap (λ (l : List PassView). slice_get l (suc i)) (sym is) ∙ slice_get-get_or rest i d within)).seen
 
--- the callers as they are made of the passes, one by one
-pub callers-first : {W : Type 0} (seen : W → PassView) (ws : List W) (p first : PassView) (rest all : List PassView) → ws ≡ [] → p ≡ first → first ∷ rest ≡ all → p ∷ (map seen ws ++ rest) ≡ all
-callers-first seen ws p first rest all none is whole =
-    ap (λ (k : PassView). k ∷ (map seen ws ++ rest)) is ∙ ap (λ (us : List _). first ∷ (map seen us ++ rest)) none ∙ whole
+-- the first pass and those that are left when it is removed
+pub first-rest : (all : List PassView) (first : PassView) → 0 < length all → first ≡ slice_index_or all 0 first → first ∷ remove all 0 ≡ all
+first-rest [] first some is = absurd (omega (arith, some))
+first-rest (p ∷ rest) first some is = ap (λ (k : PassView). k ∷ rest) is
 
+-- the workers as they are made of the passes, one by one
 map-push : {W : Type 0} (seen : W → PassView) (ws : List W) (w : W) (rest : List PassView) → map seen (ws ++ w ∷ []) ++ rest ≡ map seen ws ++ seen w ∷ rest
 map-push seen [] w rest = refl
 map-push seen (x ∷ ws) w rest = ap (λ (l : List PassView). seen x ∷ l) (map-push seen ws w rest)
 
-pub callers-next : {W : Type 0} (seen : W → PassView) (ws new : List W) (w : W) (p q : PassView) (rest before all : List PassView) → p ∷ (map seen ws ++ before) ≡ all → before ≡ q ∷ rest →
-    new ≡ ws ++ w ∷ [] → seen w ≡ q → p ∷ (map seen new ++ rest) ≡ all
-callers-next seen ws new w p q rest before all whole first more is =
-    ap (λ (us : List _). p ∷ (map seen us ++ rest)) more ∙ ap (λ (l : List PassView). p ∷ l) (map-push seen ws w rest)
-    ∙ ap (λ (k : PassView). p ∷ (map seen ws ++ k ∷ rest)) is ∙ ap (λ (l : List PassView). p ∷ (map seen ws ++ l)) (sym first) ∙ whole
-
-pub callers-last : (p : PassView) (xs rest all : List PassView) → p ∷ (xs ++ rest) ≡ all → rest ≡ [] → p ∷ xs ≡ all
-callers-last p xs rest all whole none =
-    ap (λ (l : List PassView). p ∷ l) (sym (append-nil xs) ∙ ap (λ (l : List PassView). xs ++ l) (sym none)) ∙ whole
+pub workers-next : {W : Type 0} (seen : W → PassView) (ws new : List W) (w : W) (q : PassView) (rest before all : List PassView) → map seen ws ++ before ≡ all → before ≡ q ∷ rest →
+    new ≡ ws ++ w ∷ [] → seen w ≡ q → map seen new ++ rest ≡ all
+workers-next seen ws new w q rest before all whole first more is =
+    ap (λ (us : List _). map seen us ++ rest) more ∙ map-push seen ws w rest
+    ∙ ap (λ (k : PassView). map seen ws ++ k ∷ rest) is ∙ ap (λ (l : List PassView). map seen ws ++ l) (sym first) ∙ whole
 
 -- and taken apart again
 pub passes-last : {W : Type 0} (seen : W → PassView) (xs : List PassView) (rest : List W) (all : List PassView) → xs ++ map seen rest ≡ all → rest ≡ [] → xs ≡ all

@@ -55,17 +55,45 @@ fn callers<N: BookName>(
     requires begun { AreBegun (length passes.items) passes.items }
     ensures { IfOk result (λ callers. (callers.0.pass ∷ map (λ w. w.pass) callers.1.items) ≡ passes.items) }
 {
+    let mut passes = passes;
+    let first = passes.remove(0);
+    let workers = workers_of(alloc, book, design, passes)?;
+    Ok((Coordinator { pass: first }, workers))
+}
+
+/// A worker with each pass, none of which has seen anything.
+fn workers_of<N: BookName>(
+    alloc: Global,
+    book: &TrackBook<N>,
+    design: &Design,
+    passes: Vec<Pass<N>>,
+) -> Result<Vec<Worker<N>>, AllocError>
+    requires capacity { N.capacity ≡ capacity_of design.now }
+    requires nothing { All (λ p. p.seen ≡ []) passes.items }
+    ensures { IfOk result (λ workers. map (λ w. w.pass) workers.items ≡ passes.items) }
+{
     let mut workers = Vec::with_capacity(alloc, passes.len())?;
     let mut rest = passes.into_iter();
-    let Some(first) = rest.next() else {
-        unreachable!()
-    };
-    let coordinator = Coordinator { pass: first };
     while let Some(pass) = rest.next() {
-        let replica = Replica::of(alloc, book.capacity(), design.nets())?;
-        workers.push_reserved(Worker { pass, replica });
+        let worker = worker_with(alloc, book, design, pass)?;
+        workers.push_reserved(worker);
     }
-    Ok((coordinator, workers))
+    Ok(workers)
+}
+
+/// A worker with a pass that has seen nothing.
+fn worker_with<N: BookName>(
+    alloc: Global,
+    book: &TrackBook<N>,
+    design: &Design,
+    pass: Pass<N>,
+) -> Result<Worker<N>, AllocError>
+    requires capacity { N.capacity ≡ capacity_of design.now }
+    requires nothing { pass.seen ≡ [] }
+    ensures { IfOk result (λ worker. worker.pass ≡ pass) }
+{
+    let replica = Replica::of(alloc, book.capacity(), design.nets())?;
+    Ok(Worker { pass, replica })
 }
 
 /// The rounds, each up to and with its mark.

@@ -92,11 +92,11 @@ fn kind_of(round: u32) -> PlanKind
     requires { round ≤ most_rounds }
     ensures { result ≡ kind_of round }
 {
-    match round {
-        0 => PlanKind::Pattern,
-        _ => PlanKind::Maze {
-            margin: MARGIN * round,
-        },
+    if round == 0 {
+        return PlanKind::Pattern;
+    }
+    PlanKind::Maze {
+        margin: MARGIN * round,
     }
 }
 
