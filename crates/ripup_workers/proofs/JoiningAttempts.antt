@@ -234,6 +234,17 @@ have-attempted t round nets rest old mid new hands q s mid_count hands_count eac
         subst (λ (ns : List ℕ). HasAttempted t round ns x y) k.2
         (each (suc at) x y k.0 x_there (sym (same (suc at) (λ is. absurd (omega (arith, is)))) ∙ y_there) k.1)
 
+-- they have attempted the same nets in another order too
+pub attempted-as : (t : Setting) (round : ℕ) (nets order : List ℕ) (old new : List PassView) →
+    ((net : ℕ) → times net nets ≡ times net order) → HaveAttempted t round order old new → HaveAttempted t round nets old new
+attempted-as t round nets order old new same attempted = record {
+  count = attempted.count;
+  parts = attempted.parts;
+  parts_count = attempted.parts_count;
+  each = attempted.each;
+  whole = λ net. same net ∙ attempted.whole net;
+}
+
 -- a net that stands in the rest stands among the nets
 times-some : (net : ℕ) (xs : List ℕ) (at : ℕ) → slice_get xs at ≡ Some net → 0 < times net xs
 times-some net [] at there = absurd (cc)

@@ -10,3 +10,4 @@ pub mod JoiningAttempts
 pub mod JoiningEnds
 pub mod CallerLists
 pub mod MeetingSteps
+pub mod SharedOrder

@@ -5,6 +5,7 @@ mod asked;
 mod coordinator;
 mod gate;
 mod members;
+mod order;
 mod round;
 mod rounds;
 mod run;

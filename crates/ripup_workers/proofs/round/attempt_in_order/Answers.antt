@@ -5,7 +5,7 @@ use Rattle.work_share.specs.Views.{HandView, AreHandsOf, times}
 use Rattle.ripup_workers.specs.Rounding.{setting_of}
 use Rattle.ripup_workers.proofs.JoiningAttempts.{dealt-each, crew-tried, crew-some, crew-count, tried-legal, hands-count, hands-are, hands-of, have-attempted, rest-all}
 use Rattle.ripup_workers.proofs.MeetingSteps.{put-there, put-other, put-length, part-there}
-use Rattle.ripup_workers.proofs.round.attempt_nets.Goals as goal
+use Rattle.ripup_workers.proofs.round.attempt_in_order.Goals as goal
 
 pub work_all-requires-clause-hands : goal.work_all-requires-clause-hands
 work_all-requires-clause-hands g c lives in_lives =
