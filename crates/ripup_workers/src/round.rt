@@ -10,7 +10,6 @@ ghost use Rattle.ripup_workers.specs.Crews.{IsWorked, HasAttemptedOver};
 use crate::asked::Asked;
 use crate::gate::Gate;
 use crate::members::{members_of, parted};
-use crate::order::turned;
 use crate::team::Member;
 use crate::turn::attempt;
 use crate::work::work;
@@ -25,28 +24,6 @@ use work_share::{Share, share};
 /// The workers attempt these nets, each once as often as it stands among them, side by side. The only
 /// error is want of memory.
 pub(crate) fn attempt_nets<N: BookName + Send + Sync, R: Threads + Wait + Sync, G: Gate + Sync>(
-    rt: &R,
-    alloc: Global,
-    asked: &Asked,
-    round: u32,
-    nets: &[u32],
-    book: &TrackBook<N>,
-    gate: &G,
-    workers: Vec<Worker<N>>,
-) -> Result<Vec<Worker<N>>, AllocError>
-    requires capacity { N.capacity ≡ capacity_of asked.now.design.now }
-    requires round { round ≤ asked.now.rounds }
-    requires nets { All (λ net. IsTrue (is_routed asked.now.design.now net)) nets.now }
-    requires count { length workers.items ≡ asked.now.workers }
-    ensures { IfOk result (λ after. HaveAttempted (setting_of asked.now) round nets.now
-        (map (λ w. w.pass) workers.items) (map (λ w. w.pass) after.items)) }
-{
-    let order = turned(alloc, nets, asked.workers)?;
-    attempt_in_order(rt, alloc, asked, round, &order, book, gate, workers)
-}
-
-/// The same. One net after the other is dealt to one worker after the other.
-fn attempt_in_order<N: BookName + Send + Sync, R: Threads + Wait + Sync, G: Gate + Sync>(
     rt: &R,
     alloc: Global,
     asked: &Asked,

@@ -1,5 +1,4 @@
-use Rattle.std.proofs.Common.{◌≡◌, ◌+◌, ◌<◌, ◌==◌, ℕ, true, false, List, [], length, min, sym, ap, ◌∙◌, arith}
-use Rattle.work_share.specs.Views.{times}
+use Rattle.std.proofs.Common.{◌≡◌, ◌<◌, ◌==◌, ℕ, true, false, List, length, sym, ap, arith}
 use Rattle.ripup_workers.proofs.SharedOrder.{times-none, times-parts, times-turned}
 use Rattle.ripup_workers.proofs.order.turned.Goals as goal
 
