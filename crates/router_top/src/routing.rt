@@ -87,9 +87,7 @@ pub(crate) fn route<R: Threads + Wait + Sync, S: Shelf, O: Sink, E: Sink, G: Gat
         Ok(library) => library,
         Err(stop) => return Left::without_rounds(Err(stop)),
     };
-    route_opened(
-        rt, alloc, out, err, design, library, options, gate, rules,
-    )
+    route_opened(rt, alloc, out, err, design, library, options, gate, rules)
 }
 
 /// Routes a design, and writes the routes on out, and the report of them and of their buffers on err.
