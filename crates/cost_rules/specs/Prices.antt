@@ -1,5 +1,5 @@
 -- The prices of a grid's edges for one net.
-use Rattle.std.specs.Prelude.{ℕ, ◌≤◌, ◌↔◌, Bool, Option, IsTrue, IsSome, IfSome}
+use Rattle.std.specs.Prelude.{◌≡◌, ℕ, ◌≤◌, ◌↔◌, Bool, Option, IsTrue, IsSome, IfSome}
 use Rattle.gr_base.specs.declared.grid.Edge.{Edge}
 use Rattle.gr_base.specs.declared.grid.Shape.{Shape}
 use Rattle.gr_base.specs.declared.grid.Way.{Way}
@@ -17,3 +17,7 @@ pub record ArePrices (g : Shape) (ways : ℕ → Way → Bool) (price : Edge →
   pub some : (e : Edge) → IsTrue (has_edge g e) → IsSome (price e) ↔ IsTrue (ways (layer_of g e) e.way)
   pub least : (e : Edge) → IsTrue (has_edge g e) → IfSome (price e) (λ cost. 1 ≤ cost)
   pub most : (e : Edge) → IsTrue (has_edge g e) → IfSome (price e) (λ cost. cost ≤ most_cost)
+
+-- no via edge costs less than this
+abbrev pub IsBelowVias : Shape → (Edge → Option ℕ) → ℕ → Type 0
+IsBelowVias g price least = (e : Edge) → IsTrue (has_edge g e) → e.way ≡ Up → IfSome (price e) (λ cost. least ≤ cost)

@@ -5,7 +5,7 @@ ghost use Rattle.gr_base.specs.declared.grid.Way.{Way};
 ghost use Rattle.gr_base.specs.declared.grid.Way.TheVariants.{Up};
 ghost use Rattle.gr_base.specs.Grid.{has_edge};
 ghost use Rattle.cost_rules.specs.Formulas.{most_cost};
-ghost use Rattle.cost_rules.specs.Prices.{layer_of, ArePrices};
+ghost use Rattle.cost_rules.specs.Prices.{layer_of, ArePrices, IsBelowVias};
 
 use gr_base::{Edge, Way};
 
@@ -33,6 +33,12 @@ pub trait Costs {
         ensures some { IsSome result ↔ IsTrue (ways self.now (layer_of (grid self.now) e) e.way) }
         ensures least { IfSome result (λ cost. 1 ≤ cost) }
         ensures most { IfSome result (λ cost. cost ≤ most_cost) };
+
+    /// What each via edge costs at least, from 1 to 1,048,576.
+    fn least_via(&self) -> u64
+        ensures least { 1 ≤ result }
+        ensures most { result ≤ most_cost }
+        ensures vias { IsBelowVias (grid self.now) (price self.now) result };
 
     ghost prices: { (costs : Self) → ArePrices (grid costs) (ways costs) (price costs) };
 }

@@ -20,7 +20,7 @@ use Rattle.maze_route.specs.declared.pane.Step.{Step}
 use Rattle.maze_route.specs.declared.pane.Aim.{Aim}
 use Rattle.maze_route.proofs.Distances.{guided-distance, label-back, back-label, some-back}
 use Rattle.maze_route.proofs.SearchLemmas.{AllSteps}
-use Rattle.maze_route.proofs.HandingLemmas.{pick-step, pane-costs, pane-rest}
+use Rattle.maze_route.proofs.HandingLemmas.{pick-step, pane-costs}
 use Rattle.maze_route.proofs.StepLemmas.{step-by, step-ahead, step-behind, step-to-some}
 
 -- a step costs the same the other way round
@@ -160,15 +160,14 @@ goes-back p t ways price aim label cell left step prices near is =
     let graph = pane_graph p t price in
     let rest = rest_of p aim in
     let costs = pane-costs p t ways price prices in
-    let consistent = pane-rest p t ways price aim prices in
-    let distance = guided-distance graph rest label near.bound consistent near.guided cell left near.labelled near.near in
+    let distance = guided-distance graph rest label near.bound near.consistent near.guided cell left near.labelled near.near in
     let first = first-step p price aim label left cell (sides p.shape cell) step (sides-rise p.shape cell) is in
     let made = makes-sum (label step.cell) step.cost left first.made in
     let sum = made.1.1 in
     let taken = step-swap p price cell step.cell step.cost first.taken in
     let back = label-back graph label near.guided.walked cell step.cell made.0 step.cost left distance made.1.0 taken sum in
     let by = step-by p price step.cell cell step.cost taken in
-    let own = back-label graph rest label near.bound consistent near.guided cell step.cell left distance near.near back in
+    let own = back-label graph rest label near.bound near.consistent near.guided cell step.cell left distance near.near back in
     let same : own.0 ≡ made.0 = same_Some own.0 made.0 (sym own.1.1.0 ∙ made.1.0) in
     let bound = own.1.1.1.1.1 in
     let left_is : made.0 ≡ left - step.cost = omega arith in
@@ -176,7 +175,7 @@ goes-back p t ways price aim label cell left step prices near is =
       first = record {
         is_back = back;
         first = λ other is_other.
-            let at = back-label graph rest label near.bound consistent near.guided cell other left distance near.near is_other in
+            let at = back-label graph rest label near.bound near.consistent near.guided cell other left distance near.near is_other in
             let there = step-swap p price other cell at.1.0 at.1.1.1.0 in
             pick-step p price aim cell other at.1.0 (NoLower label left step.cell) there first.least (sum-makes (label other) at.0 at.1.0 left at.1.1.0 at.1.1.1.1.0);
       };
@@ -186,6 +185,7 @@ goes-back p t ways price aim label cell left step prices near is =
         inside = elim (by.next) [ inl next ↦ next.low_inside | inr next ↦ next.inside ];
         labelled = made.1.0 ∙ ap (λ (n : ℕ). Some n) left_is;
         bound = near.bound;
+        consistent = near.consistent;
         guided = near.guided;
         near = omega arith;
       };
@@ -207,16 +207,15 @@ some-from : (o : Option Step) → (o ≡ None → ⊥) → IsSome o
 some-from None h = absurd (h refl)
 some-from (Some s) h = refl
 
-pub finds-back : (p : Pane) (t : TreeView) (ways : ℕ → Way → Bool) (price : Edge → Option ℕ) (aim : Aim) (label : ℕ → Option ℕ) (cell left : ℕ) → ArePrices p.grid ways price →
+pub finds-back : (p : Pane) (t : TreeView) (price : Edge → Option ℕ) (aim : Aim) (label : ℕ → Option ℕ) (cell left : ℕ) →
     IsNear p t price aim label cell left → 0 < left → IsSome (first_closer p price aim label cell left)
-finds-back p t ways price aim label cell left prices near some =
+finds-back p t price aim label cell left near some =
     some-from (first_closer p price aim label cell left) (λ none.
     let graph = pane_graph p t price in
     let rest = rest_of p aim in
-    let consistent = pane-rest p t ways price aim prices in
-    let distance = guided-distance graph rest label near.bound consistent near.guided cell left near.labelled near.near in
+    let distance = guided-distance graph rest label near.bound near.consistent near.guided cell left near.labelled near.near in
     let back = some-back graph cell left distance some in
-    let at = back-label graph rest label near.bound consistent near.guided cell back.0 left distance near.near back.1 in
+    let at = back-label graph rest label near.bound near.consistent near.guided cell back.0 left distance near.near back.1 in
     let there = step-swap p price back.0 cell at.1.0 at.1.1.1.0 in
     let fails = pick-step p price aim cell back.0 at.1.0 (λ s. makes_up (label s.cell) s.cost left ≡ false) there (none-closer p price aim label left cell (steps_from p price aim cell) none) in
     absurd (both_ways true (sym (sum-makes (label back.0) at.0 at.1.0 left at.1.1.0 at.1.1.1.1.0) ∙ fails) refl))

@@ -1,7 +1,7 @@
 -- A cell that hands its label on is relaxed.
 use Rattle.std.proofs.Common.{◌≡◌, ℕ, ◌<◌, inl, inr, Bool, length, Option, Some, None, IfSome, refl, ap, ◌∙◌}
 use Rattle.std.specs.Option.{option_map}
-use Rattle.cost_rules.specs.Prices.{ArePrices}
+use Rattle.cost_rules.specs.Prices.{ArePrices, IsBelowVias}
 use Rattle.gr_base.specs.declared.grid.Edge.{Edge}
 use Rattle.gr_base.specs.declared.grid.Way.{Way}
 use Rattle.gr_base.specs.declared.grid.Way.TheVariants.{East, North, Up}
@@ -62,9 +62,9 @@ pick-step p price aim n m k P taken all =
 pub pane-costs : (p : Pane) (t : TreeView) (ways : ℕ → Way → Bool) (price : Edge → Option ℕ) → ArePrices p.grid ways price → HasCosts (pane_graph p t price)
 pane-costs p t ways price prices u v k taken = step-least p ways price prices u v k taken
 
-pub pane-rest : (p : Pane) (t : TreeView) (ways : ℕ → Way → Bool) (price : Edge → Option ℕ) (aim : Aim) → ArePrices p.grid ways price →
+pub pane-rest : (p : Pane) (t : TreeView) (ways : ℕ → Way → Bool) (price : Edge → Option ℕ) (aim : Aim) → ArePrices p.grid ways price → IsBelowVias p.grid price aim.via →
     IsConsistent (pane_graph p t price) (rest_of p aim)
-pane-rest p t ways price aim prices u v k taken = step-rest p ways price aim prices u v k taken
+pane-rest p t ways price aim prices vias u v k taken = step-rest p ways price aim prices vias u v k taken
 
 -- a settled cell is relaxed
 pub spread-grown : (p : Pane) (t : TreeView) (ways : ℕ → Way → Bool) (price : Edge → Option ℕ) (aim : Aim) (cell from : ℕ) (before after : Front) → ArePrices p.grid ways price →

@@ -10,7 +10,7 @@ use Rattle.gr_base.specs.Trees.{TreeView, holds, cell_at, node_with}
 use Rattle.gr_base.proofs.TreeLemmas.{some_from, node_with-at, cell_at-within}
 use Rattle.maze_route.specs.Search.{HasSources, IsSearching}
 use Rattle.maze_route.specs.Handing.{IsReach}
-use Rattle.maze_route.specs.Steps.{size_of, cell_in, local_of, pane_source, pane_graph, rest_of, steps_to, IsSpot, IsSeededTo}
+use Rattle.maze_route.specs.Steps.{size_of, cell_in, local_of, pane_source, pane_graph, rest_of, least_to, IsSpot, IsSeededTo}
 use Rattle.maze_route.specs.Walks.{Graph}
 use Rattle.maze_route.specs.Windows.{in_window, TreeLiesIn}
 use Rattle.maze_route.specs.declared.front.Front.{Front}
@@ -53,7 +53,7 @@ tree-source p t node cell local found inside is =
 -- one more node
 pub seed-turn : (p : Pane) (t : TreeView) (price : Edge → Option ℕ) (aim : Aim) (node next cell : ℕ) (spot : Spot) (step : Step) (before after : Front) →
     next ≡ node + 1 → cell_at t.nodes node ≡ Some cell → node_with t.nodes cell ≡ Some node → IsSpot p spot → spot.local ≡ local_of p cell → cell_in p (local_of p cell) ≡ cell →
-    step.cell ≡ spot.local → step.cost ≡ 0 → step.rest ≡ steps_to aim spot.place → length before.labels.costs.items ≡ size_of p →
+    step.cell ≡ spot.local → step.cost ≡ 0 → step.rest ≡ least_to aim spot.place → length before.labels.costs.items ≡ size_of p →
     IsReach 0 (Some step) before after →
     IsSearching (pane_graph p t price) (rest_of p aim) (labels_of before) before.queue.pairs (size_of p) → IsSeededTo p t (labels_of before) node →
     (IsSearching (pane_graph p t price) (rest_of p aim) (labels_of after) after.queue.pairs (size_of p)) × (IsSeededTo p t (labels_of after) next)
@@ -61,7 +61,7 @@ seed-turn p t price aim node next cell spot step before after is_next at found i
     let inside : step.cell < size_of p = omega (arith, is_spot.inside) in
     let own : cell_in p step.cell ≡ cell = ap (λ (n : ℕ). cell_in p n) (is_cell ∙ local) ∙ back in
     let source = tree-source p t node cell step.cell found inside own in
-    let tiles : Cell → ℕ = λ q. steps_to aim q in
+    let tiles : Cell → ℕ = λ q. least_to aim q in
     let rest : step.rest ≡ rest_of p aim step.cell = left ∙ ap tiles is_spot.place ∙ ap (λ (n : ℕ). rest_of p aim n) (sym is_cell) in
     let grown = seed-grown (pane_graph p t price) (rest_of p aim) (size_of p) step before after searching source free rest (omega arith) reach in (
       grown.0,

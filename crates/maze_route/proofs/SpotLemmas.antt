@@ -9,7 +9,7 @@ use Rattle.gr_base.specs.declared.grid.Way.{Way}
 use Rattle.gr_base.specs.Grid.{place_at, IsInside, beyond, stride, has_room, edge_at}
 use Rattle.gr_base.proofs.GridLemmas.{place-inside, some_columns, some_rows, few_cells}
 use Rattle.std.proofs.Math.Nat.{le-mul_of_pos_right}
-use Rattle.maze_route.specs.Steps.{size_of, cell_in, pane_step, step_to, made_step, ahead_of, behind_of, has_room_behind, before, steps_to, rest_of, IsSpot}
+use Rattle.maze_route.specs.Steps.{size_of, cell_in, pane_step, step_to, made_step, ahead_of, behind_of, has_room_behind, before, least_to, rest_of, IsSpot}
 use Rattle.maze_route.specs.declared.pane.Pane.{Pane}
 use Rattle.maze_route.specs.declared.pane.Spot.{Spot}
 use Rattle.maze_route.specs.declared.pane.Step.{Step}
@@ -87,17 +87,17 @@ step-back p price aim spot way to low cost is next low_is costs =
 
 -- the rest from a neighbour, from its place
 pub rest-on : (p : Pane) (aim : Aim) (spot : Spot) (way : Way) (to rest : ℕ) (place : Cell) → IsSpot p spot → IsNext p spot.local to way →
-    place ≡ beyond spot.place way → rest ≡ steps_to aim place → rest ≡ rest_of p aim to
+    place ≡ beyond spot.place way → rest ≡ least_to aim place → rest ≡ rest_of p aim to
 rest-on p aim spot way to rest place is next leads tiles =
-    let f : Cell → ℕ = λ q. steps_to aim (beyond q way) in
-    let h : Cell → ℕ = λ q. steps_to aim q in
+    let f : Cell → ℕ = λ q. least_to aim (beyond q way) in
+    let h : Cell → ℕ = λ q. least_to aim q in
     tiles ∙ ap h leads ∙ ap f is.place ∙ ap h (sym next.place)
 
 pub rest-back : (p : Pane) (aim : Aim) (spot : Spot) (way : Way) (to rest : ℕ) (place : Cell) → IsSpot p spot → IsNext p to spot.local way →
-    place ≡ before spot.place way → rest ≡ steps_to aim place → rest ≡ rest_of p aim to
+    place ≡ before spot.place way → rest ≡ least_to aim place → rest ≡ rest_of p aim to
 rest-back p aim spot way to rest place is next leads tiles =
-    let f : Cell → ℕ = λ q. steps_to aim (before q way) in
-    let h : Cell → ℕ = λ q. steps_to aim q in
+    let f : Cell → ℕ = λ q. least_to aim (before q way) in
+    let h : Cell → ℕ = λ q. least_to aim q in
     tiles ∙ ap h leads ∙ ap f (is.place ∙ next.place) ∙ ap h (before-is (place_at p.shape to) way)
 
 pub made : (p : Pane) (aim : Aim) (to cell cost rest : ℕ) (o : Option ℕ) → o ≡ Some cost → cell ≡ to → rest ≡ rest_of p aim to →

@@ -15,7 +15,7 @@ use Rattle.maze_route.specs.Labels.{label_from}
 use Rattle.maze_route.specs.Queues.{QueueView, IsPopped}
 use Rattle.maze_route.specs.Search.{most_distance, IsConsistent, is_marked, HasGoal, CanReach, Finds, is_above}
 use Rattle.maze_route.specs.Handing.{HandsOn}
-use Rattle.maze_route.specs.Steps.{size_of, pane_graph, rest_of, steps_to, IsSpot}
+use Rattle.maze_route.specs.Steps.{size_of, pane_graph, rest_of, least_to, IsSpot}
 use Rattle.maze_route.specs.Walks.{Graph}
 use Rattle.maze_route.specs.declared.front.Front.{Front}
 use Rattle.maze_route.specs.declared.pane.Pane.{Pane}
@@ -108,16 +108,16 @@ next-near nearest next true key is_next small near = let P : Option ℕ → Type
 next-near nearest next false key is_next small near = let P : Option ℕ → Type 0 = λ o. IfSome o (λ distance. distance ≤ most_distance) in subst P (sym is_next) near
 
 -- a spot's distance is its cell's
-pub spot-rest : (p : Pane) (aim : Aim) (spot : Spot) (cell rest : ℕ) → IsSpot p spot → spot.local ≡ cell → rest ≡ steps_to aim spot.place → rest ≡ rest_of p aim cell
+pub spot-rest : (p : Pane) (aim : Aim) (spot : Spot) (cell rest : ℕ) → IsSpot p spot → spot.local ≡ cell → rest ≡ least_to aim spot.place → rest ≡ rest_of p aim cell
 spot-rest p aim spot cell rest is local tiles =
-    let f : Cell → ℕ = λ q. steps_to aim q in
+    let f : Cell → ℕ = λ q. least_to aim q in
     tiles ∙ ap f is.place ∙ ap (λ (n : ℕ). rest_of p aim n) local
 
 -- the turn of a pair whose cell, at this spot, is settled
 pub settled-turn : (p : Pane) (t : TreeView) (grid : Shape) (ways : ℕ → Way → Bool) (price : Edge → Option ℕ) (aim : Aim) (marks : List Bool) (nearest next : Option ℕ)
     (front after : Front) (queue : QueueView) (spot : Spot) (key cell cost steps : ℕ) → grid ≡ p.grid → ArePrices grid ways price →
     IsTurn (pane_graph p t price) (rest_of p aim) marks (size_of p) nearest front → IsPopped key cell front.queue queue →
-    labels_of front cell ≡ Some cost → IsSpot p spot → spot.local ≡ cell → steps ≡ steps_to aim spot.place → key ≤ cost + steps →
+    labels_of front cell ≡ Some cost → IsSpot p spot → spot.local ≡ cell → steps ≡ least_to aim spot.place → key ≤ cost + steps →
     next ≡ (if get_or marks cell false then Some key else nearest) → ((n : ℕ) → is_marked marks n ≡ true → rest_of p aim n ≡ 0) →
     HandsOn p price aim spot.local cost (left_of front queue) after →
     (IsTurn (pane_graph p t price) (rest_of p aim) marks (size_of p) next after) × (weight_of after < weight_of front)

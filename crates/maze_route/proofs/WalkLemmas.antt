@@ -13,7 +13,7 @@ use Rattle.maze_route.specs.declared.pane.Step.{Step}
 use Rattle.maze_route.specs.declared.pane.Aim.{Aim}
 use Rattle.maze_route.proofs.BackLemmas.{GoesBack}
 use Rattle.maze_route.proofs.Distances.{guided-distance, source-zero, distance-source}
-use Rattle.maze_route.proofs.HandingLemmas.{pane-costs, pane-rest}
+use Rattle.maze_route.proofs.HandingLemmas.{pane-costs}
 
 -- the cells so far, by numbers in the window, and how a walk from the cell in hand makes up the whole
 pub record IsOnWay (p : Pane) (t : TreeView) (price : Edge → Option ℕ) (aim : Aim) (label : ℕ → Option ℕ) (goal : ℕ) (cells : List ℕ) (cell left : ℕ) : Type 0 where
@@ -40,21 +40,21 @@ map-push f [] x = refl
 map-push f (y ∷ ys) x = ap (λ (zs : List ℕ). f y ∷ zs) (map-push f ys x)
 
 -- a cell that something is left from is no source
-outside : (p : Pane) (t : TreeView) (ways : ℕ → Way → Bool) (price : Edge → Option ℕ) (aim : Aim) (label : ℕ → Option ℕ) (cell left : ℕ) → ArePrices p.grid ways price →
+outside : (p : Pane) (t : TreeView) (price : Edge → Option ℕ) (aim : Aim) (label : ℕ → Option ℕ) (cell left : ℕ) →
     IsNear p t price aim label cell left → 0 < left → (pane_graph p t price).source cell ≡ false
-outside p t ways price aim label cell left prices near some =
+outside p t price aim label cell left near some =
     let graph = pane_graph p t price in
-    let distance = guided-distance graph (rest_of p aim) label near.bound (pane-rest p t ways price aim prices) near.guided cell left near.labelled near.near in
+    let distance = guided-distance graph (rest_of p aim) label near.bound near.consistent near.guided cell left near.labelled near.near in
     elim (cases_Bool (graph.source cell)) [
       | inl source ↦ let h = distance-source graph cell left distance source in absurd (omega arith)
       | inr isnt ↦ isnt
     ]
 
-pub way-turn : (p : Pane) (t : TreeView) (ways : ℕ → Way → Bool) (price : Edge → Option ℕ) (aim : Aim) (label : ℕ → Option ℕ) (goal cell left next left_next at : ℕ) (step : Step) (cells cells_next : List ℕ) →
-    ArePrices p.grid ways price → IsOnWay p t price aim label goal cells cell left → 0 < left → GoesBack p t price aim label cell left step →
+pub way-turn : (p : Pane) (t : TreeView) (price : Edge → Option ℕ) (aim : Aim) (label : ℕ → Option ℕ) (goal cell left next left_next at : ℕ) (step : Step) (cells cells_next : List ℕ) →
+    IsOnWay p t price aim label goal cells cell left → 0 < left → GoesBack p t price aim label cell left step →
     next ≡ step.cell → left_next ≡ left - step.cost → at ≡ cell_in p cell → cells_next ≡ cells ++ at ∷ [] →
     IsOnWay p t price aim label goal cells_next next left_next
-way-turn p t ways price aim label goal cell left next left_next at step cells cells_next prices way some back is_next is_left is_at pushed =
+way-turn p t price aim label goal cell left next left_next at step cells cells_next way some back is_next is_left is_at pushed =
     let graph = pane_graph p t price in
     let P : ℕ → Type 0 = λ n. IsNear p t price aim label n left_next in
     let Q : ℕ → Type 0 = λ n. IsNear p t price aim label step.cell n in
@@ -69,7 +69,7 @@ way-turn p t ways price aim label goal cell left next left_next at step cells ce
       onward = λ rest leads.
           let L : List ℕ → Type 0 = λ xs. LeadsBack graph xs in
           subst L (sym (append_assoc way.done (cell ∷ []) (next ∷ rest)))
-          (way.onward (next ∷ rest) (outside p t ways price aim label cell left prices way.near some, (first, leads)));
+          (way.onward (next ∷ rest) (outside p t price aim label cell left way.near some, (first, leads)));
     }
 
 pub way-end : (p : Pane) (t : TreeView) (ways : ℕ → Way → Bool) (price : Edge → Option ℕ) (aim : Aim) (label : ℕ → Option ℕ) (goal cell left at : ℕ) (cells whole : List ℕ) →

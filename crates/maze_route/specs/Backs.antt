@@ -2,7 +2,7 @@
 use Rattle.std.specs.Prelude.{◌≡◌, ℕ, ◌+◌, ◌<◌, ◌≤◌, Bool, false, ◌==◌, List, [], ◌∷◌, map, Option, Some, None, if◌then◌else◌}
 use Rattle.gr_base.specs.declared.grid.Edge.{Edge}
 use Rattle.gr_base.specs.Trees.{TreeView}
-use Rattle.maze_route.specs.Search.{AreGuided}
+use Rattle.maze_route.specs.Search.{IsConsistent, AreGuided}
 use Rattle.maze_route.specs.Steps.{size_of, cell_in, rest_of, pane_graph, steps_from}
 use Rattle.maze_route.specs.Walks.{LeadsBack}
 use Rattle.maze_route.specs.declared.pane.Aim.{Aim}
@@ -37,6 +37,7 @@ pub record IsNear (p : Pane) (t : TreeView) (price : Edge → Option ℕ) (aim :
   pub inside : cell < size_of p
   pub labelled : label cell ≡ Some left
   pub bound : ℕ
+  pub consistent : IsConsistent (pane_graph p t price) (rest_of p aim)
   pub guided : AreGuided (pane_graph p t price) (rest_of p aim) label bound
   pub near : left + rest_of p aim cell ≤ bound
 

@@ -1,5 +1,5 @@
 -- Steps between neighbours by numbers in a window, and the least rest of a walk from each.
-use Rattle.std.specs.Prelude.{◌≡◌, ℕ, ◌+◌, ◌-◌, ◌<◌, Bool, ◌&&◌, nat_lt, List, [], ◌∷◌, map, Option, Some, None, if◌then◌else◌}
+use Rattle.std.specs.Prelude.{◌≡◌, ℕ, ◌+◌, ◌-◌, ◌*◌, ◌<◌, Bool, ◌&&◌, nat_lt, List, [], ◌∷◌, map, Option, Some, None, if◌then◌else◌}
 use Rattle.std.specs.Option.{option_map}
 use Rattle.gr_base.specs.declared.grid.Cell.{Cell}
 use Rattle.gr_base.specs.declared.grid.Edge.{Edge}
@@ -72,14 +72,14 @@ abbrev pub beside : Shape → ℕ → Side → Option ℕ
 beside s n (Behind way) = behind_of s n way
 beside s n (Ahead way) = ahead_of s n way
 
--- how many steps lie between a place and a box at least
-abbrev pub steps_to : Aim → Cell → ℕ
-steps_to aim cell =
+-- what a walk between a place and a box costs at least: 1 for each column and row, a via edge for each layer
+abbrev pub least_to : Aim → Cell → ℕ
+least_to aim cell =
     (aim.tiles.x0 - cell.x) + (cell.x - aim.tiles.x1) + (aim.tiles.y0 - cell.y) + (cell.y - aim.tiles.y1)
-    + (cell.layer - aim.top)
+    + (cell.layer - aim.top) * aim.via
 
 abbrev pub rest_of : Pane → Aim → ℕ → ℕ
-rest_of p aim n = steps_to aim (place_at p.shape n)
+rest_of p aim n = least_to aim (place_at p.shape n)
 
 -- the step from a cell to another, if there is one
 abbrev pub made_step : Pane → Aim → ℕ → ℕ → Step

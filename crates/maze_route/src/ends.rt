@@ -1,4 +1,5 @@
-ghost use Rattle.std.specs.Prelude.{◌≡◌, ℕ, ◌<◌, ◌↔◌, true, All, Contains, length, map, IfOk, IsTrue};
+ghost use Rattle.std.specs.Prelude.{◌≡◌, ℕ, ◌<◌, ◌≤◌, ◌↔◌, true, All, Contains, length, map, IfOk, IsTrue};
+ghost use Rattle.cost_rules.specs.Formulas.{most_cost};
 ghost use Rattle.gr_base.specs.Trees.{is_among};
 ghost use Rattle.maze_route.specs.Ends.{IsFirstOf, earlier_of};
 ghost use Rattle.maze_route.specs.Labels.{label_at};
@@ -23,28 +24,26 @@ pub(crate) fn locals(alloc: Global, pane: Pane, cells: &[u32]) -> Result<Vec<u32
     Ok(ends)
 }
 
-/// A box of tiles and layers that holds these cells of a window.
-pub(crate) fn box_of(pane: Pane, ends: &[u32]) -> Aim
-    requires { All (λ end. end < size_of pane) ends.now }
-    ensures { (end : ℕ) → IsTrue (is_among ends.now end) → rest_of pane result end ≡ 0 }
+/// A box of tiles and layers that holds these cells of a window, with what a via edge costs at least.
+pub(crate) fn box_of(pane: Pane, ends: &[u32], via: u64) -> Aim
+    requires ends { All (λ end. end < size_of pane) ends.now }
+    requires small { via ≤ most_cost }
+    ensures ends { (end : ℕ) → IsTrue (is_among ends.now end) → rest_of pane result end ≡ 0 }
+    ensures via { result.via ≡ via }
 {
-    let mut aim = Aim {
-        tiles: Window {
-            x0: u32::MAX,
-            y0: u32::MAX,
-            x1: 0,
-            y1: 0,
-        },
-        top: 0,
+    let mut tiles = Window {
+        x0: u32::MAX,
+        y0: u32::MAX,
+        x1: 0,
+        y1: 0,
     };
+    let mut top = 0;
     for &end in ends {
         let place = pane.spot(end).place;
-        aim = Aim {
-            tiles: aim.tiles.with(place),
-            top: aim.top.max(place.layer),
-        };
+        tiles = tiles.with(place);
+        top = top.max(place.layer);
     }
-    aim
+    Aim { tiles, top, via }
 }
 
 /// A mark for each of these cells of a window, and for no other.

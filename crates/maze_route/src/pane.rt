@@ -1,3 +1,5 @@
+ghost use Rattle.std.specs.Prelude.{◌≤◌};
+ghost use Rattle.cost_rules.specs.Formulas.{most_cost};
 ghost use Rattle.maze_route.specs.Panes.{IsPane};
 
 use crate::window::Window;
@@ -13,11 +15,13 @@ pub(crate) struct Pane {
     pub(crate) ghost fits: { IsPane grid window shape },
 }
 
-/// A box of tiles, on the layers up to one.
+/// A box of tiles, on the layers up to one, and what each via edge on the way there costs at least.
 #[derive(Clone, Copy)]
 pub(crate) struct Aim {
     pub(crate) tiles: Window,
     pub(crate) top: u32,
+    pub(crate) via: u64,
+    pub(crate) ghost small: { via ≤ most_cost },
 }
 
 /// A cell of a window: its number there and in the grid, and its place, counted from the window's

@@ -1,5 +1,6 @@
 ghost use Rattle.std.specs.Prelude.{◌≡◌, ℕ, ◌+◌, ◌^◌, ◌<◌, ◌≤◌, true, length, Option, Some, IfSome, IfOk, OnOk, IsTrue, if◌then◌else◌};
 ghost use Rattle.cost_rules.specs.Formulas.{most_cost};
+ghost use Rattle.cost_rules.specs.Prices.{IsBelowVias};
 ghost use Rattle.gr_base.specs.declared.grid.Edge.{Edge};
 ghost use Rattle.maze_route.specs.Labels.{label_at};
 ghost use Rattle.maze_route.specs.Steps.{size_of, rest_of, IsSpot, pane_graph, beside, step_to};
@@ -25,7 +26,7 @@ const MOST_DISTANCE: u64 = 1_152_921_504_606_846_976;
 fn reach(front: &mut Front, from: u64, step: Option<Step>) -> Result<(), AllocError>
     requires from { from ≤ most_distance }
     requires small { IfSome step (λ s. s.cost ≤ most_cost) }
-    requires rest { IfSome step (λ s. s.rest < 2 ^ 35) }
+    requires rest { IfSome step (λ s. s.rest < 2 ^ 53) }
     requires inside { IfSome step (λ s. s.cell < length front.old.labels.costs.items) }
     requires keys { IfSome step (λ s. front.old.queue.last ≤ from + s.cost + s.rest) }
     ensures done { OnOk result (IsReach from step front.old front.new) }
@@ -111,6 +112,7 @@ fn hand<C: Costs>(
     side: Side,
 ) -> Result<(), AllocError>
     requires grid { C.grid costs.now ≡ pane.grid }
+    requires vias { IsBelowVias pane.grid (C.price costs.now) aim.via }
     requires spot { IsSpot pane spot }
     requires from { from ≤ most_distance }
     requires size { length front.old.labels.costs.items ≡ size_of pane }
@@ -137,6 +139,7 @@ fn settle<C: Costs>(
     from: u64,
 ) -> Result<(), AllocError>
     requires grid { C.grid costs.now ≡ pane.grid }
+    requires vias { IsBelowVias pane.grid (C.price costs.now) aim.via }
     requires spot { IsSpot pane spot }
     requires from { from ≤ most_distance }
     requires size { length front.old.labels.costs.items ≡ size_of pane }
@@ -167,6 +170,7 @@ pub(crate) fn search<C: Costs>(
     tree: &RouteTree,
 ) -> Result<Labels, AllocError>
     requires costs { C.grid costs.now ≡ pane.grid }
+    requires vias { IsBelowVias pane.grid (C.price costs.now) aim.via }
     requires grid { tree.now.shape ≡ pane.grid }
     requires tree { TreeLiesIn pane.window tree.now }
     requires marks { length marks.now ≡ size_of pane }

@@ -2,7 +2,7 @@ ghost use Rattle.std.specs.Prelude.{◌≡◌, ◌^◌, ◌<◌, ◌≤◌, IsTr
 ghost use Rattle.cost_rules.specs.Formulas.{most_cost};
 ghost use Rattle.gr_base.specs.Grid.{IsInside, beyond, has_room};
 ghost use Rattle.gr_base.specs.Limits.{most_cells};
-ghost use Rattle.maze_route.specs.Steps.{IsSpot, has_room_behind, before, ahead_of, behind_of, beside, size_of, steps_to, step_to};
+ghost use Rattle.maze_route.specs.Steps.{IsSpot, has_room_behind, before, ahead_of, behind_of, beside, size_of, least_to, step_to};
 
 use crate::pane::{Aim, Pane, Spot, Step};
 use crate::side::Side;
@@ -76,16 +76,16 @@ fn one_back(place: Cell, way: Way) -> Cell
     }
 }
 
-/// How many steps lie between a place and a box at least.
+/// What a walk between a place and a box costs at least. Each edge costs 1 at least.
 pub(crate) fn distance_to(aim: Aim, place: Cell) -> u64
-    ensures steps { result ≡ steps_to aim place }
-    ensures small { result < 2 ^ 35 }
+    ensures least { result ≡ least_to aim place }
+    ensures small { result < 2 ^ 53 }
 {
     let columns = u64::from(aim.tiles.x0.saturating_sub(place.x))
         + u64::from(place.x.saturating_sub(aim.tiles.x1));
     let rows = u64::from(aim.tiles.y0.saturating_sub(place.y))
         + u64::from(place.y.saturating_sub(aim.tiles.y1));
-    columns + rows + u64::from(place.layer.saturating_sub(aim.top))
+    columns + rows + u64::from(place.layer.saturating_sub(aim.top)) * aim.via
 }
 
 /// The step to the next cell along the way, if there is one.
@@ -94,7 +94,7 @@ fn ahead<C: Costs>(costs: &C, pane: Pane, aim: Aim, spot: Spot, way: Way) -> Opt
     requires spot { IsSpot pane spot }
     ensures step { result ≡ step_to pane (C.price costs.now) aim spot.local (ahead_of pane.shape spot.local way) }
     ensures cost { IfSome result (λ s. s.cost ≤ most_cost) }
-    ensures rest { IfSome result (λ s. s.rest < 2 ^ 35) }
+    ensures rest { IfSome result (λ s. s.rest < 2 ^ 53) }
 {
     if !has_ahead(pane.shape, spot.place, way) {
         return None;
@@ -119,7 +119,7 @@ fn behind<C: Costs>(costs: &C, pane: Pane, aim: Aim, spot: Spot, way: Way) -> Op
     requires spot { IsSpot pane spot }
     ensures step { result ≡ step_to pane (C.price costs.now) aim spot.local (behind_of pane.shape spot.local way) }
     ensures cost { IfSome result (λ s. s.cost ≤ most_cost) }
-    ensures rest { IfSome result (λ s. s.rest < 2 ^ 35) }
+    ensures rest { IfSome result (λ s. s.rest < 2 ^ 53) }
 {
     if !has_behind(spot.place, way) {
         return None;
@@ -173,7 +173,7 @@ pub(crate) fn step_beside<C: Costs>(
     requires spot { IsSpot pane spot }
     ensures step { result ≡ step_to pane (C.price costs.now) aim spot.local (beside pane.shape spot.local side) }
     ensures cost { IfSome result (λ s. s.cost ≤ most_cost) }
-    ensures rest { IfSome result (λ s. s.rest < 2 ^ 35) }
+    ensures rest { IfSome result (λ s. s.rest < 2 ^ 53) }
 {
     match side {
         Side::Behind(way) => behind(costs, pane, aim, spot, way),

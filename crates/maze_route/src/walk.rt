@@ -60,7 +60,7 @@ fn walk_in<C: Costs>(
     ensures { IfOk result (IsLeastWalk (whole pane tree.now (C.price costs.now)) goals.now) }
 {
     let ends = locals(alloc, pane, goals)?;
-    let aim = box_of(pane, &ends);
+    let aim = box_of(pane, &ends, costs.least_via());
     let marks = marked(alloc, pane, &ends)?;
     let labels = search(alloc, costs, pane, aim, &marks, tree)?;
     let goal = first_reached(&labels, &ends).unwrap();

@@ -1,11 +1,12 @@
 -- A net's prices are prices.
 use Rattle.std.proofs.Common.{◌≡◌, ℕ, ◌+◌, ◌*◌, ◌≤◌, ◌↔◌, Bool, true, false, Some, None, IsSome, IfSome, IsTrue, if◌then◌else◌, min, refl, sym, ap, ◌∙◌, arith}
-use Rattle.cost_rules.specs.Formulas.{cost_at, most_cost, overflow_at}
-use Rattle.cost_rules.specs.Prices.{ArePrices}
+use Rattle.cost_rules.specs.Formulas.{cost_at, most_cost, overflow_at, via_cost}
+use Rattle.cost_rules.specs.Prices.{ArePrices, IsBelowVias}
 use Rattle.cost_rules.specs.declared.site.Formula.{Formula}
 use Rattle.cost_rules.specs.declared.site.Formula.TheVariants.{First, Steep, Flat}
 use Rattle.cost_rules.specs.declared.site.Site.{Site}
-use Rattle.gr_base.specs.Grid.{is_wire}
+use Rattle.gr_base.specs.Grid.{is_wire, is_wire_way}
+use Rattle.gr_base.specs.declared.grid.Way.{Way}
 use Rattle.grid_demand.specs.LoadSums.{LoadsView}
 use Rattle.grid_demand.specs.Tables.{CapacityView, usable_at}
 use Rattle.net_plan.specs.Prices.{site_of, price_of, ways_of}
@@ -44,6 +45,13 @@ prices-of_net c l f net = record {
   most = λ e edge. let P : ℕ → Type 0 = λ n. n ≤ most_cost in
       if-paid (usable_at c e) _ P (either (is_wire e) _ 3 P (cost-most f (site_of c l net e)) (omega arith));
 }
+
+-- each via edge has the cost of a via
+pub vias-of_net : (c : CapacityView) (l : LoadsView) (f : Formula) (net : ℕ) → IsBelowVias c.shape (price_of c l f net) via_cost
+vias-of_net c l f net e edge up =
+    let no_wire : (if is_wire e then cost_at f (site_of c l net e) else via_cost) ≡ via_cost =
+    ap (λ (way : Way). if is_wire_way way then cost_at f (site_of c l net e) else via_cost) up in
+    if-paid (usable_at c e) _ (λ n. via_cost ≤ n) (omega (arith, no_wire))
 
 -- where a net fits and there is no mark each formula gives 1
 pub cost-free : (f : Formula) (site : Site) → site.marks ≡ 0 → site.demand + site.need ≤ site.capacity → 1 ≡ cost_at f site

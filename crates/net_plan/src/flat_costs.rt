@@ -85,6 +85,10 @@ impl Costs for FlatCosts<'_> {
         }
         least
     }
+
+    fn least_via(&self) -> u64 {
+        1
+    }
 }
 
 /// The grid of the same tiles with one layer.

@@ -108,4 +108,8 @@ impl Costs for NetCosts<'_> {
         }
         Some(self.cost_at(self.site(e)))
     }
+
+    fn least_via(&self) -> u64 {
+        VIA_COST
+    }
 }

@@ -83,4 +83,8 @@ impl Costs for Priced {
             Some(1 + product % 4)
         }
     }
+
+    fn least_via(&self) -> u64 {
+        1
+    }
 }

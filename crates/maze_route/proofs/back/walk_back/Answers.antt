@@ -21,9 +21,7 @@ loop-left-init g c = record {
 pub unwrap-step-requires : goal.unwrap-step-requires
 unwrap-step-requires g c =
     let price : Edge → Option ℕ = g.C.Costs.price c.args.costs.now in
-    let P : Shape → Type 0 = λ s. ArePrices s (g.C.Costs.ways c.args.costs.now) price in
-    let prices = subst P c.requires.grid (g.met.C.Costs.prices c.args.costs.now) in
-    let finds = finds-back c.args.pane c.args.tree.now (g.C.Costs.ways c.args.costs.now) price c.args.aim (label_at c.args.labels.now.costs.items) c.loop-left.spot.local c.loop-left.left prices
+    let finds = finds-back c.args.pane c.args.tree.now price c.args.aim (label_at c.args.labels.now.costs.items) c.loop-left.spot.local c.loop-left.left
     c.loop-left.invariant.way.near c.loop-left-test.true in
     let Q : Option Step → Type 0 = λ o. IsSome o in
     subst Q (sym c.step_back.ensures) finds
@@ -55,8 +53,8 @@ loop-left-preserved g c =
     c.loop-left.invariant.way.near (sym c.step_back.ensures ∙ c.unwrap-step.ensures) in
     record {
       spot = c.spot-spot-in-loop-left.ensures.spot;
-      way = way-turn c.args.pane c.args.tree.now (g.C.Costs.ways c.args.costs.now) price c.args.aim (label_at c.args.labels.now.costs.items) c.args.goal.cell c.loop-left.spot.local c.loop-left.left
-          c.spot-spot-in-loop-left.result.local (c.loop-left.left - c.unwrap-step.result.cost) c.loop-left.spot.cell c.unwrap-step.result c.loop-left.cells c.push.new.self prices
+      way = way-turn c.args.pane c.args.tree.now price c.args.aim (label_at c.args.labels.now.costs.items) c.args.goal.cell c.loop-left.spot.local c.loop-left.left
+          c.spot-spot-in-loop-left.result.local (c.loop-left.left - c.unwrap-step.result.cost) c.loop-left.spot.cell c.unwrap-step.result c.loop-left.cells c.push.new.self
           c.loop-left.invariant.way c.loop-left-test.true back c.spot-spot-in-loop-left.ensures.local refl c.loop-left.invariant.spot.cell c.in_ok-push.ensures.ok;
     }
 

@@ -17,9 +17,9 @@ returns-then-is_low_beside-clause-done g c =
 pub reach-requires-clause-inside : goal.reach-requires-clause-inside
 reach-requires-clause-inside g c =
     (spot-fits c.args.pane (g.C.Costs.grid c.args.costs.now) (g.C.Costs.ways c.args.costs.now) (g.C.Costs.price c.args.costs.now) c.args.aim c.requires.grid (g.met.C.Costs.prices c.args.costs.now)
-    c.args.spot.local c.args.spot.local c.args.from _ _ _ _ (beside c.args.pane.shape c.args.spot.local c.args.side) c.step_beside.result refl c.step_beside.ensures.step c.requires.size c.requires.key refl refl).0
+    c.requires.vias c.args.spot.local c.args.spot.local c.args.from _ _ _ _ (beside c.args.pane.shape c.args.spot.local c.args.side) c.step_beside.result refl c.step_beside.ensures.step c.requires.size c.requires.key refl refl).0
 
 pub reach-requires-clause-keys : goal.reach-requires-clause-keys
 reach-requires-clause-keys g c =
     (spot-fits c.args.pane (g.C.Costs.grid c.args.costs.now) (g.C.Costs.ways c.args.costs.now) (g.C.Costs.price c.args.costs.now) c.args.aim c.requires.grid (g.met.C.Costs.prices c.args.costs.now)
-    c.args.spot.local c.args.spot.local c.args.from _ _ _ _ (beside c.args.pane.shape c.args.spot.local c.args.side) c.step_beside.result refl c.step_beside.ensures.step c.requires.size c.requires.key refl refl).1
+    c.requires.vias c.args.spot.local c.args.spot.local c.args.from _ _ _ _ (beside c.args.pane.shape c.args.spot.local c.args.side) c.step_beside.result refl c.step_beside.ensures.step c.requires.size c.requires.key refl refl).1

@@ -41,9 +41,10 @@ settle-requires g c =
     let graph = pane_graph c.args.pane c.args.tree.now (g.C.Costs.price c.args.costs.now) in
     let has = taken-has graph (rest_of c.args.pane c.args.aim) c.args.marks.now (size_of c.args.pane) c.loop-key.nearest c.loop-key.front c.in-Some.key c.in-Some.cell c.pop.new.self c.loop-key.invariant c.in-Some.ensures in
     let same : has.cost ≡ c.unwrap-label.result = same_Some has.cost c.unwrap-label.result (sym has.is ∙ sym c.at.ensures ∙ c.unwrap-label.ensures) in
-    let rest = spot-rest c.args.pane c.args.aim c.spot-spot.result c.spot-spot.result.local c.distance_to.result c.spot-spot.ensures.spot refl c.distance_to.ensures.steps in
+    let rest = spot-rest c.args.pane c.args.aim c.spot-spot.result c.spot-spot.result.local c.distance_to.result c.spot-spot.ensures.spot refl c.distance_to.ensures.least in
     record {
       grid = c.requires.costs;
+      vias = c.requires.vias;
       spot = c.spot-spot.ensures.spot;
       from = omega (arith, same, has.small);
       size = c.loop-key.invariant.size_is;
@@ -56,7 +57,7 @@ returns-then-is_past-clause-found g c =
     let P : Shape → Type 0 = λ s. ArePrices s (g.C.Costs.ways c.args.costs.now) price in
     let prices = subst P c.requires.costs (g.met.C.Costs.prices c.args.costs.now) in
     stop-turn (pane_graph c.args.pane c.args.tree.now price) (rest_of c.args.pane c.args.aim) c.args.marks.now (size_of c.args.pane) c.loop-key.nearest c.loop-key.front
-    c.in-Some.key c.in-Some.cell c.pop.new.self (pane-rest c.args.pane c.args.tree.now (g.C.Costs.ways c.args.costs.now) price c.args.aim prices)
+    c.in-Some.key c.in-Some.cell c.pop.new.self (pane-rest c.args.pane c.args.tree.now (g.C.Costs.ways c.args.costs.now) price c.args.aim prices c.requires.vias)
     c.loop-key.invariant c.in-Some.ensures (sym c.is_past.ensures ∙ c.if-is_past.true)
 
 pub loop-key-preserved : goal.loop-key-preserved
@@ -64,7 +65,7 @@ loop-key-preserved g c =
     (settled-turn c.args.pane c.args.tree.now (g.C.Costs.grid c.args.costs.now) (g.C.Costs.ways c.args.costs.now) (g.C.Costs.price c.args.costs.now) c.args.aim c.args.marks.now
     c.loop-key.nearest c.nearest_with-nearest.result c.loop-key.front c.settle.new.front c.pop.new.self c.spot-spot.result c.in-Some.key c.in-Some.cell c.unwrap-label.result
     c.distance_to.result c.requires.costs (g.met.C.Costs.prices c.args.costs.now) c.loop-key.invariant c.in-Some.ensures (sym c.at.ensures ∙ c.unwrap-label.ensures)
-    c.spot-spot.ensures.spot c.spot-spot.ensures.local c.distance_to.ensures.steps (omega (arith, c.if-label-distance_to.false)) c.nearest_with-nearest.ensures c.requires.aim
+    c.spot-spot.ensures.spot c.spot-spot.ensures.local c.distance_to.ensures.least (omega (arith, c.if-label-distance_to.false)) c.nearest_with-nearest.ensures c.requires.aim
     c.in_ok-settle.ensures).0
 
 pub loop-key-smaller : goal.loop-key-smaller
@@ -72,13 +73,13 @@ loop-key-smaller g c =
     (settled-turn c.args.pane c.args.tree.now (g.C.Costs.grid c.args.costs.now) (g.C.Costs.ways c.args.costs.now) (g.C.Costs.price c.args.costs.now) c.args.aim c.args.marks.now
     c.loop-key.nearest c.nearest_with-nearest.result c.loop-key.front c.settle.new.front c.pop.new.self c.spot-spot.result c.in-Some.key c.in-Some.cell c.unwrap-label.result
     c.distance_to.result c.requires.costs (g.met.C.Costs.prices c.args.costs.now) c.loop-key.invariant c.in-Some.ensures (sym c.at.ensures ∙ c.unwrap-label.ensures)
-    c.spot-spot.ensures.spot c.spot-spot.ensures.local c.distance_to.ensures.steps (omega (arith, c.if-label-distance_to.false)) c.nearest_with-nearest.ensures c.requires.aim
+    c.spot-spot.ensures.spot c.spot-spot.ensures.local c.distance_to.ensures.least (omega (arith, c.if-label-distance_to.false)) c.nearest_with-nearest.ensures c.requires.aim
     c.in_ok-settle.ensures).1
 
 pub loop-key-preserved-then-label-distance_to : goal.loop-key-preserved-then-label-distance_to
 loop-key-preserved-then-label-distance_to g c =
     let is = sym c.at.ensures ∙ c.unwrap-label.ensures in
-    let rest = spot-rest c.args.pane c.args.aim c.spot-spot.result c.in-Some.cell c.distance_to.result c.spot-spot.ensures.spot c.spot-spot.ensures.local c.distance_to.ensures.steps in
+    let rest = spot-rest c.args.pane c.args.aim c.spot-spot.result c.in-Some.cell c.distance_to.result c.spot-spot.ensures.spot c.spot-spot.ensures.local c.distance_to.ensures.least in
     let turn = stale-turn (pane_graph c.args.pane c.args.tree.now (g.C.Costs.price c.args.costs.now)) (rest_of c.args.pane c.args.aim) c.args.marks.now (size_of c.args.pane) c.loop-key.nearest
     c.loop-key.front c.in-Some.key c.in-Some.cell c.unwrap-label.result c.pop.new.self c.loop-key.invariant c.in-Some.ensures is (omega (arith, rest, c.if-label-distance_to.true)) in
     turn.0
@@ -86,7 +87,7 @@ loop-key-preserved-then-label-distance_to g c =
 pub loop-key-smaller-then-label-distance_to : goal.loop-key-smaller-then-label-distance_to
 loop-key-smaller-then-label-distance_to g c =
     let is = sym c.at.ensures ∙ c.unwrap-label.ensures in
-    let rest = spot-rest c.args.pane c.args.aim c.spot-spot.result c.in-Some.cell c.distance_to.result c.spot-spot.ensures.spot c.spot-spot.ensures.local c.distance_to.ensures.steps in
+    let rest = spot-rest c.args.pane c.args.aim c.spot-spot.result c.in-Some.cell c.distance_to.result c.spot-spot.ensures.spot c.spot-spot.ensures.local c.distance_to.ensures.least in
     let turn = stale-turn (pane_graph c.args.pane c.args.tree.now (g.C.Costs.price c.args.costs.now)) (rest_of c.args.pane c.args.aim) c.args.marks.now (size_of c.args.pane) c.loop-key.nearest
     c.loop-key.front c.in-Some.key c.in-Some.cell c.unwrap-label.result c.pop.new.self c.loop-key.invariant c.in-Some.ensures is (omega (arith, rest, c.if-label-distance_to.true)) in
     turn.1
@@ -98,6 +99,6 @@ returns g c =
     let prices = subst P c.requires.costs (g.met.C.Costs.prices c.args.costs.now) in
     record {
       found = end-turn (pane_graph c.args.pane c.args.tree.now price) (rest_of c.args.pane c.args.aim) c.args.marks.now (size_of c.args.pane) c.loop-key.nearest c.loop-key.front
-          (pane-rest c.args.pane c.args.tree.now (g.C.Costs.ways c.args.costs.now) price c.args.aim prices) c.requires.aim c.loop-key.invariant c.in_default.ensures.0 c.requires.goal;
+          (pane-rest c.args.pane c.args.tree.now (g.C.Costs.ways c.args.costs.now) price c.args.aim prices c.requires.vias) c.requires.aim c.loop-key.invariant c.in_default.ensures.0 c.requires.goal;
       size = c.loop-key.invariant.size_is;
     }

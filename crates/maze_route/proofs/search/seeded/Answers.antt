@@ -34,7 +34,7 @@ loop-node-preserved c =
     let back = ap (λ (n : ℕ). cell_in c.args.pane n) (sym c.local.ensures.local) ∙ c.local.ensures.cell in
     let turn = λ (price : Edge → Option ℕ). seed-turn c.args.pane c.args.tree.now price c.args.aim c.loop-node.node (c.loop-node.node + 1) c.cell.result c.spot-spot.result step c.loop-node.front c.reach.new.front
     refl c.cell.ensures.cell c.cell.ensures.only c.spot-spot.ensures.spot (c.spot-spot.ensures.local ∙ c.local.ensures.local) back
-    refl refl c.distance_to.ensures.steps c.loop-node.invariant.size c.in_ok-reach.ensures.done (c.loop-node.invariant.searching price) c.loop-node.invariant.seeded in
+    refl refl c.distance_to.ensures.least c.loop-node.invariant.size c.in_ok-reach.ensures.done (c.loop-node.invariant.searching price) c.loop-node.invariant.seeded in
     record {
       size = c.reach.ensures.size ∙ c.loop-node.invariant.size;
       last = c.reach.ensures.last ∙ c.loop-node.invariant.last;

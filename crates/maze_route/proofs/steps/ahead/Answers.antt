@@ -40,6 +40,6 @@ pub returns-clause-step : goal.returns-clause-step
 returns-clause-step g c =
     let to = c.args.spot.local + stride c.args.pane.shape c.args.way in
     let next = spot-ahead c.args.pane c.args.spot c.args.way c.requires.spot (sym c.has_ahead.ensures ∙ c.if-not-has_ahead.false) in
-    let rest = rest-on c.args.pane c.args.aim c.args.spot c.args.way to c.distance_to.result c.one_on.result c.requires.spot next c.one_on.ensures c.distance_to.ensures.steps in
+    let rest = rest-on c.args.pane c.args.aim c.args.spot c.args.way to c.distance_to.result c.one_on.result c.requires.spot next c.one_on.ensures c.distance_to.ensures.least in
     made c.args.pane c.args.aim to (c.args.spot.local + c.stride.result) c.in-Some.cost c.distance_to.result c.cost.result c.in-Some.is (omega (arith, c.stride.ensures)) rest _
     (step-on c.args.pane (g.C.Costs.price c.args.costs.now) c.args.aim c.args.spot c.args.way to c.cost.result c.requires.spot next c.cost.ensures.price)

@@ -44,6 +44,6 @@ returns-clause-step g c =
     let to = c.args.spot.local - stride c.args.pane.shape c.args.way in
     let back = spot-behind c.args.pane c.args.spot c.args.way c.requires.spot (sym c.has_behind.ensures ∙ c.if-not-has_behind.false) in
     let low : c.args.spot.cell - c.stride.result ≡ cell_in c.args.pane to = omega (arith, c.stride.ensures, back.next.high, c.requires.spot.cell) in
-    let rest = rest-back c.args.pane c.args.aim c.args.spot c.args.way to c.distance_to.result c.one_back.result c.requires.spot back.next c.one_back.ensures c.distance_to.ensures.steps in
+    let rest = rest-back c.args.pane c.args.aim c.args.spot c.args.way to c.distance_to.result c.one_back.result c.requires.spot back.next c.one_back.ensures c.distance_to.ensures.least in
     made c.args.pane c.args.aim to (c.args.spot.local - c.stride-2.result) c.in-Some.cost c.distance_to.result c.cost.result c.in-Some.is (omega (arith, c.stride-2.ensures)) rest _
     (step-back c.args.pane (g.C.Costs.price c.args.costs.now) c.args.aim c.args.spot c.args.way to (c.args.spot.cell - c.stride.result) c.cost.result c.requires.spot back.next low c.cost.ensures.price)
