@@ -15,7 +15,7 @@ pub(crate) struct Pane {
     pub(crate) ghost fits: { IsPane grid window shape },
 }
 
-/// A box of tiles, on the layers up to one, and what each via edge on the way there costs at least.
+/// A box of tiles, on the layers up to one, and what each via edge costs at least.
 #[derive(Clone, Copy)]
 pub(crate) struct Aim {
     pub(crate) tiles: Window,

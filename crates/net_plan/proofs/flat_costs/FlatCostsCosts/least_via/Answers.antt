@@ -1,4 +1,3 @@
-use Rattle.cost_rules.specs.Prices.{ArePrices}
 use Rattle.net_plan.specs.FlatPrices.{flat_ways_of, flat_price_of}
 use Rattle.net_plan.specs.Prices.{kept_prices}
 use Rattle.net_plan.proofs.flat_costs.FlatCostsCosts.least_via.Goals as goal
