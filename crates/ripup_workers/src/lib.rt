@@ -6,6 +6,7 @@ mod coordinator;
 mod gate;
 mod members;
 mod order;
+mod parts;
 mod round;
 mod rounds;
 mod run;
@@ -15,4 +16,5 @@ mod work;
 mod worker;
 
 pub use gate::{Gate, OpenGate, Stop};
+pub use parts::parts_for;
 pub use rounds::{Rounds, route_rounds};

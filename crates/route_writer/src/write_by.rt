@@ -12,11 +12,11 @@ use std::alloc::Global;
 use std::thread::Threads;
 
 /// How many nets the first blocks have.
-const FIRST_BLOCK: u32 = 4_096;
+const FIRST_BLOCK: u32 = 1_024;
 
 /// Blocks with less text than this are followed by blocks of more nets, those with more text than
 /// four times as much by blocks of fewer.
-const FEW_BYTES: usize = 1_048_576;
+const FEW_BYTES: usize = 262_144;
 
 /// Writes the text of the routes as `write_solution` does. More than one worker puts records together
 /// side by side, in blocks of nets; each block's text is written whole, in the order of the nets.

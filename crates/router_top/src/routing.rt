@@ -26,7 +26,7 @@ use gr_io::{Shelf, Sink, write_whole};
 use gr_text::Text;
 use rc_library::Library;
 use report_text::report;
-use ripup_workers::{Gate, Rounds, route_rounds};
+use ripup_workers::{Gate, Rounds, parts_for, route_rounds};
 use route_evaluator::{Verdict, evaluate_routes};
 use route_writer::{WriteError, write_solution_by};
 use std::alloc::{AllocError, Global};
@@ -196,7 +196,8 @@ pub(crate) fn booked_routes<R: Threads + Wait + Sync, G: Gate + Sync>(
         gate,
     )?;
     let book = rounds.book.state();
-    let routes = book.routes_at(rt, rounds.chosen, options.workers)?;
+    let parts = parts_for(options.workers);
+    let routes = book.routes_at(rt, rounds.chosen, parts)?;
     Ok(BookedRoutes { rounds, routes })
 }
 
@@ -272,7 +273,7 @@ fn made_side_by_side<R: Threads + Sync>(
     ensures verdict { GivesVerdict design.now options booked.now.routes result.0 }
     ensures buffers { IfOk result.1 (IsBuffersText design.now library.now booked.now.routes) }
 {
-    let workers = options.workers;
+    let parts = parts_for(options.workers);
     join(
         rt,
         || -> Result<Verdict, AllocError>
@@ -280,9 +281,9 @@ fn made_side_by_side<R: Threads + Sync>(
             ensures { GivesVerdict design.entry.now options booked.entry.now.routes result }
         { verdict_on(alloc, design, booked, options) },
         || -> Result<Text, AllocError>
-            requires { IsLibraryOf design.now library.now × AreRoutesOf design.now booked.now.routes × (0 < workers) }
+            requires { IsLibraryOf design.now library.now × AreRoutesOf design.now booked.now.routes × (0 < parts) }
             ensures { IfOk result (IsBuffersText design.entry.now library.entry.now booked.entry.now.routes) }
-        { buffers_on(rt, alloc, design, library, &booked.routes, workers) },
+        { buffers_on(rt, alloc, design, library, &booked.routes, parts) },
     )
 }
 
@@ -312,7 +313,8 @@ fn write_routes<R: Threads + Sync, O: Sink, E: Sink>(
         (device_of E.tells E.faults E.written err.old err.new)
         result }
 {
-    match write_solution_by(rt, alloc, out, design, &routed.routes, workers) {
+    let parts = parts_for(workers);
+    match write_solution_by(rt, alloc, out, design, &routed.routes, parts) {
         Ok(()) => {}
         Err(WriteError::Failed) => return Err(Stop::WriteFailed),
         Err(WriteError::NoMemory) => return Err(Stop::NoMemory),
