@@ -12,4 +12,5 @@ pub mod LeastMarks
 pub mod RouteCopies
 pub mod BookingLaws
 pub mod StillSteps
+pub mod LiftSteps
 pub mod VictimTables

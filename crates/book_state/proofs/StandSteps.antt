@@ -1,5 +1,5 @@
 -- Replicas that stand for longer and longer histories.
-use Rattle.std.proofs.Common.{◌≡◌, ℕ, suc, zero, ◌+◌, ◌<◌, ◌≤◌, inl, inr, true, false, List, [], ◌∷◌, ◌++◌, length, take, Option, Some, None, slice_get, slice_set, replicate, IsTrue, refl, sym, ap, subst, ◌∙◌, arith, length-set}
+use Rattle.std.proofs.Common.{◌≡◌, ℕ, ◌+◌, ◌<◌, ◌≤◌, true, false, List, [], ◌∷◌, ◌++◌, length, take, Option, Some, None, slice_get, slice_set, replicate, IsTrue, refl, sym, ap, subst, ◌∙◌, arith, length-set}
 use Rattle.std.proofs.lemmas.List.{length_push, length-replicate}
 use Rattle.std.proofs.lemmas.Option.{none-some, same_Some}
 use Rattle.gr_base.proofs.TreeEdges.{tree-grid_edges}
@@ -28,7 +28,7 @@ abbrev pub replica_of : ℕ → List (Option ℕ) → LoadsView → ReplicaView
 replica_of front places loads = record { front = front; places = places; loads = loads }
 
 -- a wire edge of the design is one of the loads
-wire_of : (c : CapacityView) (l : LoadsView) (e : Edge) → l.shape ≡ c.shape → IsTrue (has_edge c.shape e) → IsTrue (is_wire e) → IsWireOf l.shape e
+pub wire_of : (c : CapacityView) (l : LoadsView) (e : Edge) → l.shape ≡ c.shape → IsTrue (has_edge c.shape e) → IsTrue (is_wire e) → IsWireOf l.shape e
 wire_of c l e same edge wire = record { edge = subst (λ (g : Shape). IsTrue (has_edge g e)) (sym same) edge; wire = wire }
 
 -- loads after an entry that changes no booking and isn't a mark
@@ -66,7 +66,7 @@ loads-claim c h e l new net t of is within before after same other =
       marks = λ x edge wire. of.marks x edge wire ∙ sym (steps.marks-idle c h e x other);
     })
 
-loads-release : (c : CapacityView) (h : List Entry) (e : Entry) (l new : LoadsView) (net : ℕ) (t : TreeView) → AreLoadsOf c h l → new ≡ taken c net t l →
+pub loads-release : (c : CapacityView) (h : List Entry) (e : Entry) (l new : LoadsView) (net : ℕ) (t : TreeView) → AreLoadsOf c h l → new ≡ taken c net t l →
     net < nets_of c → booked h net ≡ Some t → booked (h ++ e ∷ []) net ≡ None →
     ((other : ℕ) → (other ≡ net → ⊥) → booked (h ++ e ∷ []) other ≡ booked h other) → is_mark e ≡ false → AreLoadsOf c (h ++ e ∷ []) new
 loads-release c h e l new net t of is within before after same other =
@@ -108,7 +108,7 @@ push-change c h e r front net place new stands long within same there loads = re
 is_mark-claim : (e : Entry) (claim : Claim) → e.call ≡ Claims claim → is_mark e ≡ false
 is_mark-claim e claim call = ap (λ (k : Call). is_mark_call k) call
 
-is_mark-release : (e : Entry) (net : ℕ) → e.call ≡ Release net → is_mark e ≡ false
+pub is_mark-release : (e : Entry) (net : ℕ) → e.call ≡ Release net → is_mark e ≡ false
 is_mark-release e net call = ap (λ (k : Call). is_mark_call k) call
 
 is_mark-mark : (e : Entry) → e.call ≡ Mark → is_mark e ≡ true

@@ -10,5 +10,6 @@ pub mod Views
 pub mod BookStore
 pub mod LeastSearch
 pub mod Still
+pub mod Lifted
 pub mod Crowds
 pub mod Copies

@@ -9,6 +9,7 @@ mod entry;
 mod history;
 mod laws;
 mod least;
+mod lifted;
 mod past;
 mod places;
 mod replica;

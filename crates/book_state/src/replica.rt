@@ -20,7 +20,7 @@ use std::marker::Model;
 pub struct Replica {
     front: u64,
     places: Places,
-    loads: Loads,
+    pub(crate) loads: Loads,
 }
 
 impl Replica {

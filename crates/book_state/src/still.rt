@@ -1,59 +1,95 @@
-//! Entries that change nothing in a window.
-ghost use Rattle.std.specs.Prelude.{◌≡◌, ◌+◌, ◌<◌, length, take, IsTrue};
+//! Entries that change nothing for a net in a window.
+ghost use Rattle.std.specs.Prelude.{◌≡◌, ◌+◌, ◌<◌, ◌≤◌, length, take, IsTrue};
+ghost use Rattle.std.specs.List.{list_any};
+ghost use Rattle.gr_base.specs.Grid.{has_edge, is_wire};
+ghost use Rattle.gr_base.specs.Trees.{IsTree, tree_edges};
+ghost use Rattle.grid_demand.specs.LoadSums.{demand_at};
 ghost use Rattle.book_state.specs.Books.{IsLegal};
 ghost use Rattle.book_state.specs.Replicas.{StandsFor};
-ghost use Rattle.book_state.specs.Still.{IsStill, LiesOutside};
+ghost use Rattle.book_state.specs.Still.{IsStill, lacks_room as edge_without_room};
 
 use crate::entry::{Call, Reply};
 use crate::history::History;
 use crate::past::Past;
 use crate::replica::Replica;
-use gr_base::RouteTree;
-use grid_demand::Capacity;
+use gr_base::{Edge, RouteTree};
+use grid_demand::{Capacity, Loads};
 use maze_route::Window;
 
 impl Replica {
     /// Reads the entries of a past that the replica doesn't stand for yet, as `catch_up` does. The
-    /// result is true only where they change neither demand nor marks of an edge that begins in the
-    /// window.
-    pub fn catch_up_beside(&mut self, capacity: &Capacity, past: &Past, window: Window) -> bool
+    /// result is true only where each wire edge that begins in the window stays as much over its
+    /// capacity with the net on it, and keeps its marks: then it costs the net the same.
+    pub fn catch_up_beside(
+        &mut self,
+        capacity: &Capacity,
+        past: &Past,
+        net: u32,
+        window: Window,
+    ) -> bool
         requires legal { IsLegal capacity.now past.now }
         requires stands { StandsFor capacity.now (take self.old.front past.now) self.old }
         ensures stands { StandsFor capacity.now past.now self.new }
-        ensures still { IsTrue result → IsStill capacity.now window (take self.old.front past.now) past.now }
+        ensures still { IsTrue result → IsStill capacity.now net window (take self.old.front past.now) past.now }
     {
         let history = past.entries();
+        self.read_beside(capacity, history, history.len(), net, window)
+    }
+
+    /// Reads the entries before `end`. The result says of them what that of `catch_up_beside` says.
+    pub(crate) fn read_beside(
+        &mut self,
+        capacity: &Capacity,
+        history: &History,
+        end: u64,
+        net: u32,
+        window: Window,
+    ) -> bool
+        requires legal { IsLegal capacity.now history.now }
+        requires stands { StandsFor capacity.now (take self.old.front history.now) self.old }
+        requires front { self.old.front ≤ end }
+        requires end { end ≤ length history.now }
+        ensures stands { StandsFor capacity.now (take end history.now) self.new }
+        ensures still { IsTrue result →
+            IsStill capacity.now net window (take self.old.front history.now) (take end history.now) }
+    {
         let mut still = true;
-        for place in self.front()..history.len() {
-            still = still && self.stays_still(capacity, history, place, window);
+        for place in self.front()..end {
+            still = still && self.stays_still(capacity, history, place, net, window);
             self.read_entry(capacity, history, place);
         }
         still
     }
 
-    /// Whether the entry that is to be read next leaves the edges that begin in the window as they
-    /// are. It is true only where the entry's tree, if it has one, lies outside the window.
+    /// Whether the entry that is to be read next changes nothing for the net in the window. It is true
+    /// only where the wire edges of the entry's tree that begin there have room for the net beside the
+    /// tree.
     fn stays_still(
         &self,
         capacity: &Capacity,
         history: &History,
         place: u64,
+        net: u32,
         window: Window,
     ) -> bool
         requires legal { IsLegal capacity.now history.now }
         requires stands { StandsFor capacity.now (take place history.now) self.now }
         requires place { place < length history.now }
-        ensures { IsTrue result → IsStill capacity.now window (take place history.now) (take (place + 1) history.now) }
+        ensures { IsTrue result →
+            IsStill capacity.now net window (take place history.now) (take (place + 1) history.now) }
     {
         let entry = history.entry(place);
         match &entry.call {
             Call::Claim(claim) => match entry.reply {
-                Reply::Claimed => lies_outside(&claim.tree, window),
+                Reply::Claimed => {
+                    let beside = Some(claim.net);
+                    !lacks_room(capacity, self.loads(), &claim.tree, net, beside, window)
+                }
                 _ => true,
             },
-            Call::Release { net } => match entry.reply {
-                Reply::Released => match self.tree(history, *net) {
-                    Some(tree) => lies_outside(tree, window),
+            Call::Release { net: freed } => match entry.reply {
+                Reply::Released => match self.tree(history, *freed) {
+                    Some(tree) => !lacks_room(capacity, self.loads(), tree, net, None, window),
                     None => false,
                 },
                 _ => true,
@@ -63,15 +99,55 @@ impl Replica {
     }
 }
 
-/// Whether no node of a tree lies in a window.
-fn lies_outside(tree: &RouteTree, window: Window) -> bool
-    ensures { IsTrue result → LiesOutside tree.now.shape window tree.now }
+/// Whether a tree has a wire edge that begins in a window and has no room for a net beside the demand
+/// and another net, if there is one.
+fn lacks_room(
+    capacity: &Capacity,
+    loads: &Loads,
+    tree: &RouteTree,
+    net: u32,
+    beside: Option<u32>,
+    window: Window,
+) -> bool
+    requires tree { tree.now.shape ≡ capacity.now.shape }
+    requires loads { loads.now.shape ≡ capacity.now.shape }
+    ensures room { result ≡
+        list_any (edge_without_room capacity.now window (demand_at loads.now) net beside) (tree_edges tree.now) }
+    ensures tree { IsTree tree.now }
 {
-    let shape = tree.shape();
     for node in 0..tree.len() {
-        if window.holds(shape.place_of(tree.cell(node))) {
-            return false;
+        let Some(edge) = tree.wire_to_parent(node) else {
+            continue;
+        };
+        if is_short(capacity, loads, edge, net, beside, window) {
+            return true;
         }
     }
-    true
+    false
+}
+
+/// Whether a wire edge begins in a window and has no room for a net beside the demand and another net,
+/// if there is one.
+fn is_short(
+    capacity: &Capacity,
+    loads: &Loads,
+    e: Edge,
+    net: u32,
+    beside: Option<u32>,
+    window: Window,
+) -> bool
+    requires edge { IsTrue (has_edge capacity.now.shape e) }
+    requires wire { IsTrue (is_wire e) }
+    requires loads { loads.now.shape ≡ capacity.now.shape }
+    ensures { result ≡ edge_without_room capacity.now window (demand_at loads.now) net beside e }
+{
+    if !window.holds(capacity.shape().place_of(e.low)) {
+        return false;
+    }
+    let taken = match beside {
+        Some(other) => capacity.need(other, e),
+        None => 0,
+    };
+    let wanted = taken + capacity.need(net, e);
+    loads.demand(e).saturating_add(wanted) > capacity.at(e)
 }

@@ -1,6 +1,7 @@
 pub mod TurningStages
 pub mod TurningPasses
 pub mod TurningPlans
+pub mod ForeseenPlans
 pub mod TurningShares
 pub mod JoiningLists
 pub mod JoiningSegments

@@ -5,6 +5,7 @@ use Rattle.cost_rules.specs.declared.site.Formula.{Formula}
 use Rattle.gr_base.specs.Designs.{DesignView, IsDesign, pins_at}
 use Rattle.gr_base.specs.Trees.{TreeView}
 use Rattle.grid_demand.specs.Tables.{CapacityView, capacity_of}
+use Rattle.book_state.specs.Lifted.{IsFreeing}
 use Rattle.book_state.specs.declared.entry.Call.TheVariants.{Claim as Claims}
 use Rattle.book_state.specs.declared.entry.Claim.{Claim}
 use Rattle.book_state.specs.declared.entry.Entry.{Entry}
@@ -46,6 +47,11 @@ pub record IsPlanFor (d : DesignView) (formula : Formula) (h : List Entry) (net 
     : Type 0 where
   pub plan : IsPlanAfter d formula h net kind tree
   pub routes : IsRouteOfNet d net tree
+
+-- a tree is a net's plan of a kind over a history behind which the net is freed
+abbrev pub IsPlanWithout : DesignView → Formula → List Entry → ℕ → PlanKind → TreeView → Type 0
+IsPlanWithout d formula h net kind tree =
+    (e : Entry) → IsFreeing net e → IsPlanFor d formula (h ++ e ∷ []) net kind tree
 
 -- the window in which a net's plan of a kind grows
 pub record IsWindowOf (d : DesignView) (net : ℕ) (kind : PlanKind) (w : Window) : Type 0 where

@@ -3,6 +3,7 @@
 
 mod asked;
 mod coordinator;
+mod foresight;
 mod gate;
 mod members;
 mod order;
@@ -12,6 +13,7 @@ mod rounds;
 mod run;
 mod team;
 mod turn;
+mod wish;
 mod work;
 mod worker;
 

@@ -1,26 +1,25 @@
 //! A worker's attempt at a net.
 ghost use Rattle.std.specs.Prelude.{◌≡◌, ◌↔◌, ◌<◌, ◌≤◌, ◌∷◌, [], ℕ, List, Option, IfOk, IfSome, OnOk, IsTrue};
-ghost use Rattle.book_state.specs.Books.{AreLoadsOf};
+ghost use Rattle.book_state.specs.Books.{nets_of};
 ghost use Rattle.book_state.specs.Replicas.{StandsFor};
-ghost use Rattle.book_state.specs.declared.entry.Entry.{Entry};
 ghost use Rattle.gr_base.specs.Designs.{is_routed};
 ghost use Rattle.gr_base.specs.Limits.{most_rounds};
 ghost use Rattle.grid_demand.specs.Tables.{capacity_of};
-ghost use Rattle.net_plan.specs.Prices.{HasBoundedDemand};
 ghost use Rattle.round_core.specs.Attempts.{kind_of, Rests, Claiming};
 ghost use Rattle.round_core.specs.Rounds.{slacks_of_turn, IsFull};
 ghost use Rattle.round_core.specs.RunHistories.{Setting};
-ghost use Rattle.ripup_workers.specs.Turning.{HasCapacity, IsOver, HasFollowed, HasTried, HasLedOn, IsPlanFor, IsWindowOf, WasPlanned};
+ghost use Rattle.ripup_workers.specs.Foresight.{IsForeseen};
+ghost use Rattle.ripup_workers.specs.Turning.{HasCapacity, IsOver, HasFollowed, HasTried, HasLedOn, IsPlanFor, WasPlanned};
 ghost use Rattle.ripup_workers.specs.Working.{HasLed, HasAttempted};
 
+use crate::foresight::Foreseen;
 use crate::gate::{Gate, Stop};
+use crate::wish::Wish;
 use crate::worker::Worker;
 use book_state::{PlanKind, Reply};
 use cost_rules::CostRule;
 use gr_base::{Design, RouteTree};
-use grid_demand::{Capacity, Loads};
-use maze_route::Window;
-use net_plan::{Planner, maze_plan, maze_window, pattern_plan};
+use net_plan::Planner;
 use std::alloc::{AllocError, Global};
 use std::sync::Wait;
 use std::thread::Threads;
@@ -29,29 +28,19 @@ use track_book::{BookName, TrackBook};
 /// By how many tiles the window of a net's pins grows on each side with each round.
 const MARGIN: u32 = 4;
 
-/// A net that is to be planned, and what its plans are made with.
-#[derive(Drop)]
-struct Wish<'a> {
-    alloc: Global,
-    design: &'a Design,
-    rule: &'a CostRule,
-    net: u32,
-    kind: PlanKind,
-    ghost routed: { IsTrue (is_routed design.now net) },
-}
-
 /// What the workers share as they attempt nets.
 #[derive(Drop)]
-struct Ground<'a, N: BookName, R, G> {
-    rt: &'a R,
-    book: &'a TrackBook<N>,
-    gate: &'a G,
+pub(crate) struct Ground<'a, N: BookName, R, G> {
+    pub(crate) rt: &'a R,
+    pub(crate) book: &'a TrackBook<N>,
+    pub(crate) gate: &'a G,
 }
 
 /// Attempts a net in a round, of which round 0 is the first. In round 0 it claims the net for its
 /// pattern plan at any demand. Later it releases the net, and claims it for its maze plan until a
 /// claim isn't answered `Full`: twice with room within capacity alone, and then at any demand. The
-/// only error is want of memory.
+/// first of these plans is made before the release, so that the book lacks the net only for a moment.
+/// The only error is want of memory.
 pub(crate) fn attempt<N: BookName, R: Threads + Wait + Sync, G: Gate>(
     rt: &R,
     alloc: Global,
@@ -83,8 +72,9 @@ pub(crate) fn attempt<N: BookName, R: Threads + Wait + Sync, G: Gate>(
     if round == 0 {
         return ground.claim_first(&wish, worker, planner);
     }
+    let foreseen = ground.foresee(&wish, worker, planner)?;
     worker.release(rt, book, net)?;
-    ground.claim_until_got(&wish, worker, planner)
+    ground.claim_until_got(&wish, foreseen, worker, planner)
 }
 
 /// How plans are made in a round.
@@ -97,53 +87,6 @@ fn kind_of(round: u32) -> PlanKind
     }
     PlanKind::Maze {
         margin: MARGIN * round,
-    }
-}
-
-impl Wish<'_> {
-    /// The net's plan over loads.
-    fn plan(
-        &self,
-        planner: &mut Planner,
-        capacity: &Capacity,
-        loads: &Loads,
-    ) -> Result<RouteTree, AllocError>
-        requires capacity { capacity.now ≡ capacity_of self.now.design.now }
-        requires loads { loads.now.shape ≡ self.now.design.now.frame.shape }
-        requires demand { HasBoundedDemand loads.now }
-        ensures { (h : List Entry) → AreLoadsOf (capacity_of self.now.design.now) h loads.now →
-            IfOk result (IsPlanFor self.now.design.now self.now.rule.now.formula h self.now.net self.now.kind) }
-    {
-        match self.kind {
-            PlanKind::Pattern => pattern_plan(
-                self.alloc,
-                planner,
-                self.design,
-                capacity,
-                loads,
-                self.net,
-                self.rule,
-            ),
-            PlanKind::Maze { margin } => maze_plan(
-                self.alloc,
-                self.design,
-                capacity,
-                loads,
-                self.net,
-                margin,
-                self.rule,
-            ),
-        }
-    }
-
-    /// The window outside of which the net's plan asks for no demand and no marks, where there is one.
-    fn window(&self) -> Option<Window>
-        ensures { IfSome result (IsWindowOf self.now.design.now self.now.net self.now.kind) }
-    {
-        match self.kind {
-            PlanKind::Pattern => None,
-            PlanKind::Maze { margin } => Some(maze_window(self.design, self.net, margin)),
-        }
     }
 }
 
@@ -165,26 +108,33 @@ impl<N: BookName, R: Threads + Wait + Sync, G: Gate> Ground<'_, N, R, G> {
         Ok(())
     }
 
-    /// Claims the net until a claim isn't answered `Full`.
+    /// Claims the net, which is released, until a claim isn't answered `Full`.
     fn claim_until_got(
         &self,
         wish: &Wish<'_>,
+        foreseen: Option<Foreseen>,
         worker: &mut Worker<N>,
         planner: &mut Planner,
     ) -> Result<(), AllocError>
-        requires { HasCapacity wish.now.design.now N.capacity }
+        requires design { HasCapacity wish.now.design.now N.capacity }
+        requires net { wish.now.net < nets_of N.capacity }
+        requires foreseen { IfSome foreseen (IsForeseen wish.now.design.now wish.now.rule.now.formula wish.now.net
+            wish.now.kind worker.old.pass.seen) }
         ensures { (t : Setting) (round : ℕ) → IsOver wish.now.design.now wish.now.rule.now.formula t →
             0 < round → wish.now.kind ≡ kind_of round →
             OnOk result (HasLed t round (Claiming wish.now.net slacks_of_turn) Rests []
             worker.old.pass worker.new.pass) }
     {
-        let tree = self.search(wish, worker, planner)?;
+        let tree = self.search_freed(wish, foreseen, worker, planner)?;
         let Some(tree) = self.claim_within(wish, tree, worker, planner)? else {
             return Ok(());
         };
         let Some(tree) = self.claim_within(wish, tree, worker, planner)? else {
             return Ok(());
         };
+        // This claim is never refused, so what came since the plan is looked at once more.
+        let front = worker.pass.known();
+        let tree = self.search_again(wish, tree, front, worker, planner)?;
         self.claim(wish, tree, None, worker)?;
         Ok(())
     }
@@ -239,7 +189,7 @@ impl<N: BookName, R: Threads + Wait + Sync, G: Gate> Ground<'_, N, R, G> {
     }
 
     /// The net's plan over what the book holds now, all of which the worker comes to know.
-    fn search(
+    pub(crate) fn search(
         &self,
         wish: &Wish<'_>,
         worker: &mut Worker<N>,
@@ -256,7 +206,7 @@ impl<N: BookName, R: Threads + Wait + Sync, G: Gate> Ground<'_, N, R, G> {
     }
 
     /// The same, where `tree` is the net's plan over the first `front` entries. Where nothing was added
-    /// since that changes demand or marks in the window of the plan, it is the same tree.
+    /// since that changes what the net costs in the window of the plan, it is the same tree.
     fn search_again(
         &self,
         wish: &Wish<'_>,
@@ -277,7 +227,7 @@ impl<N: BookName, R: Threads + Wait + Sync, G: Gate> Ground<'_, N, R, G> {
             return self.search(wish, worker, planner);
         };
         let read = worker.replica.front();
-        let still = worker.sync_beside(self.rt, self.book, window)?;
+        let still = worker.sync_beside(self.rt, self.book, wish.net, window)?;
         if still && read == front {
             return Ok(tree);
         }
@@ -285,7 +235,7 @@ impl<N: BookName, R: Threads + Wait + Sync, G: Gate> Ground<'_, N, R, G> {
     }
 
     /// The net's plan over all that the worker knows, for which its replica stands.
-    fn plan(
+    pub(crate) fn plan(
         &self,
         wish: &Wish<'_>,
         worker: &Worker<N>,

@@ -1,14 +1,20 @@
 //! The workers of the rounds.
-ghost use Rattle.std.specs.Prelude.{◌≡◌, ◌<◌, length, take, IfOk, OnOk, IsTrue};
-ghost use Rattle.book_state.specs.Books.{nets_of};
+ghost use Rattle.std.specs.Prelude.{◌≡◌, ◌<◌, [], ◌∷◌, ◌++◌, length, take, IfOk, IfSome, OnOk, IsTrue};
+ghost use Rattle.book_state.specs.Books.{nets_of, booked as booked_tree};
+ghost use Rattle.book_state.specs.Lifted.{IsFreeing};
+ghost use Rattle.book_state.specs.declared.entry.Entry.{Entry};
+ghost use Rattle.ripup_workers.specs.Turning.{HasCapacity, IsPlanWithout};
 ghost use Rattle.book_state.specs.Replicas.{StandsFor};
 ghost use Rattle.book_state.specs.Still.{IsStill};
 ghost use Rattle.round_core.specs.Rounds.{claim_of};
 ghost use Rattle.track_book.specs.Passes.{IsPass, IsAnswered, HasLearnt};
 
+use crate::wish::Wish;
 use book_state::{Call, Claim, PlanKind, Replica, Reply};
 use gr_base::RouteTree;
+use grid_demand::Capacity;
 use maze_route::Window;
+use net_plan::Planner;
 use std::alloc::AllocError;
 use std::sync::Wait;
 use track_book::{BookName, Pass, TrackBook};
@@ -27,6 +33,7 @@ impl<N: BookName> Worker<N> {
         ensures before { IsPass N.capacity self.old.pass }
         ensures learnt { OnOk result (HasLearnt N.capacity self.old.pass self.new.pass) }
         ensures pass { OnOk result (IsPass N.capacity self.new.pass) }
+        ensures held { OnOk result (self.new.pass.held ≡ length self.new.pass.seen) }
         ensures stands { OnOk result (StandsFor N.capacity self.new.pass.seen self.new.replica) }
     {
         self.hold(rt, book)?;
@@ -34,12 +41,13 @@ impl<N: BookName> Worker<N> {
         Ok(())
     }
 
-    /// The same. The result is true only where the entries that the replica read change neither
-    /// demand nor marks of an edge that begins in the window.
+    /// The worker comes to know the whole history. The result is true only where no wire edge that begins
+    /// in the window costs the net more or less for the entries that the replica read.
     pub(crate) fn sync_beside<R: Wait>(
         &mut self,
         rt: &R,
         book: &TrackBook<N>,
+        net: u32,
         window: Window,
     ) -> Result<bool, AllocError>
         ensures before { IsPass N.capacity self.old.pass }
@@ -47,11 +55,92 @@ impl<N: BookName> Worker<N> {
         ensures pass { OnOk result (IsPass N.capacity self.new.pass) }
         ensures stands { OnOk result (StandsFor N.capacity self.new.pass.seen self.new.replica) }
         ensures still { IfOk result (λ still. IsTrue still →
-            IsStill N.capacity window (take self.old.replica.front self.new.pass.seen) self.new.pass.seen) }
+            IsStill N.capacity net window (take self.old.replica.front self.new.pass.seen) self.new.pass.seen) }
+    {
+        self.hold_more(rt, book)?;
+        let past = self.pass.past();
+        Ok(
+            self.replica
+                .catch_up_beside(book.capacity(), past, net, window),
+        )
+    }
+
+    /// The same. The result is true only where the entries also leave the net's booking.
+    pub(crate) fn sync_booked<R: Wait>(
+        &mut self,
+        rt: &R,
+        book: &TrackBook<N>,
+        net: u32,
+        window: Window,
+    ) -> Result<bool, AllocError>
+        ensures before { IsPass N.capacity self.old.pass }
+        ensures learnt { OnOk result (HasLearnt N.capacity self.old.pass self.new.pass) }
+        ensures pass { OnOk result (IsPass N.capacity self.new.pass) }
+        ensures held { OnOk result (self.new.pass.held ≡ length self.new.pass.seen) }
+        ensures stands { OnOk result (StandsFor N.capacity self.new.pass.seen self.new.replica) }
+        ensures still { IfOk result (λ still. IsTrue still →
+            IsStill N.capacity net window (take self.old.replica.front self.new.pass.seen) self.new.pass.seen) }
+        ensures kept { IfOk result (λ still. IsTrue still → booked_tree self.new.pass.seen net ≡
+            booked_tree (take self.old.replica.front self.new.pass.seen) net) }
+    {
+        self.hold_more(rt, book)?;
+        let past = self.pass.past();
+        Ok(
+            self.replica
+                .catch_up_booked(book.capacity(), past, net, window),
+        )
+    }
+
+    /// The worker comes to know the whole history as it stood at its last call, or later. The result is
+    /// true only where the last entry frees the net, and of the others that the replica read it says what
+    /// that of `sync_booked` says.
+    pub(crate) fn sync_freed<R: Wait>(
+        &mut self,
+        rt: &R,
+        book: &TrackBook<N>,
+        net: u32,
+        window: Window,
+    ) -> Result<bool, AllocError>
+        requires { net < nets_of N.capacity }
+        ensures before { IsPass N.capacity self.old.pass }
+        ensures learnt { OnOk result (HasLearnt N.capacity self.old.pass self.new.pass) }
+        ensures pass { OnOk result (IsPass N.capacity self.new.pass) }
+        ensures stands { OnOk result (StandsFor N.capacity self.new.pass.seen self.new.replica) }
+        ensures still { IfOk result (λ still. IsTrue still → (e : Entry) → IsFreeing net e →
+            IsStill N.capacity net window (take self.old.replica.front self.new.pass.seen ++ e ∷ []) self.new.pass.seen) }
     {
         self.hold(rt, book)?;
         let past = self.pass.past();
-        Ok(self.replica.catch_up_beside(book.capacity(), past, window))
+        Ok(
+            self.replica
+                .catch_up_freed(book.capacity(), past, net, window),
+        )
+    }
+
+    /// The net's plan over all that the worker knows, as if the net was released. None where it isn't
+    /// booked.
+    pub(crate) fn plan_without(
+        &mut self,
+        capacity: &Capacity,
+        wish: &Wish<'_>,
+        planner: &mut Planner,
+    ) -> Result<Option<RouteTree>, AllocError>
+        requires design { HasCapacity wish.now.design.now N.capacity }
+        requires capacity { capacity.now ≡ N.capacity }
+        requires net { wish.now.net < nets_of N.capacity }
+        requires held { self.old.pass.held ≡ length self.old.pass.seen }
+        requires stands { StandsFor N.capacity self.old.pass.seen self.old.replica }
+        ensures pass { self.new.pass ≡ self.old.pass }
+        ensures plan { IfOk result (λ plan. IfSome plan (IsPlanWithout wish.now.design.now wish.now.rule.now.formula
+            self.old.pass.seen wish.now.net wish.now.kind)) }
+    {
+        let past = self.pass.past();
+        if !self.replica.lift(capacity, past, wish.net) {
+            return Ok(None);
+        }
+        let plan = wish.plan(planner, capacity, self.replica.loads());
+        self.replica.put_back(capacity, past, wish.net);
+        Ok(Some(plan?))
     }
 
     /// The pass holds all that it has seen. Each of its calls has left it so, unless memory was wanting;
@@ -62,10 +151,21 @@ impl<N: BookName> Worker<N> {
         ensures held { OnOk result (self.new.pass.held ≡ length self.new.pass.seen) }
         ensures replica { OnOk result (self.new.replica ≡ self.old.replica) }
     {
-        let known = self.pass.known();
+        let _known = self.pass.known();
         if self.pass.holds_all() {
             return Ok(());
         }
+        self.hold_more(rt, book)
+    }
+
+    /// The pass sees the whole history, and holds it.
+    fn hold_more<R: Wait>(&mut self, rt: &R, book: &TrackBook<N>) -> Result<(), AllocError>
+        ensures before { IsPass N.capacity self.old.pass }
+        ensures learnt { OnOk result (HasLearnt N.capacity self.old.pass self.new.pass) }
+        ensures held { OnOk result (self.new.pass.held ≡ length self.new.pass.seen) }
+        ensures replica { OnOk result (self.new.replica ≡ self.old.replica) }
+    {
+        let known = self.pass.known();
         book.hold(rt, &mut self.pass)?;
         let longer = known <= self.pass.known();
         prove!(longer);

@@ -18,8 +18,8 @@ returns-then-read-front-clause-plan g c =
     let capacity_is = c.requires.design.capacity_is in
     same-plan _ _ _ _ _ c.args.front window c.args.worker.now.pass.seen now loads c.requires.planned c.in_ok-still.ensures.learnt.begins c.in-Some.ensures
     (subst (λ (x : CapacityView). AreLoadsOf x now loads) capacity_is c.in_ok-still.ensures.stands.loads)
-    (subst (λ (x : CapacityView). IsStill x window (take c.args.front now) now) capacity_is
-    (subst (λ (n : ℕ). IsStill _ window (take n now) now) (sym c.front-read.ensures ∙ c.if-read-front.true) (c.in_ok-still.ensures.still c.if-still.true)))
+    (subst (λ (x : CapacityView). IsStill x c.args.wish.now.net window (take c.args.front now) now) capacity_is
+    (subst (λ (n : ℕ). IsStill _ c.args.wish.now.net window (take n now) now) (sym c.front-read.ensures ∙ c.if-read-front.true) (c.in_ok-still.ensures.still c.if-still.true)))
 
 pub returns-clause-learnt : goal.returns-clause-learnt
 returns-clause-learnt g c = λ t over.

@@ -1,6 +1,6 @@
 use Rattle.net_plan.proofs.FlatLemmas.{if-both}
 use Rattle.ripup_workers.proofs.TurningStages.{plan-pattern, plan-maze, routes-net}
-use Rattle.ripup_workers.proofs.turn.Wish.plan.Goals as goal
+use Rattle.ripup_workers.proofs.wish.Wish.plan.Goals as goal
 
 pub returns-in-Pattern : goal.returns-in-Pattern
 returns-in-Pattern g c = λ h of.
