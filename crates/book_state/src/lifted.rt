@@ -15,7 +15,8 @@ use maze_route::Window;
 
 impl Replica {
     /// Takes a booked net's tree out of the loads, which then are those after a release of the net.
-    /// The answer is false where the net isn't booked, and then nothing changes. `put_back` undoes it.
+    /// The answer is true only where the net is booked, and nothing changes where it is false. `put_back`
+    /// undoes it.
     pub fn lift(&mut self, capacity: &Capacity, past: &Past, net: u32) -> bool
         requires legal { IsLegal capacity.now past.now }
         requires stands { StandsFor capacity.now past.now self.old }
