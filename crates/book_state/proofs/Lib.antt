@@ -13,4 +13,5 @@ pub mod RouteCopies
 pub mod BookingLaws
 pub mod StillSteps
 pub mod LiftSteps
-pub mod VictimTables
+pub mod CrowdTables
+pub mod ExtentSteps

@@ -16,7 +16,7 @@ use Rattle.book_state.proofs.ReplicaSteps.{take-entry, booked-release, booked-re
 use Rattle.book_state.proofs.StandSteps.{replica_of, wire_of, loads-release, is_mark-release}
 use Rattle.book_state.specs.Books.{nets_of, booked, share_of, AreLoadsOf}
 use Rattle.book_state.specs.Lifted.{IsFreeing, IsLifted}
-use Rattle.book_state.specs.Replicas.{ReplicaView, StandsFor}
+use Rattle.book_state.specs.Replicas.{ReplicaView, tree_at_place, StandsFor}
 use Rattle.book_state.specs.Still.{IsStill}
 use Rattle.book_state.specs.Views.{entry_of}
 use Rattle.book_state.specs.declared.entry.Call.TheVariants.{Release}
@@ -38,7 +38,7 @@ lifts c h net t r new stands within held is = record {
 }
 
 -- an entry that frees the net
-freeing-entry : (net : ℕ) → IsFreeing net (entry_of 0 (Release net) Released)
+pub freeing-entry : (net : ℕ) → IsFreeing net (entry_of 0 (Release net) Released)
 freeing-entry net = record { call = refl; reply = refl }
 
 -- the loads of a replica with the tree again
@@ -75,17 +75,17 @@ room-back c h net r t lifted tables few tree same = λ e inside wire.
     let most = steps.demand-most c (h ++ freed ∷ []) e tables nets in
     omega (arith, demand_is, most)
 
--- two histories between which nothing changes in a window, and the net's booking neither, each with an entry more that
--- frees the net
-pub freed-still : (c : CapacityView) (w : Window) (h k : List Entry) (net : ℕ) (e f : Entry) → net < nets_of c → IsStill c net w h k → booked k net ≡ booked h net →
+-- two histories between which nothing changes for a net in a window, each with an entry more that frees the net
+pub freed-still : (c : CapacityView) (w : Window) (h k : List Entry) (net : ℕ) (e f : Entry) → net < nets_of c → IsStill c net w h k →
     IsFreeing net e → IsFreeing net f → IsStill c net w (h ++ e ∷ []) (k ++ f ∷ [])
-freed-still c w h k net e f within still kept one two = record {
+freed-still c w h k net e f within still one two = record {
+  booking = booked-release k f net two.call two.reply ∙ sym (booked-release h e net one.call one.reply);
   over = λ x wire inside.
       let first = steps.demand-change c h (h ++ e ∷ []) x net within (λ other apart. booked-release_other h e net other one.call one.reply apart) in
       let second = steps.demand-change c k (k ++ f ∷ []) x net within (λ other apart. booked-release_other k f net other two.call two.reply apart) in
       let none : share_of c net (booked (h ++ e ∷ []) net) x ≡ 0 = ap (λ (o : Option TreeView). share_of c net o x) (booked-release h e net one.call one.reply) in
       let nothing : share_of c net (booked (k ++ f ∷ []) net) x ≡ 0 = ap (λ (o : Option TreeView). share_of c net o x) (booked-release k f net two.call two.reply) in
-      let same : share_of c net (booked k net) x ≡ share_of c net (booked h net) x = ap (λ (o : Option TreeView). share_of c net o x) kept in
+      let same : share_of c net (booked k net) x ≡ share_of c net (booked h net) x = ap (λ (o : Option TreeView). share_of c net o x) still.booking in
       let between = still.over x wire inside in
       omega (arith, first, second, none, nothing, same, between);
   marks = λ x wire inside.
@@ -94,10 +94,14 @@ freed-still c w h k net e f within still kept one two = record {
 
 -- the same, where the later history is a whole one without its last entry
 pub last-freed : (c : CapacityView) (w : Window) (h whole : List Entry) (last net : ℕ) (f : Entry) → net < nets_of c → length whole ≡ last + 1 → slice_get whole last ≡ Some f →
-    IsStill c net w h (take last whole) → booked (take last whole) net ≡ booked h net → IsFreeing net f → (e : Entry) → IsFreeing net e → IsStill c net w (h ++ e ∷ []) whole
-last-freed c w h whole last net f within long there still kept two e one =
+    IsStill c net w h (take last whole) → IsFreeing net f → (e : Entry) → IsFreeing net e → IsStill c net w (h ++ e ∷ []) whole
+last-freed c w h whole last net f within long there still two e one =
     subst (λ (k : List Entry). IsStill c net w (h ++ e ∷ []) k) (sym (take-entry whole last f there) ∙ take_all (last + 1) whole (omega (arith, long)))
-    (freed-still c w h (take last whole) net e f within still kept one two)
+    (freed-still c w h (take last whole) net e f within still one two)
+
+-- the tree of a booked net, read off a past with the same entries
+pub past-tree : (h past : List Entry) (place : Option ℕ) (t : TreeView) → past ≡ h → Some t ≡ tree_at_place past place → tree_at_place h place ≡ Some t
+past-tree h past place t same is = sym (ap (λ (k : List Entry). tree_at_place k place) same) ∙ sym is
 
 pub lifted-shape : (c : CapacityView) (h : List Entry) (net : ℕ) (r : ReplicaView) → IsLifted c h net r → r.loads.shape ≡ c.shape
 lifted-shape c h net r lifted = (lifted.loads (entry_of 0 (Release net) Released) (freeing-entry net)).shape

@@ -59,10 +59,11 @@ room-in c w l h net beside t x of tree shape none there wire inside =
     grind (arith, nat_tests, test, demand_is)
 
 pub still-same : (c : CapacityView) (net : ℕ) (w : Window) (h : List Entry) → IsStill c net w h h
-still-same c net w h = record { over = λ e wire inside. refl; marks = λ e wire inside. refl }
+still-same c net w h = record { booking = refl; over = λ e wire inside. refl; marks = λ e wire inside. refl }
 
 pub still-then : (c : CapacityView) (net : ℕ) (w : Window) (h k l : List Entry) → IsStill c net w h k → IsStill c net w k l → IsStill c net w h l
 still-then c net w h k l one two = record {
+  booking = two.booking ∙ one.booking;
   over = λ e wire inside. two.over e wire inside ∙ one.over e wire inside;
   marks = λ e wire inside. two.marks e wire inside ∙ one.marks e wire inside;
 }
@@ -87,8 +88,8 @@ over-share c net other t x less more grown room = elim (cases_Bool (edges_of t x
 ]
 
 pub still-claim : (c : CapacityView) (net : ℕ) (w : Window) (h : List Entry) (place : ℕ) (claim : Claim) (l : LoadsView) → IsLegal c h → IsClaimed h place claim → AreLoadsOf c (take place h) l →
-    IsTree claim.tree → list_any (lacks_room c w (demand_at l) net (Some claim.net)) (tree_edges claim.tree) ≡ false → IsStill c net w (take place h) (take (place + 1) h)
-still-claim c net w h place claim l legal is of tree none =
+    (claim.net ≡ net → ⊥) → IsTree claim.tree → list_any (lacks_room c w (demand_at l) net (Some claim.net)) (tree_edges claim.tree) ≡ false → IsStill c net w (take place h) (take (place + 1) h)
+still-claim c net w h place claim l legal is of apart tree none =
     let before = take place h in
     let e = is.e in
     let right = legal.right place e is.there in
@@ -96,6 +97,7 @@ still-claim c net w h place claim l legal is of tree none =
     let free = claimed-free c before e claim right is.call is.reply in
     let after = booked-claim before e claim is.call is.reply in
     still-next c net w h place e is.there (record {
+      booking = booked-claim_other before e claim net is.call is.reply (λ same. apart (sym same));
       over = λ x wire inside.
           let change = steps.demand-change c before (before ++ e ∷ []) x claim.net in_range.net (λ other apart. booked-claim_other before e claim other is.call is.reply apart) in
           let nothing : share_of c claim.net (booked before claim.net) x ≡ 0 = ap (λ (o : Option TreeView). share_of c claim.net o x) free in
@@ -106,13 +108,14 @@ still-claim c net w h place claim l legal is of tree none =
     })
 
 pub still-release : (c : CapacityView) (net : ℕ) (w : Window) (h : List Entry) (place freed : ℕ) (t : TreeView) (l : LoadsView) → IsLegal c h → IsReleased h place freed → AreLoadsOf c (take place h) l →
-    IsTree t → t.shape ≡ c.shape → booked (take place h) freed ≡ Some t → list_any (lacks_room c w (demand_at l) net None) (tree_edges t) ≡ false → IsStill c net w (take place h) (take (place + 1) h)
-still-release c net w h place freed t l legal is of tree shape held none =
+    (freed ≡ net → ⊥) → IsTree t → t.shape ≡ c.shape → booked (take place h) freed ≡ Some t → list_any (lacks_room c w (demand_at l) net None) (tree_edges t) ≡ false → IsStill c net w (take place h) (take (place + 1) h)
+still-release c net w h place freed t l legal is of apart tree shape held none =
     let before = take place h in
     let e = is.e in
     let within : freed < nets_of c = subst (λ (k : Call). IsCall c (length before) k) is.call (legal.right place e is.there).call in
     let after = booked-release before e freed is.call is.reply in
     still-next c net w h place e is.there (record {
+      booking = booked-release_other before e freed net is.call is.reply (λ same. apart (sym same));
       over = λ x wire inside.
           let change = steps.demand-change c before (before ++ e ∷ []) x freed within (λ other apart. booked-release_other before e freed other is.call is.reply apart) in
           let nothing : share_of c freed (booked (before ++ e ∷ []) freed) x ≡ 0 = ap (λ (o : Option TreeView). share_of c freed o x) after in
@@ -137,6 +140,7 @@ still-idle c net w h place e there idle =
     let same : (other : ℕ) → booked (before ++ e ∷ []) other ≡ booked before other =
     λ other. steps.booked-idle before e other (idle-by other (booked before other) e.call e.reply idle) in
     still-next c net w h place e there (record {
+      booking = same net;
       over = λ x wire inside. ap (over_with c net x) (steps.demand-same c before (before ++ e ∷ []) x same);
       marks = λ x wire inside. steps.marks-idle c before e x (is_mark-idle e.call e refl idle);
     })

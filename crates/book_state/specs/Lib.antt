@@ -12,4 +12,5 @@ pub mod LeastSearch
 pub mod Still
 pub mod Lifted
 pub mod Crowds
+pub mod Extents
 pub mod Copies

@@ -9,8 +9,10 @@ ghost use Rattle.book_state.specs.Marks.{least_mark as least_mark_of};
 ghost use Rattle.book_state.specs.Views.{with_entry, with_call};
 
 use crate::copies::copied_routes;
+use crate::crowds::Crowds;
 use crate::edges::reply_to_free;
 use crate::entry::{Call, Claim, Entry, Reply};
+use crate::extents::{Extent, look_at_all, no_extents, seen_victims};
 use crate::history::History;
 use crate::least::{MarkedAt, least_after};
 use crate::places::places_at;
@@ -36,6 +38,7 @@ pub struct BookState {
     history: History,
     replica: Replica,
     least: Option<MarkedAt>,
+    extents: Vec<Extent>,
 }
 
 impl BookState {
@@ -46,11 +49,13 @@ impl BookState {
         let nets = design.nets();
         let capacity = Arc::new(alloc, Capacity::of(alloc, design)?)?;
         let replica = Replica::of(alloc, &capacity, nets)?;
+        let extents = no_extents(alloc, &capacity, nets)?;
         Ok(BookState {
             capacity,
             history: History::new(alloc),
             replica,
             least: None,
+            extents,
         })
     }
 
@@ -207,13 +212,29 @@ impl BookState {
         self.replica.victims(&self.capacity, &self.history)
     }
 
-    /// The same, looked for in at most so many blocks of nets side by side.
-    pub fn victims_by<R: Threads + Sync>(&self, rt: &R, blocks: u32) -> Result<Cells, AllocError>
-        requires { 0 < blocks }
-        ensures { IfOk result (λ nets. nets ≡ victims_of self.now.capacity self.now.history) }
+    /// The same, looked for by at most so many threads. What is seen of a net stays for the next call,
+    /// which goes through the trees of few nets that weren't claimed since.
+    pub fn victims_by<R: Threads + Sync>(
+        &mut self,
+        rt: &R,
+        threads: u32,
+    ) -> Result<Cells, AllocError>
+        requires { 0 < threads }
+        ensures same { self.new ≡ self.old }
+        ensures victims { IfOk result (λ nets. nets ≡ victims_of self.old.capacity self.old.history) }
     {
-        self.replica
-            .victims_by(rt, &self.capacity, &self.history, blocks)
+        let alloc = self.history.alloc();
+        let crowds = Crowds::of(alloc, &self.capacity, self.replica.loads())?;
+        look_at_all(
+            rt,
+            &self.replica,
+            &self.capacity,
+            &self.history,
+            &crowds,
+            threads,
+            &mut self.extents,
+        );
+        seen_victims(alloc, self.replica.nets(), &self.extents)
     }
 
     /// The length of the shortest first part of the history that ends with a mark of least

@@ -4,8 +4,10 @@
 
 mod book;
 mod copies;
+mod crowds;
 mod edges;
 mod entry;
+mod extents;
 mod history;
 mod laws;
 mod least;
@@ -22,3 +24,4 @@ pub use history::History;
 pub use laws::replies_make_bookings;
 pub use past::Past;
 pub use replica::Replica;
+pub use still::NetWindow;

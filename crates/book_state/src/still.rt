@@ -16,24 +16,27 @@ use gr_base::{Edge, RouteTree};
 use grid_demand::{Capacity, Loads};
 use maze_route::Window;
 
+/// A net, and the window in which its route is searched.
+#[derive(Clone, Copy, Debug)]
+pub struct NetWindow {
+    pub net: u32,
+    pub window: Window,
+}
+
 impl Replica {
     /// Reads the entries of a past that the replica doesn't stand for yet, as `catch_up` does. The
-    /// result is true only where each wire edge that begins in the window stays as much over its
-    /// capacity with the net on it, and keeps its marks: then it costs the net the same.
-    pub fn catch_up_beside(
-        &mut self,
-        capacity: &Capacity,
-        past: &Past,
-        net: u32,
-        window: Window,
-    ) -> bool
+    /// result is true only where they leave the net's booking, and where each wire edge that begins in
+    /// the window stays as much over its capacity with the net on it, and keeps its marks: then it costs
+    /// the net the same.
+    pub fn catch_up_beside(&mut self, capacity: &Capacity, past: &Past, sought: NetWindow) -> bool
         requires legal { IsLegal capacity.now past.now }
         requires stands { StandsFor capacity.now (take self.old.front past.now) self.old }
         ensures stands { StandsFor capacity.now past.now self.new }
-        ensures still { IsTrue result → IsStill capacity.now net window (take self.old.front past.now) past.now }
+        ensures still { IsTrue result →
+            IsStill capacity.now sought.net sought.window (take self.old.front past.now) past.now }
     {
         let history = past.entries();
-        self.read_beside(capacity, history, history.len(), net, window)
+        self.read_beside(capacity, history, history.len(), sought)
     }
 
     /// Reads the entries before `end`. The result says of them what that of `catch_up_beside` says.
@@ -42,8 +45,7 @@ impl Replica {
         capacity: &Capacity,
         history: &History,
         end: u64,
-        net: u32,
-        window: Window,
+        sought: NetWindow,
     ) -> bool
         requires legal { IsLegal capacity.now history.now }
         requires stands { StandsFor capacity.now (take self.old.front history.now) self.old }
@@ -51,45 +53,48 @@ impl Replica {
         requires end { end ≤ length history.now }
         ensures stands { StandsFor capacity.now (take end history.now) self.new }
         ensures still { IsTrue result →
-            IsStill capacity.now net window (take self.old.front history.now) (take end history.now) }
+            IsStill capacity.now sought.net sought.window (take self.old.front history.now) (take end history.now) }
     {
         let mut still = true;
         for place in self.front()..end {
-            still = still && self.stays_still(capacity, history, place, net, window);
+            still = still && self.stays_still(capacity, history, place, sought);
             self.read_entry(capacity, history, place);
         }
         still
     }
 
     /// Whether the entry that is to be read next changes nothing for the net in the window. It is true
-    /// only where the wire edges of the entry's tree that begin there have room for the net beside the
-    /// tree.
+    /// only where the entry is of another net, and where the wire edges of its tree that begin there have
+    /// room for the net beside the tree.
     fn stays_still(
         &self,
         capacity: &Capacity,
         history: &History,
         place: u64,
-        net: u32,
-        window: Window,
+        sought: NetWindow,
     ) -> bool
         requires legal { IsLegal capacity.now history.now }
         requires stands { StandsFor capacity.now (take place history.now) self.now }
         requires place { place < length history.now }
         ensures { IsTrue result →
-            IsStill capacity.now net window (take place history.now) (take (place + 1) history.now) }
+            IsStill capacity.now sought.net sought.window (take place history.now) (take (place + 1) history.now) }
     {
         let entry = history.entry(place);
         match &entry.call {
             Call::Claim(claim) => match entry.reply {
                 Reply::Claimed => {
                     let beside = Some(claim.net);
-                    !lacks_room(capacity, self.loads(), &claim.tree, net, beside, window)
+                    claim.net != sought.net
+                        && !lacks_room(capacity, self.loads(), &claim.tree, sought, beside)
                 }
                 _ => true,
             },
             Call::Release { net: freed } => match entry.reply {
                 Reply::Released => match self.tree(history, *freed) {
-                    Some(tree) => !lacks_room(capacity, self.loads(), tree, net, None, window),
+                    Some(tree) => {
+                        *freed != sought.net
+                            && !lacks_room(capacity, self.loads(), tree, sought, None)
+                    }
                     None => false,
                 },
                 _ => true,
@@ -105,21 +110,21 @@ fn lacks_room(
     capacity: &Capacity,
     loads: &Loads,
     tree: &RouteTree,
-    net: u32,
+    sought: NetWindow,
     beside: Option<u32>,
-    window: Window,
 ) -> bool
     requires tree { tree.now.shape ≡ capacity.now.shape }
     requires loads { loads.now.shape ≡ capacity.now.shape }
     ensures room { result ≡
-        list_any (edge_without_room capacity.now window (demand_at loads.now) net beside) (tree_edges tree.now) }
+        list_any (edge_without_room capacity.now sought.window (demand_at loads.now) sought.net beside)
+        (tree_edges tree.now) }
     ensures tree { IsTree tree.now }
 {
     for node in 0..tree.len() {
         let Some(edge) = tree.wire_to_parent(node) else {
             continue;
         };
-        if is_short(capacity, loads, edge, net, beside, window) {
+        if is_short(capacity, loads, edge, sought, beside) {
             return true;
         }
     }
@@ -132,22 +137,21 @@ fn is_short(
     capacity: &Capacity,
     loads: &Loads,
     e: Edge,
-    net: u32,
+    sought: NetWindow,
     beside: Option<u32>,
-    window: Window,
 ) -> bool
     requires edge { IsTrue (has_edge capacity.now.shape e) }
     requires wire { IsTrue (is_wire e) }
     requires loads { loads.now.shape ≡ capacity.now.shape }
-    ensures { result ≡ edge_without_room capacity.now window (demand_at loads.now) net beside e }
+    ensures { result ≡ edge_without_room capacity.now sought.window (demand_at loads.now) sought.net beside e }
 {
-    if !window.holds(capacity.shape().place_of(e.low)) {
+    if !sought.window.holds(capacity.shape().place_of(e.low)) {
         return false;
     }
     let taken = match beside {
         Some(other) => capacity.need(other, e),
         None => 0,
     };
-    let wanted = taken + capacity.need(net, e);
+    let wanted = taken + capacity.need(sought.net, e);
     loads.demand(e).saturating_add(wanted) > capacity.at(e)
 }

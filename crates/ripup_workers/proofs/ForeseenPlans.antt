@@ -1,14 +1,14 @@
 -- Plans for a net that are made before it is released.
-use Rattle.std.proofs.Common.{◌≡◌, ℕ, ◌<◌, List, [], ◌∷◌, ◌++◌, length, take, Option, Some, None, IfSome, refl, sym, ap, subst, ◌∙◌}
+use Rattle.std.proofs.Common.{◌≡◌, ℕ, ◌<◌, List, [], ◌∷◌, ◌++◌, length, take, Option, Some, None, IfSome, sym, subst}
 use mathlib.Core.List.{IsPrefix}
 use Rattle.book_front.proofs.Prefixes.{prefix-all}
 use Rattle.cost_rules.specs.declared.site.Formula.{Formula}
 use Rattle.gr_base.specs.Designs.{DesignView}
 use Rattle.grid_demand.specs.LoadSums.{LoadsView}
 use Rattle.grid_demand.specs.Tables.{CapacityView, capacity_of}
-use Rattle.book_state.proofs.LiftSteps.{freed-still}
+use Rattle.book_state.proofs.LiftSteps.{freed-still, freeing-entry}
 use Rattle.book_state.proofs.StillSteps.{still-same, still-then}
-use Rattle.book_state.specs.Books.{nets_of, booked, AreLoadsOf}
+use Rattle.book_state.specs.Books.{nets_of, AreLoadsOf}
 use Rattle.book_state.specs.Lifted.{IsFreeing, IsLifted}
 use Rattle.book_state.specs.Replicas.{ReplicaView}
 use Rattle.book_state.specs.Still.{IsStill}
@@ -21,10 +21,6 @@ use Rattle.ripup_workers.specs.Foresight.{IsForeseen}
 use Rattle.ripup_workers.specs.Turning.{IsPlanFor, IsPlanWithout, IsWindowOf}
 use Rattle.ripup_workers.specs.declared.foresight.Foreseen.{Foreseen}
 use Rattle.ripup_workers.proofs.TurningPlans.{still-plan, prefix-more, take-first}
-
--- an entry that frees the net
-freeing-entry : (net : ℕ) → IsFreeing net (entry_of 0 (Release net) Released)
-freeing-entry net = record { call = refl; reply = refl }
 
 pub lifted-loads : (c : CapacityView) (h : List Entry) (net : ℕ) (r : ReplicaView) → IsLifted c h net r → AreLoadsOf c (h ++ entry_of 0 (Release net) Released ∷ []) r.loads
 lifted-loads c h net r lifted = lifted.loads (entry_of 0 (Release net) Released) (freeing-entry net)
@@ -55,15 +51,14 @@ foreseen-more d formula net kind seen now f more was = record {
   begins = prefix-more was.later seen now was.begins more;
 }
 
--- nothing that was seen since changes the net's booking, or anything in the window
+-- nothing that was seen since changes anything for the net in the window
 pub foreseen-later : (d : DesignView) (formula : Formula) (net : ℕ) (kind : PlanKind) (seen now : List Entry) (f g : Foreseen) → g.tree ≡ f.tree → g.window ≡ f.window → g.front ≡ length now →
     net < nets_of (capacity_of d) → IsForeseen d formula net kind seen f → IsPrefix seen now → IsStill (capacity_of d) net f.window (take f.front now) now →
-    booked now net ≡ booked (take f.front now) net → IsForeseen d formula net kind now g
-foreseen-later d formula net kind seen now f g same_tree same_window long within was more still kept =
+    IsForeseen d formula net kind now g
+foreseen-later d formula net kind seen now f g same_tree same_window long within was more still =
     let c = capacity_of d in
     let later_is = take-first was.later now f.front (prefix-more was.later seen now was.begins more) was.front_is in
     let since : IsStill c net f.window was.later now = subst (λ (h : List Entry). IsStill c net f.window h now) later_is still in
-    let held : booked now net ≡ booked was.later net = kept ∙ ap (λ (h : List Entry). booked h net) later_is in
     record {
       window_of_net = subst (λ w. IsWindowOf d net kind w) (sym same_window) was.window_of_net;
       first = was.first;
@@ -71,7 +66,7 @@ foreseen-later d formula net kind seen now f g same_tree same_window long within
       later = now;
       still = λ e freeing. subst (λ w. IsStill c net w (was.first ++ e ∷ []) (now ++ e ∷ [])) (sym same_window)
           (still-then c net f.window (was.first ++ e ∷ []) (was.later ++ e ∷ []) (now ++ e ∷ []) (was.still e freeing)
-          (freed-still c f.window was.later now net e e within since held freeing freeing));
+          (freed-still c f.window was.later now net e e within since freeing freeing));
       front_is = long;
       begins = prefix-all now;
     }

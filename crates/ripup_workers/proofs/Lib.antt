@@ -12,3 +12,4 @@ pub mod JoiningEnds
 pub mod CallerLists
 pub mod MeetingSteps
 pub mod SharedOrder
+pub mod BesideCalls

@@ -1,3 +1,4 @@
+pub mod Beside
 pub mod Working
 pub mod Turning
 pub mod Foresight

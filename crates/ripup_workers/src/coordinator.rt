@@ -13,21 +13,21 @@ use track_book::{BookName, TrackBook};
 
 impl<N: BookName> Coordinator<N> {
     /// Ends a round: once what all workers did is seen, it is marked, and the workers see the mark. The
-    /// victims are looked for in at most so many blocks of nets side by side.
+    /// victims are looked for by at most so many threads.
     pub(crate) fn end_round<R: Threads + Wait + Sync>(
         &mut self,
         rt: &R,
         book: &TrackBook<N>,
         workers: &mut Vec<Worker<N>>,
-        blocks: u32,
+        threads: u32,
     ) -> Result<Marked, AllocError>
         requires workers { 0 < length workers.old.items }
-        requires blocks { 0 < blocks }
+        requires threads { 0 < threads }
         ensures { IfOk result (λ marked. AreMarked N.capacity self.old.pass self.new.pass
             (map (λ w. w.pass) workers.old.items) (map (λ w. w.pass) workers.new.items) marked) }
     {
         self.meet_all(rt, book, workers);
-        let marked = self.mark(rt, book, blocks)?;
+        let marked = self.mark(rt, book, threads)?;
         self.meet_all(rt, book, workers);
         Ok(marked)
     }
@@ -57,15 +57,15 @@ impl<N: BookName> Coordinator<N> {
         &mut self,
         rt: &R,
         book: &TrackBook<N>,
-        blocks: u32,
+        threads: u32,
     ) -> Result<Marked, AllocError>
-        requires { 0 < blocks }
+        requires { 0 < threads }
         ensures { IfOk result (IsMarked N.capacity self.old.pass self.new.pass) }
     {
         let Reply::Marked { overflow } = book.mark(rt, &mut self.pass)? else {
             unreachable!()
         };
-        let victims = book.victims(rt, &mut self.pass, blocks)?;
+        let victims = book.victims(rt, &mut self.pass, threads)?;
         Ok(Marked { overflow, victims })
     }
 }

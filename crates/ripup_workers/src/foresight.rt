@@ -16,6 +16,7 @@ use crate::gate::{Gate, Stop};
 use crate::turn::Ground;
 use crate::wish::Wish;
 use crate::worker::Worker;
+use book_state::NetWindow;
 use gr_base::RouteTree;
 use maze_route::Window;
 use net_plan::Planner;
@@ -115,7 +116,11 @@ impl<N: BookName, R: Threads + Wait + Sync, G: Gate> Ground<'_, N, R, G> {
             wish.now.net wish.now.kind worker.new.pass.seen)) }
     {
         let read = worker.replica.front();
-        let still = worker.sync_booked(self.rt, self.book, wish.net, plan.window)?;
+        let sought = NetWindow {
+            net: wish.net,
+            window: plan.window,
+        };
+        let still = worker.sync_beside(self.rt, self.book, sought)?;
         if still && read == plan.front {
             let front = worker.pass.known();
             return Ok(Some(Foreseen { front, ..plan }));
@@ -146,7 +151,11 @@ impl<N: BookName, R: Threads + Wait + Sync, G: Gate> Ground<'_, N, R, G> {
             return self.search(wish, worker, planner);
         };
         let read = worker.replica.front();
-        let still = worker.sync_freed(self.rt, self.book, wish.net, foreseen.window)?;
+        let sought = NetWindow {
+            net: wish.net,
+            window: foreseen.window,
+        };
+        let still = worker.sync_freed(self.rt, self.book, sought)?;
         if still && read == foreseen.front {
             return Ok(foreseen.tree);
         }

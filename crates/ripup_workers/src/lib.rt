@@ -2,6 +2,7 @@
 #![tactic(auto)]
 
 mod asked;
+mod beside;
 mod coordinator;
 mod foresight;
 mod gate;

@@ -8,6 +8,7 @@ ghost use Rattle.ripup_workers.specs.Rounding.{setting_of, HaveAttempted};
 ghost use Rattle.ripup_workers.specs.Crews.{IsWorked, HasAttemptedOver};
 
 use crate::asked::Asked;
+use crate::beside::for_each_beside;
 use crate::gate::Gate;
 use crate::members::{members_of, parted};
 use crate::team::Member;
@@ -17,7 +18,7 @@ use crate::worker::Worker;
 use net_plan::Planner;
 use std::alloc::{AllocError, Global};
 use std::sync::Wait;
-use std::thread::{Threads, for_each_mut};
+use std::thread::Threads;
 use track_book::{BookName, TrackBook};
 use work_share::{Share, share};
 
@@ -73,7 +74,6 @@ fn work_all<N: BookName + Send + Sync, R: Threads + Wait + Sync, G: Gate + Sync>
     requires round { round ≤ asked.now.rounds }
     requires nets { All (λ net. IsTrue (is_routed asked.now.design.now net)) share.now.nets }
     requires hands { All (λ m. IsHandOf share.now m.hand) members.old.items }
-    requires some { 0 < length members.old.items }
     ensures count { length members.new.items ≡ length members.old.items }
     ensures worked { (at : ℕ) (d : _) → at < length members.old.items →
         IsWorked share.now asked.now.design.now asked.now.rule.now.formula round
@@ -81,11 +81,9 @@ fn work_all<N: BookName + Send + Sync, R: Threads + Wait + Sync, G: Gate + Sync>
         (slice_index_or members.new.items at d).hand (slice_index_or members.old.items at d).worker.pass
         (slice_index_or members.new.items at d).worker.pass (slice_index_or members.new.items at d).done }
 {
-    let threads = members.len();
-    for_each_mut(
+    for_each_beside(
         rt,
         members.as_mut_slice(),
-        threads,
         &|_, member: &mut Member<N>|
             requires { (N.capacity ≡ capacity_of asked.now.design.now) × (round ≤ asked.now.rounds) ×
                 All (λ net. IsTrue (is_routed asked.now.design.now net)) share.now.nets ×

@@ -16,7 +16,7 @@ use crate::foresight::Foreseen;
 use crate::gate::{Gate, Stop};
 use crate::wish::Wish;
 use crate::worker::Worker;
-use book_state::{PlanKind, Reply};
+use book_state::{NetWindow, PlanKind, Reply};
 use cost_rules::CostRule;
 use gr_base::{Design, RouteTree};
 use net_plan::Planner;
@@ -227,7 +227,11 @@ impl<N: BookName, R: Threads + Wait + Sync, G: Gate> Ground<'_, N, R, G> {
             return self.search(wish, worker, planner);
         };
         let read = worker.replica.front();
-        let still = worker.sync_beside(self.rt, self.book, wish.net, window)?;
+        let sought = NetWindow {
+            net: wish.net,
+            window,
+        };
+        let still = worker.sync_beside(self.rt, self.book, sought)?;
         if still && read == front {
             return Ok(tree);
         }

@@ -1,6 +1,6 @@
 //! The workers of the rounds.
 ghost use Rattle.std.specs.Prelude.{◌≡◌, ◌<◌, [], ◌∷◌, ◌++◌, length, take, IfOk, IfSome, OnOk, IsTrue};
-ghost use Rattle.book_state.specs.Books.{nets_of, booked as booked_tree};
+ghost use Rattle.book_state.specs.Books.{nets_of};
 ghost use Rattle.book_state.specs.Lifted.{IsFreeing};
 ghost use Rattle.book_state.specs.declared.entry.Entry.{Entry};
 ghost use Rattle.ripup_workers.specs.Turning.{HasCapacity, IsPlanWithout};
@@ -10,10 +10,9 @@ ghost use Rattle.round_core.specs.Rounds.{claim_of};
 ghost use Rattle.track_book.specs.Passes.{IsPass, IsAnswered, HasLearnt};
 
 use crate::wish::Wish;
-use book_state::{Call, Claim, PlanKind, Replica, Reply};
+use book_state::{Call, Claim, NetWindow, PlanKind, Replica, Reply};
 use gr_base::RouteTree;
 use grid_demand::Capacity;
-use maze_route::Window;
 use net_plan::Planner;
 use std::alloc::AllocError;
 use std::sync::Wait;
@@ -41,80 +40,49 @@ impl<N: BookName> Worker<N> {
         Ok(())
     }
 
-    /// The worker comes to know the whole history. The result is true only where no wire edge that begins
-    /// in the window costs the net more or less for the entries that the replica read.
+    /// The worker comes to know the whole history. The result is true only where the entries that the
+    /// replica read leave the net's booking, and what each wire edge that begins in the window costs the
+    /// net.
     pub(crate) fn sync_beside<R: Wait>(
         &mut self,
         rt: &R,
         book: &TrackBook<N>,
-        net: u32,
-        window: Window,
-    ) -> Result<bool, AllocError>
-        ensures before { IsPass N.capacity self.old.pass }
-        ensures learnt { OnOk result (HasLearnt N.capacity self.old.pass self.new.pass) }
-        ensures pass { OnOk result (IsPass N.capacity self.new.pass) }
-        ensures stands { OnOk result (StandsFor N.capacity self.new.pass.seen self.new.replica) }
-        ensures still { IfOk result (λ still. IsTrue still →
-            IsStill N.capacity net window (take self.old.replica.front self.new.pass.seen) self.new.pass.seen) }
-    {
-        self.hold_more(rt, book)?;
-        let past = self.pass.past();
-        Ok(
-            self.replica
-                .catch_up_beside(book.capacity(), past, net, window),
-        )
-    }
-
-    /// The same. The result is true only where the entries also leave the net's booking.
-    pub(crate) fn sync_booked<R: Wait>(
-        &mut self,
-        rt: &R,
-        book: &TrackBook<N>,
-        net: u32,
-        window: Window,
+        sought: NetWindow,
     ) -> Result<bool, AllocError>
         ensures before { IsPass N.capacity self.old.pass }
         ensures learnt { OnOk result (HasLearnt N.capacity self.old.pass self.new.pass) }
         ensures pass { OnOk result (IsPass N.capacity self.new.pass) }
         ensures held { OnOk result (self.new.pass.held ≡ length self.new.pass.seen) }
         ensures stands { OnOk result (StandsFor N.capacity self.new.pass.seen self.new.replica) }
-        ensures still { IfOk result (λ still. IsTrue still →
-            IsStill N.capacity net window (take self.old.replica.front self.new.pass.seen) self.new.pass.seen) }
-        ensures kept { IfOk result (λ still. IsTrue still → booked_tree self.new.pass.seen net ≡
-            booked_tree (take self.old.replica.front self.new.pass.seen) net) }
+        ensures still { IfOk result (λ still. IsTrue still → IsStill N.capacity sought.net sought.window
+            (take self.old.replica.front self.new.pass.seen) self.new.pass.seen) }
     {
         self.hold_more(rt, book)?;
         let past = self.pass.past();
-        Ok(
-            self.replica
-                .catch_up_booked(book.capacity(), past, net, window),
-        )
+        Ok(self.replica.catch_up_beside(book.capacity(), past, sought))
     }
 
     /// The worker comes to know the whole history as it stood at its last call, or later. The result is
     /// true only where the last entry frees the net, and of the others that the replica read it says what
-    /// that of `sync_booked` says.
+    /// that of `sync_beside` says.
     pub(crate) fn sync_freed<R: Wait>(
         &mut self,
         rt: &R,
         book: &TrackBook<N>,
-        net: u32,
-        window: Window,
+        sought: NetWindow,
     ) -> Result<bool, AllocError>
-        requires { net < nets_of N.capacity }
+        requires { sought.net < nets_of N.capacity }
         ensures before { IsPass N.capacity self.old.pass }
         ensures learnt { OnOk result (HasLearnt N.capacity self.old.pass self.new.pass) }
         ensures pass { OnOk result (IsPass N.capacity self.new.pass) }
         ensures stands { OnOk result (StandsFor N.capacity self.new.pass.seen self.new.replica) }
-        ensures still { IfOk result (λ still. IsTrue still → (e : Entry) → IsFreeing net e →
-            IsStill N.capacity net window (take self.old.replica.front self.new.pass.seen ++ e ∷ []) self.new.pass.seen) }
+        ensures still { IfOk result (λ still. IsTrue still → (e : Entry) → IsFreeing sought.net e →
+            IsStill N.capacity sought.net sought.window (take self.old.replica.front self.new.pass.seen ++ e ∷ [])
+            self.new.pass.seen) }
     {
         self.hold(rt, book)?;
         let past = self.pass.past();
-        Ok(
-            self.replica
-                .catch_up_freed(book.capacity(), past, net, window),
-        )
+        Ok(self.replica.catch_up_freed(book.capacity(), past, sought))
     }
 
     /// The net's plan over all that the worker knows, as if the net was released. None where it isn't

@@ -134,21 +134,21 @@ impl<N: BookName> TrackBook<N> {
     }
 
     /// The pass sees the whole history. The result are the booked nets whose tree then has a wire edge
-    /// with more demand than capacity, in the order of the design. They are looked for in at most so
-    /// many blocks of nets side by side, while the lock is held. The only error is want of memory, and
-    /// leaves the pass as it was.
+    /// with more demand than capacity, in the order of the design. They are looked for by at most so
+    /// many threads, while the lock is held. The only error is want of memory, and leaves the pass as it
+    /// was.
     pub fn victims<R: Threads + Wait + Sync>(
         &self,
         rt: &R,
         pass: &mut Pass<N>,
-        blocks: u32,
+        threads: u32,
     ) -> Result<Cells, AllocError>
-        requires { 0 < blocks }
+        requires { 0 < threads }
         ensures learnt { OnOk result (HasLearnt N.capacity pass.old pass.new) }
         ensures victims { IfOk result (λ nets. nets ≡ victims_of N.capacity pass.new.seen) }
         ensures err { OnErr result (pass.new ≡ pass.old) }
     {
-        self.locked(rt).victims(rt, &self.front, pass, blocks)
+        self.locked(rt).victims(rt, &self.front, pass, threads)
     }
 
     /// Both passes come to have seen one history, which begins with what each had seen.

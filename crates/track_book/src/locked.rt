@@ -132,17 +132,17 @@ impl<N: BookName> Locked<N> {
         rt: &R,
         front: &Front,
         pass: &mut Pass<N>,
-        blocks: u32,
+        threads: u32,
     ) -> Result<Cells, AllocError>
         requires front { word_of front.now ≡ N.word }
-        requires blocks { 0 < blocks }
+        requires threads { 0 < threads }
         ensures same { self.new ≡ self.old }
         ensures learnt { OnOk result (HasLearnt N.capacity pass.old pass.new) }
         ensures seen { OnOk result (pass.new.seen ≡ self.old) }
         ensures victims { IfOk result (λ nets. nets ≡ victims_of N.capacity self.old) }
         ensures err { OnErr result (pass.new ≡ pass.old) }
     {
-        let victims = self.state.victims_by(rt, blocks)?;
+        let victims = self.state.victims_by(rt, threads)?;
         self.show(front, pass);
         Ok(victims)
     }

@@ -1,5 +1,5 @@
-use Rattle.std.proofs.Common.{sym, ap, subst, ◌∙◌, ◌∷◌, ◌++◌, [], List, Some}
-use Rattle.book_state.specs.LeastSearch.{lesser, IsFirstLeast}
+use Rattle.std.proofs.Common.{sym, ap, subst, ◌∙◌, ◌∷◌, ◌++◌, []}
+use Rattle.book_state.specs.LeastSearch.{IsFirstLeast}
 use Rattle.book_state.specs.Marks.{overflow_in}
 use Rattle.book_state.specs.declared.least.MarkedAt.{MarkedAt}
 use Rattle.book_state.proofs.LeastMarks.{least-idle, least-mark, no-mark}

@@ -8,5 +8,5 @@ use Rattle.book_state.proofs.still.lacks_room.Given as goal
 
 abbrev pub invariant-loop-node : goal.invariant-loop-node
 invariant-loop-node l =
-    list_any (lacks_room l.capacity l.window (demand_at l.loads) l.net l.beside) (edges_from l.tree l.node)
-    ≡ list_any (lacks_room l.capacity l.window (demand_at l.loads) l.net l.beside) (tree_edges l.tree)
+    list_any (lacks_room l.capacity l.sought.window (demand_at l.loads) l.sought.net l.beside) (edges_from l.tree l.node)
+    ≡ list_any (lacks_room l.capacity l.sought.window (demand_at l.loads) l.sought.net l.beside) (tree_edges l.tree)

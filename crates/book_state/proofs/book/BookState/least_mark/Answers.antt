@@ -1,4 +1,4 @@
-use Rattle.std.proofs.Common.{Option, Some, None, ap, subst, ◌∙◌}
+use Rattle.std.proofs.Common.{Option, ap, subst, ◌∙◌}
 use Rattle.book_state.specs.LeastSearch.{IsLeast}
 use Rattle.book_state.specs.Marks.{least_mark}
 use Rattle.book_state.specs.Views.{BookView}

@@ -13,6 +13,6 @@ returns-then-still-clause-still c = λ freed e freeing.
     let long = c.len-last.ensures.len in
     let first = c.len.ensures.len in
     let all : length history ≡ last + 1 = grind (arith, nat_tests, more, long, first) in
-    subst (λ (h : List Entry). IsStill c.args.capacity.now c.args.net c.args.window (take c.args.self.now.front h ++ e ∷ []) h) c.entries-history.ensures
-    (last-freed c.args.capacity.now c.args.window (take c.args.self.now.front history) history last c.args.net c.entry.result.now c.requires.net
-    all c.entry.ensures.entry (c.stays_booked-still.ensures.still c.if-still.true) (c.stays_booked-still.ensures.kept c.if-still.true) (c.frees.ensures freed) e freeing)
+    subst (λ (h : List Entry). IsStill c.args.capacity.now c.args.sought.net c.args.sought.window (take c.args.self.now.front h ++ e ∷ []) h) c.entries-history.ensures
+    (last-freed c.args.capacity.now c.args.sought.window (take c.args.self.now.front history) history last c.args.sought.net c.entry.result.now c.requires.net
+    all c.entry.ensures.entry (c.read_beside-still.ensures.still c.if-still.true) (c.frees.ensures freed) e freeing)

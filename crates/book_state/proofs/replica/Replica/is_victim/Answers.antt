@@ -1,7 +1,8 @@
-use Rattle.std.proofs.Common.{◌≡◌, Option, Some, sym, ap, ◌∙◌, arith}
+use Rattle.std.proofs.Common.{◌≡◌, ℕ, List, Option, Some, sym, ap, ◌∙◌, arith}
 use Rattle.gr_base.specs.Grid.{cells_of}
 use Rattle.gr_base.specs.Trees.{TreeView}
 use Rattle.book_state.specs.Books.{booked, demand, is_crowded}
+use Rattle.book_state.specs.Replicas.{tree_at_place, place_of}
 use Rattle.book_state.proofs.Replies.{crowded-same, crowded-table, booked-shape}
 use Rattle.book_state.proofs.replica.Replica.is_victim.Goals as goal
 
@@ -10,7 +11,8 @@ is_crowded-requires c =
     let capacity = c.args.capacity.now in
     let h = c.args.history.now in
     let is : booked h c.args.net ≡ Some c.in-Some.tree.now =
-    sym (c.requires.stands.places c.args.net).tree_there ∙ sym c.in-Some.ensures in
+    sym (c.requires.stands.places c.args.net).tree_there
+    ∙ ap (λ (places : List (Option ℕ)). tree_at_place h (place_of places c.args.net)) (sym c.places.ensures) ∙ sym c.in-Some.ensures in
     let shape = booked-shape capacity h c.args.self.now c.args.net c.in-Some.tree.now c.requires.legal c.requires.stands is in
     let cells = ap cells_of (c.requires.stands.loads.shape ∙ sym shape) in
     let long = c.requires.over.long in
@@ -22,7 +24,8 @@ returns-in-Some c =
     let h = c.args.history.now in
     let l = c.args.self.now.loads in
     let is : booked h c.args.net ≡ Some c.in-Some.tree.now =
-    sym (c.requires.stands.places c.args.net).tree_there ∙ sym c.in-Some.ensures in
+    sym (c.requires.stands.places c.args.net).tree_there
+    ∙ ap (λ (places : List (Option ℕ)). tree_at_place h (place_of places c.args.net)) (sym c.places.ensures) ∙ sym c.in-Some.ensures in
     let shape = booked-shape capacity h c.args.self.now c.args.net c.in-Some.tree.now c.requires.legal c.requires.stands is in
     c.is_crowded.ensures.crowded
     ∙ crowded-table capacity l c.args.over.now c.in-Some.tree.now c.requires.over c.requires.stands.loads.shape c.is_crowded.ensures.tree shape

@@ -1,4 +1,5 @@
-use Rattle.std.proofs.Common.{◌≡◌, Some, take, ap, sym, subst, ◌∙◌}
+use Rattle.std.proofs.Common.{◌≡◌, Some, take, ap, sym, subst, ◌∙◌, arith}
+use Rattle.std.proofs.lemmas.Bool.Decides.{nat_tests}
 use Rattle.std.proofs.lemmas.Option.{same_Some}
 use Rattle.gr_base.specs.Trees.{TreeView}
 use Rattle.grid_demand.specs.LoadSums.{LoadsView}
@@ -16,23 +17,23 @@ lacks_room-requires-clause-tree c =
     record { e = c.entry-entry.result.now; there = c.entry-entry.ensures.entry; call = c.in-Claim.is; reply = c.in-Claimed.is } in
     (claim-in_range c.args.capacity.now c.args.history.now c.args.place c.in-Claim.claim c.requires.legal is).shape
 
-pub returns-in-Claimed : goal.returns-in-Claimed
-returns-in-Claimed c = λ room.
+pub returns-then-claim-sought : goal.returns-then-claim-sought
+returns-then-claim-sought c = λ room.
     let h = c.args.history.now in
     let is : IsClaimed h c.args.place c.in-Claim.claim =
     record { e = c.entry-entry.result.now; there = c.entry-entry.ensures.entry; call = c.in-Claim.is; reply = c.in-Claimed.is } in
     let of : AreLoadsOf c.args.capacity.now (take c.args.place h) c.loads.result.now =
     subst (λ (l : LoadsView). AreLoadsOf c.args.capacity.now (take c.args.place h) l) (sym c.loads.ensures) c.requires.stands.loads in
-    still-claim c.args.capacity.now c.args.net c.args.window h c.args.place c.in-Claim.claim c.loads.result.now c.requires.legal is of
-    c.lacks_room.ensures.tree (sym c.lacks_room.ensures.room ∙ not-so c.lacks_room.result room)
+    still-claim c.args.capacity.now c.args.sought.net c.args.sought.window h c.args.place c.in-Claim.claim c.loads.result.now c.requires.legal is of
+    (λ same. let apart = c.if-claim-sought.true in absurd (grind (arith, nat_tests, same, apart))) c.lacks_room.ensures.tree (sym c.lacks_room.ensures.room ∙ not-so c.lacks_room.result room)
 
 pub returns-in_default : goal.returns-in_default
 returns-in_default c = λ always.
-    still-idle c.args.capacity.now c.args.net c.args.window c.args.history.now c.args.place c.entry-entry.result.now c.entry-entry.ensures.entry
+    still-idle c.args.capacity.now c.args.sought.net c.args.sought.window c.args.history.now c.args.place c.entry-entry.result.now c.entry-entry.ensures.entry
     (subst (λ (k : Call). IsIdle k c.entry-entry.result.now.reply) (sym c.in-Claim.is) c.in_default.not-Claimed)
 
-pub lacks_room-requires-in-Some-clause-tree : goal.lacks_room-requires-in-Some-clause-tree
-lacks_room-requires-in-Some-clause-tree c =
+pub lacks_room-requires-then-freed-sought-clause-tree : goal.lacks_room-requires-then-freed-sought-clause-tree
+lacks_room-requires-then-freed-sought-clause-tree c =
     let h = c.args.history.now in
     let is : IsReleased h c.args.place c.in-Release.freed =
     record { e = c.entry-entry.result.now; there = c.entry-entry.ensures.entry; call = c.in-Release.is; reply = c.in-Released.is } in
@@ -40,21 +41,21 @@ lacks_room-requires-in-Some-clause-tree c =
     let same : c.in-Some.tree.now ≡ held.t = same_Some c.in-Some.tree.now held.t (c.in-Some.ensures ∙ held.tree_there) in
     ap (λ (t : TreeView). t.shape) same ∙ held.shape
 
-pub returns-in-Some : goal.returns-in-Some
-returns-in-Some c = λ room.
+pub returns-then-freed-sought : goal.returns-then-freed-sought
+returns-then-freed-sought c = λ room.
     let h = c.args.history.now in
     let is : IsReleased h c.args.place c.in-Release.freed =
     record { e = c.entry-entry.result.now; there = c.entry-entry.ensures.entry; call = c.in-Release.is; reply = c.in-Released.is } in
     let held = released-held c.args.capacity.now h c.args.place c.in-Release.freed c.args.self.now c.requires.legal c.requires.stands is in
     let same : c.in-Some.tree.now ≡ held.t = same_Some c.in-Some.tree.now held.t (c.in-Some.ensures ∙ held.tree_there) in
-    let of : AreLoadsOf c.args.capacity.now (take c.args.place h) c.loads-in-Some.result.now =
-    subst (λ (l : LoadsView). AreLoadsOf c.args.capacity.now (take c.args.place h) l) (sym c.loads-in-Some.ensures) c.requires.stands.loads in
-    still-release c.args.capacity.now c.args.net c.args.window h c.args.place c.in-Release.freed c.in-Some.tree.now c.loads-in-Some.result.now c.requires.legal is of
-    c.lacks_room-in-Some.ensures.tree (ap (λ (t : TreeView). t.shape) same ∙ held.shape)
+    let of : AreLoadsOf c.args.capacity.now (take c.args.place h) c.loads-then-freed-sought.result.now =
+    subst (λ (l : LoadsView). AreLoadsOf c.args.capacity.now (take c.args.place h) l) (sym c.loads-then-freed-sought.ensures) c.requires.stands.loads in
+    still-release c.args.capacity.now c.args.sought.net c.args.sought.window h c.args.place c.in-Release.freed c.in-Some.tree.now c.loads-then-freed-sought.result.now c.requires.legal is of
+    (λ same. let apart = c.if-freed-sought.true in absurd (grind (arith, nat_tests, same, apart))) c.lacks_room-then-freed-sought.ensures.tree (ap (λ (t : TreeView). t.shape) same ∙ held.shape)
     (held.before ∙ ap (λ (t : TreeView). Some t) (sym same))
-    (sym c.lacks_room-in-Some.ensures.room ∙ not-so c.lacks_room-in-Some.result room)
+    (sym c.lacks_room-then-freed-sought.ensures.room ∙ not-so c.lacks_room-then-freed-sought.result room)
 
 pub returns-in_default-reply : goal.returns-in_default-reply
 returns-in_default-reply c = λ always.
-    still-idle c.args.capacity.now c.args.net c.args.window c.args.history.now c.args.place c.entry-entry.result.now c.entry-entry.ensures.entry
+    still-idle c.args.capacity.now c.args.sought.net c.args.sought.window c.args.history.now c.args.place c.entry-entry.result.now c.entry-entry.ensures.entry
     (subst (λ (k : Call). IsIdle k c.entry-entry.result.now.reply) (sym c.in-Release.is) c.in_default-reply.not-Released)

@@ -1,6 +1,6 @@
 use Rattle.std.proofs.Common.{◌≡◌, ℕ, ◌<◌, take, refl, sym, subst, ◌∙◌}
 use Rattle.grid_demand.specs.Tables.{CapacityView}
-use Rattle.book_state.specs.Books.{nets_of, booked}
+use Rattle.book_state.specs.Books.{nets_of}
 use Rattle.book_state.specs.Still.{IsStill}
 use Rattle.ripup_workers.proofs.ForeseenPlans.{foreseen-later}
 use Rattle.ripup_workers.proofs.TurningStages.{followed}
@@ -14,14 +14,13 @@ pub returns-then-read-plan-clause-foreseen : goal.returns-then-read-plan-clause-
 returns-then-read-plan-clause-foreseen g c =
     let net = c.args.wish.now.net in
     let seen = c.args.worker.now.pass.seen in
-    let now = c.sync_booked.new.self.pass.seen in
+    let now = c.sync_beside.new.self.pass.seen in
     let front_is : c.args.worker.now.replica.front ≡ c.args.plan.front = sym c.front-read.ensures ∙ c.if-read-plan.true in
     let capacity_is = c.requires.design.capacity_is in
     foreseen-later _ _ net _ seen now c.args.plan (record { tree = c.args.plan.tree; front = c.known-front.result; window = c.args.plan.window }) refl refl c.known-front.ensures.known
     (subst (λ (x : CapacityView). net < nets_of x) capacity_is c.requires.net) c.requires.foreseen c.in_ok-still.ensures.learnt.begins
     (subst (λ (x : CapacityView). IsStill x net c.args.plan.window (take c.args.plan.front now) now) capacity_is
     (subst (λ (n : ℕ). IsStill _ net c.args.plan.window (take n now) now) front_is (c.in_ok-still.ensures.still c.if-still.true)))
-    (subst (λ (n : ℕ). booked now net ≡ booked (take n now) net) front_is (c.in_ok-still.ensures.kept c.if-still.true))
 
 pub returns-clause-learnt : goal.returns-clause-learnt
 returns-clause-learnt g c = λ t over.
