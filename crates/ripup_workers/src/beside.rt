@@ -11,7 +11,7 @@ use std::thread::{Threads, join_mut};
 ///
 /// `for_each_mut` halves the places, and has each thread make the one for half of its part. Threads that
 /// two threads make at one moment are often put on one processor, and stay there while another idles;
-/// those that one thread makes one after another are not.
+/// those that one thread makes one after another seldom are.
 pub(crate) fn for_each_beside<R: Threads + Sync, T: Send, F: Fn(usize, &mut T) + Sync>(
     rt: &R,
     items: &mut [T],
