@@ -5,6 +5,7 @@ use Rattle.gr_base.proofs.TreeEdges.{tree-grid_edges}
 use Rattle.gr_base.specs.Grid.{has_edge}
 use Rattle.gr_base.specs.Limits.{most_nets}
 use Rattle.gr_base.specs.Trees.{TreeView, IsTree}
+use Rattle.gr_base.specs.declared.grid.Edge.{Edge}
 use Rattle.gr_base.specs.declared.grid.Shape.{Shape}
 use Rattle.grid_demand.proofs.LoadSteps.{tree-edge}
 use Rattle.grid_demand.proofs.OperationLemmas.{demand-added}
@@ -14,10 +15,10 @@ use Rattle.maze_route.specs.declared.window.Window.{Window}
 use Rattle.book_state.proofs.BookSteps as steps
 use Rattle.book_state.proofs.ReplicaSteps.{take-entry, booked-release, booked-release_other}
 use Rattle.book_state.proofs.StandSteps.{replica_of, wire_of, loads-release, is_mark-release}
-use Rattle.book_state.specs.Books.{nets_of, booked, share_of, AreLoadsOf}
+use Rattle.book_state.specs.Books.{nets_of, booked, share_of, demand, AreLoadsOf}
 use Rattle.book_state.specs.Lifted.{IsFreeing, IsLifted}
 use Rattle.book_state.specs.Replicas.{ReplicaView, tree_at_place, StandsFor}
-use Rattle.book_state.specs.Still.{IsStill}
+use Rattle.book_state.specs.Still.{StaysBest, IsWireIn, over_with}
 use Rattle.book_state.specs.Views.{entry_of}
 use Rattle.book_state.specs.declared.entry.Call.TheVariants.{Release}
 use Rattle.book_state.specs.declared.entry.Entry.{Entry}
@@ -75,29 +76,45 @@ room-back c h net r t lifted tables few tree same = λ e inside wire.
     let most = steps.demand-most c (h ++ freed ∷ []) e tables nets in
     omega (arith, demand_is, most)
 
--- two histories between which nothing changes for a net in a window, each with an entry more that frees the net
-pub freed-still : (c : CapacityView) (w : Window) (h k : List Entry) (net : ℕ) (e f : Entry) → net < nets_of c → IsStill c net w h k →
-    IsFreeing net e → IsFreeing net f → IsStill c net w (h ++ e ∷ []) (k ++ f ∷ [])
-freed-still c w h k net e f within still one two = record {
-  booking = booked-release k f net two.call two.reply ∙ sym (booked-release h e net one.call one.reply);
-  over = λ x wire inside.
-      let first = steps.demand-change c h (h ++ e ∷ []) x net within (λ other apart. booked-release_other h e net other one.call one.reply apart) in
-      let second = steps.demand-change c k (k ++ f ∷ []) x net within (λ other apart. booked-release_other k f net other two.call two.reply apart) in
-      let none : share_of c net (booked (h ++ e ∷ []) net) x ≡ 0 = ap (λ (o : Option TreeView). share_of c net o x) (booked-release h e net one.call one.reply) in
-      let nothing : share_of c net (booked (k ++ f ∷ []) net) x ≡ 0 = ap (λ (o : Option TreeView). share_of c net o x) (booked-release k f net two.call two.reply) in
-      let same : share_of c net (booked k net) x ≡ share_of c net (booked h net) x = ap (λ (o : Option TreeView). share_of c net o x) still.booking in
-      let between = still.over x wire inside in
-      omega (arith, first, second, none, nothing, same, between);
-  marks = λ x wire inside.
-      steps.marks-idle c k f x (is_mark-release f net two.call) ∙ still.marks x wire inside ∙ sym (steps.marks-idle c h e x (is_mark-release e net one.call));
-}
+-- how much an edge is over without a tree, by how much it is over with the tree
+over-without : (c : CapacityView) (net taken : ℕ) (x : Edge) (d e with_d with_e : ℕ) → with_d ≡ d + taken → with_e ≡ e + taken →
+    over_with c net x with_d ≤ over_with c net x with_e → over_with c net x d ≤ over_with c net x e
+over-without c net taken x d e with_d with_e one two more = omega (arith, one, two, more)
+
+-- where one history leaves a net's plan the best after another, so do the two with an entry more each that frees the net
+pub freed-still : (c : CapacityView) (w : Window) (t : TreeView) (h k : List Entry) (net : ℕ) (e f : Entry) → net < nets_of c → StaysBest c net w t h k →
+    IsFreeing net e → IsFreeing net f → StaysBest c net w t (h ++ e ∷ []) (k ++ f ∷ [])
+freed-still c w t h k net e f within still one two =
+    let freed : (l : List Entry) (g : Entry) (x : Edge) → IsFreeing net g → demand c l x ≡ demand c (l ++ g ∷ []) x + share_of c net (booked l net) x =
+    λ l g x freeing.
+    let change = steps.demand-change c l (l ++ g ∷ []) x net within (λ other apart. booked-release_other l g net other freeing.call freeing.reply apart) in
+    let none : share_of c net (booked (l ++ g ∷ []) net) x ≡ 0 = ap (λ (o : Option TreeView). share_of c net o x) (booked-release l g net freeing.call freeing.reply) in
+    omega (arith, change, none) in
+    let first : (x : Edge) → demand c h x ≡ demand c (h ++ e ∷ []) x + share_of c net (booked h net) x = λ x. freed h e x one in
+    let second : (x : Edge) → demand c k x ≡ demand c (k ++ f ∷ []) x + share_of c net (booked h net) x =
+    λ x. freed k f x two ∙ ap (λ (o : Option TreeView). demand c (k ++ f ∷ []) x + share_of c net o x) still.booking in
+    let rises : (x : Edge) → IsWireIn c w x → over_with c net x (demand c (h ++ e ∷ []) x) ≤ over_with c net x (demand c (k ++ f ∷ []) x) =
+    λ x is_in. over-without c net (share_of c net (booked h net) x) x (demand c (h ++ e ∷ []) x) (demand c (k ++ f ∷ []) x)
+    (demand c h x) (demand c k x) (first x) (second x) (still.rises x is_in) in
+    record {
+      booking = booked-release k f net two.call two.reply ∙ sym (booked-release h e net one.call one.reply);
+      rises = rises;
+      stays = λ x is_in joins.
+          let same = still.stays x is_in joins in
+          let below = rises x is_in in
+          let above = over-without c net (share_of c net (booked h net) x) x (demand c (k ++ f ∷ []) x) (demand c (h ++ e ∷ []) x)
+          (demand c k x) (demand c h x) (second x) (first x) (omega (arith, same)) in
+          omega (arith, below, above);
+      marks = λ x is_in.
+          steps.marks-idle c k f x (is_mark-release f net two.call) ∙ still.marks x is_in ∙ sym (steps.marks-idle c h e x (is_mark-release e net one.call));
+    }
 
 -- the same, where the later history is a whole one without its last entry
-pub last-freed : (c : CapacityView) (w : Window) (h whole : List Entry) (last net : ℕ) (f : Entry) → net < nets_of c → length whole ≡ last + 1 → slice_get whole last ≡ Some f →
-    IsStill c net w h (take last whole) → IsFreeing net f → (e : Entry) → IsFreeing net e → IsStill c net w (h ++ e ∷ []) whole
-last-freed c w h whole last net f within long there still two e one =
-    subst (λ (k : List Entry). IsStill c net w (h ++ e ∷ []) k) (sym (take-entry whole last f there) ∙ take_all (last + 1) whole (omega (arith, long)))
-    (freed-still c w h (take last whole) net e f within still one two)
+pub last-freed : (c : CapacityView) (w : Window) (t : TreeView) (h whole : List Entry) (last net : ℕ) (f : Entry) → net < nets_of c → length whole ≡ last + 1 → slice_get whole last ≡ Some f →
+    StaysBest c net w t h (take last whole) → IsFreeing net f → (e : Entry) → IsFreeing net e → StaysBest c net w t (h ++ e ∷ []) whole
+last-freed c w t h whole last net f within long there still two e one =
+    subst (λ (k : List Entry). StaysBest c net w t (h ++ e ∷ []) k) (sym (take-entry whole last f there) ∙ take_all (last + 1) whole (omega (arith, long)))
+    (freed-still c w t h (take last whole) net e f within still one two)
 
 -- the tree of a booked net, read off a past with the same entries
 pub past-tree : (h past : List Entry) (place : Option ℕ) (t : TreeView) → past ≡ h → Some t ≡ tree_at_place past place → tree_at_place h place ≡ Some t

@@ -1,7 +1,9 @@
--- Windows in which a history's later entries change nothing for a net.
-use Rattle.std.specs.Prelude.{◌≡◌, ℕ, ◌+◌, ◌-◌, Bool, ◌&&◌, nat_lt, List, Option, Some, None, IsTrue}
-use Rattle.gr_base.specs.Grid.{is_wire}
+-- Windows in which a history's later entries leave a net's plan the best.
+use Rattle.std.specs.Prelude.{◌≡◌, ℕ, ◌+◌, ◌-◌, ◌≤◌, Bool, ◌&&◌, nat_lt, List, Option, Some, None, IsTrue}
+use Rattle.gr_base.specs.Grid.{is_wire, high_of}
+use Rattle.gr_base.specs.Trees.{TreeView, holds}
 use Rattle.gr_base.specs.declared.grid.Edge.{Edge}
+use Rattle.gr_base.specs.declared.grid.Shape.{Shape}
 use Rattle.grid_demand.specs.Tables.{CapacityView, capacity_at, need_at}
 use Rattle.maze_route.specs.Windows.{in_window}
 use Rattle.maze_route.specs.declared.window.Window.{Window}
@@ -12,13 +14,23 @@ use Rattle.book_state.specs.declared.entry.Entry.{Entry}
 abbrev pub over_with : CapacityView → ℕ → Edge → ℕ → ℕ
 over_with c net e demand = demand + need_at c net e - capacity_at c e
 
--- after two histories the net's booking is the same, and each wire edge that begins in the window would be over its
--- capacity by as much with the net on it, and has as many marks
-pub record IsStill (c : CapacityView) (net : ℕ) (w : Window) (before after : List Entry) : Type 0 where
+-- both ends of an edge are cells of the tree
+abbrev pub joins_cells : Shape → TreeView → Edge → Bool
+joins_cells g t e = holds t e.low && holds t (high_of g e)
+
+-- a wire edge that begins in the window
+pub record IsWireIn (c : CapacityView) (w : Window) (e : Edge) : Type 0 where
+  pub wire : IsTrue (is_wire e)
+  pub begins : IsTrue (in_window c.shape w e.low)
+
+-- from one history to another the net's booking stays, and each wire edge that begins in the window stays as much over
+-- its capacity with the net on it, or gets more so where it doesn't join two cells of the tree, and keeps its marks
+pub record StaysBest (c : CapacityView) (net : ℕ) (w : Window) (t : TreeView) (before after : List Entry) : Type 0 where
   pub booking : booked after net ≡ booked before net
-  pub over : (e : Edge) → IsTrue (is_wire e) → IsTrue (in_window c.shape w e.low) →
+  pub rises : (e : Edge) → IsWireIn c w e → over_with c net e (demand c before e) ≤ over_with c net e (demand c after e)
+  pub stays : (e : Edge) → IsWireIn c w e → IsTrue (joins_cells c.shape t e) →
       over_with c net e (demand c after e) ≡ over_with c net e (demand c before e)
-  pub marks : (e : Edge) → IsTrue (is_wire e) → IsTrue (in_window c.shape w e.low) → marks c after e ≡ marks c before e
+  pub marks : (e : Edge) → IsWireIn c w e → marks c after e ≡ marks c before e
 
 -- what a net, if there is one, takes of an edge
 abbrev pub need_of : CapacityView → Option ℕ → Edge → ℕ
@@ -30,3 +42,9 @@ abbrev pub lacks_room : CapacityView → Window → (Edge → ℕ) → ℕ → O
 lacks_room c w demands net beside e =
     is_wire e && (in_window c.shape w e.low
     && nat_lt (capacity_at c e) (demands e + need_of c beside e + need_at c net e))
+
+-- such an edge matters to a net's plan where another net leaves it; where one takes it, only between two cells of the
+-- plan's tree
+abbrev pub matters : CapacityView → Window → TreeView → (Edge → ℕ) → ℕ → Option ℕ → Edge → Bool
+matters c w t demands net None e = lacks_room c w demands net None e
+matters c w t demands net (Some other) e = lacks_room c w demands net (Some other) e && joins_cells c.shape t e

@@ -24,4 +24,4 @@ pub use history::History;
 pub use laws::replies_make_bookings;
 pub use past::Past;
 pub use replica::Replica;
-pub use still::NetWindow;
+pub use still::Sought;

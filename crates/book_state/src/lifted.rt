@@ -3,13 +3,13 @@ ghost use Rattle.std.specs.Prelude.{◌≡◌, [], ◌∷◌, ◌++◌, false, �
 ghost use Rattle.book_state.specs.Books.{nets_of, booked as booked_tree, IsLegal};
 ghost use Rattle.book_state.specs.Lifted.{IsFreeing, IsLifted};
 ghost use Rattle.book_state.specs.Replicas.{StandsFor};
-ghost use Rattle.book_state.specs.Still.{IsStill};
+ghost use Rattle.book_state.specs.Still.{StaysBest};
 ghost use Rattle.book_state.specs.declared.entry.Entry.{Entry};
 
 use crate::entry::{Call, Entry, Reply};
 use crate::past::Past;
 use crate::replica::Replica;
-use crate::still::NetWindow;
+use crate::still::Sought;
 use grid_demand::Capacity;
 
 impl Replica {
@@ -50,13 +50,13 @@ impl Replica {
     /// Reads the entries of a past that the replica doesn't stand for yet, as `catch_up_beside` does.
     /// The result is true only where the last of them frees the net, which counts as no change, and of
     /// the others it says what that of `catch_up_beside` says.
-    pub fn catch_up_freed(&mut self, capacity: &Capacity, past: &Past, sought: NetWindow) -> bool
+    pub fn catch_up_freed(&mut self, capacity: &Capacity, past: &Past, sought: &Sought<'_>) -> bool
         requires legal { IsLegal capacity.now past.now }
         requires stands { StandsFor capacity.now (take self.old.front past.now) self.old }
-        requires net { sought.net < nets_of capacity.now }
+        requires net { sought.now.net < nets_of capacity.now }
         ensures stands { StandsFor capacity.now past.now self.new }
-        ensures still { IsTrue result → (e : Entry) → IsFreeing sought.net e →
-            IsStill capacity.now sought.net sought.window (take self.old.front past.now ++ e ∷ []) past.now }
+        ensures still { IsTrue result → (e : Entry) → IsFreeing sought.now.net e → StaysBest capacity.now
+            sought.now.net sought.now.window sought.now.tree.now (take self.old.front past.now ++ e ∷ []) past.now }
     {
         let history = past.entries();
         if history.len() <= self.front() {

@@ -14,3 +14,5 @@ pub mod MazeLemmas
 pub mod WindowLemmas
 pub mod GrowthLemmas
 pub mod OnlyLemmas
+pub mod DearerWalks
+pub mod DearerLemmas
