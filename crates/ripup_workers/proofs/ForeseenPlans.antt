@@ -11,7 +11,7 @@ use Rattle.book_state.proofs.StillSteps.{still-same, still-then}
 use Rattle.book_state.specs.Books.{nets_of, AreLoadsOf}
 use Rattle.book_state.specs.Lifted.{IsFreeing, IsLifted}
 use Rattle.book_state.specs.Replicas.{ReplicaView}
-use Rattle.book_state.specs.Still.{IsStill}
+use Rattle.book_state.specs.Still.{StaysBest}
 use Rattle.book_state.specs.Views.{entry_of}
 use Rattle.book_state.specs.declared.entry.Call.TheVariants.{Release}
 use Rattle.book_state.specs.declared.entry.Entry.{Entry}
@@ -33,7 +33,7 @@ foreseen-now d formula net kind seen f of_net plan long = record {
   first = seen;
   plan = plan;
   later = seen;
-  still = λ e freeing. still-same (capacity_of d) net f.window (seen ++ e ∷ []);
+  still = λ e freeing. still-same (capacity_of d) net f.window f.tree (seen ++ e ∷ []);
   front_is = long;
   begins = prefix-all seen;
 }
@@ -51,37 +51,38 @@ foreseen-more d formula net kind seen now f more was = record {
   begins = prefix-more was.later seen now was.begins more;
 }
 
--- nothing that was seen since changes anything for the net in the window
+-- what was seen since leaves the plan the best
 pub foreseen-later : (d : DesignView) (formula : Formula) (net : ℕ) (kind : PlanKind) (seen now : List Entry) (f g : Foreseen) → g.tree ≡ f.tree → g.window ≡ f.window → g.front ≡ length now →
-    net < nets_of (capacity_of d) → IsForeseen d formula net kind seen f → IsPrefix seen now → IsStill (capacity_of d) net f.window (take f.front now) now →
+    net < nets_of (capacity_of d) → IsForeseen d formula net kind seen f → IsPrefix seen now → StaysBest (capacity_of d) net f.window f.tree (take f.front now) now →
     IsForeseen d formula net kind now g
 foreseen-later d formula net kind seen now f g same_tree same_window long within was more still =
     let c = capacity_of d in
     let later_is = take-first was.later now f.front (prefix-more was.later seen now was.begins more) was.front_is in
-    let since : IsStill c net f.window was.later now = subst (λ (h : List Entry). IsStill c net f.window h now) later_is still in
+    let since : StaysBest c net f.window f.tree was.later now = subst (λ (h : List Entry). StaysBest c net f.window f.tree h now) later_is still in
     record {
       window_of_net = subst (λ w. IsWindowOf d net kind w) (sym same_window) was.window_of_net;
       first = was.first;
       plan = subst (λ t. IsPlanWithout d formula was.first net kind t) (sym same_tree) was.plan;
       later = now;
-      still = λ e freeing. subst (λ w. IsStill c net w (was.first ++ e ∷ []) (now ++ e ∷ [])) (sym same_window)
-          (still-then c net f.window (was.first ++ e ∷ []) (was.later ++ e ∷ []) (now ++ e ∷ []) (was.still e freeing)
-          (freed-still c f.window was.later now net e e within since freeing freeing));
+      still = λ e freeing. subst (λ w. StaysBest c net w g.tree (was.first ++ e ∷ []) (now ++ e ∷ [])) (sym same_window)
+          (subst (λ t. StaysBest c net f.window t (was.first ++ e ∷ []) (now ++ e ∷ [])) (sym same_tree)
+          (still-then c net f.window f.tree (was.first ++ e ∷ []) (was.later ++ e ∷ []) (now ++ e ∷ []) (was.still e freeing)
+          (freed-still c f.window f.tree was.later now net e e within since freeing freeing)));
       front_is = long;
       begins = prefix-all now;
     }
 
--- the net was freed, and nothing else that was seen since changes anything in the window
+-- the net was freed, and what else was seen since leaves the plan the best
 pub foreseen-plan : (d : DesignView) (formula : Formula) (net : ℕ) (kind : PlanKind) (seen now : List Entry) (f : Foreseen) (loads : LoadsView) → IsForeseen d formula net kind seen f →
-    IsPrefix seen now → AreLoadsOf (capacity_of d) now loads → ((e : Entry) → IsFreeing net e → IsStill (capacity_of d) net f.window (take f.front now ++ e ∷ []) now) →
+    IsPrefix seen now → AreLoadsOf (capacity_of d) now loads → ((e : Entry) → IsFreeing net e → StaysBest (capacity_of d) net f.window f.tree (take f.front now ++ e ∷ []) now) →
     IsPlanFor d formula now net kind f.tree
 foreseen-plan d formula net kind seen now f loads was more of still =
     let c = capacity_of d in
     let e : Entry = entry_of 0 (Release net) Released in
     let later_is = take-first was.later now f.front (prefix-more was.later seen now was.begins more) was.front_is in
     still-plan d formula net kind f.tree f.window (was.first ++ e ∷ []) now loads (was.plan e (freeing-entry net)) was.window_of_net of
-    (still-then c net f.window (was.first ++ e ∷ []) (was.later ++ e ∷ []) now (was.still e (freeing-entry net))
-    (subst (λ (h : List Entry). IsStill c net f.window (h ++ e ∷ []) now) later_is (still e (freeing-entry net))))
+    (still-then c net f.window f.tree (was.first ++ e ∷ []) (was.later ++ e ∷ []) now (was.still e (freeing-entry net))
+    (subst (λ (h : List Entry). StaysBest c net f.window f.tree (h ++ e ∷ []) now) later_is (still e (freeing-entry net))))
 
 pub foreseen-after : (d : DesignView) (formula : Formula) (net : ℕ) (kind : PlanKind) (seen now : List Entry) (o : Option Foreseen) → IsPrefix seen now →
     IfSome o (IsForeseen d formula net kind seen) → IfSome o (IsForeseen d formula net kind now)

@@ -1,31 +1,27 @@
--- Plans that stay the same while nothing changes in their window.
-use Rattle.std.proofs.Common.{◌≡◌, ℕ, ◌+◌, ◌*◌, ◌<◌, inl, inr, Bool, true, false, ◌&&◌, nat_lt, min, List, [], ◌∷◌, ◌++◌, take, length, Option, Some, None, if◌then◌else◌, IfSome, IsTrue, refl, sym, ap, subst, ◌∙◌, append_assoc, arith}
-use Rattle.std.proofs.lemmas.Bool.{and_parts}
-use Rattle.std.proofs.lemmas.Bool.Decides.{nat_tests}
+-- Plans that stay the same while in their window only edges off them get dearer.
+use Rattle.std.proofs.Common.{◌≡◌, ℕ, ◌+◌, ◌*◌, ◌≤◌, Bool, true, false, ◌&&◌, min, List, [], ◌∷◌, ◌++◌, take, length, Option, Some, None, if◌then◌else◌, IsTrue, refl, sym, ap, subst, ◌∙◌, append_assoc, arith}
+use Rattle.std.proofs.Math.Nat.{le-min, min-le_left, min-le_right, mul-le-mul_left}
 use Rattle.std.proofs.lemmas.List.{take-append-le, take_all}
-use Rattle.std.specs.Option.{option_and_then}
+use Rattle.std.proofs.lemmas.Option.{same_Some}
 use mathlib.Core.List.{IsPrefix}
 use Rattle.book_front.proofs.Prefixes.{prefix-all}
 use Rattle.cost_rules.specs.Formulas.{cost_at, overflow_at, most_cost, via_cost}
 use Rattle.cost_rules.specs.declared.site.Formula.{Formula}
 use Rattle.cost_rules.specs.declared.site.Formula.TheVariants.{First, Steep, Flat}
 use Rattle.cost_rules.specs.declared.site.Site.{Site}
-use Rattle.gr_base.proofs.GridLemmas.{edge_of-joins}
 use Rattle.gr_base.specs.Designs.{DesignView, pins_at}
-use Rattle.gr_base.specs.Grid.{cells_of, place_at, edge_of, has_edge, is_wire, Joins}
-use Rattle.gr_base.specs.Trees.{TreeView, holds, attached}
+use Rattle.gr_base.specs.Grid.{is_wire, high_of}
+use Rattle.gr_base.specs.Trees.{TreeView, holds}
 use Rattle.gr_base.specs.declared.grid.Edge.{Edge}
-use Rattle.gr_base.specs.declared.grid.Shape.{Shape}
 use Rattle.grid_demand.specs.LoadSums.{LoadsView, demand_at, marks_at}
 use Rattle.grid_demand.specs.Tables.{CapacityView, usable_at, capacity_of}
-use Rattle.maze_route.specs.Walks.{IsLeastWalk}
-use Rattle.maze_route.specs.Windows.{is_within, in_window, window_step}
+use Rattle.maze_route.proofs.StepLemmas.{chosen-some}
 use Rattle.maze_route.specs.declared.window.Window.{Window}
-use Rattle.net_plan.specs.Mazes.{window_of, missing, GrowsTo, IsMaze}
-use Rattle.net_plan.specs.Mazes.GrowsTo.{Ends, Goes_on}
+use Rattle.net_plan.proofs.DearerLemmas.{IsIn, AreDearerIn, grows-dearer}
+use Rattle.net_plan.specs.Mazes.{window_of, IsMaze}
 use Rattle.net_plan.specs.Prices.{site_of, price_of}
 use Rattle.book_state.specs.Books.{AreLoadsOf}
-use Rattle.book_state.specs.Still.{IsStill, over_with}
+use Rattle.book_state.specs.Still.{StaysBest, IsWireIn, over_with}
 use Rattle.book_state.specs.Views.{entry_of}
 use Rattle.book_state.specs.declared.entry.Entry.{Entry}
 use Rattle.book_state.specs.declared.entry.PlanKind.{PlanKind}
@@ -38,51 +34,6 @@ use Rattle.round_core.specs.RunHistories.{Setting, one_worker}
 use Rattle.track_book.specs.Passes.{PassView, IsAnswered}
 use Rattle.ripup_workers.specs.Turning.{IsOver, HasTried, IsPlanFor, IsWindowOf, WasPlanned}
 
--- steps inside a window cost the same by two prices
-abbrev CostTheSame : Shape → Window → (Edge → Option ℕ) → (Edge → Option ℕ) → Type 0
-CostTheSame g w p q = (u v : ℕ) → window_step g w p u v ≡ window_step g w q u v
-
--- a tree then grows in the window by the one as by the other
-grows-same : (w : Window) (p q : Edge → Option ℕ) (pins : List ℕ) (t u : TreeView) → CostTheSame t.shape w p q → GrowsTo w p pins t u → GrowsTo w q pins t u
-grows-same w p q pins t u same (Ends none) = Ends none
-grows-same w p q pins t u same (Goes_on walk least grows) =
-    Goes_on walk
-    (subst (λ (step : ℕ → ℕ → Option ℕ). IsLeastWalk (record { source = holds t; step = step }) (missing t pins) walk) (λ i m n. same m n i) least)
-    (grows-same w p q pins (attached t walk) u same grows)
-
--- an edge of a grid that begins in a window
-record IsIn (g : Shape) (w : Window) (e : Edge) : Type 0 where
-  edge : IsTrue (has_edge g e)
-  begins : IsTrue (in_window g w e.low)
-
--- an edge between two cells of the window begins there
-joins-in : (g : Shape) (w : Window) (u v : ℕ) (e : Edge) → IsTrue (in_window g w u) → IsTrue (in_window g w v) → edge_of g u v ≡ Some e → IsIn g w e
-joins-in g w u v e u_in v_in is =
-    let u_below : u < cells_of g = (let test = (and_parts (nat_lt u (cells_of g)) (is_within w (place_at g u)) u_in).0 in grind (arith, nat_tests)) in
-    let v_below : v < cells_of g = (let test = (and_parts (nat_lt v (cells_of g)) (is_within w (place_at g v)) v_in).0 in grind (arith, nat_tests)) in
-    let joins : Joins g e u v = subst (λ (o : Option Edge). IfSome o (λ x. Joins g x u v)) is (edge_of-joins g u v u_below v_below) in
-    record {
-      edge = joins.edge;
-      begins = elim joins.ends [
-        | inl first ↦ subst (λ (n : ℕ). IsTrue (in_window g w n)) (sym first.0) u_in
-        | inr second ↦ subst (λ (n : ℕ). IsTrue (in_window g w n)) (sym second.0) v_in
-      ];
-    }
-
--- prices of such edges that are the same make the steps cost the same
-steps-same : (g : Shape) (w : Window) (p q : Edge → Option ℕ) → ((e : Edge) → IsIn g w e → p e ≡ q e) → CostTheSame g w p q
-steps-same g w p q same u v = by_test (in_window g w u) (in_window g w v) refl refl
-  where
-    by_edge : (o : Option Edge) → IsTrue (in_window g w u) → IsTrue (in_window g w v) → edge_of g u v ≡ o → option_and_then p o ≡ option_and_then q o
-    by_edge None u_in v_in is = refl
-    by_edge (Some e) u_in v_in is = same e (joins-in g w u v e u_in v_in is)
-
-    by_test : (a b : Bool) → in_window g w u ≡ a → in_window g w v ≡ b →
-        (if a && b then option_and_then p (edge_of g u v) else None) ≡ (if a && b then option_and_then q (edge_of g u v) else None)
-    by_test false b u_is v_is = refl
-    by_test true false u_is v_is = refl
-    by_test true true u_is v_is = by_edge (edge_of g u v) u_is v_is refl
-
 -- what an edge costs is told by how much it would be over its capacity, and by its marks
 cost-same : (formula : Formula) (s u : Site) → overflow_at s ≡ overflow_at u → s.marks ≡ u.marks → cost_at formula s ≡ cost_at formula u
 cost-same First s u over marks =
@@ -90,6 +41,22 @@ cost-same First s u over marks =
 cost-same Steep s u over marks =
     ap (λ (n : ℕ). min most_cost (1 + s.marks + (8 + s.marks) * n)) over ∙ ap (λ (n : ℕ). min most_cost (1 + n + (8 + n) * overflow_at u)) marks
 cost-same Flat s u over marks = ap (λ (n : ℕ). min most_cost (1 + n)) over
+
+-- and rises with the first
+least-most : (most a b : ℕ) → a ≤ b → min most a ≤ min most b
+least-most most a b below =
+    let low = min-le_left most a in
+    let other = min-le_right most a in
+    le-min low (omega (arith, other, below))
+
+cost-rises : (formula : Formula) (s u : Site) → overflow_at s ≤ overflow_at u → s.marks ≡ u.marks → cost_at formula s ≤ cost_at formula u
+cost-rises First s u over marks =
+    least-most most_cost (1 + s.marks + 8 * overflow_at s) (1 + u.marks + 8 * overflow_at u) (omega (arith, over, marks))
+cost-rises Steep s u over marks =
+    let steeper : (8 + s.marks) * overflow_at s ≤ (8 + u.marks) * overflow_at u =
+    subst (λ (n : ℕ). (8 + s.marks) * overflow_at s ≤ (8 + n) * overflow_at u) marks (mul-le-mul_left (8 + s.marks) over) in
+    least-most most_cost (1 + s.marks + (8 + s.marks) * overflow_at s) (1 + u.marks + (8 + u.marks) * overflow_at u) (omega (arith, steeper, marks))
+cost-rises Flat s u over marks = least-most most_cost (1 + overflow_at s) (1 + overflow_at u) (omega (arith, over))
 
 price-same : (c : CapacityView) (l m : LoadsView) (formula : Formula) (net : ℕ) (e : Edge) →
     (IsTrue (is_wire e) → (over_with c net e (demand_at l e) ≡ over_with c net e (demand_at m e)) × (marks_at l e ≡ marks_at m e)) → price_of c l formula net e ≡ price_of c m formula net e
@@ -99,18 +66,52 @@ price-same c l m formula net e same = ap (λ (n : ℕ). if usable_at c e then So
     by_way false is = refl
     by_way true is = let two = same is in cost-same formula (site_of c l net e) (site_of c m net e) two.0 two.1
 
--- a maze plan over a history is one over a later history that changed nothing in its window
+price-rises : (c : CapacityView) (l m : LoadsView) (formula : Formula) (net : ℕ) (e : Edge) (b : ℕ) →
+    (IsTrue (is_wire e) → (over_with c net e (demand_at l e) ≤ over_with c net e (demand_at m e)) × (marks_at l e ≡ marks_at m e)) → price_of c m formula net e ≡ Some b →
+    (a : ℕ) × ((price_of c l formula net e ≡ Some a) × (a ≤ b))
+price-rises c l m formula net e b rises is =
+    let cost : LoadsView → ℕ = λ v. if is_wire e then cost_at formula (site_of c v net e) else via_cost in
+    let two = chosen-some (usable_at c e) (Some (cost m)) b is in
+    (cost l, (ap (λ u. if u then Some (cost l) else None) two.0, subst (λ (n : ℕ). cost l ≤ n) (same_Some (cost m) b two.1) (by_way (is_wire e) refl)))
+  where
+    by_way : (w : Bool) → is_wire e ≡ w → (if w then cost_at formula (site_of c l net e) else via_cost) ≤ (if w then cost_at formula (site_of c m net e) else via_cost)
+    by_way false is = omega arith
+    by_way true is = let two = rises is in cost-rises formula (site_of c l net e) (site_of c m net e) two.0 two.1
+
+-- prices off a tree that stays the best only rise
+prices-dearer : (c : CapacityView) (l m : LoadsView) (formula : Formula) (net : ℕ) (w : Window) (t : TreeView) (first now : List Entry) →
+    AreLoadsOf c first l → AreLoadsOf c now m → StaysBest c net w t first now → AreDearerIn c.shape w (holds t) (price_of c l formula net) (price_of c m formula net)
+prices-dearer c l m formula net w t first now of_first of_now still = record {
+  lower = λ e b is_in is. price-rises c l m formula net e b (λ wire.
+      let before = of_first.demand e is_in.edge wire in
+      let after = of_now.demand e is_in.edge wire in
+      let rises = still.rises e (wire_in e is_in wire) in
+      (omega (arith, before, after, rises), sym (marks e is_in wire))) is;
+  same = λ e is_in low high. price-same c m l formula net e (λ wire. (
+    ap (over_with c net e) (of_now.demand e is_in.edge wire)
+        ∙ still.stays e (wire_in e is_in wire) (both (holds t e.low) (holds t (high_of c.shape e)) low high)
+        ∙ sym (ap (over_with c net e) (of_first.demand e is_in.edge wire)),
+    marks e is_in wire,
+  ));
+}
+  where
+    wire_in : (e : Edge) → IsIn c.shape w e → IsTrue (is_wire e) → IsWireIn c w e
+    wire_in e is_in wire = record { wire = wire; begins = is_in.begins }
+
+    marks : (e : Edge) → IsIn c.shape w e → IsTrue (is_wire e) → marks_at m e ≡ marks_at l e
+    marks e is_in wire = of_now.marks e is_in.edge wire ∙ still.marks e (wire_in e is_in wire) ∙ sym (of_first.marks e is_in.edge wire)
+
+    both : (a b : Bool) → IsTrue a → IsTrue b → IsTrue (a && b)
+    both true b first second = second
+    both false b first second = first
+
+-- a maze plan over a history is one over a later history that leaves it the best in its window
 still-maze : (c : CapacityView) (l m : LoadsView) (formula : Formula) (net : ℕ) (pins : List ℕ) (margin : ℕ) (t : TreeView) (first now : List Entry) →
-    AreLoadsOf c first l → AreLoadsOf c now m → IsStill c net (window_of c.shape pins margin) first now → IsMaze c l formula net pins margin t → IsMaze c m formula net pins margin t
+    AreLoadsOf c first l → AreLoadsOf c now m → StaysBest c net (window_of c.shape pins margin) t first now → IsMaze c l formula net pins margin t → IsMaze c m formula net pins margin t
 still-maze c l m formula net pins margin t first now of_first of_now still plan =
     let w = window_of c.shape pins margin in
-    grows-same w (price_of c l formula net) (price_of c m formula net) pins _ t
-    (steps-same c.shape w (price_of c l formula net) (price_of c m formula net) (λ e is_in.
-    price-same c l m formula net e (λ wire. (
-      ap (over_with c net e) (of_first.demand e is_in.edge wire) ∙ sym (still.over e wire is_in.begins) ∙ sym (ap (over_with c net e) (of_now.demand e is_in.edge wire)),
-      of_first.marks e is_in.edge wire ∙ sym (still.marks e wire is_in.begins) ∙ sym (of_now.marks e is_in.edge wire),
-    ))))
-    plan
+    grows-dearer w (price_of c l formula net) (price_of c m formula net) pins _ t
+    (prices-dearer c l m formula net w t first now of_first of_now still) plan
 
 -- a first part of a list is what that many elements of it are
 pub take-first : (first now : List Entry) (front : ℕ) → IsPrefix first now → front ≡ length first → take front now ≡ first
@@ -119,12 +120,12 @@ take-first first now front begins long =
     ∙ take-append-le front first begins.0 (omega (arith, long))
     ∙ take_all front first (omega (arith, long))
 
--- where nothing changed in its window from one history to another, the plan over the one is one over the other
+-- where a later history leaves it the best in its window, the plan over the one history is one over the other
 pub still-plan : (d : DesignView) (formula : Formula) (net : ℕ) (kind : PlanKind) (tree : TreeView) (w : Window) (first now : List Entry) (loads : LoadsView) →
-    IsPlanFor d formula first net kind tree → IsWindowOf d net kind w → AreLoadsOf (capacity_of d) now loads → IsStill (capacity_of d) net w first now → IsPlanFor d formula now net kind tree
+    IsPlanFor d formula first net kind tree → IsWindowOf d net kind w → AreLoadsOf (capacity_of d) now loads → StaysBest (capacity_of d) net w tree first now → IsPlanFor d formula now net kind tree
 still-plan d formula net kind tree w first now loads was of_net of still =
     let c = capacity_of d in
-    let there : IsStill c net (window_of c.shape (pins_at d net) of_net.margin) first now = subst (λ (v : Window). IsStill c net v first now) of_net.window_is still in
+    let there : StaysBest c net (window_of c.shape (pins_at d net) of_net.margin) tree first now = subst (λ (v : Window). StaysBest c net v tree first now) of_net.window_is still in
     let plan : IsMaze c was.plan.loads formula net (pins_at d net) of_net.margin tree =
     subst (λ (k : PlanKind). IsPlan c was.plan.loads formula net (pins_at d net) k tree) of_net.kind_is was.plan.plan in
     let after : IsPlan c loads formula net (pins_at d net) (Maze of_net.margin) tree =
@@ -153,14 +154,14 @@ pub answered-begins : (c : CapacityView) (p q : PassView) (call : Call) (reply :
 answered-begins c p q call reply answered =
     prefix-more p.seen answered.before q.seen answered.begins (entry_of p.number call reply ∷ [], sym answered.seen)
 
--- where nothing changed in its window, the plan is the same
+-- where what was seen since leaves it the best in its window, the plan is the same
 pub same-plan : (d : DesignView) (formula : Formula) (net : ℕ) (kind : PlanKind) (tree : TreeView) (front : ℕ) (w : Window) (seen now : List Entry) (loads : LoadsView) →
     WasPlanned d formula net kind tree front seen → IsPrefix seen now → IsWindowOf d net kind w → AreLoadsOf (capacity_of d) now loads →
-    IsStill (capacity_of d) net w (take front now) now → IsPlanFor d formula now net kind tree
+    StaysBest (capacity_of d) net w tree (take front now) now → IsPlanFor d formula now net kind tree
 same-plan d formula net kind tree front w seen now loads was more of_net of still =
     let first_is = take-first was.first now front (prefix-more was.first seen now was.begins more) was.front_is in
     still-plan d formula net kind tree w was.first now loads was.plan of_net of
-    (subst (λ (h : List Entry). IsStill (capacity_of d) net w h now) first_is still)
+    (subst (λ (h : List Entry). StaysBest (capacity_of d) net w tree h now) first_is still)
 
 -- after a claim the plan that was claimed is one over a first part of what was seen
 pub was-planned : (d : DesignView) (formula : Formula) (net : ℕ) (kind : PlanKind) (slack : Option ℕ) (tree copy : TreeView) (front : ℕ) (reply : Reply) (p q : PassView) → copy ≡ tree → front ≡ length p.seen →

@@ -16,7 +16,7 @@ use crate::gate::{Gate, Stop};
 use crate::turn::Ground;
 use crate::wish::Wish;
 use crate::worker::Worker;
-use book_state::NetWindow;
+use book_state::Sought;
 use gr_base::RouteTree;
 use maze_route::Window;
 use net_plan::Planner;
@@ -38,7 +38,8 @@ pub(crate) struct Foreseen {
 
 impl<N: BookName, R: Threads + Wait + Sync, G: Gate> Ground<'_, N, R, G> {
     /// The plan that the net will have once it is released. It is made anew, but not without end, where
-    /// others came into its window while it was made. None where that went on, or the net isn't booked.
+    /// what others added while it was made may change it. None where that went on, or the net isn't
+    /// booked.
     pub(crate) fn foresee(
         &self,
         wish: &Wish<'_>,
@@ -96,8 +97,8 @@ impl<N: BookName, R: Threads + Wait + Sync, G: Gate> Ground<'_, N, R, G> {
         }))
     }
 
-    /// The same plan, where nothing that was added since changes what the net costs in its window. None
-    /// elsewhere.
+    /// The same plan, where nothing that was added since may change it: in the plan's window the net costs
+    /// the same, or more on edges that the plan leaves aside. None elsewhere.
     fn kept(
         &self,
         wish: &Wish<'_>,
@@ -116,11 +117,12 @@ impl<N: BookName, R: Threads + Wait + Sync, G: Gate> Ground<'_, N, R, G> {
             wish.now.net wish.now.kind worker.new.pass.seen)) }
     {
         let read = worker.replica.front();
-        let sought = NetWindow {
+        let sought = Sought {
             net: wish.net,
             window: plan.window,
+            tree: &plan.tree,
         };
-        let still = worker.sync_beside(self.rt, self.book, sought)?;
+        let still = worker.sync_beside(self.rt, self.book, &sought)?;
         if still && read == plan.front {
             let front = worker.pass.known();
             return Ok(Some(Foreseen { front, ..plan }));
@@ -129,8 +131,8 @@ impl<N: BookName, R: Threads + Wait + Sync, G: Gate> Ground<'_, N, R, G> {
     }
 
     /// The net's plan over what the book holds now that the net is released, all of which the worker
-    /// comes to know: the one that was foreseen, where nothing but the release was added since that changes
-    /// what the net costs in its window.
+    /// comes to know: the one that was foreseen, where nothing but the release was added since that may
+    /// change it.
     pub(crate) fn search_freed(
         &self,
         wish: &Wish<'_>,
@@ -151,11 +153,12 @@ impl<N: BookName, R: Threads + Wait + Sync, G: Gate> Ground<'_, N, R, G> {
             return self.search(wish, worker, planner);
         };
         let read = worker.replica.front();
-        let sought = NetWindow {
+        let sought = Sought {
             net: wish.net,
             window: foreseen.window,
+            tree: &foreseen.tree,
         };
-        let still = worker.sync_freed(self.rt, self.book, sought)?;
+        let still = worker.sync_freed(self.rt, self.book, &sought)?;
         if still && read == foreseen.front {
             return Ok(foreseen.tree);
         }

@@ -16,7 +16,7 @@ use crate::foresight::Foreseen;
 use crate::gate::{Gate, Stop};
 use crate::wish::Wish;
 use crate::worker::Worker;
-use book_state::{NetWindow, PlanKind, Reply};
+use book_state::{PlanKind, Reply, Sought};
 use cost_rules::CostRule;
 use gr_base::{Design, RouteTree};
 use net_plan::Planner;
@@ -206,7 +206,7 @@ impl<N: BookName, R: Threads + Wait + Sync, G: Gate> Ground<'_, N, R, G> {
     }
 
     /// The same, where `tree` is the net's plan over the first `front` entries. Where nothing was added
-    /// since that changes what the net costs in the window of the plan, it is the same tree.
+    /// since that may change it, it is the same tree.
     fn search_again(
         &self,
         wish: &Wish<'_>,
@@ -227,11 +227,12 @@ impl<N: BookName, R: Threads + Wait + Sync, G: Gate> Ground<'_, N, R, G> {
             return self.search(wish, worker, planner);
         };
         let read = worker.replica.front();
-        let sought = NetWindow {
+        let sought = Sought {
             net: wish.net,
             window,
+            tree: &tree,
         };
-        let still = worker.sync_beside(self.rt, self.book, sought)?;
+        let still = worker.sync_beside(self.rt, self.book, &sought)?;
         if still && read == front {
             return Ok(tree);
         }

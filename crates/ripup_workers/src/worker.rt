@@ -5,12 +5,12 @@ ghost use Rattle.book_state.specs.Lifted.{IsFreeing};
 ghost use Rattle.book_state.specs.declared.entry.Entry.{Entry};
 ghost use Rattle.ripup_workers.specs.Turning.{HasCapacity, IsPlanWithout};
 ghost use Rattle.book_state.specs.Replicas.{StandsFor};
-ghost use Rattle.book_state.specs.Still.{IsStill};
+ghost use Rattle.book_state.specs.Still.{StaysBest};
 ghost use Rattle.round_core.specs.Rounds.{claim_of};
 ghost use Rattle.track_book.specs.Passes.{IsPass, IsAnswered, HasLearnt};
 
 use crate::wish::Wish;
-use book_state::{Call, Claim, NetWindow, PlanKind, Replica, Reply};
+use book_state::{Call, Claim, PlanKind, Replica, Reply, Sought};
 use gr_base::RouteTree;
 use grid_demand::Capacity;
 use net_plan::Planner;
@@ -42,20 +42,20 @@ impl<N: BookName> Worker<N> {
 
     /// The worker comes to know the whole history. The result is true only where the entries that the
     /// replica read leave the net's booking, and what each wire edge that begins in the window costs the
-    /// net.
+    /// net, or make it dearer where it doesn't join two cells of the tree.
     pub(crate) fn sync_beside<R: Wait>(
         &mut self,
         rt: &R,
         book: &TrackBook<N>,
-        sought: NetWindow,
+        sought: &Sought<'_>,
     ) -> Result<bool, AllocError>
         ensures before { IsPass N.capacity self.old.pass }
         ensures learnt { OnOk result (HasLearnt N.capacity self.old.pass self.new.pass) }
         ensures pass { OnOk result (IsPass N.capacity self.new.pass) }
         ensures held { OnOk result (self.new.pass.held ≡ length self.new.pass.seen) }
         ensures stands { OnOk result (StandsFor N.capacity self.new.pass.seen self.new.replica) }
-        ensures still { IfOk result (λ still. IsTrue still → IsStill N.capacity sought.net sought.window
-            (take self.old.replica.front self.new.pass.seen) self.new.pass.seen) }
+        ensures still { IfOk result (λ still. IsTrue still → StaysBest N.capacity sought.now.net sought.now.window
+            sought.now.tree.now (take self.old.replica.front self.new.pass.seen) self.new.pass.seen) }
     {
         self.hold_more(rt, book)?;
         let past = self.pass.past();
@@ -69,16 +69,16 @@ impl<N: BookName> Worker<N> {
         &mut self,
         rt: &R,
         book: &TrackBook<N>,
-        sought: NetWindow,
+        sought: &Sought<'_>,
     ) -> Result<bool, AllocError>
-        requires { sought.net < nets_of N.capacity }
+        requires { sought.now.net < nets_of N.capacity }
         ensures before { IsPass N.capacity self.old.pass }
         ensures learnt { OnOk result (HasLearnt N.capacity self.old.pass self.new.pass) }
         ensures pass { OnOk result (IsPass N.capacity self.new.pass) }
         ensures stands { OnOk result (StandsFor N.capacity self.new.pass.seen self.new.replica) }
-        ensures still { IfOk result (λ still. IsTrue still → (e : Entry) → IsFreeing sought.net e →
-            IsStill N.capacity sought.net sought.window (take self.old.replica.front self.new.pass.seen ++ e ∷ [])
-            self.new.pass.seen) }
+        ensures still { IfOk result (λ still. IsTrue still → (e : Entry) → IsFreeing sought.now.net e →
+            StaysBest N.capacity sought.now.net sought.now.window sought.now.tree.now
+            (take self.old.replica.front self.new.pass.seen ++ e ∷ []) self.new.pass.seen) }
     {
         self.hold(rt, book)?;
         let past = self.pass.past();

@@ -1,7 +1,7 @@
 use Rattle.std.proofs.Common.{◌≡◌, ℕ, ◌<◌, take, refl, sym, subst, ◌∙◌}
 use Rattle.grid_demand.specs.Tables.{CapacityView}
 use Rattle.book_state.specs.Books.{nets_of}
-use Rattle.book_state.specs.Still.{IsStill}
+use Rattle.book_state.specs.Still.{StaysBest}
 use Rattle.ripup_workers.proofs.ForeseenPlans.{foreseen-later}
 use Rattle.ripup_workers.proofs.TurningStages.{followed}
 use Rattle.ripup_workers.proofs.turn.Ground.kept.Goals as goal
@@ -19,8 +19,8 @@ returns-then-read-plan-clause-foreseen g c =
     let capacity_is = c.requires.design.capacity_is in
     foreseen-later _ _ net _ seen now c.args.plan (record { tree = c.args.plan.tree; front = c.known-front.result; window = c.args.plan.window }) refl refl c.known-front.ensures.known
     (subst (λ (x : CapacityView). net < nets_of x) capacity_is c.requires.net) c.requires.foreseen c.in_ok-still.ensures.learnt.begins
-    (subst (λ (x : CapacityView). IsStill x net c.args.plan.window (take c.args.plan.front now) now) capacity_is
-    (subst (λ (n : ℕ). IsStill _ net c.args.plan.window (take n now) now) front_is (c.in_ok-still.ensures.still c.if-still.true)))
+    (subst (λ (x : CapacityView). StaysBest x net c.args.plan.window c.args.plan.tree (take c.args.plan.front now) now) capacity_is
+    (subst (λ (n : ℕ). StaysBest _ net c.args.plan.window c.args.plan.tree (take n now) now) front_is (c.in_ok-still.ensures.still c.if-still.true)))
 
 pub returns-clause-learnt : goal.returns-clause-learnt
 returns-clause-learnt g c = λ t over.

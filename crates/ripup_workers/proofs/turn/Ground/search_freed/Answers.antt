@@ -1,7 +1,7 @@
 use Rattle.std.proofs.Common.{◌≡◌, ℕ, [], ◌∷◌, ◌++◌, Option, IfSome, take, sym, subst, ◌∙◌}
 use Rattle.grid_demand.specs.Tables.{CapacityView}
 use Rattle.book_state.specs.Books.{AreLoadsOf}
-use Rattle.book_state.specs.Still.{IsStill}
+use Rattle.book_state.specs.Still.{StaysBest}
 use Rattle.ripup_workers.specs.Foresight.{IsForeseen}
 use Rattle.ripup_workers.specs.declared.foresight.Foreseen.{Foreseen}
 use Rattle.ripup_workers.proofs.ForeseenPlans.{foreseen-plan}
@@ -28,8 +28,8 @@ returns-then-read-foreseen-clause-plan g c =
     (subst (λ (o : Option Foreseen). IfSome o (IsForeseen d formula net kind seen)) c.in-Some.is c.requires.foreseen)
     c.in_ok-still.ensures.learnt.begins
     (subst (λ (x : CapacityView). AreLoadsOf x now loads) capacity_is c.in_ok-still.ensures.stands.loads)
-    (λ e freeing. subst (λ (x : CapacityView). IsStill x net f.window (take f.front now ++ e ∷ []) now) capacity_is
-    (subst (λ (n : ℕ). IsStill g.N.BookName.capacity net f.window (take n now ++ e ∷ []) now) front_is (c.in_ok-still.ensures.still c.if-still.true e freeing)))
+    (λ e freeing. subst (λ (x : CapacityView). StaysBest x net f.window f.tree (take f.front now ++ e ∷ []) now) capacity_is
+    (subst (λ (n : ℕ). StaysBest g.N.BookName.capacity net f.window f.tree (take n now ++ e ∷ []) now) front_is (c.in_ok-still.ensures.still c.if-still.true e freeing)))
 
 pub returns-clause-learnt : goal.returns-clause-learnt
 returns-clause-learnt g c = λ t over.
