@@ -160,7 +160,7 @@ fn joins_cells(capacity: &Capacity, tree: &RouteTree, e: Edge) -> bool
 }
 
 /// Whether a wire edge begins in a window and has no room for a net beside the demand and another net,
-/// if there is one.
+/// if there is one. Most edges have room, and the place of a cell takes divisions, so it is asked last.
 fn is_short(
     capacity: &Capacity,
     loads: &Loads,
@@ -173,13 +173,11 @@ fn is_short(
     requires loads { loads.now.shape ≡ capacity.now.shape }
     ensures { result ≡ lacks_room capacity.now sought.now.window (demand_at loads.now) sought.now.net beside e }
 {
-    if !sought.window.holds(capacity.shape().place_of(e.low)) {
-        return false;
-    }
     let taken = match beside {
         Some(other) => capacity.need(other, e),
         None => 0,
     };
     let wanted = taken + capacity.need(sought.net, e);
     loads.demand(e).saturating_add(wanted) > capacity.at(e)
+        && sought.window.holds(capacity.shape().place_of(e.low))
 }
