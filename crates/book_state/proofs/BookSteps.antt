@@ -13,7 +13,7 @@ use Rattle.grid_demand.specs.LoadSums.{mark_of}
 use Rattle.grid_demand.specs.Tables.{CapacityView, capacity_at, IsCapacity}
 use Rattle.book_state.proofs.RangeSums.{sum-same, sum-change, sum-most, sum-part, count-same, count-more}
 use Rattle.book_state.specs.Books.{nets_of, booked_by, booked_after, booked, share_of, demand, marks_over, marks}
-use Rattle.book_state.specs.Entries.{is_mark, is_mark_in}
+use Rattle.book_state.specs.Entries.{is_mark, is_mark_in, is_mark_at}
 use Rattle.book_state.specs.declared.entry.Entry.{Entry}
 
 -- bookings after one more entry
@@ -83,6 +83,10 @@ slice_get-push (x ∷ xs) y (suc k) below = slice_get-push xs y k (omega arith)
 slice_get-last : {X : Type 0} → (xs : List X) (y : X) → slice_get (xs ++ y ∷ []) (length xs) ≡ Some y
 slice_get-last [] y = refl
 slice_get-last (x ∷ xs) y = slice_get-last xs y
+
+-- the last entry is a mark where it is one's
+pub mark-last : (h : List Entry) (e : Entry) → is_mark_at (h ++ e ∷ []) (length h) ≡ is_mark e
+mark-last h e = ap (λ (o : Option Entry). is_mark_in o) (slice_get-last h e)
 
 marks_over-before : (c : CapacityView) (h : List Entry) (e : Entry) (x : Edge) (p : ℕ) → p < length h → marks_over c (h ++ e ∷ []) x p ≡ marks_over c h x p
 marks_over-before c h e x p below =

@@ -12,7 +12,7 @@ use Rattle.gr_base.specs.Trees.{TreeView, IsTree, tree_edges}
 use Rattle.gr_base.specs.declared.grid.Cell.{Cell}
 use Rattle.gr_base.specs.declared.grid.Edge.{Edge}
 use Rattle.gr_base.specs.declared.grid.Shape.{Shape}
-use Rattle.grid_demand.specs.Overfull.{AreOverfull}
+use Rattle.grid_demand.specs.Overfull.{OverfullView, AreOverfull}
 use Rattle.grid_demand.specs.Tables.{CapacityView}
 use Rattle.maze_route.specs.Windows.{IsWindow, with_place, is_within}
 use Rattle.maze_route.specs.declared.window.Window.{Window}
@@ -159,8 +159,8 @@ extent-booked c h r x net o stands place is fits bounds =
     }
 
 -- a net with a calm box isn't a victim, whether it is booked or not
-pub calm-net : (c : CapacityView) (h : List Entry) (r : ReplicaView) (over : List Bool) (x : Extent) (net : ℕ) → IsLegal c h → StandsFor c h r → AreOverfull c r.loads over →
-    IsExtent c.shape h x → x.place ≡ place_of r.places net → IsCalm c.shape over x.window → false ≡ is_victim c h net
+pub calm-net : (c : CapacityView) (h : List Entry) (r : ReplicaView) (over : OverfullView) (x : Extent) (net : ℕ) → IsLegal c h → StandsFor c h r → AreOverfull c r.loads over →
+    IsExtent c.shape h x → x.place ≡ place_of r.places net → IsCalm c.shape over.table x.window → false ≡ is_victim c h net
 calm-net c h r over x net legal stands are is place calm = by_tree (booked h net) refl
   where
     seen : (o : Option TreeView) → booked h net ≡ o → is.tree ≡ o
@@ -171,7 +171,7 @@ calm-net c h r over x net legal stands are is place calm = by_tree (booked h net
     by_tree (Some t) some =
         let shape = booked-shape c h r net t legal stands some in
         let bounds : Bounds x.window t = subst (λ (o : Option TreeView). IfSome o (Bounds x.window)) (seen (Some t) some) is.holds in
-        sym (calm-tree c.shape over x.window t bounds.0 shape bounds.1 calm)
+        sym (calm-tree c.shape over.table x.window t bounds.0 shape bounds.1 calm)
         ∙ crowded-table c r.loads over t are stands.loads.shape bounds.0 shape
         ∙ crowded-same c h r.loads t stands.loads bounds.0 shape
         ∙ ap (λ (o : Option TreeView). is_crowded c (demand c h) o) (sym some)

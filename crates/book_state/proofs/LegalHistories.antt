@@ -5,9 +5,12 @@ use Rattle.std.proofs.lemmas.List.{length_push, take-append-le, take_at, take-ta
 use Rattle.std.proofs.lemmas.Option.{none-some, same_Some, slice_get_within}
 use Rattle.grid_demand.specs.Tables.{CapacityView}
 use Rattle.book_state.proofs.HistoryLists.{slice_get-left, slice_get-right}
-use Rattle.book_state.specs.Books.{IsRight, IsLegal}
+use Rattle.book_state.specs.Books.{reply_to_mark, IsRight, IsLegal}
 use Rattle.book_state.specs.Entries.{AtEach}
+use Rattle.book_state.specs.Views.{entry_of}
+use Rattle.book_state.specs.declared.entry.Call.TheVariants.{Mark}
 use Rattle.book_state.specs.declared.entry.Entry.{Entry}
+use Rattle.book_state.specs.declared.entry.Reply.TheVariants.{Marked}
 
 -- a fact of each entry and the history before it, after one more entry
 pub each-push : (P : List Entry → Entry → Type 0) (h : List Entry) (e : Entry) → AtEach P h → P h e → AtEach P (h ++ e ∷ [])
@@ -48,6 +51,12 @@ each-take P h n each p x there =
 
 pub legal-push : (c : CapacityView) (h : List Entry) (e : Entry) → IsLegal c h → IsRight c h e → IsLegal c (h ++ e ∷ [])
 legal-push c h e legal right = record { right = each-push (IsRight c) h e legal.right right }
+
+pub legal-mark : (c : CapacityView) (h new : List Entry) (number overflow : ℕ) → IsLegal c h → Marked overflow ≡ reply_to_mark c h →
+    new ≡ h ++ entry_of number Mark (Marked overflow) ∷ [] → IsLegal c new
+legal-mark c h new number overflow legal reply is =
+    let e = entry_of number Mark (Marked overflow) in
+    subst (λ (k : List Entry). IsLegal c k) (sym is) (legal-push c h e legal (record { call = tt; reply = reply }))
 
 pub legal-take : (c : CapacityView) (h : List Entry) (n : ℕ) → IsLegal c h → IsLegal c (take n h)
 legal-take c h n legal = record { right = each-take (IsRight c) h n legal.right }

@@ -1,9 +1,7 @@
 -- Sums over ranges of numbers.
-use Rattle.std.proofs.Common.{◌≡◌, ◌⊎◌, ℕ, suc, zero, ◌+◌, ◌*◌, ◌<◌, ◌≤◌, inl, inr, Bool, true, false, cond, List, [], ◌∷◌, ◌++◌, sum_by, refl, sym, ap, ◌∙◌, arith}
-use Rattle.std.specs.List.{count_by, filter, range_with_len}
-use Rattle.std.proofs.lemmas.List.{append-nil}
+use Rattle.std.proofs.Common.{◌≡◌, ◌⊎◌, ℕ, suc, zero, ◌+◌, ◌*◌, ◌<◌, ◌≤◌, inl, inr, Bool, cond, [], ◌∷◌, ◌++◌, sum_by, refl, sym, ap, ◌∙◌, arith}
+use Rattle.std.specs.List.{count_by, range_with_len}
 use Rattle.gr_base.proofs.General.{range-more}
-use Rattle.std.proofs.lemmas.List.Elements.{filter-append}
 use Rattle.std.proofs.lemmas.List.Sums.{sum_by-cons, sum_by_push}
 
 -- sums of two functions that agree on a range
@@ -65,26 +63,3 @@ pub count-more : (p : ℕ → Bool) (n : ℕ) → count_by p (range_with_len 0 (
 count-more p n =
     let e : 0 + n ≡ n = omega arith in
     ap (count_by p) (range-more 0 n ∙ ap (λ (k : ℕ). range_with_len 0 n ++ k ∷ []) e) ∙ sum_by_push (λ (k : ℕ). cond {A = ℕ} (p k) 1 0) (range_with_len 0 n) n
-
--- the numbers of a range that pass a test, with one number more
-filter-more : (p : ℕ → Bool) (n : ℕ) → filter p (range_with_len 0 (n + 1)) ≡ filter p (range_with_len 0 n) ++ cond (p n) (n ∷ []) []
-filter-more p n =
-    let e : 0 + n ≡ n = omega arith in
-    ap (filter p) (range-more 0 n ∙ ap (λ (k : ℕ). range_with_len 0 n ++ k ∷ []) e) ∙ filter-append p (range_with_len 0 n) (n ∷ [])
-
-pub filter-passes : (p : ℕ → Bool) (n : ℕ) (xs new : List ℕ) → xs ≡ filter p (range_with_len 0 n) → p n ≡ true → new ≡ xs ++ n ∷ [] → new ≡ filter p (range_with_len 0 (n + 1))
-filter-passes p n xs new is passes more =
-    more ∙ ap (λ (ys : List ℕ). ys ++ n ∷ []) is ∙ sym (filter-more p n ∙ ap (λ (b : Bool). filter p (range_with_len 0 n) ++ cond b (n ∷ []) []) passes)
-
-pub filter-fails : (p : ℕ → Bool) (n : ℕ) (xs : List ℕ) → xs ≡ filter p (range_with_len 0 n) → p n ≡ false → xs ≡ filter p (range_with_len 0 (n + 1))
-filter-fails p n xs is fails =
-    is ∙ sym (filter-more p n ∙ ap (λ (b : Bool). filter p (range_with_len 0 n) ++ cond b (n ∷ []) []) fails ∙ append-nil (filter p (range_with_len 0 n)))
-
--- two tests that agree on a range pass the same numbers of it
-pub filter-same : (p q : ℕ → Bool) (a n : ℕ) → ((k : ℕ) → a ≤ k → k < a + n → p k ≡ q k) → filter p (range_with_len a n) ≡ filter q (range_with_len a n)
-filter-same p q a zero same = refl
-filter-same p q a (suc n) same =
-    let rest = filter-same p q (a + 1) n (λ k low high. same k (omega arith) (omega arith)) in
-    let first = same a (omega arith) (omega arith) in
-    ap (λ (b : Bool). cond b (a ∷ filter p (range_with_len (a + 1) n)) (filter p (range_with_len (a + 1) n))) first
-    ∙ ap (λ (ks : List ℕ). cond (q a) (a ∷ ks) ks) rest

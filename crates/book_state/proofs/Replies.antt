@@ -12,15 +12,15 @@ use Rattle.gr_base.specs.declared.grid.Shape.{Shape}
 use Rattle.grid_demand.proofs.LoadLemmas.{total_overflow-same}
 use Rattle.grid_demand.proofs.WireLemmas.{number-below}
 use Rattle.grid_demand.specs.LoadSums.{LoadsView, demand_at}
-use Rattle.grid_demand.specs.Overfull.{AreOverfull}
+use Rattle.grid_demand.specs.Overfull.{OverfullView, AreOverfull}
 use Rattle.grid_demand.specs.Tables.{CapacityView, capacity_at, need_at}
 use Rattle.book_state.proofs.StandSteps.{tree-shape}
-use Rattle.book_state.specs.Books.{booked, demand, is_full, is_over, is_crowded, reply_by_full, reply_to_free, overflow_after, IsLegal, AreLoadsOf}
+use Rattle.book_state.specs.Books.{booked, demand, is_full, is_over, is_crowded, reply_by_full, reply_to_free, reply_to_mark, overflow_after, IsLegal, AreLoadsOf}
 use Rattle.book_state.specs.Crowds.{is_overfull}
 use Rattle.book_state.specs.Replicas.{ReplicaView, place_of, StandsFor}
 use Rattle.book_state.specs.declared.entry.Claim.{Claim}
 use Rattle.book_state.specs.declared.entry.Entry.{Entry}
-use Rattle.book_state.specs.declared.entry.Reply.TheVariants.{Full}
+use Rattle.book_state.specs.declared.entry.Reply.TheVariants.{Full, Marked}
 
 -- a tree in the design's grid has edges of that grid
 grid-edges : (c : CapacityView) (t : TreeView) → IsTree t → t.shape ≡ c.shape → All (λ e. IsTrue (has_edge c.shape e)) (tree_edges t)
@@ -80,13 +80,13 @@ crowded-same c h l t of tree same =
     (λ k d below. over-same c h l _ of (grid-edges c t tree same k d below))
 
 -- a table of overfull edges says of a tree what the loads say
-pub crowded-table : (c : CapacityView) (l : LoadsView) (over : List Bool) (t : TreeView) → AreOverfull c l over → l.shape ≡ c.shape → IsTree t → t.shape ≡ c.shape →
-    list_any (is_overfull over) (tree_edges t) ≡ is_crowded c (demand_at l) (Some t)
+pub crowded-table : (c : CapacityView) (l : LoadsView) (over : OverfullView) (t : TreeView) → AreOverfull c l over → l.shape ≡ c.shape → IsTree t → t.shape ≡ c.shape →
+    list_any (is_overfull over.table) (tree_edges t) ≡ is_crowded c (demand_at l) (Some t)
 crowded-table c l over t are shape tree same =
-    any-same (is_overfull over) (is_over c (demand_at l)) (tree_edges t)
+    any-same (is_overfull over.table) (is_over c (demand_at l)) (tree_edges t)
     (λ k d below. by_number _ (grid-edges c t tree same k d below))
   where
-    by_number : (e : Edge) → IsTrue (has_edge c.shape e) → is_overfull over e ≡ is_over c (demand_at l) e
+    by_number : (e : Edge) → IsTrue (has_edge c.shape e) → is_overfull over.table e ≡ is_over c (demand_at l) e
     by_number e edge =
         let inside = subst (λ (g : Shape). IsTrue (has_edge g e)) (sym shape) edge in
         ap (λ (b : Bool). is_wire e && b) (are.each (wire_number e) (number-below l.shape e inside))
@@ -100,3 +100,8 @@ overflow-same c h l of =
 -- a booked tree lies in the design's grid
 pub booked-shape : (c : CapacityView) (h : List Entry) (r : ReplicaView) (net : ℕ) (t : TreeView) → IsLegal c h → StandsFor c h r → booked h net ≡ Some t → t.shape ≡ c.shape
 booked-shape c h r net t legal stands is = tree-shape c h (place_of r.places net) t legal ((stands.places net).tree_there ∙ is)
+
+-- the reply to a mark by a table of overfull edges
+pub marked-reply : (c : CapacityView) (h : List Entry) (l : LoadsView) (over : OverfullView) (total : ℕ) → AreLoadsOf c h l → AreOverfull c l over → total ≡ over.total →
+    Marked total ≡ reply_to_mark c h
+marked-reply c h l over total of are is = ap (λ (n : ℕ). Marked n) (is ∙ are.total ∙ overflow-same c h l of)

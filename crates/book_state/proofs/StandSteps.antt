@@ -1,6 +1,7 @@
 -- Replicas that stand for longer and longer histories.
 use Rattle.std.proofs.Common.{◌≡◌, ℕ, ◌+◌, ◌<◌, ◌≤◌, true, false, List, [], ◌∷◌, ◌++◌, length, take, Option, Some, None, slice_get, slice_set, replicate, IsTrue, refl, sym, ap, subst, ◌∙◌, arith, length-set}
-use Rattle.std.proofs.lemmas.List.{length_push, length-replicate}
+use Rattle.std.proofs.lemmas.Bool.{both_ways}
+use Rattle.std.proofs.lemmas.List.{length_push, length-replicate, take_all}
 use Rattle.std.proofs.lemmas.Option.{none-some, same_Some}
 use Rattle.gr_base.proofs.TreeEdges.{tree-grid_edges}
 use Rattle.gr_base.specs.Grid.{has_edge, is_wire}
@@ -11,12 +12,13 @@ use Rattle.gr_base.specs.declared.grid.Shape.{Shape}
 use Rattle.grid_demand.proofs.LoadSteps.{tree-edge}
 use Rattle.grid_demand.proofs.OperationLemmas.{IsWireOf, demand-added, demand-taken, marks-marked, demand-none, marks-none}
 use Rattle.grid_demand.specs.LoadSums.{LoadsView, marks_at, no_loads, share, added, taken, marked, mark_of, HasRoom, HasShare}
+use Rattle.grid_demand.specs.Overfull.{OverfullView, AreOverfull}
 use Rattle.grid_demand.specs.Tables.{CapacityView, capacity_at, need_at, IsCapacity}
 use Rattle.book_state.proofs.BookSteps as steps
 use Rattle.book_state.proofs.PlaceSteps.{places-same, places-change, places-none, last-place, no-place}
 use Rattle.book_state.proofs.ReplicaSteps.{take-entry, length-before, place-whole, claimed-free, released-booked, booked-claim, booked-claim_other, booked-release, booked-release_other, booked-mark, idle-by}
 use Rattle.book_state.specs.Books.{nets_of, booked, share_of, demand, IsCall, IsLegal, AreLoadsOf, IsIdle}
-use Rattle.book_state.specs.Entries.{is_mark, is_mark_call}
+use Rattle.book_state.specs.Entries.{is_mark, is_mark_call, is_mark_in, is_mark_at}
 use Rattle.book_state.specs.Replicas.{ReplicaView, tree_of, tree_of_call, tree_at_place, place_of, IsPlace, StandsFor, IsClaimed, IsReleased}
 use Rattle.book_state.specs.declared.entry.Call.{Call}
 use Rattle.book_state.specs.declared.entry.Call.TheVariants.{Claim as Claims, Release, Mark}
@@ -163,6 +165,29 @@ step-mark c h place e r new stands there call loads =
     let same : (net : ℕ) → booked (before ++ e ∷ []) net ≡ booked before net = λ net. booked-mark before e net call in
     step c h place e (replica_of (place + 1) r.places new) there
     (push-idle c before e r (place + 1) new stands (omega (arith, long)) same (loads-mark c before e r.loads new stands.loads loads same (is_mark-mark e call)))
+
+mark-call : (call : Call) → is_mark_call call ≡ true → call ≡ Mark
+mark-call (Claims claim) is = absurd (both_ways false refl is)
+mark-call (Release net) is = absurd (both_ways false refl is)
+mark-call Mark is = refl
+
+mark-entry : (o : Option Entry) → is_mark_in o ≡ true → (e : Entry) × (o ≡ Some e) × (e.call ≡ Mark)
+mark-entry None is = absurd (both_ways false refl is)
+mark-entry (Some e) is = (e, refl, mark-call e.call is)
+
+-- the last entry of a history is a mark
+pub step-last : (c : CapacityView) (h : List Entry) (r : ReplicaView) (new : LoadsView) (front : ℕ) → StandsFor c (take r.front h) r →
+    r.front + 1 ≡ length h → is_mark_at h r.front ≡ true → new ≡ marked c r.loads → front ≡ length h → StandsFor c h (replica_of front r.places new)
+step-last c h r new front stands last mark marks all =
+    let e = mark-entry (slice_get h r.front) mark in
+    let stepped : StandsFor c (take (r.front + 1) h) (replica_of (r.front + 1) r.places new) = step-mark c h r.front e.0 r new stands e.1 e.2 marks in
+    subst (λ (k : List Entry). StandsFor c k (replica_of front r.places new)) (take_all (r.front + 1) h (omega (arith, last)))
+    (subst (λ (n : ℕ). StandsFor c (take (r.front + 1) h) (replica_of n r.places new)) (last ∙ sym all) stepped)
+
+-- a mark leaves the edges that are over
+pub still-over : (c : CapacityView) (l new : LoadsView) (over : OverfullView) → AreOverfull c l over → new ≡ marked c l → AreOverfull c new over
+still-over c l new over are is =
+    subst (λ (v : LoadsView). AreOverfull c v over) (sym is) (record { long = are.long; each = are.each; total = are.total })
 
 is_mark-idle : (call : Call) (e : Entry) → e.call ≡ call → IsIdle call e.reply → is_mark e ≡ false
 is_mark-idle (Claims claim) e is idle = is_mark-claim e claim is

@@ -1,11 +1,10 @@
 -- Overfull edges by tables.
 use Rattle.std.specs.Prelude.{◌≡◌, ℕ, ◌+◌, ◌*◌, ◌/◌, ◌%◌, ◌<◌, ◌≤◌, Bool, true, false, ◌&&◌, List, length, slice_index_or, IsTrue}
 use Rattle.gr_base.specs.Grid.{place_at, has_edge, is_wire}
-use Rattle.gr_base.specs.Sums.{wire_number}
 use Rattle.gr_base.specs.declared.grid.Edge.{Edge}
 use Rattle.gr_base.specs.declared.grid.Shape.{Shape}
 use Rattle.grid_demand.specs.LoadSums.{LoadsView}
-use Rattle.grid_demand.specs.Overfull.{AreOverfull}
+use Rattle.grid_demand.specs.Overfull.{is_told, AreOverfull}
 use Rattle.grid_demand.specs.Tables.{CapacityView}
 use Rattle.maze_route.specs.Windows.{is_within}
 use Rattle.maze_route.specs.declared.window.Window.{Window}
@@ -13,7 +12,7 @@ use Rattle.book_state.specs.declared.crowds.Crowds.{Crowds}
 
 -- a wire edge for which the table says so
 abbrev pub is_overfull : List Bool → Edge → Bool
-is_overfull over e = is_wire e && slice_index_or over (wire_number e) false
+is_overfull over e = is_wire e && is_told over e
 
 -- the number of the tile of a cell: tiles go by column, then by row
 abbrev pub tile_of : Shape → ℕ → ℕ
@@ -40,5 +39,5 @@ pub record AreCrowds (c : CapacityView) (l : LoadsView) (k : Crowds) : Type 0 wh
   pub shape : k.shape ≡ c.shape
   pub long : length k.last.items ≡ k.shape.columns * k.shape.rows
   pub tiles : List Bool
-  pub told : AreTiles k.shape k.over tiles
+  pub told : AreTiles k.shape k.over.table tiles
   pub columns : AreColumns k.shape.columns tiles k.last.items

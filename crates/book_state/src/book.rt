@@ -18,7 +18,7 @@ use crate::least::{MarkedAt, least_after};
 use crate::places::places_at;
 use crate::replica::Replica;
 use gr_base::{Cells, Design, RouteTree, Routes};
-use grid_demand::{Capacity, Loads};
+use grid_demand::{Capacity, Loads, Overfull};
 use std::alloc::{AllocError, Global};
 use std::marker::Model;
 use std::sync::Arc;
@@ -39,6 +39,8 @@ pub struct BookState {
     replica: Replica,
     least: Option<MarkedAt>,
     extents: Vec<Extent>,
+    /// The edges over their capacity, where they are known.
+    over: Option<Overfull>,
 }
 
 impl BookState {
@@ -56,6 +58,7 @@ impl BookState {
             replica,
             least: None,
             extents,
+            over: None,
         })
     }
 
@@ -156,15 +159,24 @@ impl BookState {
         ensures err { OnErr result (self.new ≡ self.old) }
         ensures legal { IsLegal self.new.capacity self.new.history }
     {
-        let reply = self.reply_to_mark();
-        match self.append(Entry {
+        let alloc = self.history.alloc();
+        let over = self.replica.loads().overfull(alloc, &self.capacity)?;
+        let reply = Reply::Marked {
+            overflow: over.total(),
+        };
+        let Ok(()) = self.history.push(Entry {
             number,
             call: Call::Mark,
             reply,
-        }) {
-            Ok(()) => Ok(reply),
-            Err(_) => Err(AllocError),
-        }
+        })
+        else {
+            return Err(AllocError);
+        };
+        self.replica
+            .follow_mark(&self.capacity, &self.history, &over);
+        self.least = least_after(self.least, reply, self.history.len());
+        self.over = Some(over);
+        Ok(reply)
     }
 
     fn reply_to_claim(&self, claim: &Claim) -> Reply
@@ -196,14 +208,6 @@ impl BookState {
         }
     }
 
-    fn reply_to_mark(&self) -> Reply
-        ensures { result ≡ reply_to_mark self.now.capacity self.now.history }
-    {
-        Reply::Marked {
-            overflow: self.replica.loads().over_total(&self.capacity),
-        }
-    }
-
     /// The booked nets whose tree has a wire edge with more demand than capacity, in the order of
     /// the design. The only error is want of memory.
     pub fn victims(&self) -> Result<Cells, AllocError>
@@ -224,7 +228,11 @@ impl BookState {
         ensures victims { IfOk result (λ nets. nets ≡ victims_of self.old.capacity self.old.history) }
     {
         let alloc = self.history.alloc();
-        let crowds = Crowds::of(alloc, &self.capacity, self.replica.loads())?;
+        let over = match self.over.take() {
+            Some(over) => over,
+            None => self.replica.loads().overfull(alloc, &self.capacity)?,
+        };
+        let crowds = Crowds::of(alloc, self.capacity.shape(), over)?;
         look_at_all(
             rt,
             &self.replica,
@@ -234,6 +242,7 @@ impl BookState {
             threads,
             &mut self.extents,
         );
+        self.over = Some(crowds.into_over());
         seen_victims(alloc, self.replica.nets(), &self.extents)
     }
 
@@ -293,6 +302,7 @@ impl BookState {
         self.history.push(entry)?;
         self.replica.follow(&self.capacity, &self.history);
         self.least = least_after(self.least, reply, self.history.len());
+        self.over = None;
         Ok(())
     }
 }

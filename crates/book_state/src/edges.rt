@@ -54,8 +54,8 @@ fn first_full(capacity: &Capacity, loads: &Loads, claim: &Claim, slack: u32) -> 
 
 /// Whether a tree has an edge with more demand than capacity.
 pub(crate) fn is_crowded(over: &Overfull, tree: &RouteTree) -> bool
-    requires long { length over.now ≡ 2 * cells_of tree.now.shape }
-    ensures crowded { result ≡ list_any (is_overfull over.now) (tree_edges tree.now) }
+    requires long { length over.now.table ≡ 2 * cells_of tree.now.shape }
+    ensures crowded { result ≡ list_any (is_overfull over.now.table) (tree_edges tree.now) }
     ensures tree { IsTree tree.now }
 {
     for node in 0..tree.len() {

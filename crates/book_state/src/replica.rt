@@ -2,8 +2,10 @@
 ghost use Rattle.std.specs.Prelude.{◌≡◌, ℕ, ◌+◌, ◌^◌, ◌<◌, ◌≤◌, [], length, take, slice_get, Some, IfOk, IsTrue};
 ghost use Rattle.std.specs.Option.{option_copied};
 ghost use Rattle.gr_base.specs.Limits.{most_nets};
+ghost use Rattle.grid_demand.specs.Overfull.{AreOverfull};
 ghost use Rattle.grid_demand.specs.Tables.{capacity_of};
 ghost use Rattle.book_state.specs.Books.{nets_of, IsLegal, IsIdle};
+ghost use Rattle.book_state.specs.Entries.{is_mark_at};
 ghost use Rattle.book_state.specs.Replicas.{StandsFor, tree_at_place, place_of, IsClaimed, IsReleased};
 
 use crate::entry::{Call, Claim, Entry, Reply};
@@ -11,7 +13,7 @@ use crate::history::History;
 use crate::past::Past;
 use crate::places::{Places, tree_by_place};
 use gr_base::{Design, RouteTree};
-use grid_demand::{Capacity, Loads};
+use grid_demand::{Capacity, Loads, Overfull};
 use std::alloc::{AllocError, Global};
 use std::marker::Model;
 
@@ -99,6 +101,21 @@ impl Replica {
     {
         let end = history.len();
         self.read(capacity, history, end);
+    }
+
+    /// Reads the last entry of a legal history, a mark, where the replica stands for what is before it
+    /// and the edges are told that are over their capacity.
+    pub(crate) fn follow_mark(&mut self, capacity: &Capacity, history: &History, over: &Overfull)
+        requires legal { IsLegal capacity.now history.now }
+        requires stands { StandsFor capacity.now (take self.old.front history.now) self.old }
+        requires last { self.old.front + 1 ≡ length history.now }
+        requires mark { IsTrue (is_mark_at history.now self.old.front) }
+        requires over { AreOverfull capacity.now self.old.loads over.now }
+        ensures stands { StandsFor capacity.now history.now self.new }
+        ensures over { AreOverfull capacity.now self.new.loads over.now }
+    {
+        self.front = history.len();
+        self.loads.mark_overfull(capacity, over);
     }
 
     /// Reads the entries of a past that the replica doesn't stand for yet. The past is legal, and

@@ -4,5 +4,10 @@ pub mod CapacityLemmas
 pub mod TreeTimes
 pub mod LoadSteps
 pub mod LoadLemmas
+pub mod RangeFilters
+pub mod PlacedEdges
+pub mod ToldEdges
+pub mod OverfullSteps
+pub mod MarkSteps
 pub mod OperationLemmas
 pub mod ChargeLemmas

@@ -16,11 +16,11 @@ use Rattle.gr_base.specs.declared.grid.Edge.{Edge}
 use Rattle.gr_base.specs.declared.grid.Shape.{Shape}
 use Rattle.grid_demand.proofs.CapacityLemmas.{capacity-table}
 use Rattle.grid_demand.proofs.LoadSteps.{tree-edge}
-use Rattle.grid_demand.proofs.PlaneLemmas.{StandsAt, stands, place-below, length-by_number, by_number-at, by_number-zeros, each-number, sum-tables, most-tables, sum-planes, most-planes}
+use Rattle.grid_demand.proofs.PlaneLemmas.{StandsAt, stands, length-by_number, by_number-zeros, each-number, sum-tables, most-tables, sum-planes, most-planes}
 use Rattle.grid_demand.proofs.WireLemmas.{table-at, table-is, table-self, length-table, length-wires, number-below, number-wire_at, wire-wire_at}
 use Rattle.gr_base.specs.Limits.{most_marks}
 use Rattle.grid_demand.specs.LoadSums.{LoadsView, no_loads, demand_at, marks_at, share, added, taken, mark_of, marked, marks_told, AreLoads}
-use Rattle.grid_demand.specs.Overfull.{AreOverfull}
+use Rattle.grid_demand.specs.Overfull.{OverfullView, AreOverfull}
 use Rattle.grid_demand.specs.Planes.{place_of, by_number}
 use Rattle.grid_demand.specs.Tables.{CapacityView, capacity_of, capacity_at, IsCapacity}
 
@@ -225,28 +225,6 @@ mark-read l now demands marks wires e place result loads same is told edge all a
     read ∙ told-read (2 * cells_of l.shape) marks place (let below = demand.below in omega (arith, below, long)) ∙ here.value
     ∙ ap (λ (xs : List ℕ). slice_index xs (wire_number e)) told ∙ ap (λ (v : LoadsView). marks_at v e) same
 
--- which wire edges have more demand than capacity, by number
-pub overfull-table : (c : CapacityView) (l : LoadsView) (demands capacities : List ℕ) (over : List Bool) → AreLoads l → IsCapacity c → c.shape ≡ l.shape →
-    by_number 0 demands ≡ l.demands → by_number 0 capacities ≡ c.capacities → length over ≡ length demands →
-    ((n : ℕ) → n < length demands → slice_index_or over n false ≡ nat_lt (slice_index capacities n) (slice_index demands n)) →
-    AreOverfull c l (by_number false over)
-overfull-table c l demands capacities over loads tables same same_demands same_capacities long each =
-    let wires = demands-long l demands loads same_demands in
-    let limits = capacities-long l c capacities tables same same_capacities in
-    record {
-      long = length-by_number false over ∙ long ∙ wires;
-      each = λ n below.
-          let inside : n < length over = omega (arith, below, long, wires) in
-          let p = place_of (length over) n in
-          let demand : slice_index demands p ≡ slice_index l.demands n =
-          ap (λ (w : ℕ). slice_index demands (place_of w n)) long ∙ sym (by_number-at 0 demands n (omega (arith, below, wires))) ∙ ap (λ (xs : List ℕ). slice_index xs n) same_demands in
-          let capacity_is : slice_index capacities p ≡ slice_index c.capacities n =
-          ap (λ (w : ℕ). slice_index capacities (place_of w n)) (long ∙ wires ∙ sym limits) ∙ sym (by_number-at 0 capacities n (omega (arith, below, limits)))
-          ∙ ap (λ (xs : List ℕ). slice_index xs n) same_capacities in
-          by_number-at false over n inside ∙ each p (let place = place-below (length over) n inside in omega (arith, place, long))
-          ∙ ap (λ (k : ℕ). nat_lt k (slice_index demands p)) capacity_is ∙ ap (λ (k : ℕ). nat_lt (slice_index c.capacities n) k) demand;
-    }
-
 -- the loads after new demands
 pub added-whole : (c : CapacityView) (net : ℕ) (t : TreeView) (l : LoadsView) (new : List ℕ) → AreLoads l → IsTree t → t.shape ≡ l.shape →
     new ≡ map (λ e. demand_at l e + share c net t e) (wires_from_cells t.shape) → AreLoads (record { shape = l.shape; demands = new; marks = l.marks })
@@ -392,3 +370,19 @@ most-of l now c demands capacities result loads tables is same same_demands same
     ∙ ap (λ (xs : List ℕ). fold (λ m (p : ℕ × ℕ). max m (p.0 - p.1)) 0 (zip xs (by_number 0 capacities))) same_demands
     ∙ ap (λ (ys : List ℕ). fold (λ m (p : ℕ × ℕ). max m (p.0 - p.1)) 0 (zip l.demands ys)) same_capacities
     ∙ most-of-tables l c loads tables shape)
+
+-- which wire edges have more demand than capacity
+pub overfull-whole : (c : CapacityView) (l : LoadsView) (demands capacities : List ℕ) (over : OverfullView) → AreLoads l → IsCapacity c → c.shape ≡ l.shape →
+    by_number 0 demands ≡ l.demands → by_number 0 capacities ≡ c.capacities → length over.table ≡ length demands →
+    ((n : ℕ) → n < length demands → slice_index_or over.table n false ≡ nat_lt (slice_index (by_number 0 capacities) n) (slice_index (by_number 0 demands) n)) →
+    over.total ≡ sum_by (λ (p : ℕ × ℕ). p.0 - p.1) (zip demands capacities) → AreOverfull c l over
+overfull-whole c l demands capacities over loads tables same same_demands same_capacities long each sum =
+    let wires = demands-long l demands loads same_demands in
+    record {
+      long = long ∙ wires;
+      each = λ n below.
+          each n (omega (arith, below, wires))
+          ∙ ap (λ (xs : List ℕ). nat_lt (slice_index xs n) (slice_index (by_number 0 demands) n)) same_capacities
+          ∙ ap (λ (xs : List ℕ). nat_lt (slice_index c.capacities n) (slice_index xs n)) same_demands;
+      total = total-of l l c demands capacities over.total loads tables refl same same_demands same_capacities sum;
+    }

@@ -225,6 +225,17 @@ by_place xs n long =
 numbers : (xs : List ℕ) (n : ℕ) → length xs ≡ n → by_number 0 xs ≡ map (λ (k : ℕ). slice_index xs (place_of n k)) (range_with_len 0 n)
 numbers xs n long = ap (λ (w : ℕ). map (λ (k : ℕ). slice_index xs (place_of w k)) (range_with_len 0 w)) long
 
+-- a sum over two tables side by side is one over places
+pub sum-ranged : (xs ys : List ℕ) (n : ℕ) → length xs ≡ n → length ys ≡ n →
+    sum_by (λ (p : ℕ × ℕ). p.0 - p.1) (zip xs ys) ≡ sum_over (λ k. slice_index xs k - slice_index ys k) 0 n
+sum-ranged xs ys n xs_long ys_long =
+    let S : List ℕ → List ℕ → ℕ = λ us vs. sum_by (λ (p : ℕ × ℕ). p.0 - p.1) (zip us vs) in
+    let range : List ℕ = range_with_len 0 n in
+    ap (λ (us : List ℕ). S us ys) (by_place xs n xs_long)
+    ∙ ap (S (map (λ (k : ℕ). slice_index xs k) range)) (by_place ys n ys_long)
+    ∙ sum-tables (λ (k : ℕ). slice_index xs k) (λ (k : ℕ). slice_index ys k) range
+    ∙ sum-mapped (λ (k : ℕ). slice_index xs k - slice_index ys k) range
+
 -- they are the same by number us by place
 pub sum-planes : (xs ys : List ℕ) (cells : ℕ) → length xs ≡ 2 * cells → length ys ≡ 2 * cells →
     sum_by (λ (p : ℕ × ℕ). p.0 - p.1) (zip xs ys) ≡ sum_by (λ (p : ℕ × ℕ). p.0 - p.1) (zip (by_number 0 xs) (by_number 0 ys))
@@ -233,10 +244,7 @@ sum-planes xs ys cells xs_long ys_long =
     let range : List ℕ = range_with_len 0 (2 * cells) in
     let f : ℕ → ℕ = λ k. slice_index xs k - slice_index ys k in
     let place : ℕ → ℕ = place_of (2 * cells) in
-    ap (λ (us : List ℕ). S us ys) (by_place xs (2 * cells) xs_long)
-    ∙ ap (S (map (λ (k : ℕ). slice_index xs k) range)) (by_place ys (2 * cells) ys_long)
-    ∙ sum-tables (λ (k : ℕ). slice_index xs k) (λ (k : ℕ). slice_index ys k) range
-    ∙ sum-mapped f range
+    sum-ranged xs ys (2 * cells) xs_long ys_long
     ∙ sym (tally-planes (λ a b. a + b) sum_over sums f cells)
     ∙ sym (sum-mapped (λ (k : ℕ). f (place k)) range)
     ∙ sym (sum-tables (λ (k : ℕ). slice_index xs (place k)) (λ (k : ℕ). slice_index ys (place k)) range)

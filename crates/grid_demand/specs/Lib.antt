@@ -5,3 +5,4 @@ pub mod LoadSums
 pub mod LoadsStore
 pub mod Operations
 pub mod Overfull
+pub mod OverfullStore

@@ -1,5 +1,5 @@
 -- The loads of a grid, and what becomes of them.
-use Rattle.std.specs.Prelude.{◌≡◌, ℕ, ◌+◌, ◌-◌, ◌*◌, ◌^◌, ◌<◌, ◌≤◌, min, false, nat_lt, List, [], ◌∷◌, All, length, map, replicate, slice_index, if◌then◌else◌, IsTrue}
+use Rattle.std.specs.Prelude.{◌≡◌, ℕ, ◌+◌, ◌-◌, ◌*◌, ◌^◌, ◌<◌, ◌≤◌, min, Bool, false, nat_lt, List, [], ◌∷◌, All, length, map, replicate, slice_index, if◌then◌else◌, IsTrue}
 use Rattle.gr_base.specs.EdgeSets.{is_edge}
 use Rattle.gr_base.specs.Grid.{cells_of, has_edge, is_wire}
 use Rattle.gr_base.specs.Sums.{wire_at, wire_number, wires_from_cells}
@@ -71,8 +71,11 @@ taken c net t l = record {
 }
 
 -- the marks of an edge after a mark: one more where its demand is above its capacity
+abbrev pub mark_where : Bool → ℕ → ℕ
+mark_where over marks = if over then min most_marks (marks + 1) else marks
+
 abbrev pub mark_of : ℕ → ℕ → ℕ → ℕ
-mark_of demand capacity marks = if nat_lt capacity demand then min most_marks (marks + 1) else marks
+mark_of demand capacity marks = mark_where (nat_lt capacity demand) marks
 
 -- each wire edge with more demand than capacity gains a mark
 abbrev pub marked : CapacityView → LoadsView → LoadsView

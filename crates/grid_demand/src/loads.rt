@@ -1,6 +1,7 @@
 //! The loads of a grid: the demand for each wire edge, and its marks.
-ghost use Rattle.std.specs.Prelude.{◌≡◌, ℕ, ◌+◌, ◌-◌, ◌*◌, ◌^◌, ◌<◌, ◌≤◌, length, map, fold, max, zip, sum_by, slice_index, nat_lt, IfOk, IsTrue};
+ghost use Rattle.std.specs.Prelude.{◌≡◌, ℕ, ◌+◌, ◌-◌, ◌*◌, ◌^◌, ◌<◌, ◌≤◌, length, map, fold, max, zip, sum_by, slice_index, nat_lt, true, All, IfOk, IsTrue};
 ghost use Rattle.std.specs.List.{list_any};
+ghost use Rattle.std.specs.List.Sorted.{IsStrictlyIncreasing};
 ghost use Rattle.std.specs.Vec.{vec_capacity};
 ghost use Rattle.gr_base.specs.Capacities.{capacity as capacity_in};
 ghost use Rattle.gr_base.specs.Designs.{DesignView};
@@ -10,9 +11,11 @@ ghost use Rattle.gr_base.specs.Limits.{most_marks, most_width};
 ghost use Rattle.gr_base.specs.Trees.{IsTree, edges_of};
 ghost use Rattle.grid_demand.specs.Planes.{by_number, in_planes};
 ghost use Rattle.grid_demand.specs.Tables.{capacity_of, capacity_at, need_at};
-ghost use Rattle.grid_demand.specs.LoadSums.{no_loads, demand_at, marks_at, share, charged, added, taken, marked, mark_of, HasRoom, HasShare, AreLoads, Fits, changed_by, marks_told};
+ghost use Rattle.grid_demand.specs.LoadSums.{no_loads, demand_at, marks_at, share, charged, added, taken, marked, mark_of, mark_where, HasRoom, HasShare, AreLoads, Fits, changed_by, marks_told};
+ghost use Rattle.grid_demand.specs.Overfull.{AreOverfull, has_number};
 
 use crate::capacity::Capacity;
+use crate::overfull::Overfull;
 use crate::wires::place;
 use gr_base::{Edge, MOST_MARKS, RouteTree, Shape};
 use std::alloc::{AllocError, Global};
@@ -116,6 +119,15 @@ impl Loads {
         ensures whole { AreLoads self.new }
     {
         mark_edges(&mut self.marks, &self.demands, capacity.table());
+    }
+
+    /// The same, where the edges are told whose demand is above their capacity: it touches these alone.
+    pub fn mark_overfull(&mut self, capacity: &Capacity, over: &Overfull)
+        requires { AreOverfull capacity.now self.old over.now }
+        ensures loads { self.new ≡ marked capacity.now self.old }
+        ensures whole { AreLoads self.new }
+    {
+        mark_told(&mut self.marks, self.demands.len(), over.places());
     }
 
     /// The demand for each wire edge, by place.
@@ -255,8 +267,49 @@ fn mark_over(marks: &mut Vec<u32>, demands: &[u64], capacities: &[u32])
 {
     for at in 0..marks.len() {
         if demands[at] > u64::from(capacities[at]) {
-            marks[at] = MOST_MARKS.min(marks[at].saturating_add(1));
+            marks[at] = with_mark(marks[at]);
         }
+    }
+}
+
+/// One mark more, up to the most marks.
+fn with_mark(marks: u32) -> u32
+    ensures { result ≡ mark_where true marks }
+{
+    MOST_MARKS.min(marks.saturating_add(1))
+}
+
+/// Adds a mark at each of some places, up to the most marks. The list of marks may be empty before,
+/// which stands for no marks, and stays so where there is no place.
+fn mark_told(marks: &mut Vec<u32>, wires: usize, places: &[u32])
+    requires whole { length (marks_told wires marks.old.items) ≡ wires }
+    requires room { wires ≤ vec_capacity marks.old }
+    requires inside { All (λ place. place < wires) places.now }
+    requires rising { IsStrictlyIncreasing places.now }
+    ensures long { length (marks_told wires marks.new.items) ≡ wires }
+    ensures each { (n : ℕ) → n < wires → slice_index (marks_told wires marks.new.items) n
+        ≡ mark_where (has_number places.now n) (slice_index (marks_told wires marks.old.items) n) }
+    ensures room { wires ≤ vec_capacity marks.new }
+{
+    if places.is_empty() {
+        return;
+    }
+    fill_up(marks, wires);
+    mark_places(marks, places);
+}
+
+/// Adds a mark at each of some places, up to the most marks.
+fn mark_places(marks: &mut Vec<u32>, places: &[u32])
+    requires inside { All (λ place. place < length marks.old.items) places.now }
+    requires rising { IsStrictlyIncreasing places.now }
+    ensures long { length marks.new.items ≡ length marks.old.items }
+    ensures room { vec_capacity marks.new ≡ vec_capacity marks.old }
+    ensures each { (n : ℕ) → n < length marks.old.items → slice_index marks.new.items n
+        ≡ mark_where (has_number places.now n) (slice_index marks.old.items n) }
+{
+    for place in places {
+        let at = *place as usize;
+        marks[at] = with_mark(marks[at]);
     }
 }
 

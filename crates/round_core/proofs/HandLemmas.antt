@@ -6,7 +6,7 @@ use Rattle.std.proofs.lemmas.List.{get_or-set_same, get_or-set_other, length-set
 use Rattle.std.proofs.lemmas.List.FromFn.{fill_by_all, get_or-map-range_with_len, length-map-range_with_len}
 use Rattle.std.proofs.lemmas.Bool.Decides.{nat_tests}
 use Rattle.book_state.specs.declared.entry.Entry.{Entry}
-use Rattle.book_state.proofs.RangeSums.{filter-passes, filter-fails}
+use Rattle.grid_demand.proofs.RangeFilters.{filter-passes, filter-fails}
 use Rattle.round_core.specs.Hands.{is_by, with_place}
 use Rattle.round_core.specs.declared.hands.HandLog.{HandLog}
 

@@ -16,21 +16,21 @@ has-requires c =
 
 pub loop-node-preserved-in_default : goal.loop-node-preserved-in_default
 loop-node-preserved-in_default c =
-    let p : Edge → Bool = is_overfull c.args.over.now in
-    sym (any-over p c.args.tree.now c.loop-node.node (table-wires c.args.over.now) (omega (arith, c.loop-node-test.true, c.len-node-end.ensures.len)) c.in_default.ensures.edge) ∙ c.loop-node.invariant
+    let p : Edge → Bool = is_overfull c.args.over.now.table in
+    sym (any-over p c.args.tree.now c.loop-node.node (table-wires c.args.over.now.table) (omega (arith, c.loop-node-test.true, c.len-node-end.ensures.len)) c.in_default.ensures.edge) ∙ c.loop-node.invariant
 
 pub returns-then-has-clause-crowded : goal.returns-then-has-clause-crowded
 returns-then-has-clause-crowded c =
     let t = c.args.tree.now in
-    let p : Edge → Bool = is_overfull c.args.over.now in
+    let p : Edge → Bool = is_overfull c.args.over.now.table in
     let inside = wire-inside t t.shape c.loop-node.node c.in-Some.edge c.in-Some.ensures.tree refl (omega (arith, c.loop-node-test.true, c.len-node-end.ensures.len)) c.in-Some.ensures.edge in
     sym (any-passes p t c.loop-node.node c.in-Some.edge (omega (arith, c.loop-node-test.true, c.len-node-end.ensures.len)) c.in-Some.ensures.edge
-    (table-says c.args.over.now c.in-Some.edge true inside.1 (sym c.has.ensures ∙ c.if-has.true))) ∙ c.loop-node.invariant
+    (table-says c.args.over.now.table c.in-Some.edge true inside.1 (sym c.has.ensures ∙ c.if-has.true))) ∙ c.loop-node.invariant
 
 pub loop-node-preserved : goal.loop-node-preserved
 loop-node-preserved c =
     let t = c.args.tree.now in
-    let p : Edge → Bool = is_overfull c.args.over.now in
+    let p : Edge → Bool = is_overfull c.args.over.now.table in
     let inside = wire-inside t t.shape c.loop-node.node c.in-Some.edge c.in-Some.ensures.tree refl (omega (arith, c.loop-node-test.true, c.len-node-end.ensures.len)) c.in-Some.ensures.edge in
     sym (any-fails p t c.loop-node.node c.in-Some.edge (omega (arith, c.loop-node-test.true, c.len-node-end.ensures.len)) c.in-Some.ensures.edge
-    (table-says c.args.over.now c.in-Some.edge false inside.1 (sym c.has.ensures ∙ c.if-has.false))) ∙ c.loop-node.invariant
+    (table-says c.args.over.now.table c.in-Some.edge false inside.1 (sym c.has.ensures ∙ c.if-has.false))) ∙ c.loop-node.invariant

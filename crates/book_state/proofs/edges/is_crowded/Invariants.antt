@@ -7,4 +7,4 @@ use Rattle.book_state.proofs.edges.is_crowded.Given as goal
 
 abbrev pub invariant-loop-node : goal.invariant-loop-node
 invariant-loop-node l =
-    list_any (is_overfull l.over) (edges_from l.tree l.node) ≡ list_any (is_overfull l.over) (tree_edges l.tree)
+    list_any (is_overfull l.over.table) (edges_from l.tree l.node) ≡ list_any (is_overfull l.over.table) (tree_edges l.tree)

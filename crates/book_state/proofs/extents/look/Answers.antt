@@ -31,5 +31,5 @@ returns-clause-crowded c =
       | else-meets w ↦
           let calm = c.meets.ensures capacity r.loads c.requires.crowds w.if-meets.false in
           w.extent-is ∙ w.if-meets.false ∙ calm-net capacity h r c.args.crowds.now.over x net c.requires.legal c.requires.stands c.requires.crowds.over seen.0 seen.1
-          (subst (λ (g : Shape). IsCalm g c.args.crowds.now.over x.window) c.requires.crowds.shape calm)
+          (subst (λ (g : Shape). IsCalm g c.args.crowds.now.over.table x.window) c.requires.crowds.shape calm)
     ]

@@ -1,6 +1,6 @@
 use Rattle.std.proofs.Common.{◌<◌, length, sym, ◌∙◌, arith}
 use Rattle.book_state.specs.Books.{is_victim}
-use Rattle.book_state.proofs.RangeSums.{filter-passes, filter-fails}
+use Rattle.grid_demand.proofs.RangeFilters.{filter-passes, filter-fails}
 use Rattle.book_state.proofs.extents.seen_victims.Goals as goal
 use Rattle.book_state.proofs.extents.seen_victims.Goals.{then-extents-net+in_ok-push, else-extents-net}
 

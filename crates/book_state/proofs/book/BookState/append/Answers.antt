@@ -35,6 +35,7 @@ invariant_of-self-2 c =
       extents =
           subst (λ (h : List Entry). AreExtents (arc_value s.capacity).shape h s.extents.items) (sym c.in_ok-push.ensures.ok)
           (extents-more (arc_value s.capacity).shape s.history c.args.entry s.extents.items c.self.invariant.extents);
+      over = tt;
     }
 
 pub returns-clause-legal : goal.returns-clause-legal

@@ -24,4 +24,5 @@ invariant_of-result c =
       extents =
           subst (λ (h : List Entry). AreExtents capacity.shape h extents) (sym c.new-2.ensures)
           (subst (λ (v : CapacityView). AreExtents v.shape [] extents) c.deref-2.ensures c.in_ok-extents.ensures.extents);
+      over = tt;
     }

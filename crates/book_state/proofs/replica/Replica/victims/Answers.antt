@@ -1,6 +1,6 @@
 use Rattle.std.proofs.Common.{◌∙◌, sym}
 use Rattle.book_state.specs.Books.{is_victim}
-use Rattle.book_state.proofs.RangeSums.{filter-passes, filter-fails}
+use Rattle.grid_demand.proofs.RangeFilters.{filter-passes, filter-fails}
 use Rattle.book_state.proofs.replica.Replica.victims.Goals as goal
 use Rattle.book_state.proofs.replica.Replica.victims.Goals.{then-is_victim+in_ok-push, else-is_victim}
 
