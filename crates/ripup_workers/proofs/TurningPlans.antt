@@ -34,29 +34,29 @@ use Rattle.round_core.specs.RunHistories.{Setting, one_worker}
 use Rattle.track_book.specs.Passes.{PassView, IsAnswered}
 use Rattle.ripup_workers.specs.Turning.{IsOver, HasTried, IsPlanFor, IsWindowOf, WasPlanned}
 
--- what an edge costs is told by how much it would be over its capacity, and by its marks
-cost-same : (formula : Formula) (s u : Site) → overflow_at s ≡ overflow_at u → s.marks ≡ u.marks → cost_at formula s ≡ cost_at formula u
-cost-same First s u over marks =
-    ap (λ (n : ℕ). min most_cost (1 + s.marks + 8 * n)) over ∙ ap (λ (n : ℕ). min most_cost (1 + n + 8 * overflow_at u)) marks
-cost-same Steep s u over marks =
-    ap (λ (n : ℕ). min most_cost (1 + s.marks + (8 + s.marks) * n)) over ∙ ap (λ (n : ℕ). min most_cost (1 + n + (8 + n) * overflow_at u)) marks
-cost-same Flat s u over marks = ap (λ (n : ℕ). min most_cost (1 + n)) over
-
--- and rises with the first
-least-most : (most a b : ℕ) → a ≤ b → min most a ≤ min most b
-least-most most a b below =
+-- the lesser of a bound and a number rises with the number
+least-rises : (most a b : ℕ) → a ≤ b → min most a ≤ min most b
+least-rises most a b below =
     let low = min-le_left most a in
     let other = min-le_right most a in
     le-min low (omega (arith, other, below))
 
+-- what an edge costs rises with what it would be over its capacity, at the same marks
 cost-rises : (formula : Formula) (s u : Site) → overflow_at s ≤ overflow_at u → s.marks ≡ u.marks → cost_at formula s ≤ cost_at formula u
 cost-rises First s u over marks =
-    least-most most_cost (1 + s.marks + 8 * overflow_at s) (1 + u.marks + 8 * overflow_at u) (omega (arith, over, marks))
+    least-rises most_cost (1 + s.marks + 8 * overflow_at s) (1 + u.marks + 8 * overflow_at u) (omega (arith, over, marks))
 cost-rises Steep s u over marks =
     let steeper : (8 + s.marks) * overflow_at s ≤ (8 + u.marks) * overflow_at u =
     subst (λ (n : ℕ). (8 + s.marks) * overflow_at s ≤ (8 + n) * overflow_at u) marks (mul-le-mul_left (8 + s.marks) over) in
-    least-most most_cost (1 + s.marks + (8 + s.marks) * overflow_at s) (1 + u.marks + (8 + u.marks) * overflow_at u) (omega (arith, steeper, marks))
-cost-rises Flat s u over marks = least-most most_cost (1 + overflow_at s) (1 + overflow_at u) (omega (arith, over))
+    least-rises most_cost (1 + s.marks + (8 + s.marks) * overflow_at s) (1 + u.marks + (8 + u.marks) * overflow_at u) (omega (arith, steeper, marks))
+cost-rises Flat s u over marks = least-rises most_cost (1 + overflow_at s) (1 + overflow_at u) (omega (arith, over))
+
+-- so it is told by that and the marks
+cost-same : (formula : Formula) (s u : Site) → overflow_at s ≡ overflow_at u → s.marks ≡ u.marks → cost_at formula s ≡ cost_at formula u
+cost-same formula s u over marks =
+    let up = cost-rises formula s u (omega (arith, over)) marks in
+    let down = cost-rises formula u s (omega (arith, over)) (sym marks) in
+    omega (arith, up, down)
 
 price-same : (c : CapacityView) (l m : LoadsView) (formula : Formula) (net : ℕ) (e : Edge) →
     (IsTrue (is_wire e) → (over_with c net e (demand_at l e) ≡ over_with c net e (demand_at m e)) × (marks_at l e ≡ marks_at m e)) → price_of c l formula net e ≡ price_of c m formula net e
