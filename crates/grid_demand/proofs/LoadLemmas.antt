@@ -1,11 +1,10 @@
 -- Loads as sums of tables.
-use Rattle.std.proofs.Common.{◌≡◌, ℕ, suc, zero, ◌+◌, ◌-◌, ◌*◌, ◌<◌, ◌≤◌, inl, inr, max, Bool, true, false, ◌||◌, nat_lt, List, [], ◌∷◌, map, filter, fold, zip, sum_by, length, get_or, replicate, All, slice_index, slice_index_or, IsTrue, refl, sym, ap, subst, ◌∙◌, arith}
+use Rattle.std.proofs.Common.{◌≡◌, ℕ, suc, zero, ◌+◌, ◌-◌, ◌*◌, ◌<◌, ◌≤◌, inl, inr, max, Bool, true, false, nat_lt, List, [], ◌∷◌, map, filter, fold, zip, sum_by, length, get_or, replicate, All, slice_index, slice_index_or, IsTrue, refl, sym, ap, subst, ◌∙◌, arith}
 use Rattle.std.proofs.lemmas.Bool.{cases_Bool, both_ways}
 use Rattle.std.proofs.lemmas.List.{length-replicate, get_or-replicate}
 use Rattle.std.proofs.lemmas.List.Elements.{All-head, All-tail, All-map, All-replicate}
 use Rattle.std.proofs.lemmas.List.FromFn.{get_or-map-range_with_len}
 use Rattle.std.proofs.lemmas.List.Sums.{sum_by-cons}
-use Rattle.std.specs.List.{list_any}
 use Rattle.gr_base.proofs.TreeEdges.{tree-grid_edges}
 use Rattle.gr_base.specs.Capacities.{capacity}
 use Rattle.gr_base.specs.Designs.{DesignView}
@@ -19,7 +18,7 @@ use Rattle.grid_demand.proofs.LoadSteps.{tree-edge}
 use Rattle.grid_demand.proofs.PlaneLemmas.{StandsAt, stands, length-by_number, by_number-zeros, each-number, sum-tables, most-tables, sum-planes, most-planes}
 use Rattle.grid_demand.proofs.WireLemmas.{table-at, table-is, table-self, length-table, length-wires, number-below, number-wire_at, wire-wire_at}
 use Rattle.gr_base.specs.Limits.{most_marks}
-use Rattle.grid_demand.specs.LoadSums.{LoadsView, no_loads, demand_at, marks_at, share, added, taken, mark_of, marked, marks_told, AreLoads}
+use Rattle.grid_demand.specs.LoadSums.{LoadsView, no_loads, demand_at, marks_at, share, added, taken, mark_of, marked, AreLoads}
 use Rattle.grid_demand.specs.Overfull.{OverfullView, AreOverfull}
 use Rattle.grid_demand.specs.Planes.{place_of, by_number}
 use Rattle.grid_demand.specs.Tables.{CapacityView, capacity_of, capacity_at, IsCapacity}
@@ -45,13 +44,13 @@ no-loads g = record {
   most = All-replicate (λ (marks : ℕ). marks ≤ most_marks) (2 * cells_of g) 0 (omega arith);
 }
 
-pub loads-new : (g : Shape) (demands marks : List ℕ) → demands ≡ replicate (2 * cells_of g) 0 → marks ≡ [] →
-    record { shape = g; demands = by_number 0 demands; marks = by_number 0 (marks_told (2 * cells_of g) marks) } ≡ no_loads g
+pub loads-new : (g : Shape) (demands marks : List ℕ) → demands ≡ replicate (2 * cells_of g) 0 → marks ≡ replicate (2 * cells_of g) 0 →
+    record { shape = g; demands = by_number 0 demands; marks = by_number 0 marks } ≡ no_loads g
 loads-new g demands marks zeros none =
     let L : List ℕ → List ℕ → LoadsView = λ xs ys. record { shape = g; demands = xs; marks = ys } in
     let same = by_number-zeros (2 * cells_of g) in
-    ap (λ (xs : List ℕ). L xs (by_number 0 (marks_told (2 * cells_of g) marks))) (ap (λ (xs : List ℕ). by_number 0 xs) zeros ∙ same)
-    ∙ ap (L (replicate (2 * cells_of g) 0)) (ap (λ (ys : List ℕ). by_number 0 (marks_told (2 * cells_of g) ys)) none ∙ same)
+    ap (λ (xs : List ℕ). L xs (by_number 0 marks)) (ap (λ (xs : List ℕ). by_number 0 xs) zeros ∙ same)
+    ∙ ap (L (replicate (2 * cells_of g) 0)) (ap (λ (ys : List ℕ). by_number 0 ys) none ∙ same)
 
 -- loads stay loads
 pub added-loads : (c : CapacityView) (net : ℕ) (t : TreeView) (l : LoadsView) → AreLoads l → IsTree t → t.shape ≡ l.shape → AreLoads (added c net t l)
@@ -112,24 +111,6 @@ marks-table c l new loads long each =
     let within : n < length l.marks = let h = loads.marks in omega (arith, h) in
     each n within
     ∙ ap (λ (k : ℕ). mark_of (slice_index l.demands k) (slice_index c.capacities k) (slice_index l.marks k)) (sym (number-wire_at n)))
-
--- where no demand is above its capacity, marks stay as they are
-neither : (a b : Bool) → (a || b) ≡ false → (a ≡ false) × (b ≡ false)
-neither true b is = absurd (both_ways true is refl)
-neither false b is = (refl, is)
-
-none-over : (demands capacities : List ℕ) → length capacities ≡ length demands → list_any (λ (p : ℕ × ℕ). nat_lt p.1 p.0) (zip demands capacities) ≡ false →
-    (n : ℕ) → n < length demands → nat_lt (slice_index capacities n) (slice_index demands n) ≡ false
-none-over [] capacities long none n below = absurd (omega arith)
-none-over (a ∷ others) [] long none n below = absurd (omega arith)
-none-over (a ∷ others) (b ∷ bs) long none zero below = (neither (nat_lt b a) (list_any (λ (p : ℕ × ℕ). nat_lt p.1 p.0) (zip others bs)) none).0
-none-over (a ∷ others) (b ∷ bs) long none (suc n) below =
-    none-over others bs (omega arith) (neither (nat_lt b a) (list_any (λ (p : ℕ × ℕ). nat_lt p.1 p.0) (zip others bs)) none).1 n (omega arith)
-
-pub none-marked : (demands capacities marks : List ℕ) → length capacities ≡ length demands →
-    list_any (λ (p : ℕ × ℕ). nat_lt p.1 p.0) (zip demands capacities) ≡ false → (n : ℕ) → n < length demands →
-    slice_index marks n ≡ mark_of (slice_index demands n) (slice_index capacities n) (slice_index marks n)
-none-marked demands capacities marks long none n below = rw (none-over demands capacities long none n below) refl
 
 -- items that count nothing may be left out
 sum-kept : (f : Edge → ℕ) (keep : Edge → Bool) (edges : List Edge) → All (λ e. keep e ≡ false → f e ≡ 0) edges → sum_by f edges ≡ sum_by f (filter keep edges)
@@ -196,9 +177,8 @@ pub capacities-long : (l : LoadsView) (c : CapacityView) (capacities : List ℕ)
 capacities-long l c capacities tables same is =
     sym (length-by_number 0 capacities) ∙ ap length is ∙ tables.wires ∙ ap (λ (g : Shape). 2 * cells_of g) same
 
-pub marks-long : (l : LoadsView) (marks : List ℕ) → AreLoads l → by_number 0 (marks_told (2 * cells_of l.shape) marks) ≡ l.marks →
-    length (marks_told (2 * cells_of l.shape) marks) ≡ 2 * cells_of l.shape
-marks-long l marks loads is = sym (length-by_number 0 (marks_told (2 * cells_of l.shape) marks)) ∙ ap length is ∙ loads.marks
+pub marks-long : (l : LoadsView) (marks : List ℕ) → AreLoads l → by_number 0 marks ≡ l.marks → length marks ≡ 2 * cells_of l.shape
+marks-long l marks loads is = sym (length-by_number 0 marks) ∙ ap length is ∙ loads.marks
 
 -- where a wire edge's demand stands
 pub demand-place : (l now : LoadsView) (demands : List ℕ) (wires : ℕ) (e : Edge) (place : ℕ) → AreLoads l → l ≡ now → by_number 0 demands ≡ l.demands →
@@ -208,22 +188,24 @@ demand-place l now demands wires e place loads same is edge all at =
     let long = demands-long l demands loads is in
     stands 0 demands wires (wire_number e) place (omega (arith, inside, long)) all at
 
--- what is read of a list that tells marks
-told-read : (wires : ℕ) (marks : List ℕ) (place : ℕ) → place < wires → slice_index marks place ≡ slice_index (marks_told wires marks) place
-told-read wires [] place below = sym (get_or-replicate wires place 0 0 below)
-told-read wires (mark ∷ marks) place below = refl
-
-pub mark-read : (l now : LoadsView) (demands marks : List ℕ) (wires : ℕ) (e : Edge) (place result : ℕ) → AreLoads l → l ≡ now → by_number 0 demands ≡ l.demands →
-    by_number 0 (marks_told (2 * cells_of l.shape) marks) ≡ l.marks → IsTrue (has_edge now.shape e) → wires ≡ length demands →
-    place ≡ place_of wires (wire_number e) → result ≡ slice_index marks place → result ≡ marks_at now e
-mark-read l now demands marks wires e place result loads same is told edge all at read =
-    let list : List ℕ = marks_told (2 * cells_of l.shape) marks in
+-- and its marks
+pub marks-place : (l now : LoadsView) (demands marks : List ℕ) (wires : ℕ) (e : Edge) (place : ℕ) → AreLoads l → l ≡ now → by_number 0 demands ≡ l.demands →
+    by_number 0 marks ≡ l.marks → IsTrue (has_edge now.shape e) → wires ≡ length demands → place ≡ place_of wires (wire_number e) →
+    StandsAt 0 marks (wire_number e) place
+marks-place l now demands marks wires e place loads same is also edge all at =
     let demand = demand-place l now demands wires e place loads same is edge all at in
     let long = demands-long l demands loads is in
-    let marks_all = marks-long l marks loads told in
-    let here = stands 0 list wires (wire_number e) place (let inside = demand.inside in omega (arith, inside, long, marks_all)) (all ∙ long ∙ sym marks_all) at in
-    read ∙ told-read (2 * cells_of l.shape) marks place (let below = demand.below in omega (arith, below, long)) ∙ here.value
-    ∙ ap (λ (xs : List ℕ). slice_index xs (wire_number e)) told ∙ ap (λ (v : LoadsView). marks_at v e) same
+    let marks_all = marks-long l marks loads also in
+    stands 0 marks wires (wire_number e) place (let inside = demand.inside in omega (arith, inside, long, marks_all)) (all ∙ long ∙ sym marks_all) at
+
+-- where no edge has a mark
+pub no-marks : (l now : LoadsView) (marks : List ℕ) (e : Edge) → l ≡ now → by_number 0 marks ≡ l.marks → marks ≡ replicate (2 * cells_of l.shape) 0 →
+    IsTrue (has_edge now.shape e) → marks_at now e ≡ 0
+no-marks l now marks e same is none edge =
+    let inside : wire_number e < 2 * cells_of l.shape = subst (λ (v : LoadsView). wire_number e < 2 * cells_of v.shape) (sym same) (number-below now.shape e edge) in
+    ap (λ (v : LoadsView). marks_at v e) (sym same)
+    ∙ ap (λ (xs : List ℕ). slice_index xs (wire_number e)) (sym is ∙ ap (λ (xs : List ℕ). by_number 0 xs) none ∙ by_number-zeros (2 * cells_of l.shape))
+    ∙ get_or-replicate (2 * cells_of l.shape) (wire_number e) 0 0 inside
 
 -- the loads after new demands
 pub added-whole : (c : CapacityView) (net : ℕ) (t : TreeView) (l : LoadsView) (new : List ℕ) → AreLoads l → IsTree t → t.shape ≡ l.shape →
@@ -249,32 +231,23 @@ marked-is c l demands capacities new loads same_demands same_capacities long eac
     each n below ∙ ap (λ (xs : List ℕ). mark_of (slice_index xs n) (slice_index capacities n) (slice_index l.marks n)) same_demands
     ∙ ap (λ (xs : List ℕ). mark_of (slice_index l.demands n) (slice_index xs n) (slice_index l.marks n)) same_capacities)
 
--- the loads after new marks that a list tells
-pub marked-told : (c : CapacityView) (l : LoadsView) (demands capacities old new : List ℕ) → AreLoads l → IsCapacity c → c.shape ≡ l.shape →
-    by_number 0 demands ≡ l.demands → by_number 0 capacities ≡ c.capacities →
-    l.marks ≡ by_number 0 (marks_told (2 * cells_of l.shape) old) → length (marks_told (length demands) new) ≡ length demands →
-    ((n : ℕ) → n < length demands →
-    slice_index (marks_told (length demands) new) n ≡ mark_of (slice_index demands n) (slice_index capacities n) (slice_index (marks_told (length demands) old) n)) →
-    by_number 0 (marks_told (2 * cells_of l.shape) new) ≡ (marked c l).marks
-marked-told c l demands capacities old new loads tables same same_demands same_capacities told long each =
+-- the same by place
+pub marked-planes : (c : CapacityView) (l : LoadsView) (demands capacities old new : List ℕ) → AreLoads l → IsCapacity c → c.shape ≡ l.shape →
+    by_number 0 demands ≡ l.demands → by_number 0 capacities ≡ c.capacities → by_number 0 old ≡ l.marks → length new ≡ length old →
+    ((n : ℕ) → n < length old → slice_index new n ≡ mark_of (slice_index demands n) (slice_index capacities n) (slice_index old n)) →
+    by_number 0 new ≡ (marked c l).marks
+marked-planes c l demands capacities old new loads tables same same_demands same_capacities same_marks long each =
     let wires = demands-long l demands loads same_demands in
     let limits = capacities-long l c capacities tables same same_capacities in
-    let P : ℕ → Type 0 = λ k. length (marks_told k new) ≡ k in
-    let Q : ℕ → Type 0 = λ k. (n : ℕ) → n < k →
-    slice_index (marks_told k new) n ≡ mark_of (slice_index demands n) (slice_index capacities n) (slice_index (marks_told k old) n) in
-    let before : List ℕ = marks_told (2 * cells_of l.shape) old in
-    let after : List ℕ = marks_told (2 * cells_of l.shape) new in
-    let whole : length after ≡ 2 * cells_of l.shape = subst P wires long in
-    let marks_long : length before ≡ 2 * cells_of l.shape = sym (length-by_number 0 before) ∙ sym (ap length told) ∙ loads.marks in
+    let marks = marks-long l old loads same_marks in
     let R : ℕ → ℕ → ℕ → ℕ → Type 0 = λ m d k o. m ≡ mark_of d k o in
-    let all : Q (2 * cells_of l.shape) = subst Q wires each in
-    let by = each-number R after demands capacities before (wires ∙ sym whole) (limits ∙ sym whole) (marks_long ∙ sym whole)
-    (λ n below. all n (omega (arith, below, whole))) in
-    marked-is c l (by_number 0 demands) (by_number 0 capacities) (by_number 0 after) loads same_demands same_capacities
-    (length-by_number 0 after ∙ whole ∙ sym loads.marks)
+    let by = each-number R new demands capacities old (wires ∙ sym (long ∙ marks)) (limits ∙ sym (long ∙ marks)) (sym long)
+    (λ n below. each n (omega (arith, below, long))) in
+    marked-is c l (by_number 0 demands) (by_number 0 capacities) (by_number 0 new) loads same_demands same_capacities
+    (length-by_number 0 new ∙ long ∙ marks ∙ sym loads.marks)
     (λ n below.
-    let within : n < length after = let h = loads.marks in omega (arith, h, below, whole) in
-    by n within ∙ ap (λ (xs : List ℕ). mark_of (slice_index (by_number 0 demands) n) (slice_index (by_number 0 capacities) n) (slice_index xs n)) (sym told))
+    let within : n < length new = let h = loads.marks in omega (arith, h, below, long, marks) in
+    by n within ∙ ap (λ (xs : List ℕ). mark_of (slice_index (by_number 0 demands) n) (slice_index (by_number 0 capacities) n) (slice_index xs n)) same_marks)
 
 pub marked-whole : (c : CapacityView) (l : LoadsView) (new : List ℕ) → AreLoads l → new ≡ (marked c l).marks → AreLoads (record { shape = l.shape; demands = l.demands; marks = new })
 marked-whole c l new loads is =

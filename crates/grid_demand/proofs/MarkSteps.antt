@@ -1,17 +1,18 @@
 -- Marks that are added at listed places.
-use Rattle.std.proofs.Common.{◌≡◌, ℕ, ◌+◌, ◌*◌, ◌<◌, inl, inr, min, Bool, true, false, ◌||◌, ◌==◌, nat_lt, List, [], ◌∷◌, take, get_or, length, slice_index, slice_set, refl, sym, ap, subst, ◌∙◌, arith}
+use Rattle.std.proofs.Common.{◌≡◌, ℕ, ◌+◌, ◌*◌, ◌<◌, inl, inr, min, Bool, true, false, ◌||◌, ◌==◌, nat_lt, List, [], ◌∷◌, take, get_or, length, slice_index, slice_set, refl, sym, ap, ◌∙◌, arith}
 use Rattle.std.specs.List.Sorted.{IsStrictlyIncreasing}
 use Rattle.std.proofs.lemmas.Bool.{cases_Bool, cases_eq}
 use Rattle.std.proofs.lemmas.Bool.Decides.{nat_tests}
 use Rattle.std.proofs.lemmas.List.{take_more, get_or-set_same, get_or-set_other, get_or-take, get_or_default, length-take}
 use Rattle.std.proofs.lemmas.List.Folds.{list_any-append, Any-from_list_any}
+use Rattle.std.proofs.lemmas.Grind.{same_number_lists}
 use Rattle.std.proofs.lemmas.List.Kept.{AllPairs-from_increasing}
 use Rattle.gr_base.specs.Grid.{cells_of}
 use Rattle.gr_base.specs.Limits.{most_marks}
-use Rattle.grid_demand.proofs.LoadLemmas.{marks-table}
+use Rattle.grid_demand.proofs.LoadLemmas.{marks-table, marks-long}
 use Rattle.grid_demand.proofs.PlaneLemmas.{place-below, length-by_number, by_number-at}
 use Rattle.grid_demand.proofs.ToldEdges.{told-number}
-use Rattle.grid_demand.specs.LoadSums.{LoadsView, AreLoads, mark_where, mark_of, marked, marks_told}
+use Rattle.grid_demand.specs.LoadSums.{LoadsView, AreLoads, mark_where, mark_of, marked}
 use Rattle.grid_demand.specs.Overfull.{OverfullView, AreOverfull, has_number, told_places}
 use Rattle.grid_demand.specs.Planes.{place_of, by_number}
 use Rattle.grid_demand.specs.Tables.{CapacityView}
@@ -62,29 +63,30 @@ marks-more places marks old at new rising inside below each known is n within =
     ]
 
 -- the marks once all places are marked of which a table of loads says that they are over
-pub overfull-marked : (c : CapacityView) (l : LoadsView) (wires : ℕ) (old new places : List ℕ) (over : OverfullView) → AreLoads l → AreOverfull c l over →
-    wires ≡ 2 * cells_of l.shape → l.marks ≡ by_number 0 (marks_told (2 * cells_of l.shape) old) → places ≡ told_places over.table →
-    length (marks_told wires new) ≡ wires →
-    ((n : ℕ) → n < wires → slice_index (marks_told wires new) n ≡ mark_where (has_number places n) (slice_index (marks_told wires old) n)) →
-    by_number 0 (marks_told (2 * cells_of l.shape) new) ≡ (marked c l).marks
-overfull-marked c l wires old new places over loads is_over all told listed long each =
+pub overfull-marked : (c : CapacityView) (l : LoadsView) (old new places : List ℕ) (over : OverfullView) → AreLoads l → AreOverfull c l over →
+    by_number 0 old ≡ l.marks → places ≡ told_places over.table → length new ≡ length old →
+    ((n : ℕ) → n < length old → slice_index new n ≡ mark_where (has_number places n) (slice_index old n)) →
+    by_number 0 new ≡ (marked c l).marks
+overfull-marked c l old new places over loads is_over same listed long each =
     let cells : ℕ = cells_of l.shape in
-    let before : List ℕ = marks_told (2 * cells) old in
-    let after : List ℕ = marks_told (2 * cells) new in
-    let Q : ℕ → Type 0 = λ k. (n : ℕ) → n < k → slice_index (marks_told k new) n ≡ mark_where (has_number places n) (slice_index (marks_told k old) n) in
-    let by : Q (2 * cells) = subst Q all each in
-    let whole : length after ≡ 2 * cells = subst (λ (k : ℕ). length (marks_told k new) ≡ k) all long in
-    let marks_long : length before ≡ 2 * cells = sym (length-by_number 0 before) ∙ sym (ap length told) ∙ loads.marks in
-    marks-table c l (by_number 0 after) loads (length-by_number 0 after ∙ whole ∙ sym loads.marks)
+    let marks : length old ≡ 2 * cells = marks-long l old loads same in
+    let whole : length new ≡ 2 * cells = long ∙ marks in
+    marks-table c l (by_number 0 new) loads (length-by_number 0 new ∙ whole ∙ sym loads.marks)
     (λ n below.
-    let inside : n < 2 * cells = let marks = loads.marks in omega (arith, below, marks) in
+    let inside : n < 2 * cells = let h = loads.marks in omega (arith, below, h) in
     let p : ℕ = place_of (2 * cells) n in
-    let there : p < 2 * cells = place-below (2 * cells) n inside in
+    let there : p < length old = let place = place-below (2 * cells) n inside in omega (arith, place, marks) in
     let is : has_number places p ≡ nat_lt (slice_index c.capacities n) (slice_index l.demands n) =
     ap (λ (xs : List ℕ). has_number xs p) listed ∙ told-number over.table cells n is_over.long inside ∙ is_over.each n inside in
-    let had : slice_index before p ≡ slice_index l.marks n =
-    ap (λ (k : ℕ). slice_index before (place_of k n)) (sym marks_long) ∙ sym (by_number-at 0 before n (omega (arith, inside, marks_long)))
-    ∙ ap (λ (xs : List ℕ). slice_index xs n) (sym told) in
-    by_number-at 0 after n (omega (arith, inside, whole)) ∙ ap (λ (k : ℕ). slice_index after (place_of k n)) whole ∙ by p there
-    ∙ ap (λ (b : Bool). mark_where b (slice_index before p)) is
+    let had : slice_index old p ≡ slice_index l.marks n =
+    ap (λ (k : ℕ). slice_index old (place_of k n)) (sym marks) ∙ sym (by_number-at 0 old n (omega (arith, inside, marks)))
+    ∙ ap (λ (xs : List ℕ). slice_index xs n) same in
+    by_number-at 0 new n (omega (arith, inside, whole)) ∙ ap (λ (k : ℕ). slice_index new (place_of k n)) whole ∙ each p there
+    ∙ ap (λ (b : Bool). mark_where b (slice_index old p)) is
     ∙ ap (λ (k : ℕ). mark_of (slice_index l.demands n) (slice_index c.capacities n) k) had)
+
+-- no place to mark changes no mark
+pub nowhere-marked : (places old new : List ℕ) → length places ≡ 0 → length new ≡ length old →
+    ((n : ℕ) → n < length old → slice_index new n ≡ mark_where (has_number places n) (slice_index old n)) → new ≡ old
+nowhere-marked [] old new empty long each = same_number_lists new old long (λ n below. each n (omega (arith, below, long)))
+nowhere-marked (place ∷ places) old new empty long each = absurd (omega (arith, empty))

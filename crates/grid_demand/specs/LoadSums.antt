@@ -1,5 +1,5 @@
 -- The loads of a grid, and what becomes of them.
-use Rattle.std.specs.Prelude.{◌≡◌, ℕ, ◌+◌, ◌-◌, ◌*◌, ◌^◌, ◌<◌, ◌≤◌, min, Bool, false, nat_lt, List, [], ◌∷◌, All, length, map, replicate, slice_index, if◌then◌else◌, IsTrue}
+use Rattle.std.specs.Prelude.{◌≡◌, ℕ, ◌+◌, ◌-◌, ◌*◌, ◌^◌, ◌<◌, ◌≤◌, min, Bool, false, nat_lt, List, All, length, map, replicate, slice_index, if◌then◌else◌, IsTrue}
 use Rattle.gr_base.specs.EdgeSets.{is_edge}
 use Rattle.gr_base.specs.Grid.{cells_of, has_edge, is_wire}
 use Rattle.gr_base.specs.Sums.{wire_at, wire_number, wires_from_cells}
@@ -26,11 +26,6 @@ marks_at l e = slice_index l.marks (wire_number e)
 -- no demand and no marks
 abbrev pub no_loads : Shape → LoadsView
 no_loads g = record { shape = g; demands = replicate (2 * cells_of g) 0; marks = replicate (2 * cells_of g) 0 }
-
--- the marks of so many wire edges that a list tells, where an empty one tells that there are none
-abbrev pub marks_told : ℕ → List ℕ → List ℕ
-marks_told wires [] = replicate wires 0
-marks_told wires (marks ∷ others) = marks ∷ others
 
 -- what a net takes of an edge by a tree
 abbrev pub share : CapacityView → ℕ → TreeView → Edge → ℕ

@@ -1,8 +1,6 @@
 //! The loads of a grid: the demand for each wire edge, and its marks.
-ghost use Rattle.std.specs.Prelude.{◌≡◌, ℕ, ◌+◌, ◌-◌, ◌*◌, ◌^◌, ◌<◌, ◌≤◌, length, map, fold, max, zip, sum_by, slice_index, nat_lt, true, All, IfOk, IsTrue};
-ghost use Rattle.std.specs.List.{list_any};
+ghost use Rattle.std.specs.Prelude.{◌≡◌, ℕ, ◌+◌, ◌-◌, ◌*◌, ◌^◌, ◌<◌, ◌≤◌, length, map, fold, max, zip, sum_by, slice_index, true, false, All, IfOk, IsTrue};
 ghost use Rattle.std.specs.List.Sorted.{IsStrictlyIncreasing};
-ghost use Rattle.std.specs.Vec.{vec_capacity};
 ghost use Rattle.gr_base.specs.Capacities.{capacity as capacity_in};
 ghost use Rattle.gr_base.specs.Designs.{DesignView};
 ghost use Rattle.gr_base.specs.Grid.{cells_of, has_edge, is_wire};
@@ -11,7 +9,7 @@ ghost use Rattle.gr_base.specs.Limits.{most_marks, most_width};
 ghost use Rattle.gr_base.specs.Trees.{IsTree, edges_of};
 ghost use Rattle.grid_demand.specs.Planes.{by_number, in_planes};
 ghost use Rattle.grid_demand.specs.Tables.{capacity_of, capacity_at, need_at};
-ghost use Rattle.grid_demand.specs.LoadSums.{no_loads, demand_at, marks_at, share, charged, added, taken, marked, mark_of, mark_where, HasRoom, HasShare, AreLoads, Fits, changed_by, marks_told};
+ghost use Rattle.grid_demand.specs.LoadSums.{no_loads, demand_at, marks_at, share, charged, added, taken, marked, mark_of, mark_where, HasRoom, HasShare, AreLoads, Fits, changed_by};
 ghost use Rattle.grid_demand.specs.Overfull.{AreOverfull, has_number};
 
 use crate::capacity::Capacity;
@@ -24,13 +22,13 @@ use std::marker::Model;
 /// The demand for each wire edge of a grid, in units of width, and the marks of each: how often it
 /// was over its capacity when the loads were marked.
 ///
-/// Both lists go by the places of wire edges. That of marks is empty until an edge gets its first
-/// mark. Its memory is taken before, so that `mark` needs none, and isn't touched until then.
+/// Both lists go by the places of wire edges. That of marks isn't read before an edge has a mark.
 #[derive(Debug, Drop)]
 pub struct Loads {
     shape: Shape,
     demands: Vec<u64>,
     marks: Vec<u32>,
+    marked: bool,
 }
 
 impl Loads {
@@ -43,7 +41,8 @@ impl Loads {
         Ok(Loads {
             shape,
             demands: vec![in alloc; 0; wires]?,
-            marks: Vec::with_capacity(alloc, wires)?,
+            marks: vec![in alloc; 0; wires]?,
+            marked: false,
         })
     }
 
@@ -67,10 +66,10 @@ impl Loads {
         ensures most { result ≤ most_marks }
         ensures loads { AreLoads self.now }
     {
-        self.marks
-            .get(place(e, self.demands.len()))
-            .copied()
-            .unwrap_or(0)
+        if !self.marked {
+            return 0;
+        }
+        self.marks[place(e, self.demands.len())]
     }
 
     /// Puts one wire edge of a net in: the edge gains the net's need.
@@ -118,7 +117,8 @@ impl Loads {
         ensures loads { self.new ≡ marked capacity.now self.old }
         ensures whole { AreLoads self.new }
     {
-        mark_edges(&mut self.marks, &self.demands, capacity.table());
+        let any = mark_over(&mut self.marks, &self.demands, capacity.table());
+        self.marked = self.marked || any;
     }
 
     /// The same, where the edges are told whose demand is above their capacity: it touches these alone.
@@ -127,7 +127,9 @@ impl Loads {
         ensures loads { self.new ≡ marked capacity.now self.old }
         ensures whole { AreLoads self.new }
     {
-        mark_told(&mut self.marks, self.demands.len(), over.places());
+        let places = over.places();
+        mark_places(&mut self.marks, places);
+        self.marked = self.marked || !places.is_empty();
     }
 
     /// The demand for each wire edge, by place.
@@ -216,60 +218,24 @@ fn changed(change: Change, demand: u64, need: u64) -> u64
     }
 }
 
-/// Adds a mark where the demand is above the capacity, up to the most marks. The list of marks may
-/// be empty before, which stands for no marks, and stays so where no demand is above its capacity.
-fn mark_edges(marks: &mut Vec<u32>, demands: &[u64], capacities: &[u32])
-    requires capacities { length capacities.now ≡ length demands.now }
-    requires whole { length (marks_told (length demands.now) marks.old.items) ≡ length demands.now }
-    requires room { length demands.now ≤ vec_capacity marks.old }
-    ensures long { length (marks_told (length demands.now) marks.new.items) ≡ length demands.now }
-    ensures each { (n : ℕ) → n < length demands.now → slice_index (marks_told (length demands.now) marks.new.items) n
-        ≡ mark_of (slice_index demands.now n) (slice_index capacities.now n) (slice_index (marks_told (length demands.now) marks.old.items) n) }
-    ensures room { length demands.now ≤ vec_capacity marks.new }
-{
-    if marks.is_empty() && !is_any_over(demands, capacities) {
-        return;
-    }
-    fill_up(marks, demands.len());
-    mark_over(marks, demands, capacities);
-}
-
-/// Whether a demand is above its capacity.
-fn is_any_over(demands: &[u64], capacities: &[u32]) -> bool
-    ensures { result ≡ list_any (λ (p : ℕ × ℕ). nat_lt p.1 p.0) (zip demands.now capacities.now) }
-{
-    demands
-        .iter()
-        .zip(capacities)
-        .any(|(demand, capacity)| *demand > u64::from(*capacity))
-}
-
-/// Fills an empty list of marks with zeros up to a length that it has room for.
-fn fill_up(marks: &mut Vec<u32>, wires: usize)
-    requires whole { length (marks_told wires marks.old.items) ≡ wires }
-    requires room { wires ≤ vec_capacity marks.old }
-    ensures marks { marks.new.items ≡ marks_told wires marks.old.items }
-    ensures room { wires ≤ vec_capacity marks.new }
-{
-    let Ok(()) = marks.resize(wires, 0) else {
-        unreachable!()
-    };
-}
-
-/// Adds a mark where the demand is above the capacity, up to the most marks.
-fn mark_over(marks: &mut Vec<u32>, demands: &[u64], capacities: &[u32])
+/// Adds a mark where the demand is above the capacity, up to the most marks. It answers whether there
+/// is such a place.
+fn mark_over(marks: &mut Vec<u32>, demands: &[u64], capacities: &[u32]) -> bool
     requires demands { length demands.now ≡ length marks.old.items }
     requires capacities { length capacities.now ≡ length marks.old.items }
     ensures long { length marks.new.items ≡ length marks.old.items }
-    ensures room { vec_capacity marks.new ≡ vec_capacity marks.old }
     ensures each { (n : ℕ) → n < length marks.old.items → slice_index marks.new.items n
         ≡ mark_of (slice_index demands.now n) (slice_index capacities.now n) (slice_index marks.old.items n) }
+    ensures none { result ≡ false → marks.new.items ≡ marks.old.items }
 {
+    let mut any = false;
     for at in 0..marks.len() {
         if demands[at] > u64::from(capacities[at]) {
             marks[at] = with_mark(marks[at]);
+            any = true;
         }
     }
+    any
 }
 
 /// One mark more, up to the most marks.
@@ -279,31 +245,11 @@ fn with_mark(marks: u32) -> u32
     MOST_MARKS.min(marks.saturating_add(1))
 }
 
-/// Adds a mark at each of some places, up to the most marks. The list of marks may be empty before,
-/// which stands for no marks, and stays so where there is no place.
-fn mark_told(marks: &mut Vec<u32>, wires: usize, places: &[u32])
-    requires whole { length (marks_told wires marks.old.items) ≡ wires }
-    requires room { wires ≤ vec_capacity marks.old }
-    requires inside { All (λ place. place < wires) places.now }
-    requires rising { IsStrictlyIncreasing places.now }
-    ensures long { length (marks_told wires marks.new.items) ≡ wires }
-    ensures each { (n : ℕ) → n < wires → slice_index (marks_told wires marks.new.items) n
-        ≡ mark_where (has_number places.now n) (slice_index (marks_told wires marks.old.items) n) }
-    ensures room { wires ≤ vec_capacity marks.new }
-{
-    if places.is_empty() {
-        return;
-    }
-    fill_up(marks, wires);
-    mark_places(marks, places);
-}
-
 /// Adds a mark at each of some places, up to the most marks.
 fn mark_places(marks: &mut Vec<u32>, places: &[u32])
     requires inside { All (λ place. place < length marks.old.items) places.now }
     requires rising { IsStrictlyIncreasing places.now }
     ensures long { length marks.new.items ≡ length marks.old.items }
-    ensures room { vec_capacity marks.new ≡ vec_capacity marks.old }
     ensures each { (n : ℕ) → n < length marks.old.items → slice_index marks.new.items n
         ≡ mark_where (has_number places.now n) (slice_index marks.old.items n) }
 {

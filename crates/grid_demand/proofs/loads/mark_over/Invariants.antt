@@ -1,4 +1,4 @@
-use Rattle.std.proofs.Common.{◌≡◌, ℕ, ◌<◌, ◌≤◌, length, slice_index}
+use Rattle.std.proofs.Common.{◌≡◌, ℕ, ◌<◌, ◌≤◌, false, length, slice_index}
 use Rattle.grid_demand.specs.LoadSums.{mark_of}
 use Rattle.grid_demand.proofs.loads.mark_over.Given as goal
 
@@ -7,4 +7,5 @@ invariant-loop-at l = record {
   long : length l.marks.items ≡ length l.fn.marks.items;
   done : (n : ℕ) → n < l.at → slice_index l.marks.items n ≡ mark_of (slice_index l.demands n) (slice_index l.capacities n) (slice_index l.fn.marks.items n);
   rest : (n : ℕ) → l.at ≤ n → slice_index l.marks.items n ≡ slice_index l.fn.marks.items n;
+  none : l.any ≡ false → l.marks.items ≡ l.fn.marks.items;
 }

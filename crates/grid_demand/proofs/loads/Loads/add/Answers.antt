@@ -17,7 +17,7 @@ invariant_of-self c = record {
   loads =
       added-whole c.args.capacity.now c.args.net c.args.tree.now (seen c.self.inside) (by_number 0 c.change_along.new.demands.items) c.self.invariant.loads c.change_along.ensures.tree
       (c.requires.tree ∙ sym (ap (λ (l : LoadsView). l.shape) c.self.view_is)) c.change_along.ensures.demands;
-  room = c.self.invariant.room;
+  unmarked = c.self.invariant.unmarked;
 }
 
 pub returns-clause-whole : goal.returns-clause-whole

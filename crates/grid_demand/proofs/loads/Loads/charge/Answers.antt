@@ -40,7 +40,7 @@ pub invariant_of-self : goal.invariant_of-self
 invariant_of-self c = record {
   loads =
       charge-whole c.args.capacity.now c.args.net c.args.e (seen c.self.inside) c.args.self.now _ c.self.invariant.loads c.self.view_is c.requires.edge c.requires.wire (sum c);
-  room = c.self.invariant.room;
+  unmarked = c.self.invariant.unmarked;
 }
 
 pub returns-clause-loads : goal.returns-clause-loads
