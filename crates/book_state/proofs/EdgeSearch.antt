@@ -13,9 +13,7 @@ use Rattle.grid_demand.specs.Tables.{CapacityView}
 use Rattle.gr_base.specs.ParentEdges.{wire_only, wire_to_parent}
 use Rattle.gr_base.specs.Sums.{wire_number}
 use Rattle.book_state.specs.Books.{is_full}
-use Rattle.maze_route.specs.declared.window.Window.{Window}
 use Rattle.book_state.specs.Crowds.{is_overfull}
-use Rattle.book_state.specs.Still.{matters}
 
 -- the edges to their parents of a tree's nodes from one on
 abbrev pub edges_from : TreeView → ℕ → List Edge
@@ -66,10 +64,6 @@ PassWires p = (e : Edge) → is_wire e ≡ false → p e ≡ false
 
 pub full-wires : (c : CapacityView) (demands : Edge → ℕ) (net slack : ℕ) → PassWires (is_full c demands net slack)
 full-wires c demands net slack e via = rw via refl
-
-pub matter-wires : (c : CapacityView) (w : Window) (t : TreeView) (demands : Edge → ℕ) (net : ℕ) (beside : Option ℕ) → PassWires (matters c w t demands net beside)
-matter-wires c w t demands net None e via = rw via refl
-matter-wires c w t demands net (Some other) e via = rw via refl
 
 pub table-wires : (over : List Bool) → PassWires (is_overfull over)
 table-wires over e via = rw via refl

@@ -11,6 +11,7 @@ pub mod Replies
 pub mod LeastMarks
 pub mod RouteCopies
 pub mod BookingLaws
+pub mod TouchSteps
 pub mod StillSteps
 pub mod LiftSteps
 pub mod CrowdTables

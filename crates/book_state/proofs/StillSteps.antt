@@ -1,13 +1,11 @@
 -- Entries that leave a net's plan the best in a window.
-use Rattle.std.proofs.Common.{◌≡◌, ℕ, ◌+◌, ◌<◌, ◌≤◌, inl, inr, Bool, true, false, not, ◌&&◌, nat_lt, List, [], ◌∷◌, ◌++◌, length, take, Option, Some, None, slice_get, IsTrue, refl, sym, ap, subst, ◌∙◌, arith}
-use Rattle.std.proofs.lemmas.Bool.{cases_Bool, both_ways, or_parts, or_cases}
+use Rattle.std.proofs.Common.{◌≡◌, ℕ, ◌+◌, ◌<◌, ◌≤◌, inl, inr, Bool, true, false, ◌&&◌, nat_lt, List, [], ◌∷◌, ◌++◌, length, take, All, Option, Some, None, slice_get, slice_index_or, Result, Ok, Err, IsTrue, refl, sym, ap, subst, ◌∙◌, arith}
+use Rattle.std.proofs.lemmas.Bool.{cases_Bool, both_ways}
 use Rattle.std.proofs.lemmas.Bool.Decides.{nat_tests}
-use Rattle.std.specs.List.{list_any}
-use Rattle.gr_base.proofs.TreeDistinct.{is_edge-same}
+use Rattle.std.specs.Result.{is_ok, OnOk}
 use Rattle.gr_base.proofs.TreeEdges.{tree-grid_edges}
-use Rattle.gr_base.specs.EdgeSets.{is_edge}
 use Rattle.gr_base.specs.Grid.{has_edge, is_wire}
-use Rattle.gr_base.specs.Trees.{TreeView, IsTree, edges_of, tree_edges}
+use Rattle.gr_base.specs.Trees.{TreeView, IsTree, edges_of}
 use Rattle.gr_base.specs.declared.grid.Edge.{Edge}
 use Rattle.gr_base.specs.declared.grid.Shape.{Shape}
 use Rattle.grid_demand.proofs.LoadSteps.{tree-edge}
@@ -20,36 +18,20 @@ use Rattle.book_state.proofs.ReplicaSteps.{take-entry, claimed-free, booked-clai
 use Rattle.book_state.specs.Books.{nets_of, booked, share_of, demand, AreLoadsOf, IsCall, IsLegal, IsIdle}
 use Rattle.book_state.specs.Entries.{is_mark, is_mark_call}
 use Rattle.book_state.specs.Replicas.{IsClaimed, IsReleased}
-use Rattle.book_state.specs.Still.{StaysBest, IsWireIn, over_with, joins_cells, need_of, lacks_room, matters}
+use Rattle.book_state.proofs.TouchSteps.{notes-none, touches-then}
+use Rattle.book_state.specs.Still.{StaysBest, IsWireIn, over_with, need_of, lacks_room}
+use Rattle.book_state.specs.Touches.{is_noted, IsTouch, AddsTouches, AreTouches}
 use Rattle.book_state.specs.declared.entry.Call.{Call}
 use Rattle.book_state.specs.declared.entry.Call.TheVariants.{Claim as Claims, Release, Mark}
 use Rattle.book_state.specs.declared.entry.Claim.{Claim}
 use Rattle.book_state.specs.declared.entry.Entry.{Entry}
+use Rattle.book_state.specs.declared.touches.Touch.{Touch}
 
--- an edge among others of which none passes a test doesn't pass it
-none-passes : (p : Edge → Bool) (edges : List Edge) (x : Edge) → list_any p edges ≡ false → list_any (is_edge x) edges ≡ true → p x ≡ false
-none-passes p [] x none there = absurd (both_ways false refl there)
-none-passes p (e ∷ rest) x none there =
-    let parts = or_parts (p e) (list_any p rest) none in
-    elim (or_cases (is_edge x e) (list_any (is_edge x) rest) there) [
-      | inl same ↦ ap p (is_edge-same x e same) ∙ parts.0
-      | inr later ↦ none-passes p rest x parts.1 later
-    ]
-
--- the last of three tests fails where the others pass
+-- the last of three tests fails where the whole fails and the others pass
 last-fails : (a b t : Bool) → a ≡ true → b ≡ true → (a && (b && t)) ≡ false → t ≡ false
 last-fails true true t first second none = none
 last-fails true false t first second none = absurd (both_ways false refl second)
 last-fails false b t first second none = absurd (both_ways false refl first)
-
-pub not-so : (b : Bool) → IsTrue (not b) → b ≡ false
-not-so true so = absurd (both_ways false refl so)
-not-so false so = refl
-
--- of two tests that aren't passed together one fails where the other passes
-first-fails : (a b : Bool) → (a && b) ≡ false → b ≡ true → a ≡ false
-first-fails true b none second = absurd (both_ways false refl (sym none ∙ second))
-first-fails false b none second = refl
 
 -- a wire edge in the window that doesn't lack room has room
 room-in : (c : CapacityView) (w : Window) (l : LoadsView) (h : List Entry) (net : ℕ) (beside : Option ℕ) (x : Edge) → AreLoadsOf c h l → IsTrue (has_edge c.shape x) →
@@ -76,15 +58,6 @@ still-then c net w t h k l one two = record {
   marks = λ e is_in. two.marks e is_in ∙ one.marks e is_in;
 }
 
--- the first part of a history with one entry more
-still-next : (c : CapacityView) (net : ℕ) (w : Window) (t : TreeView) (h : List Entry) (place : ℕ) (e : Entry) → slice_get h place ≡ Some e → StaysBest c net w t (take place h) (take place h ++ e ∷ []) →
-    StaysBest c net w t (take place h) (take (place + 1) h)
-still-next c net w t h place e there still = subst (λ (k : List Entry). StaysBest c net w t (take place h) k) (sym (take-entry h place e there)) still
-
--- a demand that grows leaves no more room
-over-more : (c : CapacityView) (net : ℕ) (x : Edge) (less more added : ℕ) → more ≡ less + added → over_with c net x less ≤ over_with c net x more
-over-more c net x less more added grown = omega (arith, grown)
-
 -- a demand that grows or shrinks by what a tree takes, where there is room for that and for the net
 over-share : (c : CapacityView) (net other : ℕ) (t : TreeView) (x : Edge) (less more : ℕ) → more ≡ less + share c other t x →
     (edges_of t x ≡ true → less + need_at c other x + need_at c net x ≤ capacity_at c x) → over_with c net x more ≡ over_with c net x less
@@ -108,31 +81,57 @@ grown-by c h k other t x within others before after =
     let all : share_of c other (booked k other) x ≡ share c other t x = ap (λ (o : Option TreeView). share_of c other o x) after in
     omega (arith, change, nothing, all)
 
-pub still-claim : (c : CapacityView) (net : ℕ) (w : Window) (t : TreeView) (h : List Entry) (place : ℕ) (claim : Claim) (l : LoadsView) → IsLegal c h → IsClaimed h place claim → AreLoadsOf c (take place h) l →
-    (claim.net ≡ net → ⊥) → IsTree claim.tree → list_any (matters c w t (demand_at l) net (Some claim.net)) (tree_edges claim.tree) ≡ false → StaysBest c net w t (take place h) (take (place + 1) h)
-still-claim c net w t h place claim l legal is of apart tree none =
+-- what holds where there is a value holds
+pub ok-holds : {T E : Type 0} (r : Result T E) (P : Type 0) → IsTrue (is_ok r) → OnOk r P → P
+ok-holds (Ok x) P ok holds = holds
+ok-holds (Err e) P ok holds = absurd (both_ways false refl ok)
+
+-- an edge that isn't noted doesn't lack room, where each that lacks it is noted
+lacks-not : (c : CapacityView) (w : Window) (l : LoadsView) (net : ℕ) (beside : Option ℕ) (touches : List Touch) (x : Edge) → (IsTrue (lacks_room c w (demand_at l) net beside x) → IsTrue (is_noted touches x)) →
+    is_noted touches x ≡ false → lacks_room c w (demand_at l) net beside x ≡ false
+lacks-not c w l net beside touches x noted unnoted = elim (cases_Bool (lacks_room c w (demand_at l) net beside x)) [
+  | inl lack ↦ absurd (both_ways (is_noted touches x) unnoted (noted lack))
+  | inr room ↦ room
+]
+
+-- what is noted with the demands of loads is noted with those of the history
+adds-of : (c : CapacityView) (w : Window) (l : LoadsView) (h : List Entry) (old new : List Touch) → AreLoadsOf c h l → AddsTouches c w (demand_at l) old new → AddsTouches c w (demand c h) old new
+adds-of c w l h old new of adds =
+    record { added = adds.added; new_is = adds.new_is; each = adds.each; told = told adds.added adds.each adds.told; fresh = adds.fresh }
+  where
+    told : (ts : List Touch) → All (IsTouch c w) ts → All (λ (t : Touch). t.demand ≡ demand_at l t.edge) ts → All (λ (t : Touch). t.demand ≡ demand c h t.edge) ts
+    told ts each are = λ k d below.
+        let t = slice_index_or ts k d in
+        are k d below ∙ of.demand t.edge (each k d below).edge (each k d below).is_in.wire
+
+-- one entry more, where the edges that aren't noted have room
+pub noted-claim : (c : CapacityView) (net : ℕ) (w : Window) (first h : List Entry) (place : ℕ) (claim : Claim) (l : LoadsView) (old new : List Touch) → IsLegal c h → IsClaimed h place claim →
+    AreLoadsOf c (take place h) l → (claim.net ≡ net → ⊥) → IsTree claim.tree → AddsTouches c w (demand_at l) old new →
+    ((e : Edge) → IsTrue (lacks_room c w (demand_at l) net (Some claim.net) e) → IsTrue (edges_of claim.tree e) → IsTrue (is_noted new e)) →
+    AreTouches c net w first (take place h) old → AreTouches c net w first (take (place + 1) h) new
+noted-claim c net w first h place claim l old new legal is of apart tree adds noted are =
     let before = take place h in
     let e = is.e in
+    let after = before ++ e ∷ [] in
     let right = legal.right place e is.there in
     let in_range = subst (λ (k : Call). IsCall c (length before) k) is.call right.call in
-    let others : (other : ℕ) → (other ≡ claim.net → ⊥) → booked (before ++ e ∷ []) other ≡ booked before other =
+    let others : (other : ℕ) → (other ≡ claim.net → ⊥) → booked after other ≡ booked before other =
     λ other apart. booked-claim_other before e claim other is.call is.reply apart in
-    let grown : (x : Edge) → demand c (before ++ e ∷ []) x ≡ demand c before x + share c claim.net claim.tree x =
-    λ x. grown-by c before (before ++ e ∷ []) claim.net claim.tree x in_range.net others
+    let grown : (x : Edge) → demand c after x ≡ demand c before x + share c claim.net claim.tree x =
+    λ x. grown-by c before after claim.net claim.tree x in_range.net others
     (claimed-free c before e claim right is.call is.reply) (booked-claim before e claim is.call is.reply) in
-    still-next c net w t h place e is.there (record {
-      booking = others net (λ same. apart (sym same));
-      rises = λ x is_in. over-more c net x (demand c before x) (demand c (before ++ e ∷ []) x) (share c claim.net claim.tree x) (grown x);
-      stays = λ x is_in joins. over-share c net claim.net claim.tree x (demand c before x) (demand c (before ++ e ∷ []) x) (grown x) (λ there.
-          room-in c w l before net (Some claim.net) x of (edge-in c.shape claim.tree x tree in_range.shape there) is_in
-          (first-fails (lacks_room c w (demand_at l) net (Some claim.net) x) (joins_cells c.shape t x)
-          (none-passes (matters c w t (demand_at l) net (Some claim.net)) (tree_edges claim.tree) x none there) joins));
-      marks = λ x is_in. steps.marks-idle c before e x (ap (λ (k : Call). is_mark_call k) is.call);
-    })
+    subst (λ (k : List Entry). AreTouches c net w first k new) (sym (take-entry h place e is.there))
+    (touches-then c net w first before after old new are (adds-of c w l before old new of adds) (others net (λ same. apart (sym same)))
+    (λ x is_in. steps.marks-idle c before e x (ap (λ (k : Call). is_mark_call k) is.call))
+    (λ x is_in unnoted. over-share c net claim.net claim.tree x (demand c before x) (demand c after x) (grown x) (λ there.
+    room-in c w l before net (Some claim.net) x of (edge-in c.shape claim.tree x tree in_range.shape there) is_in
+    (lacks-not c w l net (Some claim.net) new x (λ lack. noted x lack there) unnoted))))
 
-pub still-release : (c : CapacityView) (net : ℕ) (w : Window) (t : TreeView) (h : List Entry) (place freed : ℕ) (u : TreeView) (l : LoadsView) → IsLegal c h → IsReleased h place freed → AreLoadsOf c (take place h) l →
-    (freed ≡ net → ⊥) → IsTree u → u.shape ≡ c.shape → booked (take place h) freed ≡ Some u → list_any (matters c w t (demand_at l) net None) (tree_edges u) ≡ false → StaysBest c net w t (take place h) (take (place + 1) h)
-still-release c net w t h place freed u l legal is of apart tree shape held none =
+pub noted-release : (c : CapacityView) (net : ℕ) (w : Window) (first h : List Entry) (place freed : ℕ) (u : TreeView) (l : LoadsView) (old new : List Touch) → IsLegal c h → IsReleased h place freed →
+    AreLoadsOf c (take place h) l → (freed ≡ net → ⊥) → IsTree u → u.shape ≡ c.shape → booked (take place h) freed ≡ Some u → AddsTouches c w (demand_at l) old new →
+    ((e : Edge) → IsTrue (lacks_room c w (demand_at l) net None e) → IsTrue (edges_of u e) → IsTrue (is_noted new e)) →
+    AreTouches c net w first (take place h) old → AreTouches c net w first (take (place + 1) h) new
+noted-release c net w first h place freed u l old new legal is of apart tree shape held adds noted are =
     let before = take place h in
     let e = is.e in
     let after = before ++ e ∷ [] in
@@ -141,34 +140,28 @@ still-release c net w t h place freed u l legal is of apart tree shape held none
     λ other apart. booked-release_other before e freed other is.call is.reply apart in
     let grown : (x : Edge) → demand c before x ≡ demand c after x + share c freed u x =
     λ x. grown-by c after before freed u x within (λ other apart. sym (others other apart)) (booked-release before e freed is.call is.reply) held in
-    let same : (x : Edge) → IsWireIn c w x → over_with c net x (demand c after x) ≡ over_with c net x (demand c before x) =
-    λ x is_in. sym (over-share c net freed u x (demand c after x) (demand c before x) (grown x) (λ there.
+    subst (λ (k : List Entry). AreTouches c net w first k new) (sym (take-entry h place e is.there))
+    (touches-then c net w first before after old new are (adds-of c w l before old new of adds) (others net (λ same. apart (sym same)))
+    (λ x is_in. steps.marks-idle c before e x (ap (λ (k : Call). is_mark_call k) is.call))
+    (λ x is_in unnoted. sym (over-share c net freed u x (demand c after x) (demand c before x) (grown x) (λ there.
     let room = room-in c w l before net None x of (edge-in c.shape u x tree shape there) is_in
-    (none-passes (matters c w t (demand_at l) net None) (tree_edges u) x none there) in
+    (lacks-not c w l net None new x (λ lack. noted x lack there) unnoted) in
     let taken : share c freed u x ≡ need_at c freed x = rw there refl in
     let less = grown x in
-    omega (arith, room, less, taken))) in
-    still-next c net w t h place e is.there (record {
-      booking = others net (λ same. apart (sym same));
-      rises = λ x is_in. let still = same x is_in in omega (arith, still);
-      stays = λ x is_in joins. same x is_in;
-      marks = λ x is_in. steps.marks-idle c before e x (ap (λ (k : Call). is_mark_call k) is.call);
-    })
+    omega (arith, room, less, taken)))))
 
 is_mark-idle : (call : Call) (e : Entry) → e.call ≡ call → IsIdle call e.reply → is_mark e ≡ false
 is_mark-idle (Claims claim) e is idle = ap (λ (k : Call). is_mark_call k) is
 is_mark-idle (Release net) e is idle = ap (λ (k : Call). is_mark_call k) is
 is_mark-idle Mark e is idle = absurd idle
 
-pub still-idle : (c : CapacityView) (net : ℕ) (w : Window) (t : TreeView) (h : List Entry) (place : ℕ) (e : Entry) → slice_get h place ≡ Some e → IsIdle e.call e.reply → StaysBest c net w t (take place h) (take (place + 1) h)
-still-idle c net w t h place e there idle =
+pub noted-idle : (c : CapacityView) (net : ℕ) (w : Window) (first h : List Entry) (place : ℕ) (e : Entry) (old new : List Touch) → slice_get h place ≡ Some e → IsIdle e.call e.reply → new ≡ old →
+    AreTouches c net w first (take place h) old → AreTouches c net w first (take (place + 1) h) new
+noted-idle c net w first h place e old new there idle none are =
     let before = take place h in
     let same : (other : ℕ) → booked (before ++ e ∷ []) other ≡ booked before other =
     λ other. steps.booked-idle before e other (idle-by other (booked before other) e.call e.reply idle) in
-    let demands : (x : Edge) → demand c (before ++ e ∷ []) x ≡ demand c before x = λ x. steps.demand-same c before (before ++ e ∷ []) x same in
-    still-next c net w t h place e there (record {
-      booking = same net;
-      rises = λ x is_in. let equal = demands x in omega (arith, equal);
-      stays = λ x is_in joins. ap (over_with c net x) (demands x);
-      marks = λ x is_in. steps.marks-idle c before e x (is_mark-idle e.call e refl idle);
-    })
+    subst (λ (k : List Entry). AreTouches c net w first k new) (sym (take-entry h place e there))
+    (touches-then c net w first before (before ++ e ∷ []) old new are (notes-none c w (demand c before) old new none) (same net)
+    (λ x is_in. steps.marks-idle c before e x (is_mark-idle e.call e refl idle))
+    (λ x is_in unnoted. ap (over_with c net x) (steps.demand-same c before (before ++ e ∷ []) x same)))

@@ -10,6 +10,7 @@ pub mod Views
 pub mod BookStore
 pub mod LeastSearch
 pub mod Still
+pub mod Touches
 pub mod Lifted
 pub mod Crowds
 pub mod Extents

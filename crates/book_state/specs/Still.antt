@@ -42,9 +42,3 @@ abbrev pub lacks_room : CapacityView → Window → (Edge → ℕ) → ℕ → O
 lacks_room c w demands net beside e =
     is_wire e && (in_window c.shape w e.low
     && nat_lt (capacity_at c e) (demands e + need_of c beside e + need_at c net e))
-
--- such an edge matters to a net's plan where another net leaves it; where one takes it, only between two cells of the
--- plan's tree
-abbrev pub matters : CapacityView → Window → TreeView → (Edge → ℕ) → ℕ → Option ℕ → Edge → Bool
-matters c w t demands net None e = lacks_room c w demands net None e
-matters c w t demands net (Some other) e = lacks_room c w demands net (Some other) e && joins_cells c.shape t e

@@ -16,6 +16,7 @@ mod past;
 mod places;
 mod replica;
 mod still;
+mod touches;
 mod victims;
 
 pub use book::{BookState, ClaimRefused};

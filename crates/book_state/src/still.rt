@@ -1,19 +1,18 @@
 //! Entries that leave a net's plan the best in its window.
-ghost use Rattle.std.specs.Prelude.{◌≡◌, ◌+◌, ◌<◌, ◌≤◌, length, take, IsTrue};
-ghost use Rattle.std.specs.List.{list_any};
-ghost use Rattle.gr_base.specs.Grid.{has_edge, is_wire};
-ghost use Rattle.gr_base.specs.Trees.{IsTree, tree_edges};
-ghost use Rattle.grid_demand.specs.LoadSums.{demand_at};
+ghost use Rattle.std.specs.Prelude.{◌+◌, ◌<◌, ◌≤◌, List, length, take, IsTrue};
 ghost use Rattle.book_state.specs.Books.{IsLegal};
 ghost use Rattle.book_state.specs.Replicas.{StandsFor};
-ghost use Rattle.book_state.specs.Still.{StaysBest, joins_cells as joins_cells_of, lacks_room, matters};
+ghost use Rattle.book_state.specs.Still.{StaysBest};
+ghost use Rattle.book_state.specs.Touches.{AreTouches};
+ghost use Rattle.book_state.specs.declared.entry.Entry.{Entry};
 
 use crate::entry::{Call, Reply};
 use crate::history::History;
 use crate::past::Past;
 use crate::replica::Replica;
-use gr_base::{Edge, RouteTree};
-use grid_demand::{Capacity, Loads};
+use crate::touches::{Touch, are_settled, note_tree};
+use gr_base::RouteTree;
+use grid_demand::Capacity;
 use maze_route::Window;
 
 /// A net, the window in which its route is searched, and the tree that was found to be its plan there.
@@ -57,36 +56,41 @@ impl Replica {
         ensures still { IsTrue result → StaysBest capacity.now sought.now.net sought.now.window sought.now.tree.now
             (take self.old.front history.now) (take end history.now) }
     {
+        let mut touches = Vec::new(history.alloc());
         let mut still = true;
         for place in self.front()..end {
-            still = still && self.stays_still(capacity, history, place, sought);
+            still = still && self.note_entry(capacity, history, place, sought, &mut touches);
             self.read_entry(capacity, history, place);
         }
-        still
+        still && are_settled(capacity, self.loads(), sought, &touches)
     }
 
-    /// Whether the entry that is to be read next leaves the net's plan the best. It is true only where
-    /// the entry is of another net, and where its tree has no wire edge that matters to the plan.
-    fn stays_still(
+    /// Notes what the entry that is to be read next may change for the net in the window. False where it
+    /// is a mark or one of the net itself, or where memory is wanting.
+    fn note_entry(
         &self,
         capacity: &Capacity,
         history: &History,
         place: u64,
         sought: &Sought<'_>,
+        touches: &mut Vec<Touch>,
     ) -> bool
         requires legal { IsLegal capacity.now history.now }
         requires stands { StandsFor capacity.now (take place history.now) self.now }
         requires place { place < length history.now }
-        ensures { IsTrue result → StaysBest capacity.now sought.now.net sought.now.window sought.now.tree.now
-            (take place history.now) (take (place + 1) history.now) }
+        ensures { IsTrue result → (first : List Entry) →
+            AreTouches capacity.now sought.now.net sought.now.window first (take place history.now) touches.old.items →
+            AreTouches capacity.now sought.now.net sought.now.window first (take (place + 1) history.now)
+            touches.new.items }
     {
         let entry = history.entry(place);
+        let loads = self.loads();
         match &entry.call {
             Call::Claim(claim) => match entry.reply {
                 Reply::Claimed => {
-                    let beside = Some(claim.net);
+                    let other = Some(claim.net);
                     claim.net != sought.net
-                        && !tree_matters(capacity, self.loads(), &claim.tree, sought, beside)
+                        && note_tree(capacity, loads, &claim.tree, sought, other, touches).is_ok()
                 }
                 _ => true,
             },
@@ -94,7 +98,7 @@ impl Replica {
                 Reply::Released => match self.tree(history, *freed) {
                     Some(tree) => {
                         *freed != sought.net
-                            && !tree_matters(capacity, self.loads(), tree, sought, None)
+                            && note_tree(capacity, loads, tree, sought, None, touches).is_ok()
                     }
                     None => false,
                 },
@@ -103,81 +107,4 @@ impl Replica {
             Call::Mark => false,
         }
     }
-}
-
-/// Whether a tree that is released, or is claimed by another net, has a wire edge that matters to the
-/// net's plan.
-fn tree_matters(
-    capacity: &Capacity,
-    loads: &Loads,
-    tree: &RouteTree,
-    sought: &Sought<'_>,
-    beside: Option<u32>,
-) -> bool
-    requires tree { tree.now.shape ≡ capacity.now.shape }
-    requires loads { loads.now.shape ≡ capacity.now.shape }
-    ensures matters { result ≡ list_any (matters capacity.now sought.now.window sought.now.tree.now
-        (demand_at loads.now) sought.now.net beside) (tree_edges tree.now) }
-    ensures tree { IsTree tree.now }
-{
-    for node in 0..tree.len() {
-        let Some(edge) = tree.wire_to_parent(node) else {
-            continue;
-        };
-        if edge_matters(capacity, loads, edge, sought, beside) {
-            return true;
-        }
-    }
-    false
-}
-
-/// Whether a wire edge matters to the net's plan: it lacks room, and unless its demand shrinks it joins
-/// two cells of the plan.
-fn edge_matters(
-    capacity: &Capacity,
-    loads: &Loads,
-    e: Edge,
-    sought: &Sought<'_>,
-    beside: Option<u32>,
-) -> bool
-    requires edge { IsTrue (has_edge capacity.now.shape e) }
-    requires wire { IsTrue (is_wire e) }
-    requires loads { loads.now.shape ≡ capacity.now.shape }
-    ensures { result ≡ matters capacity.now sought.now.window sought.now.tree.now (demand_at loads.now)
-        sought.now.net beside e }
-{
-    is_short(capacity, loads, e, sought, beside)
-        && (beside.is_none() || joins_cells(capacity, sought.tree, e))
-}
-
-/// Whether both ends of an edge are cells of a tree. It looks at each node of the tree in turn.
-fn joins_cells(capacity: &Capacity, tree: &RouteTree, e: Edge) -> bool
-    requires { IsTrue (has_edge capacity.now.shape e) }
-    ensures { result ≡ joins_cells_of capacity.now.shape tree.now e }
-{
-    let high = capacity.shape().high(e);
-    tree.node_at(e.low).is_some() && tree.node_at(high).is_some()
-}
-
-/// Whether a wire edge begins in a window and has no room for a net beside the demand and another net,
-/// if there is one. Most edges have room, and the place of a cell takes divisions, so it is asked last.
-fn is_short(
-    capacity: &Capacity,
-    loads: &Loads,
-    e: Edge,
-    sought: &Sought<'_>,
-    beside: Option<u32>,
-) -> bool
-    requires edge { IsTrue (has_edge capacity.now.shape e) }
-    requires wire { IsTrue (is_wire e) }
-    requires loads { loads.now.shape ≡ capacity.now.shape }
-    ensures { result ≡ lacks_room capacity.now sought.now.window (demand_at loads.now) sought.now.net beside e }
-{
-    let taken = match beside {
-        Some(other) => capacity.need(other, e),
-        None => 0,
-    };
-    let wanted = taken + capacity.need(sought.net, e);
-    loads.demand(e).saturating_add(wanted) > capacity.at(e)
-        && sought.window.holds(capacity.shape().place_of(e.low))
 }
