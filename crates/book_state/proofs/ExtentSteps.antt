@@ -1,11 +1,15 @@
 -- Boxes that hold the wires of booked trees.
-use Rattle.std.proofs.Common.{◌≡◌, ℕ, suc, zero, ◌+◌, ◌<◌, ◌≤◌, inl, inr, Bool, true, false, ◌&&◌, nat_le, List, [], ◌∷◌, ◌++◌, length, Option, Some, None, is_some, IfSome, slice_index_or, IsTrue, refl, sym, ap, subst, ◌∙◌, arith}
+use Rattle.std.proofs.Common.{◌≡◌, ℕ, suc, zero, ◌+◌, ◌<◌, ◌≤◌, inl, inr, Bool, true, false, ◌&&◌, nat_le, cond, List, [], ◌∷◌, ◌++◌, length, All, Option, Some, None, is_some, Result, Ok, Err, IfSome, slice_index_or, IsTrue, refl, sym, ap, subst, ◌∙◌, append-nil, arith}
 use Rattle.std.proofs.lemmas.Bool.{cases_eq}
 use Rattle.std.proofs.lemmas.Bool.Decides.{nat_tests}
 use Rattle.std.proofs.lemmas.List.{get_or_push, get_or_append_left, length_push}
 use Rattle.std.proofs.lemmas.Option.{none-some, same_Some}
 use Rattle.gr_base.proofs.GridLemmas.{some_columns, some_rows}
-use Rattle.std.specs.List.{list_any}
+use Rattle.std.specs.Result.{IfOk, OnOk}
+use Rattle.std.proofs.lemmas.List.Concat.{flat_map-append}
+use Rattle.std.proofs.lemmas.List.Elements.{filter-append}
+use Rattle.gr_base.proofs.General.{range-more}
+use Rattle.std.specs.List.{list_any, filter, flat_map, range_with_len}
 use Rattle.gr_base.specs.Grid.{IsInside, place_at}
 use Rattle.gr_base.specs.ParentEdges.{wire_to_parent}
 use Rattle.gr_base.specs.Trees.{TreeView, IsTree, tree_edges}
@@ -19,30 +23,127 @@ use Rattle.maze_route.specs.declared.window.Window.{Window}
 use Rattle.book_state.proofs.EdgeSearch.{edges_from, edges-end, wire-inside, table-wires, any-over, any-fails}
 use Rattle.book_state.proofs.ReplicaSteps.{place-kept}
 use Rattle.book_state.proofs.Replies.{crowded-same, crowded-table, booked-shape}
-use Rattle.book_state.specs.Books.{booked, demand, is_crowded, is_victim, IsLegal}
+use Rattle.book_state.specs.Books.{booked, demand, is_crowded, is_victim, victims, IsLegal}
 use Rattle.book_state.specs.Crowds.{is_overfull, IsCalm}
 use Rattle.book_state.specs.Replicas.{ReplicaView, tree_at_place, place_of, IsPlace, StandsFor}
-use Rattle.book_state.specs.Extents.{HoldsWires, Bounds, IsExtent, AreExtents}
+use Rattle.book_state.specs.Extents.{HoldsWires, Bounds, IsExtent, AreExtents, nets_in, AreParts, AreSeen, IsLookedAt, listed}
+use Rattle.book_state.specs.PlaceStore.{told}
 use Rattle.book_state.specs.declared.entry.Entry.{Entry}
 use Rattle.book_state.specs.declared.extents.Extent.{Extent}
+use Rattle.book_state.specs.declared.extents.Part.{Part}
 
 -- boxes stay right as the history grows
-pub extents-more : (g : Shape) (h : List Entry) (e : Entry) (xs : List Extent) → AreExtents g h xs → AreExtents g (h ++ e ∷ []) xs
+extents-more : (g : Shape) (h : List Entry) (e : Entry) (xs : List Extent) → AreExtents g h xs → AreExtents g (h ++ e ∷ []) xs
 extents-more g h e xs are = λ net default below.
     let is = are net default below in
     record {
       window = is.window;
       tree = is.tree;
-      there = place-kept h (e ∷ []) (slice_index_or xs net default).place is.tree is.there;
+      there = place-kept h (e ∷ []) (told (slice_index_or xs net default).front) is.tree is.there;
       holds = is.holds;
     }
 
+pub parts-more : (c : CapacityView) (h : List Entry) (e : Entry) (ps : List Part) → AreParts c h ps → AreParts c (h ++ e ∷ []) ps
+parts-more c h e ps are = record {
+  each = λ at default below.
+      let is = are.each at default below in
+      record {
+        within = is.within;
+        few = is.few;
+        extents = extents-more c.shape h e (slice_index_or ps at default).extents.items is.extents;
+      };
+  nets = are.nets;
+}
+
+-- parts that were looked at, each by itself, have the same nets
+same-nets : (ps qs : List Part) → length qs ≡ length ps → ((at : ℕ) (default : Part) → at < length ps → nets_in (slice_index_or qs at default) ≡ nets_in (slice_index_or ps at default)) →
+    flat_map nets_in qs ≡ flat_map nets_in ps
+same-nets [] [] long same = refl
+same-nets [] (q ∷ qs) long same = absurd (omega (arith, long))
+same-nets (p ∷ ps) [] long same = absurd (omega (arith, long))
+same-nets (p ∷ ps) (q ∷ qs) long same =
+    let first : nets_in q ≡ nets_in p = same 0 q (omega arith) in
+    let rest = same-nets ps qs (omega (arith, long)) (λ at default below. same (suc at) default (omega (arith, below))) in
+    ap (λ (xs : List ℕ). xs ++ flat_map nets_in qs) first ∙ ap (λ (xs : List ℕ). nets_in p ++ xs) rest
+
+pub parts-looked-at : (c : CapacityView) (h : List Entry) (ps qs : List Part) → length qs ≡ length ps → AreParts c h ps →
+    ((at : ℕ) (default : Part) → at < length ps → IsLookedAt c h (slice_index_or ps at default) (slice_index_or qs at default)) → AreParts c h qs
+parts-looked-at c h ps qs long are looked = record {
+  each = λ at default below. (looked at default (omega (arith, long, below))).part;
+  nets = same-nets ps qs long (λ at default below. (looked at default below).nets) ∙ are.nets;
+}
+
+-- the lists of the parts together
+listed-filter : (c : CapacityView) (h : List Entry) (ps : List Part) → AreSeen c h ps → All (λ p. IsTrue p.whole) ps →
+    listed ps ≡ filter (is_victim c h) (flat_map nets_in ps)
+listed-filter c h [] seen whole = refl
+listed-filter c h (p ∷ ps) seen whole =
+    let rest =
+    listed-filter c h ps (λ at default below. seen (suc at) default (omega (arith, below)))
+    (λ at default below. whole (suc at) default (omega (arith, below))) in
+    let first = seen 0 p (omega arith) (whole 0 p (omega arith)) in
+    ap (λ (xs : List ℕ). xs ++ listed ps) first ∙ ap (λ (xs : List ℕ). filter (is_victim c h) (nets_in p) ++ xs) rest
+    ∙ sym (filter-append (is_victim c h) (nets_in p) (flat_map nets_in ps))
+
+listed-victims : (c : CapacityView) (h : List Entry) (ps : List Part) → AreParts c h ps → AreSeen c h ps → All (λ p. IsTrue p.whole) ps → listed ps ≡ victims c h
+listed-victims c h ps are seen whole = listed-filter c h ps seen whole ∙ ap (filter (is_victim c h)) are.nets
+
+pub victims-listed : {E : Type 0} (c : CapacityView) (h : List Entry) (ps : List Part) (r : Result (List ℕ) E) → AreParts c h ps → AreSeen c h ps → IfOk r (λ nets. nets ≡ listed ps) →
+    OnOk r (All (λ p. IsTrue p.whole) ps) → IfOk r (λ nets. nets ≡ victims c h)
+victims-listed c h ps (Ok nets) are seen listed_so whole = listed_so ∙ listed-victims c h ps are seen whole
+victims-listed c h ps (Err e) are seen listed_so whole = tt
+
+pub listed-push : (ps more : List Part) (p : Part) (all nets new : List ℕ) → more ≡ ps ++ p ∷ [] → all ≡ listed ps → nets ≡ p.victims.items → new ≡ all ++ nets → new ≡ listed more
+listed-push ps more p all nets new is are lists joined =
+    joined ∙ ap (λ (xs : List ℕ). xs ++ nets) are
+    ∙ ap (λ (xs : List ℕ). listed ps ++ xs) (lists ∙ sym (append-nil p.victims.items))
+    ∙ sym (flat_map-append (λ (q : Part). q.victims.items) ps (p ∷ []))
+    ∙ ap listed (sym is)
+
+-- one part more behind the others
+range-join : (a m n : ℕ) → range_with_len a m ++ range_with_len (a + m) n ≡ range_with_len a (m + n)
+range-join a zero n =
+    let e : a + 0 ≡ a = omega arith in
+    let f : n ≡ 0 + n = omega arith in
+    ap (λ (k : ℕ). range_with_len k n) e ∙ ap (λ (k : ℕ). range_with_len a k) f
+range-join a (suc m) n =
+    let e : a + suc m ≡ a + 1 + m = omega arith in
+    let f : suc (m + n) ≡ suc m + n = omega arith in
+    ap (λ (k : ℕ). a ∷ (range_with_len (a + 1) m ++ range_with_len k n)) e
+    ∙ ap (λ (ks : List ℕ). a ∷ ks) (range-join (a + 1) m n) ∙ ap (λ (k : ℕ). range_with_len a k) f
+
+pub nets-push : (ps : List Part) (p : Part) (count next : ℕ) → flat_map nets_in ps ≡ range_with_len 0 p.first → length p.extents.items ≡ count → next ≡ p.first + count →
+    flat_map nets_in (ps ++ p ∷ []) ≡ range_with_len 0 next
+nets-push ps p count next are long is =
+    flat_map-append nets_in ps (p ∷ [])
+    ∙ ap (λ (xs : List ℕ). flat_map nets_in ps ++ xs) (append-nil (nets_in p))
+    ∙ ap (λ (xs : List ℕ). xs ++ nets_in p) are
+    ∙ ap (λ (from : ℕ). range_with_len 0 p.first ++ range_with_len from (length p.extents.items)) (let e : p.first ≡ 0 + p.first = omega arith in e)
+    ∙ range-join 0 p.first (length p.extents.items)
+    ∙ ap (λ (n : ℕ). range_with_len 0 n) (ap (λ (n : ℕ). p.first + n) long ∙ sym is)
+
+-- the victims of a range of nets, with one net more
+range-filter : (p : ℕ → Bool) (a n net : ℕ) → net ≡ a + n → filter p (range_with_len a (n + 1)) ≡ filter p (range_with_len a n) ++ cond (p net) (net ∷ []) []
+range-filter p a n net at =
+    ap (filter p) (range-more a n ∙ ap (λ (k : ℕ). range_with_len a n ++ k ∷ []) (sym at)) ∙ filter-append p (range_with_len a n) (net ∷ [])
+
+pub victim-passes : (p : ℕ → Bool) (a n net : ℕ) (xs new : List ℕ) → xs ≡ filter p (range_with_len a n) → net ≡ a + n → p net ≡ true → new ≡ xs ++ net ∷ [] →
+    new ≡ filter p (range_with_len a (n + 1))
+victim-passes p a n net xs new is at passes more =
+    more ∙ ap (λ (ys : List ℕ). ys ++ net ∷ []) is
+    ∙ sym (range-filter p a n net at ∙ ap (λ (b : Bool). filter p (range_with_len a n) ++ cond b (net ∷ []) []) passes)
+
+pub victim-fails : (p : ℕ → Bool) (a n net : ℕ) (xs : List ℕ) → xs ≡ filter p (range_with_len a n) → net ≡ a + n → p net ≡ false → xs ≡ filter p (range_with_len a (n + 1))
+victim-fails p a n net xs is at fails =
+    is
+    ∙ sym (range-filter p a n net at ∙ ap (λ (b : Bool). filter p (range_with_len a n) ++ cond b (net ∷ []) []) fails ∙ append-nil (filter p (range_with_len a n)))
+
 -- a net of which nothing is seen, and one net more
-pub unseen : (g : Shape) (h : List Entry) (x : Extent) → x.place ≡ None → IsWindow g x.window → IsExtent g h x
-unseen g h x none fits = record {
+pub nothing-seen : (g : Shape) (h : List Entry) (x : Extent) → x.front ≡ 0 → IsWindow g x.window → IsExtent g h x
+nothing-seen g h x none fits = record {
   window = fits;
   tree = None;
-  there = subst (λ (place : Option ℕ). IsPlace h place None) (sym none) (record { tree_there = refl; known = refl });
+  there = subst (λ (front : ℕ). IsPlace h (told front) None) (sym none) (record { tree_there = refl; known = refl });
   holds = tt;
 }
 
@@ -144,7 +245,7 @@ calm-tree g over w t tree shape holds calm = from_node (length t.nodes) 0 (omega
         at_node node (wire_to_parent t node) (omega (arith, all)) refl ∙ from_node left (node + 1) (omega (arith, all))
 
 -- a net's box
-pub extent-booked : (c : CapacityView) (h : List Entry) (r : ReplicaView) (x : Extent) (net : ℕ) (o : Option TreeView) → StandsFor c h r → x.place ≡ place_of r.places net →
+pub extent-booked : (c : CapacityView) (h : List Entry) (r : ReplicaView) (x : Extent) (net : ℕ) (o : Option TreeView) → StandsFor c h r → told x.front ≡ place_of r.places net →
     tree_at_place h (place_of r.places net) ≡ o → IsWindow c.shape x.window → IfSome o (Bounds x.window) → IsExtent c.shape h x
 extent-booked c h r x net o stands place is fits bounds =
     let booked_is : booked h net ≡ o = sym (stands.places net).tree_there ∙ is in
@@ -160,7 +261,7 @@ extent-booked c h r x net o stands place is fits bounds =
 
 -- a net with a calm box isn't a victim, whether it is booked or not
 pub calm-net : (c : CapacityView) (h : List Entry) (r : ReplicaView) (over : OverfullView) (x : Extent) (net : ℕ) → IsLegal c h → StandsFor c h r → AreOverfull c r.loads over →
-    IsExtent c.shape h x → x.place ≡ place_of r.places net → IsCalm c.shape over.table x.window → false ≡ is_victim c h net
+    IsExtent c.shape h x → told x.front ≡ place_of r.places net → IsCalm c.shape over.table x.window → false ≡ is_victim c h net
 calm-net c h r over x net legal stands are is place calm = by_tree (booked h net) refl
   where
     seen : (o : Option TreeView) → booked h net ≡ o → is.tree ≡ o

@@ -12,7 +12,7 @@ use crate::copies::copied_routes;
 use crate::crowds::Crowds;
 use crate::edges::reply_to_free;
 use crate::entry::{Call, Claim, Entry, Reply};
-use crate::extents::{Extent, look_at_all, no_extents, seen_victims};
+use crate::extents::{Part, listed_victims, look_at_all, unseen_parts};
 use crate::history::History;
 use crate::least::{MarkedAt, least_after};
 use crate::places::places_at;
@@ -38,7 +38,8 @@ pub struct BookState {
     history: History,
     replica: Replica,
     least: Option<MarkedAt>,
-    extents: Vec<Extent>,
+    /// What was last seen of the nets.
+    parts: Vec<Part>,
     /// The edges over their capacity, where they are known.
     over: Option<Overfull>,
 }
@@ -51,13 +52,13 @@ impl BookState {
         let nets = design.nets();
         let capacity = Arc::new(alloc, Capacity::of(alloc, design)?)?;
         let replica = Replica::of(alloc, &capacity, nets)?;
-        let extents = no_extents(alloc, &capacity, nets)?;
+        let parts = unseen_parts(alloc, &capacity, nets)?;
         Ok(BookState {
             capacity,
             history: History::new(alloc),
             replica,
             least: None,
-            extents,
+            parts,
             over: None,
         })
     }
@@ -240,10 +241,10 @@ impl BookState {
             &self.history,
             &crowds,
             threads,
-            &mut self.extents,
+            &mut self.parts,
         );
         self.over = Some(crowds.into_over());
-        seen_victims(alloc, self.replica.nets(), &self.extents)
+        listed_victims(alloc, &self.parts)
     }
 
     /// The length of the shortest first part of the history that ends with a mark of least

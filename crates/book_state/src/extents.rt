@@ -1,13 +1,14 @@
 //! The booked nets on edges over their capacity, as a book finds them mark by mark: by a box around
 //! the wires of each booked tree, which is made once a claim.
-ghost use Rattle.std.specs.Prelude.{◌≡◌, ◌<◌, [], List, length, IfOk, IsTrue};
-ghost use Rattle.grid_demand.specs.Tables.{CapacityView};
+ghost use Rattle.std.specs.Prelude.{◌≡◌, ◌+◌, ◌<◌, ◌≤◌, ◌++◌, [], All, length, IfOk, IsTrue, OnOk};
+ghost use Rattle.std.specs.List.{filter, range_with_len};
+ghost use Rattle.gr_base.specs.Limits.{most_nets};
 ghost use Rattle.maze_route.specs.Windows.{IsWindow};
-ghost use Rattle.book_state.specs.Books.{nets_of, IsLegal, victims as victims_of, is_victim as victim_net};
+ghost use Rattle.book_state.specs.Books.{nets_of, IsLegal, is_victim as victim_net};
 ghost use Rattle.book_state.specs.Crowds.{AreCrowds};
-ghost use Rattle.book_state.specs.Extents.{Bounds, IsExtent, AreExtents, AreSeen};
+ghost use Rattle.book_state.specs.Extents.{Bounds, IsExtent, AreExtents, IsPart, AreParts, IsLookedAt, AreSeen, listed};
+ghost use Rattle.book_state.specs.PlaceStore.{told};
 ghost use Rattle.book_state.specs.Replicas.{place_of, StandsFor};
-ghost use Rattle.book_state.specs.declared.entry.Entry.{Entry};
 
 use crate::crowds::Crowds;
 use crate::history::History;
@@ -22,13 +23,26 @@ use std::thread::{Threads, for_each_mut};
 /// What was last seen of a net's booked tree.
 #[derive(Clone, Copy, Debug)]
 pub(crate) struct Extent {
-    /// The place of its claim, if it was booked.
-    place: Option<u64>,
+    /// The length of the history's first part that ends with its claim, or 0 if it wasn't booked.
+    front: u64,
     /// A box in which each of its wire edges begins.
     window: Window,
-    /// Whether one of them had more demand than capacity.
-    crowded: bool,
 }
+
+/// Nets that follow one another, and what was last seen of each.
+#[derive(Debug, Drop)]
+pub(crate) struct Part {
+    extents: Vec<Extent>,
+    /// The victims among the nets, as they were last looked for, in order.
+    victims: Vec<u32>,
+    /// The first of the nets.
+    first: u32,
+    /// Whether there was memory for the list of victims.
+    whole: bool,
+}
+
+/// The most parts into which the nets are put.
+const MOST_PARTS: u32 = 64;
 
 /// A box of one tile, for nets that aren't booked.
 const ONE_TILE: Window = Window {
@@ -38,27 +52,48 @@ const ONE_TILE: Window = Window {
     y1: 0,
 };
 
-/// Nothing is seen of so many nets yet.
-pub(crate) fn no_extents(
+/// The nets in parts, without anything seen of them yet. The only error is want of memory.
+pub(crate) fn unseen_parts(
     alloc: Global,
     capacity: &Capacity,
     nets: u32,
-) -> Result<Vec<Extent>, AllocError>
+) -> Result<Vec<Part>, AllocError>
+    requires nets { nets ≡ nets_of capacity.now }
+    requires few { nets ≤ most_nets }
+    ensures { IfOk result (λ parts. AreParts capacity.now [] parts.items) }
+{
+    let size = nets / MOST_PARTS + 1;
+    let mut parts = Vec::with_capacity(alloc, MOST_PARTS as usize)?;
+    let mut first = 0;
+    while first < nets {
+        let count = size.min(nets - first);
+        parts.push(Part {
+            extents: unseen(alloc, capacity, count)?,
+            victims: Vec::new(alloc),
+            first,
+            whole: true,
+        })?;
+        first += count;
+    }
+    Ok(parts)
+}
+
+/// Nothing is seen of so many nets yet. The only error is want of memory.
+fn unseen(alloc: Global, capacity: &Capacity, nets: u32) -> Result<Vec<Extent>, AllocError>
     ensures long { IfOk result (λ extents. length extents.items ≡ nets) }
     ensures extents { IfOk result (λ extents. AreExtents capacity.now.shape [] extents.items) }
 {
     let mut extents = Vec::with_capacity(alloc, nets as usize)?;
     for _ in 0..nets {
         extents.push(Extent {
-            place: None,
+            front: 0,
             window: ONE_TILE,
-            crowded: false,
         })?;
     }
     Ok(extents)
 }
 
-/// Looks at each net, by at most so many threads.
+/// Looks at the nets of each part, by at most so many threads.
 pub(crate) fn look_at_all<R: Threads + Sync>(
     rt: &R,
     replica: &Replica,
@@ -66,35 +101,94 @@ pub(crate) fn look_at_all<R: Threads + Sync>(
     history: &History,
     crowds: &Crowds,
     threads: u32,
-    extents: &mut Vec<Extent>,
+    parts: &mut Vec<Part>,
 )
     requires legal { IsLegal capacity.now history.now }
     requires stands { StandsFor capacity.now history.now replica.now }
     requires crowds { AreCrowds capacity.now replica.now.loads crowds.now }
-    requires extents { AreExtents capacity.now.shape history.now extents.old.items }
+    requires parts { AreParts capacity.now history.now parts.old.items }
     requires threads { 0 < threads }
-    ensures long { length extents.new.items ≡ length extents.old.items }
-    ensures extents { AreExtents capacity.now.shape history.now extents.new.items }
-    ensures seen { AreSeen capacity.now history.now extents.new.items }
+    ensures parts { AreParts capacity.now history.now parts.new.items }
+    ensures seen { AreSeen capacity.now history.now parts.new.items }
 {
     for_each_mut(
         rt,
-        extents.as_mut_slice(),
+        parts.as_mut_slice(),
         threads as usize,
-        &|net, extent: &mut Extent|
+        &|_at, part: &mut Part|
             requires { IsLegal capacity.now history.now × StandsFor capacity.now history.now replica.now ×
                 AreCrowds capacity.now replica.now.loads crowds.now ×
-                IsExtent capacity.now.shape history.now extent.now }
-            ensures { IsExtent capacity.entry.now.shape history.entry.now extent.exit.now ×
-                (extent.exit.now.crowded ≡ victim_net capacity.entry.now history.entry.now net) }
+                IsPart capacity.now history.now part.now }
+            ensures { IsLookedAt capacity.entry.now history.entry.now part.entry.now part.exit.now }
         {
-            look(replica, capacity, history, crowds, net, extent);
+            look_at_part(replica, capacity, history, crowds, part);
         },
     );
 }
 
-/// Looks at a net. Its tree is gone through only where its box wasn't made for its claim, or meets an
-/// edge over its capacity.
+/// Looks at the nets of a part, and lists the victims among them.
+fn look_at_part(
+    replica: &Replica,
+    capacity: &Capacity,
+    history: &History,
+    crowds: &Crowds,
+    part: &mut Part,
+)
+    requires legal { IsLegal capacity.now history.now }
+    requires stands { StandsFor capacity.now history.now replica.now }
+    requires crowds { AreCrowds capacity.now replica.now.loads crowds.now }
+    requires part { IsPart capacity.now history.now part.old }
+    ensures { IsLookedAt capacity.now history.now part.old part.new }
+{
+    let first = part.first;
+    part.victims.clear();
+    part.whole = list_victims(
+        replica,
+        capacity,
+        history,
+        crowds,
+        first,
+        &mut part.extents,
+        &mut part.victims,
+    )
+    .is_ok();
+}
+
+/// Looks at the nets from a number on, and lists those that are victims. The only error is want of
+/// memory, and the nets behind the one for which it came aren't looked at.
+fn list_victims(
+    replica: &Replica,
+    capacity: &Capacity,
+    history: &History,
+    crowds: &Crowds,
+    first: u32,
+    extents: &mut Vec<Extent>,
+    victims: &mut Vec<u32>,
+) -> Result<(), AllocError>
+    requires legal { IsLegal capacity.now history.now }
+    requires stands { StandsFor capacity.now history.now replica.now }
+    requires crowds { AreCrowds capacity.now replica.now.loads crowds.now }
+    requires extents { AreExtents capacity.now.shape history.now extents.old.items }
+    requires within { first + length extents.old.items ≤ nets_of capacity.now }
+    requires few { nets_of capacity.now ≤ most_nets }
+    requires empty { victims.old.items ≡ [] }
+    ensures long { length extents.new.items ≡ length extents.old.items }
+    ensures extents { AreExtents capacity.now.shape history.now extents.new.items }
+    ensures victims { OnOk result (victims.new.items ≡
+        filter (victim_net capacity.now history.now) (range_with_len first (length extents.old.items))) }
+{
+    for at in 0..extents.len() {
+        let net = first + at as u32;
+        let extent = &mut extents[at];
+        if look(replica, capacity, history, crowds, net as usize, extent) {
+            victims.push(net)?;
+        }
+    }
+    Ok(())
+}
+
+/// Looks at a net, and says whether it is a victim. Its tree is gone through only where its box wasn't
+/// made for its claim, or meets an edge over its capacity.
 fn look(
     replica: &Replica,
     capacity: &Capacity,
@@ -102,27 +196,28 @@ fn look(
     crowds: &Crowds,
     net: usize,
     extent: &mut Extent,
-)
+) -> bool
     requires legal { IsLegal capacity.now history.now }
     requires stands { StandsFor capacity.now history.now replica.now }
     requires crowds { AreCrowds capacity.now replica.now.loads crowds.now }
     requires extent { IsExtent capacity.now.shape history.now extent.old }
+    requires net { net < nets_of capacity.now }
     ensures extent { IsExtent capacity.now.shape history.now extent.new }
-    ensures crowded { extent.new.crowded ≡ victim_net capacity.now history.now net }
+    ensures victim { result ≡ victim_net capacity.now history.now net }
 {
-    if !is_same(extent.place, replica.places().get(net)) {
+    if extent.front != replica.places().front(net) {
         *extent = extent_of(replica, capacity, history, net);
     }
-    extent.crowded = crowds.meets(extent.window)
-        && replica.is_victim(capacity, history, crowds.over(), net);
+    crowds.meets(extent.window) && replica.is_victim(capacity, history, crowds.over(), net)
 }
 
 /// A net's box, without a look at its edges.
 fn extent_of(replica: &Replica, capacity: &Capacity, history: &History, net: usize) -> Extent
     requires legal { IsLegal capacity.now history.now }
     requires stands { StandsFor capacity.now history.now replica.now }
+    requires net { net < nets_of capacity.now }
     ensures extent { IsExtent capacity.now.shape history.now result }
-    ensures place { result.place ≡ place_of replica.now.places net }
+    ensures place { told result.front ≡ place_of replica.now.places net }
 {
     let places = replica.places();
     let window = match tree_by_place(history, places, net) {
@@ -130,9 +225,8 @@ fn extent_of(replica: &Replica, capacity: &Capacity, history: &History, net: usi
         None => ONE_TILE,
     };
     Extent {
-        place: places.get(net),
+        front: places.front(net),
         window,
-        crowded: false,
     }
 }
 
@@ -157,32 +251,27 @@ fn window_of(tree: &RouteTree) -> Window
     window
 }
 
-/// Whether two places are one, or both none.
-fn is_same(a: Option<u64>, b: Option<u64>) -> bool
-    ensures { IsTrue result → a ≡ b }
-{
-    match (a, b) {
-        (Some(a), Some(b)) => a == b,
-        (None, None) => true,
-        (Some(_), None) | (None, Some(_)) => false,
-    }
-}
-
-/// The nets that were seen to be victims, in order. The only error is want of memory.
-pub(crate) fn seen_victims(
-    alloc: Global,
-    nets: u32,
-    extents: &[Extent],
-) -> Result<Cells, AllocError>
-    requires { nets ≡ length extents.now }
-    ensures { (c : CapacityView) (h : List Entry) → AreSeen c h extents.now → nets ≡ nets_of c →
-        IfOk result (λ victims. victims ≡ victims_of c h) }
+/// The victims that the parts list, in order. The only error is want of memory, here or in a part.
+pub(crate) fn listed_victims(alloc: Global, parts: &[Part]) -> Result<Cells, AllocError>
+    ensures victims { IfOk result (λ victims. victims ≡ listed parts.now) }
+    ensures whole { OnOk result (All (λ part. IsTrue part.whole) parts.now) }
 {
     let mut victims = Cells::new(alloc);
-    for net in 0..nets {
-        if extents[net as usize].crowded {
-            victims.push(net)?;
+    for part in parts {
+        if !part.whole {
+            return Err(AllocError);
         }
+        add_each(&mut victims, &part.victims)?;
     }
     Ok(victims)
+}
+
+/// Adds nets behind others. The only error is want of memory.
+fn add_each(all: &mut Cells, nets: &[u32]) -> Result<(), AllocError>
+    ensures { OnOk result (all.new ≡ all.old ++ nets.now) }
+{
+    for net in nets {
+        all.push(*net)?;
+    }
+    Ok(())
 }

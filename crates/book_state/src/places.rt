@@ -2,6 +2,7 @@
 ghost use Rattle.std.specs.Prelude.{◌≡◌, ◌+◌, ◌^◌, ◌<◌, ◌≤◌, length, replicate, take, slice_set, Some, None, IfOk};
 ghost use Rattle.std.specs.Option.{option_copied};
 ghost use Rattle.book_state.specs.Books.{nets_of, IsLegal};
+ghost use Rattle.book_state.specs.PlaceStore.{told};
 ghost use Rattle.book_state.specs.Replicas.{tree_at_place, place_of, ArePlaces};
 
 use crate::entry::{Call, Reply};
@@ -50,6 +51,14 @@ impl Places {
         ensures { result ≡ place_of self.now net }
     {
         self.fronts.get(net)?.checked_sub(1)
+    }
+
+    /// The length of the history's first part that ends with that claim. 0 where it isn't booked.
+    pub(crate) fn front(&self, net: usize) -> u64
+        requires { net < length self.now }
+        ensures { told result ≡ place_of self.now net }
+    {
+        self.fronts[net]
     }
 
     /// Notes that a net is booked by the claim at a place.

@@ -22,10 +22,10 @@ returns-clause-extent c =
           let t = w.in-Some.tree.now in
           let is : tree_at_place h (place_of r.places net) ≡ Some t = sym there ∙ sym w.in-Some.ensures in
           let shape = booked-shape capacity h r net t c.requires.legal c.requires.stands (sym (c.requires.stands.places net).tree_there ∙ is) in
-          extent-booked capacity h r _ net (Some t) c.requires.stands (c.get.ensures ∙ at) is
+          extent-booked capacity h r _ net (Some t) c.requires.stands (c.front.ensures ∙ at) is
           (subst (λ (u : Window). IsWindow capacity.shape u) (sym w.window-is) (subst (λ g. IsWindow g w.window_of-window.result) shape w.window_of-window.ensures.window))
           (subst (λ (u : Window). Bounds u t) (sym w.window-is) w.window_of-window.ensures.bounds)
       | in-None w ↦
-          extent-booked capacity h r _ net None c.requires.stands (c.get.ensures ∙ at) (sym there ∙ sym w.in-None.ensures)
+          extent-booked capacity h r _ net None c.requires.stands (c.front.ensures ∙ at) (sym there ∙ sym w.in-None.ensures)
           (subst (λ (u : Window). IsWindow capacity.shape u) (sym w.window-is) (first-tile capacity.shape)) tt
     ]

@@ -3,12 +3,12 @@ use Rattle.std.specs.Arc.{arc_value}
 use Rattle.std.proofs.lemmas.List.{length_push}
 use Rattle.grid_demand.specs.Tables.{CapacityView}
 use Rattle.book_state.specs.Books.{IsLegal, IsRight}
-use Rattle.book_state.specs.Extents.{AreExtents}
+use Rattle.book_state.specs.Extents.{AreParts}
 use Rattle.book_state.specs.LeastSearch.{IsLeast}
 use Rattle.book_state.specs.Replicas.{StandsFor}
 use Rattle.book_state.specs.Views.{BookView}
 use Rattle.book_state.specs.declared.entry.Entry.{Entry}
-use Rattle.book_state.proofs.ExtentSteps.{extents-more}
+use Rattle.book_state.proofs.ExtentSteps.{parts-more}
 use Rattle.book_state.proofs.LegalHistories.{legal-push}
 use Rattle.book_state.proofs.book.BookState.append.Goals as goal
 
@@ -31,10 +31,9 @@ invariant_of-self-2 c =
           let long = ap (λ (h : List Entry). length h) pushed ∙ length_push s.history c.args.entry in
           subst (λ (h : List Entry). IsLeast h c.least_after-self-inside.result) (sym pushed)
           (c.least_after-self-inside.ensures s.history c.args.entry refl (omega (arith, long, c.len.ensures.len)) c.self.invariant.least);
-      nets = c.self.invariant.nets;
-      extents =
-          subst (λ (h : List Entry). AreExtents (arc_value s.capacity).shape h s.extents.items) (sym c.in_ok-push.ensures.ok)
-          (extents-more (arc_value s.capacity).shape s.history c.args.entry s.extents.items c.self.invariant.extents);
+      parts =
+          subst (λ (h : List Entry). AreParts (arc_value s.capacity) h s.parts.items) (sym c.in_ok-push.ensures.ok)
+          (parts-more (arc_value s.capacity) s.history c.args.entry s.parts.items c.self.invariant.parts);
       over = tt;
     }
 

@@ -6,7 +6,7 @@ use Rattle.grid_demand.specs.Overfull.{AreOverfull}
 use Rattle.grid_demand.specs.Tables.{CapacityView}
 use Rattle.book_state.specs.Books.{IsLegal, reply_to_mark, AreLoadsOf}
 use Rattle.book_state.specs.Entries.{is_mark_at}
-use Rattle.book_state.specs.Extents.{AreExtents}
+use Rattle.book_state.specs.Extents.{AreParts}
 use Rattle.book_state.specs.LeastSearch.{IsLeast}
 use Rattle.book_state.specs.Replicas.{StandsFor}
 use Rattle.book_state.specs.Views.{BookView, entry_of}
@@ -14,7 +14,7 @@ use Rattle.book_state.specs.declared.entry.Call.TheVariants.{Mark}
 use Rattle.book_state.specs.declared.entry.Entry.{Entry}
 use Rattle.book_state.specs.declared.entry.Reply.TheVariants.{Marked}
 use Rattle.book_state.proofs.BookSteps.{mark-last}
-use Rattle.book_state.proofs.ExtentSteps.{extents-more}
+use Rattle.book_state.proofs.ExtentSteps.{parts-more}
 use Rattle.book_state.proofs.LegalHistories.{legal-mark}
 use Rattle.book_state.proofs.Replies.{marked-reply}
 use Rattle.book_state.proofs.book.BookState.mark.Goals as goal
@@ -52,10 +52,9 @@ invariant_of-self-2 c =
           let long = ap (λ (h : List Entry). length h) pushed ∙ length_push s.history e in
           subst (λ (h : List Entry). IsLeast h c.least_after-self-inside.result) (sym pushed)
           (c.least_after-self-inside.ensures s.history e refl (omega (arith, long, c.len.ensures.len)) c.self.invariant.least);
-      nets = c.self.invariant.nets;
-      extents =
-          subst (λ (h : List Entry). AreExtents capacity.shape h s.extents.items) (sym pushed)
-          (extents-more capacity.shape s.history e s.extents.items c.self.invariant.extents);
+      parts =
+          subst (λ (h : List Entry). AreParts capacity h s.parts.items) (sym pushed)
+          (parts-more capacity s.history e s.parts.items c.self.invariant.parts);
       over = subst (λ (v : CapacityView). AreOverfull v c.follow_mark.new.self.loads c.in_ok-over.over) c.deref-2.ensures c.follow_mark.ensures.over;
     }
 

@@ -1,13 +1,13 @@
-use Rattle.std.proofs.Common.{◌≡◌, List, length, Option, Some, IfOk, IfSome, sym, ap, subst, ◌∙◌, arith}
+use Rattle.std.proofs.Common.{◌≡◌, Option, Some, IfOk, IfSome, sym, ap, subst, ◌∙◌}
 use Rattle.std.specs.Arc.{arc_value}
 use Rattle.grid_demand.specs.LoadSums.{LoadsView}
 use Rattle.grid_demand.specs.Overfull.{OverfullView, AreOverfull}
 use Rattle.grid_demand.specs.Tables.{CapacityView}
-use Rattle.book_state.specs.Books.{nets_of, victims}
+use Rattle.book_state.specs.Books.{victims}
 use Rattle.book_state.specs.Crowds.{AreCrowds}
-use Rattle.book_state.specs.Extents.{AreExtents, AreSeen}
+use Rattle.book_state.specs.Extents.{AreParts, AreSeen}
 use Rattle.book_state.specs.Views.{BookView}
-use Rattle.book_state.specs.declared.extents.Extent.{Extent}
+use Rattle.book_state.proofs.ExtentSteps.{victims-listed}
 use Rattle.book_state.proofs.book.BookState.victims_by.Goals.{in-Some, in-None+in_ok-over-in-None}
 use Rattle.book_state.proofs.book.BookState.victims_by.Goals as goal
 
@@ -28,10 +28,10 @@ look_at_all-requires-clause-crowds g c =
     let crowds = c.in_ok-crowds.ensures capacity l (sym (c.shape.ensures.shape ∙ ap (λ (v : CapacityView). v.shape) c.deref-2.ensures)) are in
     λ κs lives. subst (λ (v : CapacityView). AreCrowds v l c.in_ok-crowds.crowds) (sym c.deref-3.ensures) crowds
 
-pub look_at_all-requires-clause-extents : goal.look_at_all-requires-clause-extents
-look_at_all-requires-clause-extents g c =
+pub look_at_all-requires-clause-parts : goal.look_at_all-requires-clause-parts
+look_at_all-requires-clause-parts g c =
     let s = c.self.inside in
-    λ κs lives. subst (λ (v : CapacityView). AreExtents v.shape s.history s.extents.items) (sym c.deref-3.ensures) c.self.invariant.extents
+    λ κs lives. subst (λ (v : CapacityView). AreParts v s.history s.parts.items) (sym c.deref-3.ensures) c.self.invariant.parts
 
 pub invariant_of-self-2 : goal.invariant_of-self-2
 invariant_of-self-2 g c =
@@ -52,21 +52,17 @@ invariant_of-self-2 g c =
       legal = c.self.invariant.legal;
       stands = c.self.invariant.stands;
       least = c.self.invariant.least;
-      nets = c.look_at_all.ensures.long ∙ c.self.invariant.nets;
-      extents = subst (λ (v : CapacityView). AreExtents v.shape s.history c.look_at_all.new.extents.items) c.deref-3.ensures c.look_at_all.ensures.extents;
+      parts = subst (λ (v : CapacityView). AreParts v s.history c.look_at_all.new.parts.items) c.deref-3.ensures c.look_at_all.ensures.parts;
       over = subst (AreOverfull capacity l) (sym c.into_over.ensures) crowds.over;
     }
-
-pub seen_victims-requires : goal.seen_victims-requires
-seen_victims-requires g c =
-    let long = ap (λ (xs : List Extent). length xs) c.deref-4.ensures.value in
-    omega (arith, long, c.nets.ensures.nets, c.look_at_all.ensures.long, c.self.invariant.nets, c.self.invariant.stands.nets)
 
 pub returns-clause-victims : goal.returns-clause-victims
 returns-clause-victims g c =
     let s = c.self.inside in
     let capacity = arc_value s.capacity in
-    let seen = subst (λ (v : CapacityView). AreSeen v s.history c.look_at_all.new.extents.items) c.deref-3.ensures c.look_at_all.ensures.seen in
-    let all : c.nets.result ≡ nets_of capacity = c.nets.ensures.nets ∙ c.self.invariant.stands.nets in
-    subst (λ (b : BookView). IfOk c.seen_victims.result (λ nets. nets ≡ victims b.capacity b.history)) c.self.view_is
-    (c.seen_victims.ensures capacity s.history (subst (AreSeen capacity s.history) (sym c.deref-4.ensures.value) seen) all)
+    let same = sym c.deref-4.ensures.value in
+    let are = subst (λ (v : CapacityView). AreParts v s.history c.look_at_all.new.parts.items) c.deref-3.ensures c.look_at_all.ensures.parts in
+    let seen = subst (λ (v : CapacityView). AreSeen v s.history c.look_at_all.new.parts.items) c.deref-3.ensures c.look_at_all.ensures.seen in
+    subst (λ (b : BookView). IfOk c.listed_victims.result (λ nets. nets ≡ victims b.capacity b.history)) c.self.view_is
+    (victims-listed capacity s.history c.deref-4.result.now c.listed_victims.result (subst (AreParts capacity s.history) same are) (subst (AreSeen capacity s.history) same seen)
+    c.listed_victims.ensures.victims c.listed_victims.ensures.whole)
