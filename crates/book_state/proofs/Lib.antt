@@ -5,6 +5,7 @@ pub mod PastLists
 pub mod ReplicaSteps
 pub mod PlaceSteps
 pub mod StandSteps
+pub mod SharedMarks
 pub mod LegalHistories
 pub mod EdgeSearch
 pub mod Replies

@@ -171,7 +171,7 @@ mark-call (Claims claim) is = absurd (both_ways false refl is)
 mark-call (Release net) is = absurd (both_ways false refl is)
 mark-call Mark is = refl
 
-mark-entry : (o : Option Entry) → is_mark_in o ≡ true → (e : Entry) × (o ≡ Some e) × (e.call ≡ Mark)
+pub mark-entry : (o : Option Entry) → is_mark_in o ≡ true → (e : Entry) × (o ≡ Some e) × (e.call ≡ Mark)
 mark-entry None is = absurd (both_ways false refl is)
 mark-entry (Some e) is = (e, refl, mark-call e.call is)
 

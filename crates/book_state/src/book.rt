@@ -6,6 +6,7 @@ ghost use Rattle.grid_demand.specs.Tables.{capacity_of};
 ghost use Rattle.book_state.specs.Books.{nets_of, booked as booked_tree, demand, reply_to_free as free_reply, reply_to_claim, reply_to_release, reply_to_mark, booked_routes, IsClaim, IsRight, IsLegal, AreLoadsOf, victims as victims_of};
 ghost use Rattle.book_state.specs.Entries.{is_claim_call};
 ghost use Rattle.book_state.specs.Marks.{least_mark as least_mark_of};
+ghost use Rattle.book_state.specs.Replicas.{StandsFor};
 ghost use Rattle.book_state.specs.Views.{with_entry, with_call};
 
 use crate::copies::copied_routes;
@@ -86,6 +87,19 @@ impl BookState {
         ensures legal { IsLegal self.now.capacity self.now.history }
     {
         &self.history
+    }
+
+    /// A replica that stands for a first part of the history comes to stand for all of it.
+    pub fn bring_up(&self, replica: &mut Replica)
+        requires { StandsFor self.now.capacity (take replica.old.front self.now.history) replica.old }
+        ensures { StandsFor self.now.capacity self.now.history replica.new }
+    {
+        match &self.over {
+            Some(over) => self
+                .replica
+                .bring_up(replica, &self.capacity, &self.history, over),
+            None => replica.follow(&self.capacity, &self.history),
+        }
     }
 
     /// The tree by which a net is booked. None exactly where it isn't.

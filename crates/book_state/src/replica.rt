@@ -118,6 +118,51 @@ impl Replica {
         self.loads.mark_overfull(capacity, over);
     }
 
+    /// Another replica, which stands for a first part of the legal history that this one stands for,
+    /// comes to stand for all of it. The edges are told that are over their capacity: a mark that is the
+    /// last entry is read by them.
+    pub(crate) fn bring_up(
+        &self,
+        other: &mut Replica,
+        capacity: &Capacity,
+        history: &History,
+        over: &Overfull,
+    )
+        requires legal { IsLegal capacity.now history.now }
+        requires stands { StandsFor capacity.now history.now self.now }
+        requires other { StandsFor capacity.now (take other.old.front history.now) other.old }
+        requires over { AreOverfull capacity.now self.now.loads over.now }
+        ensures { StandsFor capacity.now history.now other.new }
+    {
+        let known = self.front();
+        if other.front() == known || !is_mark(history, known - 1) {
+            other.follow(capacity, history);
+            return;
+        }
+        other.read(capacity, history, known - 1);
+        self.share_mark(other, capacity, history, over);
+    }
+
+    /// Another replica, which stands for what is before the last entry, reads that: a mark, which this
+    /// one has read.
+    fn share_mark(
+        &self,
+        other: &mut Replica,
+        capacity: &Capacity,
+        history: &History,
+        over: &Overfull,
+    )
+        requires stands { StandsFor capacity.now history.now self.now }
+        requires other { StandsFor capacity.now (take other.old.front history.now) other.old }
+        requires last { other.old.front + 1 ≡ length history.now }
+        requires mark { IsTrue (is_mark_at history.now other.old.front) }
+        requires over { AreOverfull capacity.now self.now.loads over.now }
+        ensures { StandsFor capacity.now history.now other.new }
+    {
+        other.front = self.front;
+        other.loads.mark_overfull(capacity, over);
+    }
+
     /// Reads the entries of a past that the replica doesn't stand for yet. The past is legal, and
     /// the replica stands for its first part.
     pub fn catch_up(&mut self, capacity: &Capacity, past: &Past)
@@ -231,4 +276,12 @@ impl Model for Replica {
     ghost view = { seen };
 
     ghost invariant = { Keeps };
+}
+
+/// Whether the entry at a place is a mark.
+fn is_mark(history: &History, at: u64) -> bool
+    requires { at < length history.now }
+    ensures { result ≡ is_mark_at history.now at }
+{
+    matches!(history.entry(at).call, Call::Mark)
 }

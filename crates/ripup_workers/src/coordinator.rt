@@ -11,6 +11,13 @@ use std::sync::Wait;
 use std::thread::Threads;
 use track_book::{BookName, TrackBook};
 
+/// When the coordinator meets the workers at the end of a round.
+#[derive(Clone, Copy, Debug, PartialEq, Eq)]
+enum Meeting {
+    BeforeMark,
+    AfterMark,
+}
+
 impl<N: BookName> Coordinator<N> {
     /// Ends a round: once what all workers did is seen, it is marked, and the workers see the mark. The
     /// victims are looked for by at most so many threads.
@@ -26,30 +33,47 @@ impl<N: BookName> Coordinator<N> {
         ensures { IfOk result (λ marked. AreMarked N.capacity self.old.pass self.new.pass
             (map (λ w. w.pass) workers.old.items) (map (λ w. w.pass) workers.new.items) marked) }
     {
-        self.meet_all(rt, book, workers);
+        self.meet_all(rt, book, workers, Meeting::BeforeMark);
         let marked = self.mark(rt, book, threads)?;
-        self.meet_all(rt, book, workers);
+        self.meet_all(rt, book, workers, Meeting::AfterMark);
         Ok(marked)
     }
 
     /// Meets each worker.
-    fn meet_all<R: Wait>(&mut self, rt: &R, book: &TrackBook<N>, workers: &mut Vec<Worker<N>>)
+    fn meet_all<R: Wait>(
+        &mut self,
+        rt: &R,
+        book: &TrackBook<N>,
+        workers: &mut Vec<Worker<N>>,
+        meeting: Meeting,
+    )
         requires { 0 < length workers.old.items }
         ensures { HaveMet N.capacity self.old.pass self.new.pass (map (λ w. w.pass) workers.old.items)
             (map (λ w. w.pass) workers.new.items) }
     {
         for at in 0..workers.len() {
-            self.meet(rt, book, &mut workers[at]);
+            self.meet(rt, book, &mut workers[at], meeting);
         }
     }
 
-    /// Meets a worker: both come to have seen the same.
-    fn meet<R: Wait>(&mut self, rt: &R, book: &TrackBook<N>, worker: &mut Worker<N>)
+    /// Meets a worker: both come to have seen the same. A mark is then read by the worker's replica too.
+    fn meet<R: Wait>(
+        &mut self,
+        rt: &R,
+        book: &TrackBook<N>,
+        worker: &mut Worker<N>,
+        meeting: Meeting,
+    )
         ensures own { Learns N.capacity self.old.pass self.new.pass }
         ensures other { Learns N.capacity worker.old.pass worker.new.pass }
         ensures same { self.new.pass.seen ≡ worker.new.pass.seen }
     {
-        book.meet(rt, &mut self.pass, &mut worker.pass);
+        let one = &mut self.pass;
+        let other = &mut worker.pass;
+        match meeting {
+            Meeting::BeforeMark => book.meet(rt, one, other),
+            Meeting::AfterMark => book.meet_and_bring_up(rt, one, other, &mut worker.replica),
+        }
     }
 
     /// Marks the edges over their capacity, and finds the nets on such edges.

@@ -28,8 +28,8 @@ const LOOKS: u32 = 64;
 const LONGEST: u32 = 4;
 
 /// The book N, which threads share. Each call is one entry of one history, and its reply is the one
-/// that a book for one thread gives there. `claim`, `release`, `mark`, `hold`, `sync`, `victims` and
-/// `meet` take the lock and may wait for it; no other call does.
+/// that a book for one thread gives there. `claim`, `release`, `mark`, `hold`, `sync`, `victims`,
+/// `meet` and `meet_and_bring_up` take the lock and may wait for it; no other call does.
 #[derive(Drop)]
 pub struct TrackBook<N: BookName> {
     pub(crate) front: Front,
@@ -160,6 +160,28 @@ impl<N: BookName> TrackBook<N> {
         ensures know { (IsPass N.capacity one.new) × (IsPass N.capacity other.new) }
     {
         self.locked(rt).meet(&self.front, one, other);
+    }
+
+    /// The same, and the replica, which stands for a first part of what the second pass had seen, comes
+    /// to stand for that history while the lock is held. A mark at its end is read by what the book
+    /// found at it: that takes less than to look at each edge, as `sync` does.
+    pub fn meet_and_bring_up<R: Wait>(
+        &self,
+        rt: &R,
+        one: &mut Pass<N>,
+        other: &mut Pass<N>,
+        replica: &mut Replica,
+    )
+        requires { StandsFor N.capacity (take replica.old.front other.old.seen) replica.old }
+        ensures one { HasLearnt N.capacity one.old one.new }
+        ensures other { HasLearnt N.capacity other.old other.new }
+        ensures same { one.new.seen ≡ other.new.seen }
+        ensures knew { (IsPass N.capacity one.old) × (IsPass N.capacity other.old) }
+        ensures know { (IsPass N.capacity one.new) × (IsPass N.capacity other.new) }
+        ensures stands { StandsFor N.capacity other.new.seen replica.new }
+    {
+        self.locked(rt)
+            .meet_and_bring_up(&self.front, one, other, replica);
     }
 
     /// How many entries the history has, at least. It waits for nobody.

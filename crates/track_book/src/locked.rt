@@ -1,8 +1,9 @@
 //! What lies under the lock of a shared book.
-ghost use Rattle.std.specs.Prelude.{◌≡◌, ◌<◌, [], ◌++◌, length, drop, IfOk, IfErr, OnOk, OnErr};
+ghost use Rattle.std.specs.Prelude.{◌≡◌, ◌<◌, [], ◌++◌, length, take, drop, IfOk, IfErr, OnOk, OnErr};
 ghost use mathlib.Core.List.{IsPrefix};
 ghost use Rattle.book_front.specs.Seats.{word_of, knows, IsKeeper};
 ghost use Rattle.book_state.specs.Books.{nets_of, IsClaim, IsLegal, victims as victims_of};
+ghost use Rattle.book_state.specs.Replicas.{StandsFor};
 ghost use Rattle.track_book.specs.Passes.{IsPass, IsAnswered, HasLearnt, with_answer};
 ghost use Rattle.track_book.specs.SeatOptions.{view_in, HasKeeper, HasNext};
 
@@ -10,7 +11,7 @@ use crate::name::BookName;
 use crate::pass::Pass;
 use crate::seats::{append, learn};
 use book_front::{Front, PassSeat};
-use book_state::{BookState, Call, Claim, ClaimRefused, History, Reply};
+use book_state::{BookState, Call, Claim, ClaimRefused, History, Replica, Reply};
 use gr_base::Cells;
 use std::alloc::AllocError;
 use std::marker::{Model, PhantomData};
@@ -160,6 +161,29 @@ impl<N: BookName> Locked<N> {
     {
         self.show(front, one);
         self.show(front, other);
+    }
+
+    /// The same, and the replica comes to stand for the whole history.
+    pub(crate) fn meet_and_bring_up(
+        &mut self,
+        front: &Front,
+        one: &mut Pass<N>,
+        other: &mut Pass<N>,
+        replica: &mut Replica,
+    )
+        requires front { word_of front.now ≡ N.word }
+        requires stands { StandsFor N.capacity (take replica.old.front other.old.seen) replica.old }
+        ensures same { self.new ≡ self.old }
+        ensures one { HasLearnt N.capacity one.old one.new }
+        ensures other { HasLearnt N.capacity other.old other.new }
+        ensures one_seen { one.new.seen ≡ self.old }
+        ensures other_seen { other.new.seen ≡ self.old }
+        ensures knew { (IsPass N.capacity one.old) × (IsPass N.capacity other.old) }
+        ensures know { (IsPass N.capacity one.new) × (IsPass N.capacity other.new) }
+        ensures stands { StandsFor N.capacity self.old replica.new }
+    {
+        self.meet(front, one, other);
+        self.state.bring_up(replica);
     }
 
     /// The pass sees the whole history.

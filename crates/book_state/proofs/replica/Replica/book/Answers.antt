@@ -22,7 +22,7 @@ add-requires-clause-room c =
     let history = c.args.history.now in
     let fits = claim-in_range c.args.capacity.now history c.args.place c.args.claim.now c.requires.legal c.requires.claim in
     let stands = subst (λ (r : ReplicaView). StandsFor c.args.capacity.now (take c.args.place history) r) (sym c.self.view_is) c.requires.stands in
-    room-claim c.args.capacity.now (take c.args.place history) (seen c.self.inside) c.args.claim.now.tree stands c.shape-2.ensures.tables c.self.invariant c.shape.ensures.tree fits.shape
+    room-claim c.args.capacity.now (take c.args.place history) (seen c.self.inside) c.args.claim.now.tree stands c.shape-2.ensures.tables c.self.invariant.few c.shape.ensures.tree fits.shape
 
 pub set-requires-clause-net : goal.set-requires-clause-net
 set-requires-clause-net c =

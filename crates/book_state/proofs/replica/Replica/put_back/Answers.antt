@@ -33,7 +33,7 @@ add-requires-clause-room c =
     let place = place_of c.args.self.now.places c.args.net in
     let shape = tree-shape c.args.capacity.now h place c.in-Some.tree.now c.requires.legal (past-tree h c.entries.result.now place c.in-Some.tree.now c.entries.ensures c.in-Some.ensures) in
     let lifted = subst (λ (r : ReplicaView). IsLifted c.args.capacity.now h c.args.net r) (sym c.self.view_is) c.requires.lifted in
-    room-back c.args.capacity.now h c.args.net (seen c.self.inside) c.in-Some.tree.now lifted c.shape-2.ensures.tables c.self.invariant c.shape.ensures.tree shape
+    room-back c.args.capacity.now h c.args.net (seen c.self.inside) c.in-Some.tree.now lifted c.shape-2.ensures.tables c.self.invariant.few c.shape.ensures.tree shape
 
 pub returns : goal.returns
 returns c =
