@@ -3,6 +3,7 @@ pub mod PlaneLemmas
 pub mod CapacityLemmas
 pub mod TreeTimes
 pub mod LoadSteps
+pub mod JoinedMarks
 pub mod LoadLemmas
 pub mod RangeFilters
 pub mod PlacedEdges

@@ -1,6 +1,7 @@
 pub mod Planes
 pub mod Tables
 pub mod CapacityStore
+pub mod MarksStore
 pub mod LoadSums
 pub mod LoadsStore
 pub mod Operations

@@ -10,10 +10,10 @@ abbrev pub seen : Inside → LoadsView
 seen l = record {
   shape = l.shape;
   demands = by_number 0 l.demands.items;
-  marks = by_number 0 l.marks.items;
+  marks = by_number 0 l.marks;
 }
 
 -- the fields make loads, and where they say that there is no mark each is 0
 pub record Keeps (l : Inside) : Type 0 where
   pub loads : AreLoads (seen l)
-  pub unmarked : l.marked ≡ false → l.marks.items ≡ replicate (2 * cells_of l.shape) 0
+  pub unmarked : l.marked ≡ false → l.marks ≡ replicate (2 * cells_of l.shape) 0

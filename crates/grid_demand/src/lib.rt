@@ -3,6 +3,7 @@
 
 mod capacity;
 mod loads;
+mod marks;
 mod overfull;
 mod sums;
 mod wires;

@@ -1,5 +1,5 @@
 //! The loads of a grid: the demand for each wire edge, and its marks.
-ghost use Rattle.std.specs.Prelude.{◌≡◌, ℕ, ◌+◌, ◌-◌, ◌*◌, ◌^◌, ◌<◌, ◌≤◌, length, map, fold, max, zip, sum_by, slice_index, true, false, All, IfOk, IsTrue};
+ghost use Rattle.std.specs.Prelude.{◌≡◌, ℕ, ◌+◌, ◌-◌, ◌*◌, ◌^◌, ◌<◌, ◌≤◌, length, map, fold, max, zip, sum_by, slice_index, false, All, IfOk, IsTrue};
 ghost use Rattle.std.specs.List.Sorted.{IsStrictlyIncreasing};
 ghost use Rattle.gr_base.specs.Capacities.{capacity as capacity_in};
 ghost use Rattle.gr_base.specs.Designs.{DesignView};
@@ -13,9 +13,10 @@ ghost use Rattle.grid_demand.specs.LoadSums.{no_loads, demand_at, marks_at, shar
 ghost use Rattle.grid_demand.specs.Overfull.{AreOverfull, has_number};
 
 use crate::capacity::Capacity;
+use crate::marks::Marks;
 use crate::overfull::Overfull;
 use crate::wires::place;
-use gr_base::{Edge, MOST_MARKS, RouteTree, Shape};
+use gr_base::{Edge, RouteTree, Shape};
 use std::alloc::{AllocError, Global};
 use std::marker::Model;
 
@@ -27,7 +28,7 @@ use std::marker::Model;
 pub struct Loads {
     shape: Shape,
     demands: Vec<u64>,
-    marks: Vec<u32>,
+    marks: Marks,
     marked: bool,
 }
 
@@ -41,7 +42,7 @@ impl Loads {
         Ok(Loads {
             shape,
             demands: vec![in alloc; 0; wires]?,
-            marks: vec![in alloc; 0; wires]?,
+            marks: Marks::none(alloc, wires)?,
             marked: false,
         })
     }
@@ -69,7 +70,7 @@ impl Loads {
         if !self.marked {
             return 0;
         }
-        self.marks[place(e, self.demands.len())]
+        self.marks.at(place(e, self.demands.len()))
     }
 
     /// Puts one wire edge of a net in: the edge gains the net's need.
@@ -220,42 +221,34 @@ fn changed(change: Change, demand: u64, need: u64) -> u64
 
 /// Adds a mark where the demand is above the capacity, up to the most marks. It answers whether there
 /// is such a place.
-fn mark_over(marks: &mut Vec<u32>, demands: &[u64], capacities: &[u32]) -> bool
-    requires demands { length demands.now ≡ length marks.old.items }
-    requires capacities { length capacities.now ≡ length marks.old.items }
-    ensures long { length marks.new.items ≡ length marks.old.items }
-    ensures each { (n : ℕ) → n < length marks.old.items → slice_index marks.new.items n
-        ≡ mark_of (slice_index demands.now n) (slice_index capacities.now n) (slice_index marks.old.items n) }
-    ensures none { result ≡ false → marks.new.items ≡ marks.old.items }
+fn mark_over(marks: &mut Marks, demands: &[u64], capacities: &[u32]) -> bool
+    requires demands { length demands.now ≡ length marks.old }
+    requires capacities { length capacities.now ≡ length marks.old }
+    ensures long { length marks.new ≡ length marks.old }
+    ensures each { (n : ℕ) → n < length marks.old → slice_index marks.new n
+        ≡ mark_of (slice_index demands.now n) (slice_index capacities.now n) (slice_index marks.old n) }
+    ensures none { result ≡ false → marks.new ≡ marks.old }
 {
     let mut any = false;
-    for at in 0..marks.len() {
+    for at in 0..demands.len() {
         if demands[at] > u64::from(capacities[at]) {
-            marks[at] = with_mark(marks[at]);
+            marks.add(at);
             any = true;
         }
     }
     any
 }
 
-/// One mark more, up to the most marks.
-fn with_mark(marks: u32) -> u32
-    ensures { result ≡ mark_where true marks }
-{
-    MOST_MARKS.min(marks.saturating_add(1))
-}
-
 /// Adds a mark at each of some places, up to the most marks.
-fn mark_places(marks: &mut Vec<u32>, places: &[u32])
-    requires inside { All (λ place. place < length marks.old.items) places.now }
+fn mark_places(marks: &mut Marks, places: &[u32])
+    requires inside { All (λ place. place < length marks.old) places.now }
     requires rising { IsStrictlyIncreasing places.now }
-    ensures long { length marks.new.items ≡ length marks.old.items }
-    ensures each { (n : ℕ) → n < length marks.old.items → slice_index marks.new.items n
-        ≡ mark_where (has_number places.now n) (slice_index marks.old.items n) }
+    ensures long { length marks.new ≡ length marks.old }
+    ensures each { (n : ℕ) → n < length marks.old → slice_index marks.new n
+        ≡ mark_where (has_number places.now n) (slice_index marks.old n) }
 {
     for place in places {
-        let at = *place as usize;
-        marks[at] = with_mark(marks[at]);
+        marks.add(*place as usize);
     }
 }
 

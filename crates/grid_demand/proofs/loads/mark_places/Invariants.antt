@@ -5,7 +5,7 @@ use Rattle.grid_demand.proofs.loads.mark_places.Given as goal
 
 abbrev pub invariant-loop-place : goal.invariant-loop-place
 invariant-loop-place l = record {
-  long : length l.marks.items ≡ length l.fn.marks.items;
-  each : (n : ℕ) → n < length l.fn.marks.items → slice_index l.marks.items n
-      ≡ mark_where (has_number (take l.place-index l.places) n) (slice_index l.fn.marks.items n);
+  long : length l.marks ≡ length l.fn.marks;
+  each : (n : ℕ) → n < length l.fn.marks → slice_index l.marks n
+      ≡ mark_where (has_number (take l.place-index l.places) n) (slice_index l.fn.marks n);
 }

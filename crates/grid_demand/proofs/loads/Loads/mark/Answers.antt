@@ -10,25 +10,25 @@ use Rattle.grid_demand.proofs.loads.Loads.mark.Goals.{then-self, else-self}
 pub mark_over-any-requires-clause-demands : goal.mark_over-any-requires-clause-demands
 mark_over-any-requires-clause-demands c =
     demands-long (seen c.self.inside) c.deref.result.now c.self.invariant.loads (ap (λ (xs : List ℕ). by_number 0 xs) c.deref.ensures.value)
-    ∙ sym (marks-long (seen c.self.inside) c.self.inside.marks.items c.self.invariant.loads refl)
+    ∙ sym (marks-long (seen c.self.inside) c.self.inside.marks c.self.invariant.loads refl)
 
 pub mark_over-any-requires-clause-capacities : goal.mark_over-any-requires-clause-capacities
 mark_over-any-requires-clause-capacities c =
     capacities-long (seen c.self.inside) c.args.capacity.now c.table.result.now c.table.ensures.tables
     (c.requires ∙ sym (ap (λ (l : LoadsView). l.shape) c.self.view_is)) c.table.ensures.table
-    ∙ sym (marks-long (seen c.self.inside) c.self.inside.marks.items c.self.invariant.loads refl)
+    ∙ sym (marks-long (seen c.self.inside) c.self.inside.marks c.self.invariant.loads refl)
 
 -- the marks then
-after : (c : goal.After-self-1) → by_number 0 c.mark_over-any.new.marks.items ≡ (marked c.args.capacity.now (seen c.self.inside)).marks
+after : (c : goal.After-self-1) → by_number 0 c.mark_over-any.new.marks ≡ (marked c.args.capacity.now (seen c.self.inside)).marks
 after c =
-    marked-planes c.args.capacity.now (seen c.self.inside) c.deref.result.now c.table.result.now c.self.inside.marks.items c.mark_over-any.new.marks.items
+    marked-planes c.args.capacity.now (seen c.self.inside) c.deref.result.now c.table.result.now c.self.inside.marks c.mark_over-any.new.marks
     c.self.invariant.loads c.table.ensures.tables (c.requires ∙ sym (ap (λ (l : LoadsView). l.shape) c.self.view_is))
     (ap (λ (xs : List ℕ). by_number 0 xs) c.deref.ensures.value) c.table.ensures.table refl c.mark_over-any.ensures.long c.mark_over-any.ensures.each
 
 pub invariant_of-self : goal.invariant_of-self
 invariant_of-self c = record {
   loads =
-      marked-whole c.args.capacity.now (seen c.self.inside) (by_number 0 c.mark_over-any.new.marks.items) c.self.invariant.loads (after c);
+      marked-whole c.args.capacity.now (seen c.self.inside) (by_number 0 c.mark_over-any.new.marks) c.self.invariant.loads (after c);
   unmarked = λ none. elim c.if-self.branch [
     | then-self w ↦ absurd (both_ways c.if-self.self none (w.self-is ∙ w.if-self.true))
     | else-self w ↦ c.mark_over-any.ensures.none (sym w.self-is ∙ none) ∙ c.self.invariant.unmarked w.if-self.false
@@ -39,9 +39,9 @@ pub returns-clause-loads : goal.returns-clause-loads
 returns-clause-loads c =
     let l : LoadsView = seen c.self.inside in
     let new : List ℕ → LoadsView = λ xs. record { shape = l.shape; demands = l.demands; marks = xs } in
-    let P : LoadsView → Type 0 = λ v. new (by_number 0 c.mark_over-any.new.marks.items) ≡ marked c.args.capacity.now v in
+    let P : LoadsView → Type 0 = λ v. new (by_number 0 c.mark_over-any.new.marks) ≡ marked c.args.capacity.now v in
     subst P c.self.view_is (ap new (after c))
 
 pub returns-clause-whole : goal.returns-clause-whole
 returns-clause-whole c =
-    marked-whole c.args.capacity.now (seen c.self.inside) (by_number 0 c.mark_over-any.new.marks.items) c.self.invariant.loads (after c)
+    marked-whole c.args.capacity.now (seen c.self.inside) (by_number 0 c.mark_over-any.new.marks) c.self.invariant.loads (after c)

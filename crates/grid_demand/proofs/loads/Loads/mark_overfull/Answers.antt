@@ -14,7 +14,7 @@ use Rattle.grid_demand.proofs.loads.Loads.mark_overfull.Goals.{then-self, else-s
 
 pub mark_places-requires-clause-inside : goal.mark_places-requires-clause-inside
 mark_places-requires-clause-inside c =
-    let marks = c.self.inside.marks.items in
+    let marks = c.self.inside.marks in
     let over_of : AreOverfull c.args.capacity.now (seen c.self.inside) c.args.over.now =
     subst (λ (l : LoadsView). AreOverfull c.args.capacity.now l c.args.over.now) (sym c.self.view_is) c.requires in
     let over = c.args.over.now.table in
@@ -29,24 +29,24 @@ mark_places-requires-clause-rising c =
     (filter-rises (λ (place : ℕ). is_told over (edge_placed (length over) place)) (length over))
 
 -- the marks then
-after : (c : goal.After-self-1) → by_number 0 c.mark_places.new.marks.items ≡ (marked c.args.capacity.now (seen c.self.inside)).marks
+after : (c : goal.After-self-1) → by_number 0 c.mark_places.new.marks ≡ (marked c.args.capacity.now (seen c.self.inside)).marks
 after c =
     let over_of : AreOverfull c.args.capacity.now (seen c.self.inside) c.args.over.now =
     subst (λ (l : LoadsView). AreOverfull c.args.capacity.now l c.args.over.now) (sym c.self.view_is) c.requires in
-    overfull-marked c.args.capacity.now (seen c.self.inside) c.self.inside.marks.items c.mark_places.new.marks.items c.places-places.result.now c.args.over.now
+    overfull-marked c.args.capacity.now (seen c.self.inside) c.self.inside.marks c.mark_places.new.marks c.places-places.result.now c.args.over.now
     c.self.invariant.loads over_of refl c.places-places.ensures c.mark_places.ensures.long c.mark_places.ensures.each
 
 pub invariant_of-self : goal.invariant_of-self
 invariant_of-self c = record {
   loads =
-      marked-whole c.args.capacity.now (seen c.self.inside) (by_number 0 c.mark_places.new.marks.items) c.self.invariant.loads (after c);
+      marked-whole c.args.capacity.now (seen c.self.inside) (by_number 0 c.mark_places.new.marks) c.self.invariant.loads (after c);
   unmarked = λ none. elim c.if-self.branch [
     | then-self w ↦ absurd (both_ways c.if-self.self none (w.self-is ∙ w.if-self.true))
     | else-self w ↦
         let said = sym w.self-is ∙ none in
         let test = w.is_empty.ensures in
         let empty : length c.places-places.result.now ≡ 0 = grind (arith, nat_tests, said, test) in
-        nowhere-marked c.places-places.result.now c.self.inside.marks.items c.mark_places.new.marks.items empty c.mark_places.ensures.long c.mark_places.ensures.each
+        nowhere-marked c.places-places.result.now c.self.inside.marks c.mark_places.new.marks empty c.mark_places.ensures.long c.mark_places.ensures.each
         ∙ c.self.invariant.unmarked w.if-self.false
   ];
 }
@@ -55,9 +55,9 @@ pub returns-clause-loads : goal.returns-clause-loads
 returns-clause-loads c =
     let l : LoadsView = seen c.self.inside in
     let new : List ℕ → LoadsView = λ xs. record { shape = l.shape; demands = l.demands; marks = xs } in
-    let P : LoadsView → Type 0 = λ v. new (by_number 0 c.mark_places.new.marks.items) ≡ marked c.args.capacity.now v in
+    let P : LoadsView → Type 0 = λ v. new (by_number 0 c.mark_places.new.marks) ≡ marked c.args.capacity.now v in
     subst P c.self.view_is (ap new (after c))
 
 pub returns-clause-whole : goal.returns-clause-whole
 returns-clause-whole c =
-    marked-whole c.args.capacity.now (seen c.self.inside) (by_number 0 c.mark_places.new.marks.items) c.self.invariant.loads (after c)
+    marked-whole c.args.capacity.now (seen c.self.inside) (by_number 0 c.mark_places.new.marks) c.self.invariant.loads (after c)

@@ -1,5 +1,4 @@
 use Rattle.std.proofs.Common.{refl, sym, ap, subst, ◌∙◌, arith}
-use Rattle.std.proofs.lemmas.List.{get_or_read}
 use Rattle.gr_base.specs.Limits.{most_marks}
 use Rattle.gr_base.specs.Sums.{wire_number}
 use Rattle.grid_demand.specs.LoadSums.{LoadsView, AreLoads, marks_at}
@@ -9,21 +8,20 @@ use Rattle.grid_demand.proofs.loads.Loads.marks.Goals as goal
 
 pub returns-then-not-self-clause-marks : goal.returns-then-not-self-clause-marks
 returns-then-not-self-clause-marks c =
-    sym (no-marks (seen c.self.inside) c.args.self.now c.self.inside.marks.items c.args.e c.self.view_is refl
+    sym (no-marks (seen c.self.inside) c.args.self.now c.self.inside.marks c.args.e c.self.view_is refl
     (c.self.invariant.unmarked c.if-not-self.true) c.requires.edge)
 
-pub index-requires : goal.index-requires
-index-requires c =
-    let here = marks-place (seen c.self.inside) c.args.self.now c.self.inside.demands.items c.self.inside.marks.items c.len.result c.args.e c.place.result
+pub at-requires : goal.at-requires
+at-requires c =
+    let here = marks-place (seen c.self.inside) c.args.self.now c.self.inside.demands.items c.self.inside.marks c.len.result c.args.e c.place.result
     c.self.invariant.loads c.self.view_is refl refl c.requires.edge (omega (arith, c.len.ensures, c.self.inside.demands.ok.0)) c.place.ensures in
-    omega (arith, here.below, c.self.inside.marks.ok.0)
+    here.below
 
 pub returns-clause-marks : goal.returns-clause-marks
 returns-clause-marks c =
-    let here = marks-place (seen c.self.inside) c.args.self.now c.self.inside.demands.items c.self.inside.marks.items c.len.result c.args.e c.place.result
+    let here = marks-place (seen c.self.inside) c.args.self.now c.self.inside.demands.items c.self.inside.marks c.len.result c.args.e c.place.result
     c.self.invariant.loads c.self.view_is refl refl c.requires.edge (omega (arith, c.len.ensures, c.self.inside.demands.ok.0)) c.place.ensures in
-    get_or_read c.self.inside.marks.items c.place.result c.index.result.now here.below c.index.ensures 0 ∙ here.value
-    ∙ ap (λ (l : LoadsView). marks_at l c.args.e) c.self.view_is
+    c.at.ensures ∙ here.value ∙ ap (λ (l : LoadsView). marks_at l c.args.e) c.self.view_is
 
 pub returns-clause-most : goal.returns-clause-most
 returns-clause-most c =
