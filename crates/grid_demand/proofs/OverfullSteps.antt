@@ -1,13 +1,14 @@
 -- Demands above their capacities, place by place.
-use Rattle.std.proofs.Common.{◌≡◌, ℕ, ◌+◌, ◌-◌, ◌*◌, ◌^◌, ◌<◌, ◌≤◌, inl, inr, Bool, true, false, nat_lt, List, [], ◌∷◌, ◌++◌, map, sum_by, zip, length, slice_index, slice_index_or, slice_set, refl, sym, ap, ◌∙◌, arith}
+use Rattle.std.proofs.Common.{◌≡◌, ℕ, ◌+◌, ◌-◌, ◌*◌, ◌^◌, ◌<◌, ◌≤◌, inl, inr, Bool, true, false, nat_lt, List, [], ◌∷◌, ◌++◌, map, fold, max, sum_by, zip, length, slice_index, slice_index_or, slice_set, refl, sym, ap, ◌∙◌, arith}
 use Rattle.std.specs.List.{filter, range_with_len}
 use Rattle.std.proofs.lemmas.Bool.{cases_eq}
 use Rattle.std.proofs.lemmas.Bool.Decides.{nat_tests}
 use Rattle.std.proofs.lemmas.List.{length-set, get_or-set_same, get_or-set_other}
-use Rattle.std.proofs.lemmas.List.FromFn.{sum_by-map-range_with_len_more}
+use Rattle.std.proofs.lemmas.List.FromFn.{sum_by-map-range_with_len_more, map-range_with_len_more}
+use Rattle.std.proofs.lemmas.List.Sums.{fold_push}
 use Rattle.gr_base.specs.Sums.{wire_number}
 use Rattle.grid_demand.proofs.PlacedEdges.{is-placed}
-use Rattle.grid_demand.proofs.PlaneLemmas.{place-below, length-by_number, by_number-at, sum-ranged}
+use Rattle.grid_demand.proofs.PlaneLemmas.{place-below, length-by_number, by_number-at, sum-ranged, most-ranged}
 use Rattle.grid_demand.proofs.RangeFilters.{filter-passes, filter-fails, filter-same}
 use Rattle.grid_demand.specs.Overfull.{is_told, told_places}
 use Rattle.grid_demand.specs.Planes.{by_number, place_of, edge_placed}
@@ -22,6 +23,10 @@ excess demands capacities n = slice_index demands n - slice_index capacities n
 abbrev pub excess_before : (demands capacities : List ℕ) → ℕ → ℕ
 excess_before demands capacities at = sum_by (λ (k : ℕ). k) (map (excess demands capacities) (range_with_len 0 at))
 
+-- the greatest of these before a place
+abbrev pub most_before : (demands capacities : List ℕ) → ℕ → ℕ
+most_before demands capacities at = fold max 0 (map (excess demands capacities) (range_with_len 0 at))
+
 -- what is listed of the demands before a place
 pub record Lists (demands capacities : List ℕ) (over : List Bool) (places : List ℕ) (total at : ℕ) : Type 0 where
   pub long : length over ≡ length demands
@@ -31,9 +36,15 @@ pub record Lists (demands capacities : List ℕ) (over : List Bool) (places : Li
   pub sum : total ≡ excess_before demands capacities at
   pub few : total ≤ at * 2 ^ 64
 
-excess-more : (demands capacities : List ℕ) (at : ℕ) →
+pub excess-more : (demands capacities : List ℕ) (at : ℕ) →
     excess_before demands capacities (at + 1) ≡ excess_before demands capacities at + excess demands capacities at
 excess-more demands capacities at = sum_by-map-range_with_len_more (λ (k : ℕ). k) (excess demands capacities) 0 at at (omega arith)
+
+pub most-more : (demands capacities : List ℕ) (at : ℕ) →
+    most_before demands capacities (at + 1) ≡ max (most_before demands capacities at) (excess demands capacities at)
+most-more demands capacities at =
+    ap (fold max 0) (map-range_with_len_more (excess demands capacities) 0 at at (omega arith))
+    ∙ fold_push max 0 (map (excess demands capacities) (range_with_len 0 at)) (excess demands capacities at)
 
 -- one demand more, which isn't above its capacity
 pub lists-within : (demands capacities : List ℕ) (over : List Bool) (places : List ℕ) (total at : ℕ) →
@@ -120,8 +131,20 @@ lists-each demands capacities over places total at n lists all limits below =
     ∙ ap (λ (k : ℕ). nat_lt (slice_index (by_number 0 capacities) n) k) (sym (by_number-at 0 demands n below))
 
 -- the sum of what the demands are above
+pub excess-sum : (demands capacities : List ℕ) (total at : ℕ) → total ≡ excess_before demands capacities at → at ≡ length demands →
+    length capacities ≡ length demands → total ≡ sum_by (λ (p : ℕ × ℕ). p.0 - p.1) (zip demands capacities)
+excess-sum demands capacities total at is all limits =
+    is ∙ ap (excess_before demands capacities) all ∙ sym (sum-ranged demands capacities (length demands) refl limits)
+
+-- and the greatest
+pub excess-most : (demands capacities : List ℕ) (most at : ℕ) → most ≡ most_before demands capacities at → at ≡ length demands →
+    length capacities ≡ length demands → most ≡ fold (λ m (p : ℕ × ℕ). max m (p.0 - p.1)) 0 (zip demands capacities)
+excess-most demands capacities most at is all limits =
+    is ∙ ap (most_before demands capacities) all ∙ sym (most-ranged demands capacities (length demands) refl limits)
+
+-- that sum where the places are listed
 pub lists-sum : (demands capacities : List ℕ) (over : List Bool) (places : List ℕ) (total at : ℕ) →
     Lists demands capacities over places total at → at ≡ length demands → length capacities ≡ length demands →
     total ≡ sum_by (λ (p : ℕ × ℕ). p.0 - p.1) (zip demands capacities)
 lists-sum demands capacities over places total at lists all limits =
-    lists.sum ∙ ap (excess_before demands capacities) all ∙ sym (sum-ranged demands capacities (length demands) refl limits)
+    excess-sum demands capacities total at lists.sum all limits

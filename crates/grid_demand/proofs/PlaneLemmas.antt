@@ -236,6 +236,16 @@ sum-ranged xs ys n xs_long ys_long =
     ∙ sum-tables (λ (k : ℕ). slice_index xs k) (λ (k : ℕ). slice_index ys k) range
     ∙ sum-mapped (λ (k : ℕ). slice_index xs k - slice_index ys k) range
 
+-- and so is the greatest
+pub most-ranged : (xs ys : List ℕ) (n : ℕ) → length xs ≡ n → length ys ≡ n →
+    fold (λ m (p : ℕ × ℕ). max m (p.0 - p.1)) 0 (zip xs ys) ≡ most_over (λ k. slice_index xs k - slice_index ys k) 0 n
+most-ranged xs ys n xs_long ys_long =
+    let M : List ℕ → List ℕ → ℕ = λ us vs. fold (λ m (p : ℕ × ℕ). max m (p.0 - p.1)) 0 (zip us vs) in
+    let range : List ℕ = range_with_len 0 n in
+    ap (λ (us : List ℕ). M us ys) (by_place xs n xs_long)
+    ∙ ap (M (map (λ (k : ℕ). slice_index xs k) range)) (by_place ys n ys_long)
+    ∙ most-tables (λ (k : ℕ). slice_index xs k) (λ (k : ℕ). slice_index ys k) range 0
+
 -- they are the same by number us by place
 pub sum-planes : (xs ys : List ℕ) (cells : ℕ) → length xs ≡ 2 * cells → length ys ≡ 2 * cells →
     sum_by (λ (p : ℕ × ℕ). p.0 - p.1) (zip xs ys) ≡ sum_by (λ (p : ℕ × ℕ). p.0 - p.1) (zip (by_number 0 xs) (by_number 0 ys))
@@ -257,9 +267,7 @@ most-planes xs ys cells xs_long ys_long =
     let M : List ℕ → List ℕ → ℕ = λ us vs. fold (λ m (p : ℕ × ℕ). max m (p.0 - p.1)) 0 (zip us vs) in
     let range : List ℕ = range_with_len 0 (2 * cells) in
     let place : ℕ → ℕ = place_of (2 * cells) in
-    ap (λ (us : List ℕ). M us ys) (by_place xs (2 * cells) xs_long)
-    ∙ ap (M (map (λ (k : ℕ). slice_index xs k) range)) (by_place ys (2 * cells) ys_long)
-    ∙ most-tables (λ (k : ℕ). slice_index xs k) (λ (k : ℕ). slice_index ys k) range 0
+    most-ranged xs ys (2 * cells) xs_long ys_long
     ∙ sym (tally-planes max most_over maxima (λ (k : ℕ). slice_index xs k - slice_index ys k) cells)
     ∙ sym (most-tables (λ (k : ℕ). slice_index xs (place k)) (λ (k : ℕ). slice_index ys (place k)) range 0)
     ∙ sym (ap (M (map (λ (k : ℕ). slice_index xs (place k)) range)) (numbers ys (2 * cells) ys_long))

@@ -1,7 +1,9 @@
 pub mod Planes
 pub mod Tables
 pub mod CapacityStore
+pub mod JoinedLists
 pub mod MarksStore
+pub mod DemandsStore
 pub mod LoadSums
 pub mod LoadsStore
 pub mod Operations

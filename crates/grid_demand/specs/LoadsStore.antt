@@ -9,7 +9,7 @@ use Rattle.grid_demand.specs.declared.loads.Loads.TheInside.{Inside}
 abbrev pub seen : Inside → LoadsView
 seen l = record {
   shape = l.shape;
-  demands = by_number 0 l.demands.items;
+  demands = by_number 0 l.demands;
   marks = by_number 0 l.marks;
 }
 

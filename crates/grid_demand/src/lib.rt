@@ -2,6 +2,7 @@
 #![tactic(auto)]
 
 mod capacity;
+mod demands;
 mod loads;
 mod marks;
 mod overfull;

@@ -13,6 +13,7 @@ ghost use Rattle.grid_demand.specs.LoadSums.{no_loads, demand_at, marks_at, shar
 ghost use Rattle.grid_demand.specs.Overfull.{AreOverfull, has_number};
 
 use crate::capacity::Capacity;
+use crate::demands::Demands;
 use crate::marks::Marks;
 use crate::overfull::Overfull;
 use crate::wires::place;
@@ -27,7 +28,7 @@ use std::marker::Model;
 #[derive(Debug, Drop)]
 pub struct Loads {
     shape: Shape,
-    demands: Vec<u64>,
+    demands: Demands,
     marks: Marks,
     marked: bool,
 }
@@ -41,7 +42,7 @@ impl Loads {
         let wires = 2 * shape.cells() as usize;
         Ok(Loads {
             shape,
-            demands: vec![in alloc; 0; wires]?,
+            demands: Demands::none(alloc, wires)?,
             marks: Marks::none(alloc, wires)?,
             marked: false,
         })
@@ -55,7 +56,7 @@ impl Loads {
         ensures demand { result ≡ demand_at self.now e }
         ensures loads { AreLoads self.now }
     {
-        self.demands[place(e, self.demands.len())]
+        self.demands.at(place(e, self.demands.len()))
     }
 
     /// The marks of a wire edge, at most 1,048,576.
@@ -84,7 +85,8 @@ impl Loads {
     {
         let need = capacity.need(net, e);
         let at = place(e, self.demands.len());
-        self.demands[at] += need;
+        let demand = self.demands.at(at);
+        self.demands.put(at, demand + need);
     }
 
     /// Puts a net's tree in: each wire edge of the tree gains the net's need.
@@ -134,7 +136,7 @@ impl Loads {
     }
 
     /// The demand for each wire edge, by place.
-    pub(crate) fn demands(&self) -> &[u64]
+    pub(crate) fn demands(&self) -> &Demands
         ensures demands { by_number 0 result.now ≡ self.now.demands }
         ensures loads { AreLoads self.now }
     {
@@ -183,18 +185,18 @@ pub(crate) enum Change {
 
 /// Changes the demands of the wire edges of a net's tree by the net's need.
 fn change_along(
-    demands: &mut Vec<u64>,
+    demands: &mut Demands,
     capacity: &Capacity,
     net: u32,
     tree: &RouteTree,
     change: Change,
 )
-    requires long { length demands.old.items ≡ 2 * cells_of tree.now.shape }
+    requires long { length demands.old ≡ 2 * cells_of tree.now.shape }
     requires shape { capacity.now.shape ≡ tree.now.shape }
     requires fits { (e : Edge) → IsTrue (edges_of tree.now e) → IsTrue (is_wire e) →
-        Fits change (in_planes demands.old.items e) (need_at capacity.now net e) }
-    ensures demands { by_number 0 demands.new.items ≡
-        map (λ e. changed_by change (in_planes demands.old.items e) (share capacity.now net tree.now e))
+        Fits change (in_planes demands.old e) (need_at capacity.now net e) }
+    ensures demands { by_number 0 demands.new ≡
+        map (λ e. changed_by change (in_planes demands.old e) (share capacity.now net tree.now e))
         (wires_from_cells tree.now.shape) }
     ensures tree { IsTree tree.now }
 {
@@ -203,7 +205,8 @@ fn change_along(
             continue;
         };
         let at = place(e, demands.len());
-        demands[at] = changed(change, demands[at], capacity.need(net, e));
+        let demand = demands.at(at);
+        demands.put(at, changed(change, demand, capacity.need(net, e)));
     }
 }
 
@@ -221,7 +224,7 @@ fn changed(change: Change, demand: u64, need: u64) -> u64
 
 /// Adds a mark where the demand is above the capacity, up to the most marks. It answers whether there
 /// is such a place.
-fn mark_over(marks: &mut Marks, demands: &[u64], capacities: &[u32]) -> bool
+fn mark_over(marks: &mut Marks, demands: &Demands, capacities: &[u32]) -> bool
     requires demands { length demands.now ≡ length marks.old }
     requires capacities { length capacities.now ≡ length marks.old }
     ensures long { length marks.new ≡ length marks.old }
@@ -231,7 +234,7 @@ fn mark_over(marks: &mut Marks, demands: &[u64], capacities: &[u32]) -> bool
 {
     let mut any = false;
     for at in 0..demands.len() {
-        if demands[at] > u64::from(capacities[at]) {
+        if demands.at(at) > u64::from(capacities[at]) {
             marks.add(at);
             any = true;
         }
@@ -253,25 +256,26 @@ fn mark_places(marks: &mut Marks, places: &[u32])
 }
 
 /// The sum of what demands are above capacities.
-fn total_over(demands: &[u64], capacities: &[u32]) -> u128
-    requires { length demands.now < 2 ^ 32 }
+fn total_over(demands: &Demands, capacities: &[u32]) -> u128
+    requires capacities { length capacities.now ≡ length demands.now }
+    requires few { length demands.now < 2 ^ 32 }
     ensures { result ≡ sum_by (λ (p : ℕ × ℕ). p.0 - p.1) (zip demands.now capacities.now) }
 {
-    demands
-        .iter()
-        .zip(capacities)
-        .map(|(demand, capacity)| u128::from(demand.saturating_sub(u64::from(*capacity))))
-        .sum()
+    let mut total = 0;
+    for at in 0..demands.len() {
+        total += u128::from(demands.at(at).saturating_sub(u64::from(capacities[at])));
+    }
+    total
 }
 
 /// The greatest of what demands are above capacities, or 0.
-fn most_over(demands: &[u64], capacities: &[u32]) -> u64
+fn most_over(demands: &Demands, capacities: &[u32]) -> u64
+    requires { length capacities.now ≡ length demands.now }
     ensures { result ≡ fold (λ m (p : ℕ × ℕ). max m (p.0 - p.1)) 0 (zip demands.now capacities.now) }
 {
-    demands
-        .iter()
-        .zip(capacities)
-        .fold(0, |most, (demand, capacity)| {
-            most.max(demand.saturating_sub(u64::from(*capacity)))
-        })
+    let mut most = 0;
+    for at in 0..demands.len() {
+        most = most.max(demands.at(at).saturating_sub(u64::from(capacities[at])));
+    }
+    most
 }

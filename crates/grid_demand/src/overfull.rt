@@ -5,6 +5,7 @@ ghost use Rattle.grid_demand.specs.Overfull.{is_told, told_places, told_edges, A
 ghost use Rattle.grid_demand.specs.Planes.{by_number};
 
 use crate::capacity::Capacity;
+use crate::demands::Demands;
 use crate::loads::Loads;
 use crate::wires::{edge_placed, place};
 use gr_base::Edge;
@@ -85,7 +86,7 @@ impl Overfull {
 }
 
 /// Which demands are above capacities, where both are in planes.
-fn overfull_of(alloc: Global, demands: &[u64], capacities: &[u32]) -> Result<Overfull, AllocError>
+fn overfull_of(alloc: Global, demands: &Demands, capacities: &[u32]) -> Result<Overfull, AllocError>
     requires capacities { length capacities.now ≡ length demands.now }
     requires halves { length demands.now ≡ 2 * (length demands.now / 2) }
     requires few { length demands.now < 2 ^ 32 }
@@ -99,10 +100,11 @@ fn overfull_of(alloc: Global, demands: &[u64], capacities: &[u32]) -> Result<Ove
     let mut total = 0;
     for at in 0..demands.len() {
         let capacity = u64::from(capacities[at]);
-        if demands[at] > capacity {
+        let demand = demands.at(at);
+        if demand > capacity {
             over[at] = true;
             places.push(at as u32)?;
-            total += u128::from(demands[at] - capacity);
+            total += u128::from(demand - capacity);
         }
     }
     Ok(Overfull {

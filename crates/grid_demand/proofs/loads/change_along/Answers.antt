@@ -1,5 +1,4 @@
-use Rattle.std.proofs.Common.{◌≡◌, ℕ, ◌<◌, List, length, slice_index, Option, Some, IsTrue, sym, subst, ◌∙◌, arith}
-use Rattle.std.proofs.lemmas.List.{get_or_read}
+use Rattle.std.proofs.Common.{◌≡◌, ℕ, ◌<◌, List, length, slice_index, Option, Some, IsTrue, sym, ap, subst, ◌∙◌, arith}
 use Rattle.gr_base.specs.Grid.{has_edge}
 use Rattle.gr_base.specs.ParentEdges.{wire_to_parent}
 use Rattle.gr_base.specs.Sums.{wire_number}
@@ -17,8 +16,8 @@ use Rattle.grid_demand.proofs.loads.change_along.Goals as goal
 
 pub loop-node-init : goal.loop-node-init
 loop-node-init c =
-    changed-none c.args.tree.now.shape (changed_by c.args.change) (by_number 0 c.args.demands.now.items) (need_at c.args.capacity.now c.args.net) (adds c.args.change)
-    (length-by_number 0 c.args.demands.now.items ∙ c.requires.long)
+    changed-none c.args.tree.now.shape (changed_by c.args.change) (by_number 0 c.args.demands.now) (need_at c.args.capacity.now c.args.net) (adds c.args.change)
+    (length-by_number 0 c.args.demands.now ∙ c.requires.long)
 
 -- the turn that comes to an edge
 here : (t : TreeView) (k count : ℕ) (change : Change) (base now : List ℕ) (need : Edge → ℕ) (e : Edge) (wires place : ℕ) (o : Option Edge) →
@@ -27,55 +26,56 @@ here : (t : TreeView) (k count : ℕ) (change : Change) (base now : List ℕ) (n
 here t k count change base now need e wires place o so_far all tree below edge some whole at =
     turn t k (changed_by change) base now need e wires place (adds change) so_far tree (omega arith) (sym edge ∙ some) whole at
 
-pub index-requires : goal.index-requires
-index-requires c =
-    let t = here c.args.tree.now c.loop-node.node c.len-node-end.result c.args.change (by_number 0 c.args.demands.now.items) c.loop-node.demands.items (need_at c.args.capacity.now c.args.net)
+pub at-demand-requires : goal.at-demand-requires
+at-demand-requires c =
+    let t = here c.args.tree.now c.loop-node.node c.len-node-end.result c.args.change (by_number 0 c.args.demands.now) c.loop-node.demands (need_at c.args.capacity.now c.args.net)
     c.in-Some.e c.len.result c.place-at.result c.wire_to_parent.result c.loop-node.invariant c.len-node-end.ensures.len c.len-node-end.ensures.tree c.loop-node-test.true
-    c.wire_to_parent.ensures.edge c.in-Some.is (omega (arith, c.len.ensures, c.loop-node.demands.ok.0)) c.place-at.ensures in
-    omega (arith, t.stands.below, c.loop-node.demands.ok.0)
+    c.wire_to_parent.ensures.edge c.in-Some.is c.len.ensures c.place-at.ensures in
+    t.stands.below
 
 pub need-requires : goal.need-requires
 need-requires c =
-    let t = here c.args.tree.now c.loop-node.node c.len-node-end.result c.args.change (by_number 0 c.args.demands.now.items) c.loop-node.demands.items (need_at c.args.capacity.now c.args.net)
+    let t = here c.args.tree.now c.loop-node.node c.len-node-end.result c.args.change (by_number 0 c.args.demands.now) c.loop-node.demands (need_at c.args.capacity.now c.args.net)
     c.in-Some.e c.len.result c.place-at.result c.wire_to_parent.result c.loop-node.invariant c.len-node-end.ensures.len c.len-node-end.ensures.tree c.loop-node-test.true
-    c.wire_to_parent.ensures.edge c.in-Some.is (omega (arith, c.len.ensures, c.loop-node.demands.ok.0)) c.place-at.ensures in
+    c.wire_to_parent.ensures.edge c.in-Some.is c.len.ensures c.place-at.ensures in
     subst (λ (g : Shape). IsTrue (has_edge g c.in-Some.e)) (sym c.requires.shape) t.next.edge
 
 pub changed-requires-clause-fits : goal.changed-requires-clause-fits
 changed-requires-clause-fits c =
-    let t = here c.args.tree.now c.loop-node.node c.len-node-end.result c.args.change (by_number 0 c.args.demands.now.items) c.loop-node.demands.items (need_at c.args.capacity.now c.args.net)
+    let t = here c.args.tree.now c.loop-node.node c.len-node-end.result c.args.change (by_number 0 c.args.demands.now) c.loop-node.demands (need_at c.args.capacity.now c.args.net)
     c.in-Some.e c.len.result c.place-at.result c.wire_to_parent.result c.loop-node.invariant c.len-node-end.ensures.len c.len-node-end.ensures.tree c.loop-node-test.true
-    c.wire_to_parent.ensures.edge c.in-Some.is (omega (arith, c.len.ensures, c.loop-node.demands.ok.0)) c.place-at.ensures in
-    let read = get_or_read c.loop-node.demands.items c.place-at.result c.index.result.now t.stands.below c.index.ensures 0 ∙ t.before in
+    c.wire_to_parent.ensures.edge c.in-Some.is c.len.ensures c.place-at.ensures in
+    let read = c.at-demand.ensures ∙ t.before in
     let P : ℕ → Type 0 = λ n. Fits c.args.change n c.need.result in
-    let Q : ℕ → Type 0 = λ n. Fits c.args.change (slice_index (by_number 0 c.args.demands.now.items) (wire_number c.in-Some.e)) n in
+    let Q : ℕ → Type 0 = λ n. Fits c.args.change (slice_index (by_number 0 c.args.demands.now) (wire_number c.in-Some.e)) n in
     subst P (sym read) (subst Q (sym c.need.ensures.value) (c.requires.fits c.in-Some.e t.next.inside t.next.wire))
 
-pub index_mut-requires : goal.index_mut-requires
-index_mut-requires c =
-    let t = here c.args.tree.now c.loop-node.node c.len-node-end.result c.args.change (by_number 0 c.args.demands.now.items) c.loop-node.demands.items (need_at c.args.capacity.now c.args.net)
+pub put-requires : goal.put-requires
+put-requires c =
+    let t = here c.args.tree.now c.loop-node.node c.len-node-end.result c.args.change (by_number 0 c.args.demands.now) c.loop-node.demands (need_at c.args.capacity.now c.args.net)
     c.in-Some.e c.len.result c.place-at.result c.wire_to_parent.result c.loop-node.invariant c.len-node-end.ensures.len c.len-node-end.ensures.tree c.loop-node-test.true
-    c.wire_to_parent.ensures.edge c.in-Some.is (omega (arith, c.len.ensures, c.loop-node.demands.ok.0)) c.place-at.ensures in
-    omega (arith, t.stands.below, c.loop-node.demands.ok.0)
+    c.wire_to_parent.ensures.edge c.in-Some.is c.len.ensures c.place-at.ensures in
+    t.stands.below
 
 pub loop-node-preserved-in_default : goal.loop-node-preserved-in_default
 loop-node-preserved-in_default c =
     c.loop-node.invariant
-    ∙ next-via c.args.tree.now c.loop-node.node (changed_by c.args.change) (by_number 0 c.args.demands.now.items) (need_at c.args.capacity.now c.args.net)
+    ∙ next-via c.args.tree.now c.loop-node.node (changed_by c.args.change) (by_number 0 c.args.demands.now) (need_at c.args.capacity.now c.args.net)
     (omega (arith, c.loop-node-test.true, c.len-node-end.ensures.len)) (sym c.wire_to_parent.ensures.edge ∙ c.in_default.is)
 
 pub loop-node-preserved : goal.loop-node-preserved
 loop-node-preserved c =
-    let t = here c.args.tree.now c.loop-node.node c.len-node-end.result c.args.change (by_number 0 c.args.demands.now.items) c.loop-node.demands.items (need_at c.args.capacity.now c.args.net)
+    let t = here c.args.tree.now c.loop-node.node c.len-node-end.result c.args.change (by_number 0 c.args.demands.now) c.loop-node.demands (need_at c.args.capacity.now c.args.net)
     c.in-Some.e c.len.result c.place-at.result c.wire_to_parent.result c.loop-node.invariant c.len-node-end.ensures.len c.len-node-end.ensures.tree c.loop-node-test.true
-    c.wire_to_parent.ensures.edge c.in-Some.is (omega (arith, c.len.ensures, c.loop-node.demands.ok.0)) c.place-at.ensures in
-    turn-written c.args.tree.now c.loop-node.node (changed_by c.args.change) (by_number 0 c.args.demands.now.items) c.loop-node.demands.items (need_at c.args.capacity.now c.args.net)
-    c.in-Some.e c.place-at.result c.index.result.now c.need.result c.changed.result (adds c.args.change) c.loop-node.invariant t
-    (get_or_read c.loop-node.demands.items c.place-at.result c.index.result.now t.stands.below c.index.ensures 0) c.need.ensures.value c.changed.ensures
+    c.wire_to_parent.ensures.edge c.in-Some.is c.len.ensures c.place-at.ensures in
+    ap (λ (xs : List ℕ). by_number 0 xs) c.put.ensures
+    ∙ turn-written c.args.tree.now c.loop-node.node (changed_by c.args.change) (by_number 0 c.args.demands.now) c.loop-node.demands (need_at c.args.capacity.now c.args.net)
+    c.in-Some.e c.place-at.result c.at-demand.result c.need.result c.changed.result (adds c.args.change) c.loop-node.invariant t
+    c.at-demand.ensures c.need.ensures.value c.changed.ensures
 
 pub returns-clause-demands : goal.returns-clause-demands
 returns-clause-demands c =
     let t = c.args.tree.now in
     let all : c.loop-node.node ≡ length t.nodes = omega (arith, c.loop-node-test.false, c.loop-node.auto.node-end, c.len-node-end.ensures.len) in
     c.loop-node.invariant
-    ∙ changed-all t c.loop-node.node (changed_by c.args.change) (by_number 0 c.args.demands.now.items) (need_at c.args.capacity.now c.args.net) c.len-node-end.ensures.tree all
+    ∙ changed-all t c.loop-node.node (changed_by c.args.change) (by_number 0 c.args.demands.now) (need_at c.args.capacity.now c.args.net) c.len-node-end.ensures.tree all

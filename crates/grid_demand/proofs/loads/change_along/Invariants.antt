@@ -8,4 +8,4 @@ use Rattle.grid_demand.proofs.loads.change_along.Given as goal
 
 abbrev pub invariant-loop-node : goal.invariant-loop-node
 invariant-loop-node l =
-    by_number 0 l.demands.items ≡ changed l.tree.shape (changed_by l.change) (by_number 0 l.fn.demands.items) (need_at l.capacity l.net) (edges_before l.tree l.node)
+    by_number 0 l.demands ≡ changed l.tree.shape (changed_by l.change) (by_number 0 l.fn.demands) (need_at l.capacity l.net) (edges_before l.tree l.node)

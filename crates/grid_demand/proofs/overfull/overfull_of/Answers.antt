@@ -1,22 +1,23 @@
 use Rattle.std.proofs.Common.{ℕ, ◌+◌, ◌/◌, Bool, true, List, length, slice_set, sym, subst, ◌∙◌, arith}
 use Rattle.grid_demand.proofs.OverfullSteps.{Lists, lists-within, lists-above, lists-told, lists-each, lists-sum}
 use Rattle.grid_demand.proofs.PlaneLemmas.{length-by_number}
-use Rattle.grid_demand.proofs.overfull.overfull_of.Goals.{then-demands-at+in_ok-push, else-demands-at}
+use Rattle.grid_demand.proofs.overfull.overfull_of.Goals.{then-demand-capacity+in_ok-push, else-demand-capacity}
 use Rattle.grid_demand.proofs.overfull.overfull_of.Goals as goal
 
 pub loop-at-preserved : goal.loop-at-preserved
-loop-at-preserved c = elim c.if-demands-at.branch [
-  | then-demands-at+in_ok-push w ↦
+loop-at-preserved c = elim c.if-demand-capacity.branch [
+  | then-demand-capacity+in_ok-push w ↦
       let over : List Bool = slice_set c.loop-at.over.items c.loop-at.at true in
       rw (w.over-is, w.places-is, w.total-is)
       (subst (λ (places : List ℕ). Lists c.args.demands.now c.args.capacities.now over places (c.loop-at.total + w.from-total.result) (c.loop-at.at + 1)) (sym w.in_ok-push.ensures.items)
       (lists-above c.args.demands.now c.args.capacities.now c.loop-at.over.items c.loop-at.places.items c.loop-at.total c.loop-at.at w.from-total.result c.loop-at.invariant
-      c.loop-at-test.true (omega (arith, w.if-demands-at.true, c.from-capacity.ensures)) (omega (arith, w.from-total.ensures, c.from-capacity.ensures))
-      (omega (arith, c.type_inv.demands c.loop-at.at))))
-  | else-demands-at w ↦
+      (omega (arith, c.loop-at-test.true, c.len-at-end.ensures))
+      (omega (arith, w.if-demand-capacity.true, c.from-capacity.ensures, c.at-demand.ensures)) (omega (arith, w.from-total.ensures, c.from-capacity.ensures, c.at-demand.ensures))
+      (omega (arith, c.at-demand.ensures, c.at-demand.type_inv))))
+  | else-demand-capacity w ↦
       rw (w.over-is, w.places-is, w.total-is)
       (lists-within c.args.demands.now c.args.capacities.now c.loop-at.over.items c.loop-at.places.items c.loop-at.total c.loop-at.at c.loop-at.invariant
-      (omega (arith, w.if-demands-at.false, c.from-capacity.ensures)))
+      (omega (arith, w.if-demand-capacity.false, c.from-capacity.ensures, c.at-demand.ensures)))
 ]
 
 pub invariant_of-result : goal.invariant_of-result

@@ -9,7 +9,7 @@ use Rattle.grid_demand.proofs.loads.Loads.mark.Goals.{then-self, else-self}
 
 pub mark_over-any-requires-clause-demands : goal.mark_over-any-requires-clause-demands
 mark_over-any-requires-clause-demands c =
-    demands-long (seen c.self.inside) c.deref.result.now c.self.invariant.loads (ap (λ (xs : List ℕ). by_number 0 xs) c.deref.ensures.value)
+    demands-long (seen c.self.inside) c.self.inside.demands c.self.invariant.loads refl
     ∙ sym (marks-long (seen c.self.inside) c.self.inside.marks c.self.invariant.loads refl)
 
 pub mark_over-any-requires-clause-capacities : goal.mark_over-any-requires-clause-capacities
@@ -21,9 +21,9 @@ mark_over-any-requires-clause-capacities c =
 -- the marks then
 after : (c : goal.After-self-1) → by_number 0 c.mark_over-any.new.marks ≡ (marked c.args.capacity.now (seen c.self.inside)).marks
 after c =
-    marked-planes c.args.capacity.now (seen c.self.inside) c.deref.result.now c.table.result.now c.self.inside.marks c.mark_over-any.new.marks
+    marked-planes c.args.capacity.now (seen c.self.inside) c.self.inside.demands c.table.result.now c.self.inside.marks c.mark_over-any.new.marks
     c.self.invariant.loads c.table.ensures.tables (c.requires ∙ sym (ap (λ (l : LoadsView). l.shape) c.self.view_is))
-    (ap (λ (xs : List ℕ). by_number 0 xs) c.deref.ensures.value) c.table.ensures.table refl c.mark_over-any.ensures.long c.mark_over-any.ensures.each
+    refl c.table.ensures.table refl c.mark_over-any.ensures.long c.mark_over-any.ensures.each
 
 pub invariant_of-self : goal.invariant_of-self
 invariant_of-self c = record {

@@ -13,14 +13,14 @@ returns-then-not-self-clause-marks c =
 
 pub at-requires : goal.at-requires
 at-requires c =
-    let here = marks-place (seen c.self.inside) c.args.self.now c.self.inside.demands.items c.self.inside.marks c.len.result c.args.e c.place.result
-    c.self.invariant.loads c.self.view_is refl refl c.requires.edge (omega (arith, c.len.ensures, c.self.inside.demands.ok.0)) c.place.ensures in
+    let here = marks-place (seen c.self.inside) c.args.self.now c.self.inside.demands c.self.inside.marks c.len.result c.args.e c.place.result
+    c.self.invariant.loads c.self.view_is refl refl c.requires.edge c.len.ensures c.place.ensures in
     here.below
 
 pub returns-clause-marks : goal.returns-clause-marks
 returns-clause-marks c =
-    let here = marks-place (seen c.self.inside) c.args.self.now c.self.inside.demands.items c.self.inside.marks c.len.result c.args.e c.place.result
-    c.self.invariant.loads c.self.view_is refl refl c.requires.edge (omega (arith, c.len.ensures, c.self.inside.demands.ok.0)) c.place.ensures in
+    let here = marks-place (seen c.self.inside) c.args.self.now c.self.inside.demands c.self.inside.marks c.len.result c.args.e c.place.result
+    c.self.invariant.loads c.self.view_is refl refl c.requires.edge c.len.ensures c.place.ensures in
     c.at.ensures ∙ here.value ∙ ap (λ (l : LoadsView). marks_at l c.args.e) c.self.view_is
 
 pub returns-clause-most : goal.returns-clause-most

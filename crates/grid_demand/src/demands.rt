@@ -1,0 +1,85 @@
+//! The demand for each wire edge.
+ghost use Rattle.std.specs.Prelude.{◌≡◌, ℕ, ◌<◌, ◌≤◌, length, replicate, slice_index, slice_set, IfOk};
+ghost use Rattle.std.specs.Vec.{vec_capacity};
+
+use std::alloc::{AllocError, Global};
+use std::marker::Model;
+
+/// The demand for each wire edge, by place: two bytes an edge, and beside it how many times 65,536 it
+/// is. That second list is empty until a demand is so great, which takes thousands of nets of usual
+/// width. Its memory is taken before, so that `put` needs none, and isn't touched until then.
+#[derive(Debug, Drop)]
+pub(crate) struct Demands {
+    low: Vec<u16>,
+    high: Vec<u64>,
+}
+
+impl Model for Demands {
+    ghost use Rattle.std.specs.Prelude.{ℕ, List};
+
+    ghost Value = { List ℕ };
+
+    ghost use Rattle.grid_demand.specs.DemandsStore.{seen, Keeps};
+
+    ghost view = { seen };
+
+    ghost invariant = { Keeps };
+}
+
+impl Demands {
+    /// No demand for so many wire edges. The only error is want of memory.
+    pub(crate) fn none(alloc: Global, wires: usize) -> Result<Demands, AllocError>
+        ensures { IfOk result (λ demands. demands ≡ replicate wires 0) }
+    {
+        Ok(Demands {
+            low: vec![in alloc; 0; wires]?,
+            high: Vec::with_capacity(alloc, wires)?,
+        })
+    }
+
+    /// How many wire edges there are.
+    #[inline(always)]
+    pub(crate) fn len(&self) -> usize
+        ensures { result ≡ length self.now }
+    {
+        self.low.len()
+    }
+
+    /// The demand for the wire edge at a place.
+    #[inline(always)]
+    pub(crate) fn at(&self, place: usize) -> u64
+        requires { place < length self.now }
+        ensures { result ≡ slice_index self.now place }
+    {
+        let high = self.high.get(place).copied().unwrap_or(0);
+        u64::from(self.low[place]) + 65536 * high
+    }
+
+    /// Makes the demand for the wire edge at a place another.
+    #[inline(always)]
+    pub(crate) fn put(&mut self, place: usize, demand: u64)
+        requires { place < length self.old }
+        ensures { self.new ≡ slice_set self.old place demand }
+    {
+        self.low[place] = (demand % 65536) as u16;
+        if demand >= 65536 || !self.high.is_empty() {
+            put_high(&mut self.high, self.low.len(), place, demand / 65536);
+        }
+    }
+}
+
+/// Puts a number into a list that is filled up with zeros to a length that it has room for.
+fn put_high(high: &mut Vec<u64>, wires: usize, place: usize, times: u64)
+    requires room { wires ≤ vec_capacity high.old }
+    requires few { length high.old.items ≤ wires }
+    requires place { place < wires }
+    ensures room { wires ≤ vec_capacity high.new }
+    ensures few { length high.new.items ≤ wires }
+    ensures there { slice_index high.new.items place ≡ times }
+    ensures others { (n : ℕ) → (n ≡ place → ⊥) → slice_index high.new.items n ≡ slice_index high.old.items n }
+{
+    let Ok(()) = high.resize(wires, 0) else {
+        unreachable!()
+    };
+    high[place] = times;
+}
