@@ -1,5 +1,5 @@
 -- Numbers that two lists make together.
-use Rattle.std.proofs.Common.{◌≡◌, ℕ, ◌+◌, ◌*◌, ◌<◌, inl, inr, List, [], length, replicate, slice_index, slice_set, sym, ap, ◌∙◌, arith}
+use Rattle.std.proofs.Common.{◌≡◌, ℕ, ◌+◌, ◌*◌, ◌/◌, ◌%◌, ◌<◌, inl, inr, List, [], ◌∷◌, length, replicate, slice_index, slice_set, sym, ap, ◌∙◌, arith}
 use Rattle.std.proofs.lemmas.Bool.{cases_eq}
 use Rattle.std.proofs.lemmas.Grind.{same_number_lists}
 use Rattle.std.proofs.lemmas.List.{length-replicate, get_or-replicate, length-set, get_or-set_same, get_or-set_other}
@@ -59,3 +59,16 @@ within-low unit low high now p is inside = let long = length-together unit low h
 -- what is read at a place
 pub together-read : (unit : ℕ) (low high now : List ℕ) (p : ℕ) → together unit low high ≡ now → p < length now → slice_index low p + unit * slice_index high p ≡ slice_index now p
 together-read unit low high now p is inside = sym (together-at unit low high p (within-low unit low high now p is inside)) ∙ ap (λ (xs : List ℕ). slice_index xs p) is
+
+-- a number that is put at a place
+pub together-put : (low high after now : List ℕ) (p number : ℕ) → together 65536 low high ≡ now → p < length now →
+    slice_index after p ≡ number / 65536 → ((n : ℕ) → (n ≡ p → ⊥) → slice_index after n ≡ slice_index high n) →
+    together 65536 (slice_set low p (number % 65536)) after ≡ slice_set now p number
+together-put low high after now p number is inside there others =
+    together-set 65536 low high after p (number % 65536) number (within-low 65536 low high now p is inside) (omega (arith, there)) others
+    ∙ ap (λ (xs : List ℕ). slice_set xs p number) is
+
+-- below 65,536 an empty second list has nothing of a number
+pub nothing-high : (high : List ℕ) (p number : ℕ) → length high ≡ 0 → number < 65536 → slice_index high p ≡ number / 65536
+nothing-high [] p number empty few = omega (arith, few)
+nothing-high (times ∷ high) p number empty few = absurd (omega (arith, empty))

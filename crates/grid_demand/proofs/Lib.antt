@@ -4,8 +4,6 @@ pub mod CapacityLemmas
 pub mod TreeTimes
 pub mod LoadSteps
 pub mod JoinedNumbers
-pub mod JoinedMarks
-pub mod JoinedDemands
 pub mod LoadLemmas
 pub mod RangeFilters
 pub mod PlacedEdges

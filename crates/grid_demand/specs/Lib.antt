@@ -2,8 +2,7 @@ pub mod Planes
 pub mod Tables
 pub mod CapacityStore
 pub mod JoinedLists
-pub mod MarksStore
-pub mod DemandsStore
+pub mod NumbersStore
 pub mod LoadSums
 pub mod LoadsStore
 pub mod Operations

@@ -2,9 +2,8 @@
 #![tactic(auto)]
 
 mod capacity;
-mod demands;
 mod loads;
-mod marks;
+mod numbers;
 mod overfull;
 mod sums;
 mod wires;

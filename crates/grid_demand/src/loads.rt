@@ -1,5 +1,5 @@
 //! The loads of a grid: the demand for each wire edge, and its marks.
-ghost use Rattle.std.specs.Prelude.{◌≡◌, ℕ, ◌+◌, ◌-◌, ◌*◌, ◌^◌, ◌<◌, ◌≤◌, length, map, fold, max, zip, sum_by, slice_index, false, All, IfOk, IsTrue};
+ghost use Rattle.std.specs.Prelude.{◌≡◌, ℕ, ◌+◌, ◌-◌, ◌*◌, ◌^◌, ◌<◌, ◌≤◌, length, map, fold, max, zip, sum_by, slice_index, slice_set, true, false, All, IfOk, IsTrue};
 ghost use Rattle.std.specs.List.Sorted.{IsStrictlyIncreasing};
 ghost use Rattle.gr_base.specs.Capacities.{capacity as capacity_in};
 ghost use Rattle.gr_base.specs.Designs.{DesignView};
@@ -13,11 +13,10 @@ ghost use Rattle.grid_demand.specs.LoadSums.{no_loads, demand_at, marks_at, shar
 ghost use Rattle.grid_demand.specs.Overfull.{AreOverfull, has_number};
 
 use crate::capacity::Capacity;
-use crate::demands::Demands;
-use crate::marks::Marks;
+use crate::numbers::Numbers;
 use crate::overfull::Overfull;
 use crate::wires::place;
-use gr_base::{Edge, RouteTree, Shape};
+use gr_base::{Edge, MOST_MARKS, RouteTree, Shape};
 use std::alloc::{AllocError, Global};
 use std::marker::Model;
 
@@ -28,8 +27,8 @@ use std::marker::Model;
 #[derive(Debug, Drop)]
 pub struct Loads {
     shape: Shape,
-    demands: Demands,
-    marks: Marks,
+    demands: Numbers,
+    marks: Numbers,
     marked: bool,
 }
 
@@ -42,8 +41,8 @@ impl Loads {
         let wires = 2 * shape.cells() as usize;
         Ok(Loads {
             shape,
-            demands: Demands::none(alloc, wires)?,
-            marks: Marks::none(alloc, wires)?,
+            demands: Numbers::none(alloc, wires)?,
+            marks: Numbers::none(alloc, wires)?,
             marked: false,
         })
     }
@@ -71,7 +70,7 @@ impl Loads {
         if !self.marked {
             return 0;
         }
-        self.marks.at(place(e, self.demands.len()))
+        self.marks.at(place(e, self.demands.len())) as u32
     }
 
     /// Puts one wire edge of a net in: the edge gains the net's need.
@@ -136,7 +135,7 @@ impl Loads {
     }
 
     /// The demand for each wire edge, by place.
-    pub(crate) fn demands(&self) -> &Demands
+    pub(crate) fn demands(&self) -> &Numbers
         ensures demands { by_number 0 result.now ≡ self.now.demands }
         ensures loads { AreLoads self.now }
     {
@@ -185,7 +184,7 @@ pub(crate) enum Change {
 
 /// Changes the demands of the wire edges of a net's tree by the net's need.
 fn change_along(
-    demands: &mut Demands,
+    demands: &mut Numbers,
     capacity: &Capacity,
     net: u32,
     tree: &RouteTree,
@@ -224,7 +223,7 @@ fn changed(change: Change, demand: u64, need: u64) -> u64
 
 /// Adds a mark where the demand is above the capacity, up to the most marks. It answers whether there
 /// is such a place.
-fn mark_over(marks: &mut Marks, demands: &Demands, capacities: &[u32]) -> bool
+fn mark_over(marks: &mut Numbers, demands: &Numbers, capacities: &[u32]) -> bool
     requires demands { length demands.now ≡ length marks.old }
     requires capacities { length capacities.now ≡ length marks.old }
     ensures long { length marks.new ≡ length marks.old }
@@ -235,7 +234,7 @@ fn mark_over(marks: &mut Marks, demands: &Demands, capacities: &[u32]) -> bool
     let mut any = false;
     for at in 0..demands.len() {
         if demands.at(at) > u64::from(capacities[at]) {
-            marks.add(at);
+            add_mark(marks, at);
             any = true;
         }
     }
@@ -243,7 +242,7 @@ fn mark_over(marks: &mut Marks, demands: &Demands, capacities: &[u32]) -> bool
 }
 
 /// Adds a mark at each of some places, up to the most marks.
-fn mark_places(marks: &mut Marks, places: &[u32])
+fn mark_places(marks: &mut Numbers, places: &[u32])
     requires inside { All (λ place. place < length marks.old) places.now }
     requires rising { IsStrictlyIncreasing places.now }
     ensures long { length marks.new ≡ length marks.old }
@@ -251,12 +250,21 @@ fn mark_places(marks: &mut Marks, places: &[u32])
         ≡ mark_where (has_number places.now n) (slice_index marks.old n) }
 {
     for place in places {
-        marks.add(*place as usize);
+        add_mark(marks, *place as usize);
     }
 }
 
+/// Adds a mark at a place, up to the most marks.
+fn add_mark(marks: &mut Numbers, place: usize)
+    requires { place < length marks.old }
+    ensures { marks.new ≡ slice_set marks.old place (mark_where true (slice_index marks.old place)) }
+{
+    let more = marks.at(place).saturating_add(1);
+    marks.put(place, more.min(u64::from(MOST_MARKS)));
+}
+
 /// The sum of what demands are above capacities.
-fn total_over(demands: &Demands, capacities: &[u32]) -> u128
+fn total_over(demands: &Numbers, capacities: &[u32]) -> u128
     requires capacities { length capacities.now ≡ length demands.now }
     requires few { length demands.now < 2 ^ 32 }
     ensures { result ≡ sum_by (λ (p : ℕ × ℕ). p.0 - p.1) (zip demands.now capacities.now) }
@@ -269,7 +277,7 @@ fn total_over(demands: &Demands, capacities: &[u32]) -> u128
 }
 
 /// The greatest of what demands are above capacities, or 0.
-fn most_over(demands: &Demands, capacities: &[u32]) -> u64
+fn most_over(demands: &Numbers, capacities: &[u32]) -> u64
     requires { length capacities.now ≡ length demands.now }
     ensures { result ≡ fold (λ m (p : ℕ × ℕ). max m (p.0 - p.1)) 0 (zip demands.now capacities.now) }
 {

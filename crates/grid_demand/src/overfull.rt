@@ -5,8 +5,8 @@ ghost use Rattle.grid_demand.specs.Overfull.{is_told, told_places, told_edges, A
 ghost use Rattle.grid_demand.specs.Planes.{by_number};
 
 use crate::capacity::Capacity;
-use crate::demands::Demands;
 use crate::loads::Loads;
+use crate::numbers::Numbers;
 use crate::wires::{edge_placed, place};
 use gr_base::Edge;
 use std::alloc::{AllocError, Global};
@@ -86,7 +86,7 @@ impl Overfull {
 }
 
 /// Which demands are above capacities, where both are in planes.
-fn overfull_of(alloc: Global, demands: &Demands, capacities: &[u32]) -> Result<Overfull, AllocError>
+fn overfull_of(alloc: Global, demands: &Numbers, capacities: &[u32]) -> Result<Overfull, AllocError>
     requires capacities { length capacities.now ≡ length demands.now }
     requires halves { length demands.now ≡ 2 * (length demands.now / 2) }
     requires few { length demands.now < 2 ^ 32 }

@@ -9,9 +9,9 @@ loop-place-preserved c =
     let inside = c.requires.inside c.loop-place.place-index 0 c.loop-place-test.true in
     let place = get_or c.args.places.now c.loop-place.place-index 0 in
     record {
-      long = ap length c.add.ensures ∙ length-set _ _ _ ∙ c.loop-place.invariant.long;
+      long = ap length c.add_mark.ensures ∙ length-set _ _ _ ∙ c.loop-place.invariant.long;
       each = λ n within.
-          ap (λ (xs : List ℕ). slice_index xs n) c.add.ensures
+          ap (λ (xs : List ℕ). slice_index xs n) c.add_mark.ensures
           ∙ marks-more c.args.places.now c.loop-place.marks c.args.marks.now c.loop-place.place-index (min most_marks (slice_index c.loop-place.marks place + 1))
           c.requires.rising c.loop-place-test.true (omega (arith, inside, c.loop-place.invariant.long)) c.loop-place.invariant.each inside refl n within;
     }

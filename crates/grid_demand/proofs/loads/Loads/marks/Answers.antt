@@ -29,3 +29,11 @@ returns-clause-most c =
     let loads : AreLoads c.args.self.now = subst (λ (l : LoadsView). AreLoads l) c.self.view_is c.self.invariant.loads in
     let few = index-most most_marks c.args.self.now.marks (wire_number c.args.e) loads.most in
     omega (arith, marks, few)
+
+pub overflow_cast-result : goal.overflow_cast-result
+overflow_cast-result c =
+    let here = marks-place (seen c.self.inside) c.args.self.now c.self.inside.demands c.self.inside.marks c.len.result c.args.e c.place.result
+    c.self.invariant.loads c.self.view_is refl refl c.requires.edge c.len.ensures c.place.ensures in
+    let marks = c.at.ensures ∙ here.value in
+    let few = index-most most_marks (seen c.self.inside).marks (wire_number c.args.e) c.self.invariant.loads.most in
+    omega (arith, marks, few)

@@ -1,6 +1,6 @@
 use Rattle.std.proofs.Common.{length, ap, arith}
 use Rattle.grid_demand.proofs.JoinedNumbers.{length-together}
-use Rattle.grid_demand.proofs.demands.Demands.len.Goals as goal
+use Rattle.grid_demand.proofs.numbers.Numbers.len.Goals as goal
 
 pub returns : goal.returns
 returns c =

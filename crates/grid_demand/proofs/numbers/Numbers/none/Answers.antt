@@ -1,5 +1,5 @@
 use Rattle.grid_demand.proofs.JoinedNumbers.{together-none}
-use Rattle.grid_demand.proofs.demands.Demands.none.Goals as goal
+use Rattle.grid_demand.proofs.numbers.Numbers.none.Goals as goal
 
 pub returns : goal.returns
 returns c =

@@ -1,37 +1,37 @@
-//! The demand for each wire edge.
+//! A number for each wire edge.
 ghost use Rattle.std.specs.Prelude.{◌≡◌, ℕ, ◌<◌, ◌≤◌, length, replicate, slice_index, slice_set, IfOk};
 ghost use Rattle.std.specs.Vec.{vec_capacity};
 
 use std::alloc::{AllocError, Global};
 use std::marker::Model;
 
-/// The demand for each wire edge, by place: two bytes an edge, and beside it how many times 65,536 it
-/// is. That second list is empty until a demand is so great, which takes thousands of nets of usual
-/// width. Its memory is taken before, so that `put` needs none, and isn't touched until then.
+/// A number for each wire edge, by place: two bytes an edge, and beside it how many times 65,536 it is.
+/// That second list is empty until a number is so great, which for demands takes thousands of nets of
+/// usual width. Its memory is taken before, so that `put` needs none, and isn't touched until then.
 #[derive(Debug, Drop)]
-pub(crate) struct Demands {
+pub(crate) struct Numbers {
     low: Vec<u16>,
     high: Vec<u64>,
 }
 
-impl Model for Demands {
+impl Model for Numbers {
     ghost use Rattle.std.specs.Prelude.{ℕ, List};
 
     ghost Value = { List ℕ };
 
-    ghost use Rattle.grid_demand.specs.DemandsStore.{seen, Keeps};
+    ghost use Rattle.grid_demand.specs.NumbersStore.{seen, Keeps};
 
     ghost view = { seen };
 
     ghost invariant = { Keeps };
 }
 
-impl Demands {
-    /// No demand for so many wire edges. The only error is want of memory.
-    pub(crate) fn none(alloc: Global, wires: usize) -> Result<Demands, AllocError>
-        ensures { IfOk result (λ demands. demands ≡ replicate wires 0) }
+impl Numbers {
+    /// 0 for each of so many wire edges. The only error is want of memory.
+    pub(crate) fn none(alloc: Global, wires: usize) -> Result<Numbers, AllocError>
+        ensures { IfOk result (λ numbers. numbers ≡ replicate wires 0) }
     {
-        Ok(Demands {
+        Ok(Numbers {
             low: vec![in alloc; 0; wires]?,
             high: Vec::with_capacity(alloc, wires)?,
         })
@@ -45,7 +45,7 @@ impl Demands {
         self.low.len()
     }
 
-    /// The demand for the wire edge at a place.
+    /// The number of the wire edge at a place.
     #[inline(always)]
     pub(crate) fn at(&self, place: usize) -> u64
         requires { place < length self.now }
@@ -55,15 +55,15 @@ impl Demands {
         u64::from(self.low[place]) + 65536 * high
     }
 
-    /// Makes the demand for the wire edge at a place another.
+    /// Puts another number for the wire edge at a place.
     #[inline(always)]
-    pub(crate) fn put(&mut self, place: usize, demand: u64)
+    pub(crate) fn put(&mut self, place: usize, number: u64)
         requires { place < length self.old }
-        ensures { self.new ≡ slice_set self.old place demand }
+        ensures { self.new ≡ slice_set self.old place number }
     {
-        self.low[place] = (demand % 65536) as u16;
-        if demand >= 65536 || !self.high.is_empty() {
-            put_high(&mut self.high, self.low.len(), place, demand / 65536);
+        self.low[place] = (number % 65536) as u16;
+        if number >= 65536 || !self.high.is_empty() {
+            put_high(&mut self.high, self.low.len(), place, number / 65536);
         }
     }
 }

@@ -1,7 +1,0 @@
-use Rattle.grid_demand.proofs.JoinedNumbers.{together-none}
-use Rattle.grid_demand.proofs.marks.Marks.none.Goals as goal
-
-pub returns : goal.returns
-returns c =
-    together-none 256 c.in_ok-vec.field-0.items c.in_ok-with_capacity.field-0.items c.args.wires
-    (c.in_ok-vec.ensures.items_if_clones_equal (λ y e. e)) c.in_ok-with_capacity.ensures.items
