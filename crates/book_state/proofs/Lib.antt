@@ -13,6 +13,7 @@ pub mod LeastMarks
 pub mod RouteCopies
 pub mod BookingLaws
 pub mod TouchSteps
+pub mod TreeReach
 pub mod StillSteps
 pub mod LiftSteps
 pub mod CrowdTables

@@ -11,6 +11,7 @@ pub mod BookStore
 pub mod LeastSearch
 pub mod Still
 pub mod Touches
+pub mod Beyond
 pub mod Lifted
 pub mod Crowds
 pub mod Extents

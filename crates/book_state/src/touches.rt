@@ -8,12 +8,14 @@ ghost use Rattle.gr_base.specs.Grid.{has_edge, is_wire};
 ghost use Rattle.gr_base.specs.Trees.{IsTree, edges_of};
 ghost use Rattle.gr_base.specs.declared.grid.Edge.{Edge};
 ghost use Rattle.grid_demand.specs.LoadSums.{demand_at};
+ghost use Rattle.book_state.specs.Beyond.{outside, BeginsNone};
 ghost use Rattle.book_state.specs.Still.{joins_cells as joins_cells_of, lacks_room};
 ghost use Rattle.book_state.specs.Touches.{is_noted as noted_in, IsTouch, AddsTouches, IsSettled};
 
 use crate::still::Sought;
-use gr_base::{Edge, RouteTree};
+use gr_base::{Cell, Edge, RouteTree};
 use grid_demand::{Capacity, Loads};
+use maze_route::Window;
 use std::alloc::AllocError;
 
 /// A wire edge, and the demand for it before entries changed that.
@@ -24,7 +26,8 @@ pub(crate) struct Touch {
 }
 
 /// Notes the wire edges of a tree, which another net takes or leaves, that begin in the window and lack
-/// room for the net: the others cost it the same before and after. The only error is want of memory.
+/// room for the net: the others cost it the same before and after. On a large grid most trees lie far from
+/// the window, so that is asked first. The only error is want of memory.
 pub(crate) fn note_tree(
     capacity: &Capacity,
     loads: &Loads,
@@ -40,12 +43,40 @@ pub(crate) fn note_tree(
         sought.now.net beside e) → IsTrue (edges_of tree.now e) → OnOk result (IsTrue (noted_in touches.new.items e)) }
     ensures tree { IsTree tree.now }
 {
+    if lies_beyond(tree, sought.window) {
+        return Ok(());
+    }
     for node in 0..tree.len() {
         if let Some(edge) = tree.wire_to_parent(node) {
             note_edge(capacity, loads, edge, sought, beside, touches)?;
         }
     }
     Ok(())
+}
+
+/// Whether a tree has too few nodes to reach a window from its first cell: a node lies at most as many
+/// steps away from there as its number says.
+fn lies_beyond(tree: &RouteTree, window: Window) -> bool
+    ensures beyond { IsTrue result → BeginsNone tree.now window }
+    ensures tree { IsTree tree.now }
+{
+    let first = tree.shape().place_of(tree.cell(0));
+    steps_outside(window, first) >= u64::from(tree.len())
+}
+
+/// How many columns and rows a place lies outside a window, together.
+fn steps_outside(window: Window, place: Cell) -> u64
+    ensures { result ≡ outside window place }
+{
+    let columns = window
+        .x0
+        .saturating_sub(place.x)
+        .max(place.x.saturating_sub(window.x1));
+    let rows = window
+        .y0
+        .saturating_sub(place.y)
+        .max(place.y.saturating_sub(window.y1));
+    u64::from(columns) + u64::from(rows)
 }
 
 /// Notes a wire edge that another net takes or leaves, where it begins in the window, lacks room for the
