@@ -148,7 +148,7 @@ fn attempt_rest<N: BookName, R: Threads + Wait + Sync, G: Gate>(
         (HasAttemptedOver asked.now.design.now asked.now.rule.now.formula round nets.now
         worker.old.pass worker.new.pass) }
 {
-    let mut planner = Planner::new(alloc, asked.design)?;
+    let mut planner = Planner::new(alloc)?;
     for &net in nets {
         attempt(
             rt,
