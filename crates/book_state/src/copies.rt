@@ -7,9 +7,10 @@ ghost use Rattle.book_state.specs.Copies.{IsCopyOf, AreCopies};
 
 use crate::history::History;
 use crate::places::{Places, tree_by_place};
+use beside_calls::for_each_beside;
 use gr_base::{RouteTree, Routes};
 use std::alloc::{AllocError, Global};
-use std::thread::{Threads, for_each_mut};
+use std::thread::Threads;
 
 /// A copy of the tree of each net's claim, where the claims stand at these places. The copies are made
 /// by at most so many threads. The only error is want of memory.
@@ -53,7 +54,7 @@ fn copy_each<R: Threads + Sync>(
     ensures long { length copies.new.items ≡ length copies.old.items }
     ensures copies { AreCopies history.now places.now copies.new.items }
 {
-    for_each_mut(
+    for_each_beside(
         rt,
         copies.as_mut_slice(),
         threads as usize,

@@ -14,11 +14,12 @@ use crate::crowds::Crowds;
 use crate::history::History;
 use crate::places::tree_by_place;
 use crate::replica::Replica;
+use beside_calls::for_each_beside;
 use gr_base::{Cells, RouteTree};
 use grid_demand::Capacity;
 use maze_route::Window;
 use std::alloc::{AllocError, Global};
-use std::thread::{Threads, for_each_mut};
+use std::thread::Threads;
 
 /// What was last seen of a net's booked tree.
 #[derive(Clone, Copy, Debug)]
@@ -111,7 +112,7 @@ pub(crate) fn look_at_all<R: Threads + Sync>(
     ensures parts { AreParts capacity.now history.now parts.new.items }
     ensures seen { AreSeen capacity.now history.now parts.new.items }
 {
-    for_each_mut(
+    for_each_beside(
         rt,
         parts.as_mut_slice(),
         threads as usize,

@@ -2,13 +2,13 @@ ghost use Rattle.std.specs.Prelude.{◌≡◌, ◌≤◌, length, IfOk, OnOk};
 ghost use Rattle.layer_assign.specs.Assignments.{tile_count};
 
 use crate::flat::FlatRoom;
-use gr_base::{Design, Shape};
+use gr_base::Shape;
 use layer_assign::LayerRoom;
 use std::alloc::{AllocError, Global};
 
-/// What pattern plans are made with. It serves net after net and keeps its memory; what it holds
-/// between two plans means nothing. It also serves designs of other grids, for which it makes its
-/// memory anew.
+/// What pattern plans are made with. It serves net after net and keeps its memory, which it takes at
+/// the first plan; what it holds between two plans means nothing. It also serves designs of other
+/// grids, for which it makes its memory anew.
 #[derive(Debug, Drop)]
 pub struct Planner {
     pub(crate) shape: Shape,
@@ -19,11 +19,18 @@ pub struct Planner {
 }
 
 impl Planner {
-    /// A planner for the nets of a design. The only error is want of memory.
-    pub fn new(alloc: Global, design: &Design) -> Result<Planner, AllocError> {
-        Planner::of_grid(alloc, design.frame().shape)
+    /// A planner that has made no plan yet: its memory is that of a grid of one cell. The only error is
+    /// want of memory.
+    pub fn new(alloc: Global) -> Result<Planner, AllocError> {
+        let cell = Shape {
+            columns: 1,
+            rows: 1,
+            layers: 1,
+        };
+        Planner::of_grid(alloc, cell)
     }
 
+    /// A planner for designs of a grid. The only error is want of memory.
     fn of_grid(alloc: Global, shape: Shape) -> Result<Planner, AllocError>
         ensures { IfOk result (λ planner. planner.shape ≡ shape) }
     {

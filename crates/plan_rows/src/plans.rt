@@ -75,7 +75,7 @@ fn tell_pattern<R: Print>(
     requires demand { HasBoundedDemand loads.now }
 {
     let rule = CostRule::new(Formula::First, first_cost);
-    let mut planner = Planner::new(alloc, design)?;
+    let mut planner = Planner::new(alloc)?;
     let tree = pattern_plan(alloc, &mut planner, design, capacity, loads, 0, &rule)?;
     tell_nodes(rt, &tree)
 }

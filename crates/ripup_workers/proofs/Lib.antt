@@ -12,4 +12,3 @@ pub mod JoiningEnds
 pub mod CallerLists
 pub mod MeetingSteps
 pub mod SharedOrder
-pub mod BesideCalls

@@ -1,4 +1,3 @@
-pub mod Beside
 pub mod Working
 pub mod Turning
 pub mod Foresight

@@ -2,7 +2,6 @@
 #![tactic(auto)]
 
 mod asked;
-mod beside;
 mod coordinator;
 mod foresight;
 mod gate;

@@ -8,13 +8,13 @@ ghost use Rattle.ripup_workers.specs.Rounding.{setting_of, HaveAttempted};
 ghost use Rattle.ripup_workers.specs.Crews.{IsWorked, HasAttemptedOver};
 
 use crate::asked::Asked;
-use crate::beside::for_each_beside;
 use crate::gate::Gate;
 use crate::members::{members_of, parted};
 use crate::team::Member;
 use crate::turn::attempt;
 use crate::work::work;
 use crate::worker::Worker;
+use beside_calls::for_each_beside;
 use net_plan::Planner;
 use std::alloc::{AllocError, Global};
 use std::sync::Wait;
@@ -84,6 +84,7 @@ fn work_all<N: BookName + Send + Sync, R: Threads + Wait + Sync, G: Gate + Sync>
     for_each_beside(
         rt,
         members.as_mut_slice(),
+        asked.workers as usize,
         &|_, member: &mut Member<N>|
             requires { (N.capacity ≡ capacity_of asked.now.design.now) × (round ≤ asked.now.rounds) ×
                 All (λ net. IsTrue (is_routed asked.now.design.now net)) share.now.nets ×
@@ -148,7 +149,7 @@ fn attempt_rest<N: BookName, R: Threads + Wait + Sync, G: Gate>(
         (HasAttemptedOver asked.now.design.now asked.now.rule.now.formula round nets.now
         worker.old.pass worker.new.pass) }
 {
-    let mut planner = Planner::new(alloc, asked.design)?;
+    let mut planner = Planner::new(alloc)?;
     for &net in nets {
         attempt(
             rt,

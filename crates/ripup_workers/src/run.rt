@@ -10,7 +10,6 @@ ghost use Rattle.ripup_workers.specs.Rounding.{setting_of, is_stop_at, IsRoundOv
 use crate::asked::Asked;
 use crate::gate::Gate;
 use crate::order::turned;
-use crate::parts::parts_for;
 use crate::round::attempt_nets;
 use crate::team::{Coordinator, RoundEnd};
 use crate::worker::Worker;
@@ -163,8 +162,7 @@ fn run_round<N: BookName + Send + Sync, R: Threads + Wait + Sync, G: Gate + Sync
 {
     let order = turned(alloc, &nets, asked.workers)?;
     let mut workers = attempt_nets(rt, alloc, asked, round, &order, book, gate, workers)?;
-    let parts = parts_for(asked.workers);
-    let marked = coordinator.end_round(rt, book, &mut workers, parts)?;
+    let marked = coordinator.end_round(rt, book, &mut workers, asked.workers)?;
     let kept = routed_of(alloc, asked.design, marked.victims.as_slice())?;
     Ok(RoundEnd {
         workers,

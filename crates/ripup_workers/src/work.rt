@@ -43,7 +43,7 @@ pub(crate) fn work<N: BookName, R: Threads + Wait + Sync, G: Gate>(
         OnOk result (HasWorked t round hand.old.taken hand.new.taken worker.old.pass worker.new.pass) }
 {
     let known = worker.pass.known();
-    let mut planner = Planner::new(alloc, design)?;
+    let mut planner = Planner::new(alloc)?;
     for _ in rt.forever() {
         let Some(net) = share.take(hand) else {
             break;

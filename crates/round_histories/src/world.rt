@@ -55,7 +55,7 @@ fn first_plan(alloc: Global, design: &Design, rule: &CostRule) -> Result<RouteTr
 {
     let capacity = Capacity::of(alloc, design)?;
     let replica = Replica::new(alloc, design)?;
-    let mut planner = Planner::new(alloc, design)?;
+    let mut planner = Planner::new(alloc)?;
     let loads = replica.loads();
     pattern_plan(alloc, &mut planner, design, &capacity, loads, 0, rule)
 }

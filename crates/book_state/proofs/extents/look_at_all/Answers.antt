@@ -10,9 +10,9 @@ returns-clause-parts g c =
     let capacity = c.args.capacity.now in
     let h = c.args.history.now in
     let old = c.as_mut_slice.result.now in
-    let new = c.for_each_mut.new.s in
+    let new = c.for_each_beside.new.items in
     let same = c.as_mut_slice.ensures.value in
-    let count = c.for_each_mut.auto.s in
+    let count = c.for_each_beside.auto.items in
     let len = c.args.parts.now.ok.0 in
     let long = ap (λ (ps : List Part). length ps) same in
     let are = subst (AreParts capacity h) (sym same) c.requires.parts in
@@ -23,5 +23,5 @@ returns-clause-parts g c =
     subst (AreParts capacity h) (sym whole)
     (parts-looked-at capacity h old new count are
     (λ at d less.
-    let e = (c.for_each_mut.ensures at d less).1 in
+    let e = (c.for_each_beside.ensures at d less).1 in
     subst (λ (p : Part). IsLookedAt capacity h p (slice_index_or new at d)) e.argument_is (subst (λ (p : Part). IsLookedAt capacity h e.argument.now p) e.left e.call)))

@@ -1,4 +1,4 @@
--- Calls of a function at places of a list, from one place on.
+-- Calls of a function at the places of a list, which are numbered from some number on.
 use Rattle.std.specs.Prelude.{◌≡◌, ℕ, ◌+◌, ◌<◌, List, length, slice_index_or}
 use denote.Ref.{MutBor}
 use denote.Param.Members.{Shared}

@@ -1,8 +1,0 @@
-use Rattle.ripup_workers.proofs.BesideCalls.{both-done}
-use Rattle.ripup_workers.proofs.beside.+beside.Goals as goal
-
-pub call_all-returns : goal.call_all-returns
-call_all-returns g t c =
-    let cut = c.split_at_mut-others in
-    both-done g.F.Fn c.args.f.now _ c.args.items.now cut.result.0.now cut.result.1.now c.call_beside.new.others c.call_beside.new.own cut.ensures.value cut.ensures.front_len
-    c.call_beside.ensures.others c.call_beside.ensures.own
