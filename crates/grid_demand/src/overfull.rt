@@ -87,7 +87,7 @@ impl Overfull {
 }
 
 /// How many places are asked together whether one of their demands is above its capacity.
-const RUN: usize = 128;
+const RUN: usize = 64;
 
 /// What is listed of the demands before a place: which of them are above their capacities, the places
 /// of these, and by how much they are above together.
