@@ -1,5 +1,5 @@
 -- Numbers that two lists make together.
-use Rattle.std.proofs.Common.{◌≡◌, ℕ, ◌+◌, ◌*◌, ◌/◌, ◌%◌, ◌<◌, inl, inr, List, [], ◌∷◌, length, replicate, slice_index, slice_set, sym, ap, ◌∙◌, arith}
+use Rattle.std.proofs.Common.{◌≡◌, ℕ, ◌+◌, ◌*◌, ◌/◌, ◌%◌, ◌<◌, ◌≤◌, inl, inr, List, [], ◌∷◌, length, replicate, slice_index, slice_set, sym, ap, ◌∙◌, arith}
 use Rattle.std.proofs.lemmas.Bool.{cases_eq}
 use Rattle.std.proofs.lemmas.Grind.{same_number_lists}
 use Rattle.std.proofs.lemmas.List.{length-replicate, get_or-replicate, length-set, get_or-set_same, get_or-set_other}
@@ -72,3 +72,11 @@ together-put low high after now p number is inside there others =
 pub nothing-high : (high : List ℕ) (p number : ℕ) → length high ≡ 0 → number < 65536 → slice_index high p ≡ number / 65536
 nothing-high [] p number empty few = omega (arith, few)
 nothing-high (times ∷ high) p number empty few = absurd (omega (arith, empty))
+
+-- where there is nothing in the second list, a number is what the first has
+pub low-within : (low high now : List ℕ) (bound n : ℕ) → together 65536 low high ≡ now → length high ≡ 0 → n < length now →
+    slice_index low n ≤ bound → slice_index now n ≤ bound
+low-within low high now bound n is empty inside within =
+    let sum = together-read 65536 low high now n is inside in
+    let none = nothing-high high n 0 empty (omega arith) in
+    omega (arith, sum, none, within)

@@ -1,5 +1,5 @@
 -- Demands above their capacities, place by place.
-use Rattle.std.proofs.Common.{◌≡◌, ℕ, ◌+◌, ◌-◌, ◌*◌, ◌^◌, ◌<◌, ◌≤◌, inl, inr, Bool, true, false, nat_lt, List, [], ◌∷◌, ◌++◌, map, fold, max, sum_by, zip, length, slice_index, slice_index_or, slice_set, refl, sym, ap, ◌∙◌, arith}
+use Rattle.std.proofs.Common.{◌≡◌, ℕ, suc, zero, ◌+◌, ◌-◌, ◌*◌, ◌^◌, ◌<◌, ◌≤◌, inl, inr, Bool, true, false, nat_lt, List, [], ◌∷◌, ◌++◌, map, fold, max, sum_by, zip, length, slice_index, slice_index_or, slice_set, refl, sym, ap, subst, ◌∙◌, arith}
 use Rattle.std.specs.List.{filter, range_with_len}
 use Rattle.std.proofs.lemmas.Bool.{cases_eq}
 use Rattle.std.proofs.lemmas.Bool.Decides.{nat_tests}
@@ -10,31 +10,13 @@ use Rattle.gr_base.specs.Sums.{wire_number}
 use Rattle.grid_demand.proofs.PlacedEdges.{is-placed}
 use Rattle.grid_demand.proofs.PlaneLemmas.{place-below, length-by_number, by_number-at, sum-ranged, most-ranged}
 use Rattle.grid_demand.proofs.RangeFilters.{filter-passes, filter-fails, filter-same}
+use Rattle.grid_demand.specs.Listings.{is_above, excess, excess_before, Lists}
 use Rattle.grid_demand.specs.Overfull.{is_told, told_places}
 use Rattle.grid_demand.specs.Planes.{by_number, place_of, edge_placed}
-
--- whether a demand is above its capacity, and by how much
-abbrev pub is_above : (demands capacities : List ℕ) → ℕ → Bool
-is_above demands capacities n = nat_lt (slice_index capacities n) (slice_index demands n)
-
-abbrev pub excess : (demands capacities : List ℕ) → ℕ → ℕ
-excess demands capacities n = slice_index demands n - slice_index capacities n
-
-abbrev pub excess_before : (demands capacities : List ℕ) → ℕ → ℕ
-excess_before demands capacities at = sum_by (λ (k : ℕ). k) (map (excess demands capacities) (range_with_len 0 at))
 
 -- the greatest of these before a place
 abbrev pub most_before : (demands capacities : List ℕ) → ℕ → ℕ
 most_before demands capacities at = fold max 0 (map (excess demands capacities) (range_with_len 0 at))
-
--- what is listed of the demands before a place
-pub record Lists (demands capacities : List ℕ) (over : List Bool) (places : List ℕ) (total at : ℕ) : Type 0 where
-  pub long : length over ≡ length demands
-  pub done : (n : ℕ) → n < at → slice_index_or over n false ≡ is_above demands capacities n
-  pub rest : (n : ℕ) → at ≤ n → slice_index_or over n false ≡ false
-  pub listed : places ≡ filter (is_above demands capacities) (range_with_len 0 at)
-  pub sum : total ≡ excess_before demands capacities at
-  pub few : total ≤ at * 2 ^ 64
 
 pub excess-more : (demands capacities : List ℕ) (at : ℕ) →
     excess_before demands capacities (at + 1) ≡ excess_before demands capacities at + excess demands capacities at
@@ -65,7 +47,20 @@ lists-within demands capacities over places total at lists within =
       few = let few = lists.few in omega (arith, few);
     }
 
--- and one that is
+-- and a run of such demands
+pub lists-passed : (count : ℕ) (demands capacities : List ℕ) (over : List Bool) (places : List ℕ) (total from to : ℕ) →
+    Lists demands capacities over places total from → to ≡ from + count →
+    ((n : ℕ) → from ≤ n → n < to → slice_index demands n ≤ slice_index capacities n) →
+    Lists demands capacities over places total to
+lists-passed zero demands capacities over places total from to lists is within =
+    subst (λ (at : ℕ). Lists demands capacities over places total at) (let same : from ≡ to = omega (arith, is) in same) lists
+lists-passed (suc count) demands capacities over places total from to lists is within =
+    lists-passed count demands capacities over places total (from + 1) to
+    (lists-within demands capacities over places total from lists (within from (omega arith) (omega (arith, is))))
+    (omega (arith, is))
+    (λ n low high. within n (omega (arith, low)) high)
+
+-- one demand more, which is above its capacity
 pub lists-above : (demands capacities : List ℕ) (over : List Bool) (places : List ℕ) (total at more : ℕ) →
     Lists demands capacities over places total at → at < length demands → slice_index capacities at < slice_index demands at →
     more ≡ excess demands capacities at → slice_index demands at < 2 ^ 64 →

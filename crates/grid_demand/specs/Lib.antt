@@ -6,5 +6,6 @@ pub mod NumbersStore
 pub mod LoadSums
 pub mod LoadsStore
 pub mod Operations
+pub mod Listings
 pub mod Overfull
 pub mod OverfullStore

@@ -1,7 +1,7 @@
 //! The capacity of wire edges, and what nets need of them.
 ghost use Rattle.std.specs.Prelude.{◌≡◌, ℕ, ◌*◌, ◌≤◌, ◌++◌, IfOk, OnOk, IsTrue, map, slice_get, Some};
 ghost use Rattle.gr_base.specs.Designs.{DesignView, IsFrame, IsLayer};
-ghost use Rattle.gr_base.specs.Capacities.{stated_along, capacity, usable, need, widths_of};
+ghost use Rattle.gr_base.specs.Capacities.{stated_along, capacity, usable, need, need_along, width_in, widths_of};
 ghost use Rattle.gr_base.specs.Grid.{cells_of, place_at, has_edge, is_wire};
 ghost use Rattle.gr_base.specs.Limits.{most_capacity, most_width};
 ghost use Rattle.gr_base.specs.Sums.{wires_from_cells};
@@ -85,11 +85,30 @@ impl Capacity {
         ensures design { (d : DesignView) → self.now ≡ capacity_of d → result ≡ need d net e }
         ensures most { result ≤ 2 * most_width }
     {
+        self.need_of_width(self.width(net), e)
+    }
+
+    /// The width of a net: 0 where the design doesn't have the net.
+    pub(crate) fn width(&self, net: u32) -> u32
+        ensures width { result ≡ width_in self.now.widths net }
+        ensures most { result ≤ most_width }
+    {
+        self.widths.get(net as usize).copied().unwrap_or(0)
+    }
+
+    /// What a net of a width takes of an edge.
+    #[inline(always)]
+    pub(crate) fn need_of_width(&self, width: u32, e: Edge) -> u64
+        requires edge { IsTrue (has_edge self.now.shape e) }
+        requires width { width ≤ most_width }
+        ensures value { result ≡ need_along e.way width
+            (slice_get self.now.layers (place_at self.now.shape e.low).layer) }
+        ensures most { result ≤ 2 * most_width }
+    {
         if e.way == Way::Up {
             return 0;
         }
         let layer = self.layer_of(e);
-        let width = self.widths.get(net as usize).copied().unwrap_or(0);
         u64::from(width.max(layer.width) + layer.spacing)
     }
 

@@ -199,13 +199,15 @@ fn change_along(
         (wires_from_cells tree.now.shape) }
     ensures tree { IsTree tree.now }
 {
+    let width = capacity.width(net);
     for node in 0..tree.len() {
         let Some(e) = tree.wire_to_parent(node) else {
             continue;
         };
         let at = place(e, demands.len());
         let demand = demands.at(at);
-        demands.put(at, changed(change, demand, capacity.need(net, e)));
+        let need = capacity.need_of_width(width, e);
+        demands.put(at, changed(change, demand, need));
     }
 }
 

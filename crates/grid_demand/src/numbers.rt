@@ -1,5 +1,5 @@
 //! A number for each wire edge.
-ghost use Rattle.std.specs.Prelude.{◌≡◌, ℕ, ◌<◌, ◌≤◌, length, replicate, slice_index, slice_set, IfOk};
+ghost use Rattle.std.specs.Prelude.{◌≡◌, ℕ, ◌<◌, ◌≤◌, false, length, replicate, slice_index, slice_set, IfOk};
 ghost use Rattle.std.specs.Vec.{vec_capacity};
 
 use std::alloc::{AllocError, Global};
@@ -55,6 +55,16 @@ impl Numbers {
         u64::from(self.low[place]) + 65536 * high
     }
 
+    /// Whether a number may be above its bound, of the numbers from a place to below another. It goes by
+    /// the first list alone, so only that there is none is said for certain.
+    pub(crate) fn may_exceed(&self, bounds: &[u32], from: usize, to: usize) -> bool
+        requires numbers { to ≤ length self.now }
+        requires bounds { to ≤ length bounds.now }
+        ensures { result ≡ false → (n : ℕ) → from ≤ n → n < to → slice_index self.now n ≤ slice_index bounds.now n }
+    {
+        !self.high.is_empty() || any_above(&self.low, bounds, from, to)
+    }
+
     /// Puts another number for the wire edge at a place.
     #[inline(always)]
     pub(crate) fn put(&mut self, place: usize, number: u64)
@@ -66,6 +76,20 @@ impl Numbers {
             put_high(&mut self.high, self.low.len(), place, number / 65536);
         }
     }
+}
+
+/// Whether a number is above its bound, of the numbers from a place to below another. It goes through
+/// all of them and branches nowhere, so that several are compared at a time.
+fn any_above(numbers: &[u16], bounds: &[u32], from: usize, to: usize) -> bool
+    requires numbers { to ≤ length numbers.now }
+    requires bounds { to ≤ length bounds.now }
+    ensures { result ≡ false → (n : ℕ) → from ≤ n → n < to → slice_index numbers.now n ≤ slice_index bounds.now n }
+{
+    let mut above = false;
+    for at in from..to {
+        above |= u32::from(numbers[at]) > bounds[at];
+    }
+    above
 }
 
 /// Puts a number into a list that is filled up with zeros to a length that it has room for.

@@ -1,6 +1,7 @@
 //! Which wire edges have more demand than capacity.
-ghost use Rattle.std.specs.Prelude.{◌≡◌, ℕ, ◌-◌, ◌*◌, ◌/◌, ◌^◌, ◌<◌, false, nat_lt, length, slice_get, slice_index, slice_index_or, sum_by, zip, IfOk, Some};
+ghost use Rattle.std.specs.Prelude.{◌≡◌, ℕ, ◌-◌, ◌*◌, ◌/◌, ◌^◌, ◌<◌, ◌≤◌, false, nat_lt, length, slice_get, slice_index, slice_index_or, sum_by, zip, IfOk, OnOk, Some};
 ghost use Rattle.gr_base.specs.Sums.{wire_number as number_of};
+ghost use Rattle.grid_demand.specs.Listings.{Lists};
 ghost use Rattle.grid_demand.specs.Overfull.{is_told, told_places, told_edges, AreOverfull};
 ghost use Rattle.grid_demand.specs.Planes.{by_number};
 
@@ -85,7 +86,51 @@ impl Overfull {
     }
 }
 
-/// Which demands are above capacities, where both are in planes.
+/// How many places are asked together whether one of their demands is above its capacity.
+const RUN: usize = 64;
+
+/// What is listed of the demands before a place: which of them are above their capacities, the places
+/// of these, and by how much they are above together.
+#[derive(Debug, Drop)]
+struct Listing {
+    over: Vec<bool>,
+    places: Vec<u32>,
+    total: u128,
+}
+
+impl Listing {
+    /// Lists the demands from a place to below another, one by one.
+    fn list_run(
+        &mut self,
+        demands: &Numbers,
+        capacities: &[u32],
+        from: usize,
+        to: usize,
+    ) -> Result<(), AllocError>
+        requires capacities { length capacities.now ≡ length demands.now }
+        requires few { length demands.now < 2 ^ 32 }
+        requires order { from ≤ to }
+        requires inside { to ≤ length demands.now }
+        requires before { Lists demands.now capacities.now
+            self.old.over.items self.old.places.items self.old.total from }
+        ensures { OnOk result (Lists demands.now capacities.now
+            self.new.over.items self.new.places.items self.new.total to) }
+    {
+        for at in from..to {
+            let capacity = u64::from(capacities[at]);
+            let demand = demands.at(at);
+            if demand > capacity {
+                self.over[at] = true;
+                self.places.push(at as u32)?;
+                self.total += u128::from(demand - capacity);
+            }
+        }
+        Ok(())
+    }
+}
+
+/// Which demands are above capacities, where both are in planes. Few are: most runs of places are
+/// passed over by one question.
 fn overfull_of(alloc: Global, demands: &Numbers, capacities: &[u32]) -> Result<Overfull, AllocError>
     requires capacities { length capacities.now ≡ length demands.now }
     requires halves { length demands.now ≡ 2 * (length demands.now / 2) }
@@ -95,21 +140,23 @@ fn overfull_of(alloc: Global, demands: &Numbers, capacities: &[u32]) -> Result<O
         ≡ nat_lt (slice_index (by_number 0 capacities.now) n) (slice_index (by_number 0 demands.now) n)) }
     ensures total { IfOk result (λ over. over.total ≡ sum_by (λ (p : ℕ × ℕ). p.0 - p.1) (zip demands.now capacities.now)) }
 {
-    let mut over = vec![in alloc; false; demands.len()]?;
-    let mut places = Vec::new(alloc);
-    let mut total = 0;
-    for at in 0..demands.len() {
-        let capacity = u64::from(capacities[at]);
-        let demand = demands.at(at);
-        if demand > capacity {
-            over[at] = true;
-            places.push(at as u32)?;
-            total += u128::from(demand - capacity);
+    let wires = demands.len();
+    let mut listing = Listing {
+        over: vec![in alloc; false; wires]?,
+        places: Vec::new(alloc),
+        total: 0,
+    };
+    let mut from = 0;
+    while from < wires {
+        let to = wires.min(from + RUN);
+        if demands.may_exceed(capacities, from, to) {
+            listing.list_run(demands, capacities, from, to)?;
         }
+        from = to;
     }
     Ok(Overfull {
-        over,
-        places,
-        total,
+        over: listing.over,
+        places: listing.places,
+        total: listing.total,
     })
 }

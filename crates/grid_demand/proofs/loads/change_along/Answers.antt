@@ -1,5 +1,6 @@
-use Rattle.std.proofs.Common.{◌≡◌, ℕ, ◌<◌, List, length, slice_index, Option, Some, IsTrue, sym, ap, subst, ◌∙◌, arith}
-use Rattle.gr_base.specs.Grid.{has_edge}
+use Rattle.std.proofs.Common.{◌≡◌, ℕ, ◌<◌, List, length, slice_get, slice_index, Option, Some, IsTrue, sym, ap, subst, ◌∙◌, arith}
+use Rattle.gr_base.specs.Capacities.{need_along}
+use Rattle.gr_base.specs.Grid.{has_edge, place_at}
 use Rattle.gr_base.specs.ParentEdges.{wire_to_parent}
 use Rattle.gr_base.specs.Sums.{wire_number}
 use Rattle.gr_base.specs.Trees.{TreeView, IsTree}
@@ -33,8 +34,8 @@ at-demand-requires c =
     c.wire_to_parent.ensures.edge c.in-Some.is c.len.ensures c.place-at.ensures in
     t.stands.below
 
-pub need-requires : goal.need-requires
-need-requires c =
+pub need_of_width-need-requires-clause-edge : goal.need_of_width-need-requires-clause-edge
+need_of_width-need-requires-clause-edge c =
     let t = here c.args.tree.now c.loop-node.node c.len-node-end.result c.args.change (by_number 0 c.args.demands.now) c.loop-node.demands (need_at c.args.capacity.now c.args.net)
     c.in-Some.e c.len.result c.place-at.result c.wire_to_parent.result c.loop-node.invariant c.len-node-end.ensures.len c.len-node-end.ensures.tree c.loop-node-test.true
     c.wire_to_parent.ensures.edge c.in-Some.is c.len.ensures c.place-at.ensures in
@@ -46,9 +47,9 @@ changed-requires-clause-fits c =
     c.in-Some.e c.len.result c.place-at.result c.wire_to_parent.result c.loop-node.invariant c.len-node-end.ensures.len c.len-node-end.ensures.tree c.loop-node-test.true
     c.wire_to_parent.ensures.edge c.in-Some.is c.len.ensures c.place-at.ensures in
     let read = c.at-demand.ensures ∙ t.before in
-    let P : ℕ → Type 0 = λ n. Fits c.args.change n c.need.result in
+    let P : ℕ → Type 0 = λ n. Fits c.args.change n c.need_of_width-need.result in
     let Q : ℕ → Type 0 = λ n. Fits c.args.change (slice_index (by_number 0 c.args.demands.now) (wire_number c.in-Some.e)) n in
-    subst P (sym read) (subst Q (sym c.need.ensures.value) (c.requires.fits c.in-Some.e t.next.inside t.next.wire))
+    subst P (sym read) (subst Q (sym (c.need_of_width-need.ensures.value ∙ ap (λ (w : ℕ). need_along c.in-Some.e.way w (slice_get c.args.capacity.now.layers (place_at c.args.capacity.now.shape c.in-Some.e.low).layer)) c.width-width.ensures.width)) (c.requires.fits c.in-Some.e t.next.inside t.next.wire))
 
 pub put-requires : goal.put-requires
 put-requires c =
@@ -70,8 +71,8 @@ loop-node-preserved c =
     c.wire_to_parent.ensures.edge c.in-Some.is c.len.ensures c.place-at.ensures in
     ap (λ (xs : List ℕ). by_number 0 xs) c.put.ensures
     ∙ turn-written c.args.tree.now c.loop-node.node (changed_by c.args.change) (by_number 0 c.args.demands.now) c.loop-node.demands (need_at c.args.capacity.now c.args.net)
-    c.in-Some.e c.place-at.result c.at-demand.result c.need.result c.changed.result (adds c.args.change) c.loop-node.invariant t
-    c.at-demand.ensures c.need.ensures.value c.changed.ensures
+    c.in-Some.e c.place-at.result c.at-demand.result c.need_of_width-need.result c.changed.result (adds c.args.change) c.loop-node.invariant t
+    c.at-demand.ensures (c.need_of_width-need.ensures.value ∙ ap (λ (w : ℕ). need_along c.in-Some.e.way w (slice_get c.args.capacity.now.layers (place_at c.args.capacity.now.shape c.in-Some.e.low).layer)) c.width-width.ensures.width) c.changed.ensures
 
 pub returns-clause-demands : goal.returns-clause-demands
 returns-clause-demands c =

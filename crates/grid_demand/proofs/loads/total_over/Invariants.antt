@@ -1,5 +1,5 @@
 use Rattle.std.proofs.Common.{◌≡◌, ◌*◌, ◌^◌, ◌≤◌}
-use Rattle.grid_demand.proofs.OverfullSteps.{excess_before}
+use Rattle.grid_demand.specs.Listings.{excess_before}
 use Rattle.grid_demand.proofs.loads.total_over.Given as goal
 
 abbrev pub invariant-loop-at : goal.invariant-loop-at

@@ -1,5 +1,12 @@
-use Rattle.grid_demand.proofs.OverfullSteps.{Lists}
+use Rattle.std.proofs.Common.{◌≤◌, ◌-◌}
+use Rattle.grid_demand.specs.Listings.{Lists}
 use Rattle.grid_demand.proofs.overfull.overfull_of.Given as goal
 
-abbrev pub invariant-loop-at : goal.invariant-loop-at
-invariant-loop-at l = Lists l.demands l.capacities l.over.items l.places.items l.total l.at
+abbrev pub invariant-loop-from : goal.invariant-loop-from
+invariant-loop-from l = record {
+  within : l.from ≤ l.wires;
+  lists : Lists l.demands l.capacities l.listing.over.items l.listing.places.items l.listing.total l.from;
+}
+
+abbrev pub decreases-loop-from : goal.decreases-loop-from
+decreases-loop-from l = l.wires - l.from
