@@ -1,4 +1,4 @@
-ghost use Rattle.std.specs.Prelude.{◌≡◌, ℕ, ◌<◌, ◌≤◌, ◌↔◌, true, All, Contains, length, map, IfOk, IsTrue};
+ghost use Rattle.std.specs.Prelude.{◌≡◌, ℕ, ◌<◌, ◌≤◌, ◌↔◌, true, All, Contains, length, map, OnOk, IsTrue};
 ghost use Rattle.cost_rules.specs.Formulas.{most_cost};
 ghost use Rattle.gr_base.specs.Trees.{is_among};
 ghost use Rattle.maze_route.specs.Ends.{IsFirstOf, earlier_of};
@@ -8,20 +8,21 @@ ghost use Rattle.maze_route.specs.Steps.{size_of, rest_of, local_of};
 ghost use Rattle.maze_route.specs.Windows.{LieIn};
 
 use crate::front::Labels;
+use crate::lists::refill;
 use crate::pane::{Aim, Pane, Reached};
 use crate::window::Window;
-use std::alloc::{AllocError, Global};
+use std::alloc::AllocError;
 
-/// The numbers in the window of some cells.
-pub(crate) fn locals(alloc: Global, pane: Pane, cells: &[u32]) -> Result<Vec<u32>, AllocError>
+/// Puts the numbers in the window of some cells in the place of what a list held.
+pub(crate) fn locals(pane: Pane, cells: &[u32], ends: &mut Vec<u32>) -> Result<(), AllocError>
     requires { LieIn pane.grid pane.window cells.now }
-    ensures { IfOk result (λ ends. ends.items ≡ map (local_of pane) cells.now) }
+    ensures { OnOk result (ends.new.items ≡ map (local_of pane) cells.now) }
 {
-    let mut ends = Vec::with_capacity(alloc, cells.len())?;
+    ends.clear();
     for &cell in cells {
         ends.push(pane.local(cell))?;
     }
-    Ok(ends)
+    Ok(())
 }
 
 /// A box of tiles and layers that holds these cells of a window, with what a via edge costs at least.
@@ -46,17 +47,18 @@ pub(crate) fn box_of(pane: Pane, ends: &[u32], via: u64) -> Aim
     Aim { tiles, top, via }
 }
 
-/// A mark for each of these cells of a window, and for no other.
-pub(crate) fn marked(alloc: Global, pane: Pane, ends: &[u32]) -> Result<Vec<bool>, AllocError>
+/// Puts a mark for each of these cells of a window, and for no other, in the place of what a list
+/// held.
+pub(crate) fn mark(pane: Pane, ends: &[u32], marks: &mut Vec<bool>) -> Result<(), AllocError>
     requires { All (λ end. end < size_of pane) ends.now }
-    ensures size { IfOk result (λ marks. length marks.items ≡ size_of pane) }
-    ensures marks { (cell : ℕ) → IfOk result (λ marks. is_marked marks.items cell ≡ is_among ends.now cell) }
+    ensures size { OnOk result (length marks.new.items ≡ size_of pane) }
+    ensures marks { (cell : ℕ) → OnOk result (is_marked marks.new.items cell ≡ is_among ends.now cell) }
 {
-    let mut marks = vec![in alloc; false; pane.size() as usize]?;
+    refill(marks, false, pane.size() as usize)?;
     for &end in ends {
         marks[end as usize] = true;
     }
-    Ok(marks)
+    Ok(())
 }
 
 /// The earlier of two labelled cells, if the second has a label: the one of least label, and of

@@ -1,6 +1,7 @@
-ghost use Rattle.std.specs.Prelude.{◌≡◌, ℕ, ◌<◌, None, IfOk, length, if◌then◌else◌, slice_set};
+ghost use Rattle.std.specs.Prelude.{◌≡◌, ℕ, [], ◌<◌, None, OnOk, length, if◌then◌else◌, slice_set};
 ghost use Rattle.maze_route.specs.Labels.{unreached, label_at, is_lower};
 
+use crate::lists::refill;
 use crate::queue::BucketQueue;
 use std::alloc::{AllocError, Global};
 
@@ -8,20 +9,26 @@ use std::alloc::{AllocError, Global};
 const UNREACHED: u64 = u64::MAX;
 
 /// The least cost that a search has found for each cell of a window, if it has found any.
-#[derive(Drop)]
+#[derive(Debug, Drop)]
 pub(crate) struct Labels {
     pub(crate) costs: Vec<u64>,
 }
 
 impl Labels {
-    /// Labels of which none is set. The only error is want of memory.
-    pub(crate) fn new(alloc: Global, cells: u32) -> Result<Labels, AllocError>
-        ensures size { IfOk result (λ labels. length labels.costs.items ≡ cells) }
-        ensures none { (n : ℕ) → IfOk result (λ labels. label_at labels.costs.items n ≡ None) }
+    /// Labels of no cells, which take no memory.
+    pub(crate) fn new(alloc: Global) -> Labels {
+        Labels {
+            costs: Vec::new(alloc),
+        }
+    }
+
+    /// Makes them the labels of so many cells, of which none is set. The only error is want of
+    /// memory.
+    fn clear(&mut self, cells: u32) -> Result<(), AllocError>
+        ensures size { OnOk result (length self.new.costs.items ≡ cells) }
+        ensures none { (n : ℕ) → OnOk result (label_at self.new.costs.items n ≡ None) }
     {
-        Ok(Labels {
-            costs: vec![in alloc; UNREACHED; cells as usize]?,
-        })
+        refill(&mut self.costs, UNREACHED, cells as usize)
     }
 
     /// The label of a cell.
@@ -51,8 +58,22 @@ impl Labels {
 }
 
 /// The state of a search: the labels, and the cells that wait to hand theirs on.
-#[derive(Drop)]
+#[derive(Debug, Drop)]
 pub(crate) struct Front {
     pub(crate) labels: Labels,
     pub(crate) queue: BucketQueue,
+}
+
+impl Front {
+    /// Makes it the front of a search over so many cells: none has a label, and none waits. The only
+    /// error is want of memory.
+    pub(crate) fn clear(&mut self, cells: u32) -> Result<(), AllocError>
+        ensures size { OnOk result (length self.new.labels.costs.items ≡ cells) }
+        ensures none { (n : ℕ) → OnOk result (label_at self.new.labels.costs.items n ≡ None) }
+        ensures queue { OnOk result (self.new.queue ≡ record { pairs = []; last = 0 }) }
+    {
+        self.labels.clear(cells)?;
+        self.queue.clear();
+        Ok(())
+    }
 }

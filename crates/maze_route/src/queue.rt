@@ -14,7 +14,7 @@ use std::marker::Model;
 /// A pair lies in one of 65 buckets, by the highest bit in which its key differs from the last key
 /// taken: the radix heap of Ahuja, Mehlhorn, Orlin and Tarjan, "Faster algorithms for the shortest
 /// path problem", 1990. The pairs lie in one vector and are linked into their buckets by place.
-#[derive(Drop)]
+#[derive(Debug, Drop)]
 pub struct BucketQueue {
     slots: Vec<Slot>,
     /// The first place of each bucket.
@@ -47,6 +47,16 @@ impl BucketQueue {
             free: None,
             last: 0,
         }
+    }
+
+    /// Takes all pairs out and begins again with last key 0. The queue keeps its memory.
+    pub fn clear(&mut self)
+        ensures { self.new ≡ record { pairs = []; last = 0 } }
+    {
+        self.slots.clear();
+        self.heads = [None; 65];
+        self.free = None;
+        self.last = 0;
     }
 
     /// Puts a pair in. The only error is want of memory, and leaves the queue as it was.

@@ -1,4 +1,4 @@
-ghost use Rattle.std.specs.Prelude.{◌≡◌, ℕ, ◌+◌, ◌^◌, ◌<◌, ◌≤◌, true, length, Option, Some, IfSome, IfOk, OnOk, IsTrue, if◌then◌else◌};
+ghost use Rattle.std.specs.Prelude.{◌≡◌, ℕ, ◌+◌, ◌^◌, ◌<◌, ◌≤◌, true, length, Option, Some, IfSome, OnOk, IsTrue, if◌then◌else◌};
 ghost use Rattle.cost_rules.specs.Formulas.{most_cost};
 ghost use Rattle.cost_rules.specs.Prices.{IsBelowVias};
 ghost use Rattle.gr_base.specs.declared.grid.Edge.{Edge};
@@ -10,13 +10,12 @@ ghost use Rattle.maze_route.specs.Handing.{IsLow, IsReach, HandsOn};
 
 use crate::front::{Front, Labels};
 use crate::pane::{Aim, Pane, Spot, Step};
-use crate::queue::BucketQueue;
 use crate::side::Side;
 use crate::side::Side::{Ahead, Behind};
 use crate::steps::{cell_beside, distance_to, step_beside};
 use cost_rules::Costs;
 use gr_base::{RouteTree, Way};
-use std::alloc::{AllocError, Global};
+use std::alloc::AllocError;
 
 /// The greatest distance. Walks that cost more are not looked for.
 const MOST_DISTANCE: u64 = 1_152_921_504_606_846_976;
@@ -47,21 +46,18 @@ fn reach(front: &mut Front, from: u64, step: Option<Step>) -> Result<(), AllocEr
     Ok(())
 }
 
-/// The front at which the tree's cells have label 0, and wait.
-fn seeded(alloc: Global, pane: Pane, aim: Aim, tree: &RouteTree) -> Result<Front, AllocError>
+/// Makes it the front at which the tree's cells alone have a label, 0, and wait.
+fn seed(pane: Pane, aim: Aim, tree: &RouteTree, front: &mut Front) -> Result<(), AllocError>
     requires grid { tree.now.shape ≡ pane.grid }
     requires tree { TreeLiesIn pane.window tree.now }
-    ensures size { IfOk result (λ front. length front.labels.costs.items ≡ size_of pane) }
+    ensures size { OnOk result (length front.new.labels.costs.items ≡ size_of pane) }
     ensures sources { (price : Edge → Option ℕ) →
-        IfOk result (λ front. HasSources (pane_graph pane tree.now price) (label_at front.labels.costs.items)) }
-    ensures searching { (price : Edge → Option ℕ) → IfOk result (λ front.
+        OnOk result (HasSources (pane_graph pane tree.now price) (label_at front.new.labels.costs.items)) }
+    ensures searching { (price : Edge → Option ℕ) → OnOk result (
         IsSearching (pane_graph pane tree.now price) (rest_of pane aim)
-        (label_at front.labels.costs.items) front.queue.pairs (size_of pane)) }
+        (label_at front.new.labels.costs.items) front.new.queue.pairs (size_of pane)) }
 {
-    let mut front = Front {
-        labels: Labels::new(alloc, pane.size())?,
-        queue: BucketQueue::new(alloc),
-    };
+    front.clear(pane.size())?;
     for node in 0..tree.len() {
         let spot = pane.spot(pane.local(tree.cell(node)));
         let start = Step {
@@ -69,9 +65,9 @@ fn seeded(alloc: Global, pane: Pane, aim: Aim, tree: &RouteTree) -> Result<Front
             cost: 0,
             rest: distance_to(aim, spot.place),
         };
-        reach(&mut front, 0, Some(start))?;
+        reach(front, 0, Some(start))?;
     }
-    Ok(front)
+    Ok(())
 }
 
 /// Whether no step from a cell with a label lowers that of another cell. A step costs at least 1.
@@ -156,19 +152,19 @@ fn settle<C: Costs>(
 }
 
 /// Labels the cells of a window with the least costs of walks to them from the tree, as far as to
-/// the nearest marked cell.
+/// the nearest marked cell. What the front held before doesn't matter.
 ///
 /// Cells wait in a queue by their label and a bound on the rest of the way, as in A* of Hart,
 /// Nilsson and Raphael, "A formal basis for the heuristic determination of minimum cost paths",
 /// 1968. The search goes on until every key up to the first goal's distance is taken.
 pub(crate) fn search<C: Costs>(
-    alloc: Global,
     costs: &C,
     pane: Pane,
     aim: Aim,
     marks: &[bool],
     tree: &RouteTree,
-) -> Result<Labels, AllocError>
+    front: &mut Front,
+) -> Result<(), AllocError>
     requires costs { C.grid costs.now ≡ pane.grid }
     requires vias { IsBelowVias pane.grid (C.price costs.now) aim.via }
     requires grid { tree.now.shape ≡ pane.grid }
@@ -176,15 +172,15 @@ pub(crate) fn search<C: Costs>(
     requires marks { length marks.now ≡ size_of pane }
     requires aim { (cell : ℕ) → is_marked marks.now cell ≡ true → rest_of pane aim cell ≡ 0 }
     requires goal { CanReach (pane_graph pane tree.now (C.price costs.now)) marks.now }
-    ensures found { IfOk result (λ labels. let label = label_at labels.costs.items in
+    ensures found { OnOk result (let label = label_at front.new.labels.costs.items in
         Finds (pane_graph pane tree.now (C.price costs.now)) (rest_of pane aim) marks.now label) }
-    ensures size { IfOk result (λ labels. length labels.costs.items ≡ size_of pane) }
+    ensures size { OnOk result (length front.new.labels.costs.items ≡ size_of pane) }
 {
-    let mut front = seeded(alloc, pane, aim, tree)?;
+    seed(pane, aim, tree, front)?;
     let mut nearest: Option<u64> = None;
     while let Some((key, cell)) = front.queue.pop() {
         if is_past(nearest, key) {
-            return Ok(front.labels);
+            return Ok(());
         }
         let spot = pane.spot(cell);
         let label = front.labels.at(cell).unwrap();
@@ -192,9 +188,9 @@ pub(crate) fn search<C: Costs>(
             continue;
         }
         nearest = nearest_with(nearest, marks[cell as usize], key);
-        settle(costs, pane, aim, &mut front, spot, label)?;
+        settle(costs, pane, aim, front, spot, label)?;
     }
-    Ok(front.labels)
+    Ok(())
 }
 
 /// The nearest goal's distance after a cell with this key is settled.

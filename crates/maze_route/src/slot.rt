@@ -1,5 +1,5 @@
 /// A place for a pair.
-#[derive(Clone, Copy)]
+#[derive(Clone, Copy, Debug)]
 pub(crate) struct Slot {
     pub(crate) key: u64,
     pub(crate) cell: u32,

@@ -5,8 +5,9 @@ ghost use Rattle.maze_route.specs.Windows.{IsWindow, TreeLiesIn, LieIn, IsPassab
 ghost use Rattle.maze_route.specs.Whole.{whole};
 
 use crate::back::walk_back;
-use crate::ends::{box_of, first_reached, locals, marked};
+use crate::ends::{box_of, first_reached, locals, mark};
 use crate::pane::Pane;
+use crate::room::MazeRoom;
 use crate::search::search;
 use crate::window::Window;
 use cost_rules::Costs;
@@ -39,12 +40,43 @@ pub fn least_walk<C: Costs>(
     ensures walk { IfOk result (IsLeastWalk (window_graph tree.now window (C.price costs.now)) goals.now) }
     ensures attaches { IfOk result (IsWalkTo tree.now) }
 {
-    walk_in(alloc, costs, Pane::new(tree.shape(), window), tree, goals)
+    let mut room = MazeRoom::new(alloc);
+    least_walk_in(alloc, &mut room, costs, window, tree, goals)
 }
 
-/// The same walk.
+/// The same walk, searched with a room that is kept from walk to walk. What the room holds before
+/// doesn't matter.
+pub fn least_walk_in<C: Costs>(
+    alloc: Global,
+    room: &mut MazeRoom,
+    costs: &C,
+    window: Window,
+    tree: &RouteTree,
+    goals: &[u32],
+) -> Result<Cells, AllocError>
+    requires grid { C.grid costs.now ≡ tree.now.shape }
+    requires window { IsWindow tree.now.shape window }
+    requires tree { TreeLiesIn window tree.now }
+    requires goals { LieIn tree.now.shape window goals.now }
+    requires some { 0 < length goals.now }
+    requires passable { IsPassable tree.now.shape (C.ways costs.now) window }
+    ensures walk { IfOk result (IsLeastWalk (window_graph tree.now window (C.price costs.now)) goals.now) }
+    ensures attaches { IfOk result (IsWalkTo tree.now) }
+{
+    walk_in(
+        alloc,
+        room,
+        costs,
+        Pane::new(tree.shape(), window),
+        tree,
+        goals,
+    )
+}
+
+/// The same walk in a pane.
 fn walk_in<C: Costs>(
     alloc: Global,
+    room: &mut MazeRoom,
     costs: &C,
     pane: Pane,
     tree: &RouteTree,
@@ -59,10 +91,10 @@ fn walk_in<C: Costs>(
     requires passable { IsPassable pane.grid (C.ways costs.now) pane.window }
     ensures { IfOk result (IsLeastWalk (whole pane tree.now (C.price costs.now)) goals.now) }
 {
-    let ends = locals(alloc, pane, goals)?;
-    let aim = box_of(pane, &ends, costs.least_via());
-    let marks = marked(alloc, pane, &ends)?;
-    let labels = search(alloc, costs, pane, aim, &marks, tree)?;
-    let goal = first_reached(&labels, &ends).unwrap();
-    walk_back(alloc, costs, pane, aim, tree, &labels, goal)
+    locals(pane, goals, &mut room.ends)?;
+    let aim = box_of(pane, &room.ends, costs.least_via());
+    mark(pane, &room.ends, &mut room.marks)?;
+    search(costs, pane, aim, &room.marks, tree, &mut room.front)?;
+    let goal = first_reached(&room.front.labels, &room.ends).unwrap();
+    walk_back(alloc, costs, pane, aim, tree, &room.front.labels, goal)
 }

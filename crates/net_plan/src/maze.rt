@@ -10,11 +10,12 @@ ghost use Rattle.net_plan.specs.Mazes.{missing, driver_tree, GrowsTo, IsMaze, Is
 ghost use Rattle.net_plan.specs.Prices.{HasBoundedDemand};
 
 use crate::net_costs::NetCosts;
+use crate::planner::Planner;
 use crate::window::window_of;
 use cost_rules::{CostRule, Costs};
 use gr_base::{Design, RouteTree, Shape};
 use grid_demand::{Capacity, Loads};
-use maze_route::{Window, least_walk};
+use maze_route::{MazeRoom, Window, least_walk_in};
 use std::alloc::{AllocError, Global};
 
 /// The maze plan of a routed net over the loads of a design, in which no wire edge has a demand
@@ -25,6 +26,7 @@ use std::alloc::{AllocError, Global};
 /// and rows on each side and cut at the chip's border. The only error is want of memory.
 pub fn maze_plan(
     alloc: Global,
+    planner: &mut Planner,
     design: &Design,
     capacity: &Capacity,
     loads: &Loads,
@@ -45,12 +47,14 @@ pub fn maze_plan(
     let costs = NetCosts::new(design, capacity, loads, net, rule);
     let shape = design.frame().shape;
     let pins = design.net(net).pins.as_slice();
-    grow(alloc, &costs, shape, window_of(shape, pins, margin), pins)
+    let window = window_of(shape, pins, margin);
+    grow(alloc, &mut planner.maze, &costs, shape, window, pins)
 }
 
 /// The tree that grows in a window from the first pin's cell to the cells of all pins.
 fn grow<C: Costs>(
     alloc: Global,
+    room: &mut MazeRoom,
     costs: &C,
     shape: Shape,
     window: Window,
@@ -70,7 +74,7 @@ fn grow<C: Costs>(
     let mut tree = RouteTree::start(alloc, shape, pins[0])?;
     let mut goals = missing(alloc, &tree, pins)?;
     while !goals.is_empty() {
-        let walk = least_walk(alloc, costs, window, &tree, &goals)?;
+        let walk = least_walk_in(alloc, room, costs, window, &tree, &goals)?;
         tree.attach(walk.as_slice())?;
         goals = others(alloc, &goals, walk.as_slice())?;
     }

@@ -4,16 +4,18 @@ ghost use Rattle.layer_assign.specs.Assignments.{tile_count};
 use crate::flat::FlatRoom;
 use gr_base::Shape;
 use layer_assign::LayerRoom;
+use maze_route::MazeRoom;
 use std::alloc::{AllocError, Global};
 
-/// What pattern plans are made with. It serves net after net and keeps its memory, which it takes at
-/// the first plan; what it holds between two plans means nothing. It also serves designs of other
-/// grids, for which it makes its memory anew.
+/// What plans are made with. It serves net after net and keeps its memory, which it takes at the
+/// first plan; what it holds between two plans means nothing. It also serves designs of other grids,
+/// for whose pattern plans it makes its memory anew.
 #[derive(Debug, Drop)]
 pub struct Planner {
     pub(crate) shape: Shape,
     pub(crate) flat: FlatRoom,
     pub(crate) layers: LayerRoom,
+    pub(crate) maze: MazeRoom,
     pub(crate) ghost fits: { tile_count shape ≤ length flat.joining.index },
     pub(crate) ghost layers_fit: { tile_count shape ≤ layers },
 }
@@ -38,6 +40,7 @@ impl Planner {
             shape,
             flat: FlatRoom::new(alloc, shape)?,
             layers: LayerRoom::new(alloc, shape)?,
+            maze: MazeRoom::new(alloc),
         })
     }
 

@@ -95,6 +95,16 @@ fn tell_maze<R: Print>(
     requires shape { loads.now.shape ≡ design.now.frame.shape }
     requires demand { HasBoundedDemand loads.now }
 {
-    let tree = maze_plan(alloc, design, capacity, loads, 0, margin, rule)?;
+    let mut planner = Planner::new(alloc)?;
+    let tree = maze_plan(
+        alloc,
+        &mut planner,
+        design,
+        capacity,
+        loads,
+        0,
+        margin,
+        rule,
+    )?;
     tell_nodes(rt, &tree)
 }

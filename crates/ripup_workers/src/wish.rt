@@ -52,6 +52,7 @@ impl Wish<'_> {
             ),
             PlanKind::Maze { margin } => maze_plan(
                 self.alloc,
+                planner,
                 self.design,
                 capacity,
                 loads,

@@ -10,9 +10,9 @@ use Rattle.maze_route.proofs.search.search.Goals as goal
 
 pub loop-key-init : goal.loop-key-init
 loop-key-init g c = record {
-  size_is = c.in_ok-front.ensures.size;
-  sources = c.in_ok-front.ensures.sources (g.C.Costs.price c.args.costs.now);
-  searching = c.in_ok-front.ensures.searching (g.C.Costs.price c.args.costs.now);
+  size_is = c.in_ok-seed.ensures.size;
+  sources = c.in_ok-seed.ensures.sources (g.C.Costs.price c.args.costs.now);
+  searching = c.in_ok-seed.ensures.searching (g.C.Costs.price c.args.costs.now);
   goal = tt;
   near = tt;
 }

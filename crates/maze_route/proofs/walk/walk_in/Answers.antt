@@ -12,12 +12,12 @@ use Rattle.maze_route.proofs.walk.walk_in.Goals as goal
 pub box_of-aim-requires-clause-ends : goal.box_of-aim-requires-clause-ends
 box_of-aim-requires-clause-ends g c =
     let B : List ℕ → Type 0 = λ xs. All (λ e. e < size_of c.args.pane) xs in
-    subst B (sym (c.deref.ensures.value ∙ c.in_ok-ends.ensures)) (locals-below c.args.pane c.args.goals.now (size_of c.args.pane) refl c.requires.goals)
+    subst B (sym (c.deref.ensures.value ∙ c.in_ok-locals.ensures)) (locals-below c.args.pane c.args.goals.now (size_of c.args.pane) refl c.requires.goals)
 
-pub marked-requires : goal.marked-requires
-marked-requires g c =
+pub mark-requires : goal.mark-requires
+mark-requires g c =
     let B : List ℕ → Type 0 = λ xs. All (λ e. e < size_of c.args.pane) xs in
-    subst B (sym (c.deref-2.ensures.value ∙ c.in_ok-ends.ensures)) (locals-below c.args.pane c.args.goals.now (size_of c.args.pane) refl c.requires.goals)
+    subst B (sym (c.deref-2.ensures.value ∙ c.in_ok-locals.ensures)) (locals-below c.args.pane c.args.goals.now (size_of c.args.pane) refl c.requires.goals)
 
 pub search-requires : goal.search-requires
 search-requires g c =
@@ -28,15 +28,15 @@ search-requires g c =
     let ends = map (local_of p) c.args.goals.now in
     let below = locals-below p c.args.goals.now (size_of p) refl c.requires.goals in
     let source = some-source p c.args.tree.now c.requires.shape c.requires.tree c.requires.rooted in
-    let marked = λ (n : ℕ). ap (λ (xs : List Bool). is_marked xs n) c.deref-3.ensures.value ∙ c.in_ok-marks.ensures.marks n ∙ ap (λ (xs : List ℕ). is_among xs n) (c.deref-2.ensures.value ∙ c.in_ok-ends.ensures) in
+    let marked = λ (n : ℕ). ap (λ (xs : List Bool). is_marked xs n) c.deref-3.ensures.value ∙ c.in_ok-mark.ensures.marks n ∙ ap (λ (xs : List ℕ). is_among xs n) (c.deref-2.ensures.value ∙ c.in_ok-locals.ensures) in
     record {
       costs = c.requires.grid;
       vias = vias-below c.args.pane c.box_of-aim.result (g.C.Costs.grid c.args.costs.now) (g.C.Costs.price c.args.costs.now) c.least_via.result c.requires.grid
           c.box_of-aim.ensures.via c.least_via.ensures.vias;
       grid = c.requires.shape;
       tree = c.requires.tree;
-      marks = ap (λ (xs : List Bool). length xs) c.deref-3.ensures.value ∙ c.in_ok-marks.ensures.size;
-      aim = λ cell is. c.box_of-aim.ensures.ends cell (ap (λ (xs : List ℕ). is_among xs cell) (c.deref.ensures.value ∙ c.in_ok-ends.ensures) ∙ sym (marked cell) ∙ is);
+      marks = ap (λ (xs : List Bool). length xs) c.deref-3.ensures.value ∙ c.in_ok-mark.ensures.size;
+      aim = λ cell is. c.box_of-aim.ensures.ends cell (ap (λ (xs : List ℕ). is_among xs cell) (c.deref.ensures.value ∙ c.in_ok-locals.ensures) ∙ sym (marked cell) ∙ is);
       goal = can-reach p c.args.tree.now (g.C.Costs.ways c.args.costs.now) price c.deref-3.result.now ends source.0 prices c.requires.passable source.1.0 source.1.1
           (some-locals p c.args.goals.now c.requires.some) below marked;
     }
@@ -44,34 +44,34 @@ search-requires g c =
 pub first_reached-requires : goal.first_reached-requires
 first_reached-requires g c =
     let p = c.args.pane in
-    let size = length c.in_ok-labels.labels.costs.items in
+    let size = length c.search.new.front.labels.costs.items in
     let B : List ℕ → Type 0 = λ xs. All (λ e. e < size) xs in
-    subst B (sym (c.deref-4.ensures.value ∙ c.in_ok-ends.ensures)) (locals-below p c.args.goals.now size c.in_ok-labels.ensures.size c.requires.goals)
+    subst B (sym (c.deref-4.ensures.value ∙ c.in_ok-locals.ensures)) (locals-below p c.args.goals.now size c.in_ok-search.ensures.size c.requires.goals)
 
 pub unwrap-goal-requires : goal.unwrap-goal-requires
 unwrap-goal-requires g c =
-    let marked = λ (n : ℕ). ap (λ (xs : List Bool). is_marked xs n) c.deref-3.ensures.value ∙ c.in_ok-marks.ensures.marks n ∙ ap (λ (xs : List ℕ). is_among xs n) (c.deref-2.ensures.value ∙ sym c.deref-4.ensures.value) in
-    finds-first c.deref-3.result.now c.deref-4.result.now (label_at c.in_ok-labels.labels.costs.items) c.in_ok-labels.ensures.found.bound c.first_reached.result
-    c.in_ok-labels.ensures.found.goal marked c.first_reached.ensures
+    let marked = λ (n : ℕ). ap (λ (xs : List Bool). is_marked xs n) c.deref-3.ensures.value ∙ c.in_ok-mark.ensures.marks n ∙ ap (λ (xs : List ℕ). is_among xs n) (c.deref-2.ensures.value ∙ sym c.deref-4.ensures.value) in
+    finds-first c.deref-3.result.now c.deref-4.result.now (label_at c.search.new.front.labels.costs.items) c.in_ok-search.ensures.found.bound c.first_reached.result
+    c.in_ok-search.ensures.found.goal marked c.first_reached.ensures
 
 pub walk_back-requires : goal.walk_back-requires
 walk_back-requires g c =
     let vias = vias-below c.args.pane c.box_of-aim.result (g.C.Costs.grid c.args.costs.now) (g.C.Costs.price c.args.costs.now) c.least_via.result c.requires.grid
     c.box_of-aim.ensures.via c.least_via.ensures.vias in
     let found = found-of c.args.pane c.args.tree.now (g.C.Costs.grid c.args.costs.now) (g.C.Costs.ways c.args.costs.now) (g.C.Costs.price c.args.costs.now) c.box_of-aim.result
-    c.deref-3.result.now _ (label_at c.in_ok-labels.labels.costs.items) c.args.goals.now c.deref-4.result.now c.deref.result.now c.deref-2.result.now _ c.first_reached.result c.unwrap-goal.result
-    c.requires.grid (g.met.C.Costs.prices c.args.costs.now) vias c.in_ok-labels.ensures.found c.deref.ensures.value c.deref-2.ensures.value c.deref-4.ensures.value c.in_ok-ends.ensures
-    c.deref-3.ensures.value c.in_ok-marks.ensures.marks c.box_of-aim.ensures.ends c.requires.goals c.first_reached.ensures c.unwrap-goal.ensures in
-    record { grid = c.requires.grid; size = c.in_ok-labels.ensures.size; near = found.near }
+    c.deref-3.result.now _ (label_at c.search.new.front.labels.costs.items) c.args.goals.now c.deref-4.result.now c.deref.result.now c.deref-2.result.now _ c.first_reached.result c.unwrap-goal.result
+    c.requires.grid (g.met.C.Costs.prices c.args.costs.now) vias c.in_ok-search.ensures.found c.deref.ensures.value c.deref-2.ensures.value c.deref-4.ensures.value c.in_ok-locals.ensures
+    c.deref-3.ensures.value c.in_ok-mark.ensures.marks c.box_of-aim.ensures.ends c.requires.goals c.first_reached.ensures c.unwrap-goal.ensures in
+    record { grid = c.requires.grid; size = c.in_ok-search.ensures.size; near = found.near }
 
 pub returns : goal.returns
 returns g c =
     let vias = vias-below c.args.pane c.box_of-aim.result (g.C.Costs.grid c.args.costs.now) (g.C.Costs.price c.args.costs.now) c.least_via.result c.requires.grid
     c.box_of-aim.ensures.via c.least_via.ensures.vias in
     let found = found-of c.args.pane c.args.tree.now (g.C.Costs.grid c.args.costs.now) (g.C.Costs.ways c.args.costs.now) (g.C.Costs.price c.args.costs.now) c.box_of-aim.result
-    c.deref-3.result.now _ (label_at c.in_ok-labels.labels.costs.items) c.args.goals.now c.deref-4.result.now c.deref.result.now c.deref-2.result.now _ c.first_reached.result c.unwrap-goal.result
-    c.requires.grid (g.met.C.Costs.prices c.args.costs.now) vias c.in_ok-labels.ensures.found c.deref.ensures.value c.deref-2.ensures.value c.deref-4.ensures.value c.in_ok-ends.ensures
-    c.deref-3.ensures.value c.in_ok-marks.ensures.marks c.box_of-aim.ensures.ends c.requires.goals c.first_reached.ensures c.unwrap-goal.ensures in
+    c.deref-3.result.now _ (label_at c.search.new.front.labels.costs.items) c.args.goals.now c.deref-4.result.now c.deref.result.now c.deref-2.result.now _ c.first_reached.result c.unwrap-goal.result
+    c.requires.grid (g.met.C.Costs.prices c.args.costs.now) vias c.in_ok-search.ensures.found c.deref.ensures.value c.deref-2.ensures.value c.deref-4.ensures.value c.in_ok-locals.ensures
+    c.deref-3.ensures.value c.in_ok-mark.ensures.marks c.box_of-aim.ensures.ends c.requires.goals c.first_reached.ensures c.unwrap-goal.ensures in
     result-then c.walk_back.result _ _ c.walk_back.ensures (λ cells walk.
     walk-least c.args.pane c.args.tree.now (g.C.Costs.price c.args.costs.now) c.args.goals.now cells c.unwrap-goal.result.cell (lies-in c.args.pane c.args.tree.now c.requires.shape c.requires.tree)
     c.requires.goals found.goal walk)

@@ -18,22 +18,22 @@ pub grow-requires : goal.grow-requires
 grow-requires g c =
     let d = c.args.design.now in
     let frame_shape = ap (λ (f : Frame). f.shape) c.frame.ensures.frame in
-    let window = has-window c.frame.result.now.shape d.frame.shape c.as_slice-pins.result.now c.net.result.now c.args.margin c.window_of.result
-    frame_shape c.as_slice-pins.ensures (net-of d c.args.net c.net.result.now c.net.ensures.design c.net.ensures.net) c.window_of.ensures in
+    let window = has-window c.frame.result.now.shape d.frame.shape c.as_slice-pins.result.now c.net.result.now c.args.margin c.window_of-window.result
+    frame_shape c.as_slice-pins.ensures (net-of d c.args.net c.net.result.now c.net.ensures.design c.net.ensures.net) c.window_of-window.ensures in
     let capacity = c.new-costs.ensures.capacity ∙ c.requires.capacity in
     record {
       grid = ap (λ (x : CapacityView). x.shape) capacity ∙ sym frame_shape;
       window = window.fits;
-      passable = subst (λ (s : Shape). IsPassable s (ways_of c.new-costs.result.capacity.now) c.window_of.result) (sym frame_shape)
-          (passable d c.new-costs.result.capacity.now c.window_of.result capacity c.net.ensures.design.frame
-          (subst (λ (s : Shape). IsWindow s c.window_of.result) frame_shape window.fits));
+      passable = subst (λ (s : Shape). IsPassable s (ways_of c.new-costs.result.capacity.now) c.window_of-window.result) (sym frame_shape)
+          (passable d c.new-costs.result.capacity.now c.window_of-window.result capacity c.net.ensures.design.frame
+          (subst (λ (s : Shape). IsWindow s c.window_of-window.result) frame_shape window.fits));
       some = window.some;
       cells = window.cells;
       pins = window.lie;
     }
 
 -- the tree has grown as the maze plan over the loads does
-grown : (g : Over) (c : goal.After-grow g) →
+grown : (g : Over) (c : goal.After-planner-1 g) →
     IfOk c.grow.result (IsMaze c.args.capacity.now c.args.loads.now c.args.rule.now.formula c.args.net (pins_at c.args.design.now c.args.net) c.args.margin)
 grown g c =
     let d = c.args.design.now in
@@ -42,9 +42,9 @@ grown g c =
     let cells = c.as_slice-pins.result.now in
     let shape = ap (λ (f : Frame). f.shape) c.frame.ensures.frame ∙ sym (ap (λ (x : CapacityView). x.shape) c.requires.capacity) in
     let pins = c.as_slice-pins.ensures ∙ sym (pins-of d c.args.net c.net.result.now c.net.ensures.net) in
-    if-then {P = GrowsTo c.window_of.result (price_of costs.capacity.now costs.loads.now costs.rule.now.formula costs.net) cells (driver_tree s cells)} c.grow.result
-    (λ t grows. same-maze s c.window_of.result costs.capacity.now c.args.capacity.now costs.loads.now c.args.loads.now costs.rule.now.formula c.args.rule.now.formula costs.net c.args.net
-    cells (pins_at d c.args.net) c.args.margin t c.window_of.ensures shape c.new-costs.ensures.capacity c.new-costs.ensures.loads c.new-costs.ensures.formula c.new-costs.ensures.net pins grows)
+    if-then {P = GrowsTo c.window_of-window.result (price_of costs.capacity.now costs.loads.now costs.rule.now.formula costs.net) cells (driver_tree s cells)} c.grow.result
+    (λ t grows. same-maze s c.window_of-window.result costs.capacity.now c.args.capacity.now costs.loads.now c.args.loads.now costs.rule.now.formula c.args.rule.now.formula costs.net c.args.net
+    cells (pins_at d c.args.net) c.args.margin t c.window_of-window.ensures shape c.new-costs.ensures.capacity c.new-costs.ensures.loads c.new-costs.ensures.formula c.new-costs.ensures.net pins grows)
     c.grow.ensures.grown
 
 pub returns-clause-plan : goal.returns-clause-plan

@@ -1,6 +1,6 @@
 use Rattle.std.proofs.Common.{get_or, true, slice_set, length-set, refl, ◌∙◌, arith}
 use Rattle.maze_route.proofs.EndLemmas.{mark-turn}
-use Rattle.maze_route.proofs.ends.marked.Goals as goal
+use Rattle.maze_route.proofs.ends.mark.Goals as goal
 
 pub loop-end-preserved : goal.loop-end-preserved
 loop-end-preserved c =

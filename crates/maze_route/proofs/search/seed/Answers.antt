@@ -5,15 +5,15 @@ use Rattle.maze_route.specs.Steps.{cell_in, rest_of, pane_graph, size_of}
 use Rattle.maze_route.specs.declared.pane.Step.{Step}
 use Rattle.maze_route.specs.Labels.{label_at}
 use Rattle.maze_route.proofs.SeedLemmas.{seed-start, seed-turn, seed-done, tree-window}
-use Rattle.maze_route.proofs.search.seeded.Goals as goal
+use Rattle.maze_route.proofs.search.seed.Goals as goal
 
 pub loop-node-init : goal.loop-node-init
 loop-node-init c = record {
-  size = c.in_ok-new.ensures.size ∙ c.size.ensures;
-  last = ap (λ (q : QueueView). q.last) c.new-2.ensures;
+  size = c.in_ok-clear.ensures.size ∙ c.size.ensures;
+  last = ap (λ (q : QueueView). q.last) c.in_ok-clear.ensures.queue;
   seeded = λ k cell below is. absurd (omega arith);
-  searching = λ price. seed-start (pane_graph c.args.pane c.args.tree.now price) (rest_of c.args.pane c.args.aim) (label_at c.in_ok-new.field-0.costs.items)
-      c.new-2.result.pairs (size_of c.args.pane) c.in_ok-new.ensures.none (ap (λ (q : QueueView). q.pairs) c.new-2.ensures);
+  searching = λ price. seed-start (pane_graph c.args.pane c.args.tree.now price) (rest_of c.args.pane c.args.aim) (label_at c.clear.new.self.labels.costs.items)
+      c.clear.new.self.queue.pairs (size_of c.args.pane) c.in_ok-clear.ensures.none (ap (λ (q : QueueView). q.pairs) c.in_ok-clear.ensures.queue);
 }
 
 pub local-requires : goal.local-requires

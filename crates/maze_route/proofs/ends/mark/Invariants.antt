@@ -2,7 +2,7 @@ use Rattle.std.proofs.Common.{◌≡◌, ℕ, length, take}
 use Rattle.gr_base.specs.Trees.{is_among}
 use Rattle.maze_route.specs.Search.{is_marked}
 use Rattle.maze_route.specs.Steps.{size_of}
-use Rattle.maze_route.proofs.ends.marked.Given as goal
+use Rattle.maze_route.proofs.ends.mark.Given as goal
 
 abbrev pub invariant-loop-end : goal.invariant-loop-end
 invariant-loop-end l = record {

@@ -4,7 +4,7 @@ use Rattle.gr_base.specs.declared.grid.Edge.{Edge}
 use Rattle.gr_base.specs.declared.grid.Shape.{Shape}
 use Rattle.maze_route.proofs.AttachLemmas.{least-attaches-in}
 use Rattle.maze_route.proofs.GoalLemmas.{result-then}
-use Rattle.maze_route.proofs.walk.least_walk.Goals as goal
+use Rattle.maze_route.proofs.walk.least_walk_in.Goals as goal
 
 pub returns-clause-attaches : goal.returns-clause-attaches
 returns-clause-attaches g c =

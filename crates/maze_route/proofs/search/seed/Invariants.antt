@@ -3,7 +3,7 @@ use Rattle.gr_base.specs.declared.grid.Edge.{Edge}
 use Rattle.maze_route.specs.Labels.{label_at}
 use Rattle.maze_route.specs.Search.{IsSearching}
 use Rattle.maze_route.specs.Steps.{size_of, rest_of, pane_graph, IsSeededTo}
-use Rattle.maze_route.proofs.search.seeded.Given as goal
+use Rattle.maze_route.proofs.search.seed.Given as goal
 
 abbrev pub invariant-loop-node : goal.invariant-loop-node
 invariant-loop-node l = record {
