@@ -1,5 +1,5 @@
 //! The book: calls, their replies, and what can be asked of it.
-ghost use Rattle.std.specs.Prelude.{◌≡◌, ℕ, ◌+◌, ◌<◌, ◌≤◌, [], length, take, Some, IfOk, IfErr, OnOk, OnErr, IsTrue};
+ghost use Rattle.std.specs.Prelude.{◌≡◌, ℕ, ◌+◌, ◌<◌, ◌≤◌, [], length, take, None, Some, IfOk, IfErr, OnOk, OnErr, IsTrue};
 ghost use Rattle.std.specs.Arc.{arc_value};
 ghost use Rattle.std.specs.Option.{option_copied};
 ghost use Rattle.grid_demand.specs.Tables.{capacity_of};
@@ -43,6 +43,8 @@ pub struct BookState {
     parts: Vec<Part>,
     /// The edges over their capacity, where they are known.
     over: Option<Overfull>,
+    /// A table of such edges that no longer holds, for its memory.
+    spent: Option<Overfull>,
 }
 
 impl BookState {
@@ -61,6 +63,7 @@ impl BookState {
             least: None,
             parts,
             over: None,
+            spent: None,
         })
     }
 
@@ -175,7 +178,9 @@ impl BookState {
         ensures legal { IsLegal self.new.capacity self.new.history }
     {
         let alloc = self.history.alloc();
-        let over = self.replica.loads().overfull(alloc, &self.capacity)?;
+        let spent = self.spent.take();
+        let loads = self.replica.loads();
+        let over = loads.overfull_in(alloc, &self.capacity, spent)?;
         let reply = Reply::Marked {
             overflow: over.total(),
         };
@@ -317,7 +322,7 @@ impl BookState {
         self.history.push(entry)?;
         self.replica.follow(&self.capacity, &self.history);
         self.least = least_after(self.least, reply, self.history.len());
-        self.over = None;
+        give_up(&mut self.over, &mut self.spent);
         Ok(())
     }
 }
@@ -332,6 +337,15 @@ impl Model for BookState {
     ghost view = { seen };
 
     ghost invariant = { Keeps };
+}
+
+/// Gives up a table, of which the memory is kept. Most entries come where there is none.
+fn give_up(over: &mut Option<Overfull>, spent: &mut Option<Overfull>)
+    ensures { over.new ≡ None }
+{
+    if over.is_some() {
+        *spent = over.take();
+    }
 }
 
 /// The claim of a call that is one.

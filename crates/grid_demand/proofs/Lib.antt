@@ -9,6 +9,7 @@ pub mod RangeFilters
 pub mod PlacedEdges
 pub mod ToldEdges
 pub mod OverfullSteps
+pub mod ClearedTables
 pub mod MarkSteps
 pub mod OperationLemmas
 pub mod ChargeLemmas

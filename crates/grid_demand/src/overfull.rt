@@ -1,8 +1,9 @@
 //! Which wire edges have more demand than capacity.
-ghost use Rattle.std.specs.Prelude.{◌≡◌, ℕ, ◌-◌, ◌*◌, ◌/◌, ◌^◌, ◌<◌, ◌≤◌, false, nat_lt, length, slice_get, slice_index, slice_index_or, sum_by, zip, IfOk, OnOk, Some};
+ghost use Rattle.std.specs.Prelude.{◌≡◌, ℕ, ◌-◌, ◌*◌, ◌/◌, ◌^◌, ◌<◌, ◌≤◌, [], false, cond, All, nat_lt, length, slice_get, slice_index, slice_index_or, sum_by, zip, IfOk, OnOk, Some};
 ghost use Rattle.gr_base.specs.Sums.{wire_number as number_of};
 ghost use Rattle.grid_demand.specs.Listings.{Lists};
-ghost use Rattle.grid_demand.specs.Overfull.{is_told, told_places, told_edges, AreOverfull};
+ghost use Rattle.gr_base.specs.Grid.{cells_of};
+ghost use Rattle.grid_demand.specs.Overfull.{has_number, is_told, told_places, told_edges, AreOverfull};
 ghost use Rattle.grid_demand.specs.Planes.{by_number};
 
 use crate::capacity::Capacity;
@@ -41,7 +42,37 @@ impl Loads {
         requires { capacity.now.shape ≡ self.now.shape }
         ensures { IfOk result (AreOverfull capacity.now self.now) }
     {
-        let over = overfull_of(alloc, self.demands(), capacity.table())?;
+        let demands = self.demands();
+        let listing = Listing::none(alloc, demands.len())?;
+        let over = overfull_of(listing, demands, capacity.table())?;
+        Ok(over)
+    }
+
+    /// The same, in the memory of a table that is given up, where there is one of these edges.
+    pub fn overfull_in(
+        &self,
+        alloc: Global,
+        capacity: &Capacity,
+        spent: Option<Overfull>,
+    ) -> Result<Overfull, AllocError>
+        requires { capacity.now.shape ≡ self.now.shape }
+        ensures { IfOk result (AreOverfull capacity.now self.now) }
+    {
+        match spent {
+            Some(spent) if spent.over.len() == self.demands().len() => {
+                self.overfull_anew(capacity, spent)
+            }
+            _ => self.overfull(alloc, capacity),
+        }
+    }
+
+    /// The same, in the memory of a table of these edges. The only error is want of memory.
+    fn overfull_anew(&self, capacity: &Capacity, spent: Overfull) -> Result<Overfull, AllocError>
+        requires shape { capacity.now.shape ≡ self.now.shape }
+        requires long { length spent.table ≡ 2 * cells_of self.now.shape }
+        ensures { IfOk result (AreOverfull capacity.now self.now) }
+    {
+        let over = overfull_of(spent.into_none(), self.demands(), capacity.table())?;
         Ok(over)
     }
 }
@@ -78,6 +109,29 @@ impl Overfull {
         edge_placed(self.places[at] as usize, self.over.len())
     }
 
+    /// A listing of nothing in the memory of the table. It touches the edges alone of which the table
+    /// says so.
+    fn into_none(self) -> Listing
+        requires { length self.table ≡ 2 * (length self.table / 2) }
+        ensures long { length result.over.items ≡ length self.table }
+        ensures none { (n : ℕ) → slice_index_or result.over.items n false ≡ false }
+        ensures places { result.places.items ≡ [] }
+        ensures total { result.total ≡ 0 }
+    {
+        let Overfull {
+            mut over,
+            mut places,
+            total: _,
+        } = self;
+        clear_places(&mut over, &places);
+        places.clear();
+        Listing {
+            over,
+            places,
+            total: 0,
+        }
+    }
+
     /// The places of the wire edges with more demand than capacity.
     pub(crate) fn places(&self) -> &[u32]
         ensures { result.now ≡ told_places self.now.table }
@@ -99,6 +153,20 @@ struct Listing {
 }
 
 impl Listing {
+    /// Nothing of so many demands. The only error is want of memory.
+    fn none(alloc: Global, wires: usize) -> Result<Listing, AllocError>
+        ensures long { IfOk result (λ listing. length listing.over.items ≡ wires) }
+        ensures none { (n : ℕ) → IfOk result (λ listing. slice_index_or listing.over.items n false ≡ false) }
+        ensures places { IfOk result (λ listing. listing.places.items ≡ []) }
+        ensures total { IfOk result (λ listing. listing.total ≡ 0) }
+    {
+        Ok(Listing {
+            over: vec![in alloc; false; wires]?,
+            places: Vec::new(alloc),
+            total: 0,
+        })
+    }
+
     /// Lists the demands from a place to below another, one by one.
     fn list_run(
         &mut self,
@@ -131,7 +199,15 @@ impl Listing {
 
 /// Which demands are above capacities, where both are in planes. Few are: most runs of places are
 /// passed over by one question.
-fn overfull_of(alloc: Global, demands: &Numbers, capacities: &[u32]) -> Result<Overfull, AllocError>
+fn overfull_of(
+    listing: Listing,
+    demands: &Numbers,
+    capacities: &[u32],
+) -> Result<Overfull, AllocError>
+    requires long { length listing.over.items ≡ length demands.now }
+    requires none { (n : ℕ) → slice_index_or listing.over.items n false ≡ false }
+    requires places { listing.places.items ≡ [] }
+    requires total { listing.total ≡ 0 }
     requires capacities { length capacities.now ≡ length demands.now }
     requires halves { length demands.now ≡ 2 * (length demands.now / 2) }
     requires few { length demands.now < 2 ^ 32 }
@@ -141,11 +217,7 @@ fn overfull_of(alloc: Global, demands: &Numbers, capacities: &[u32]) -> Result<O
     ensures total { IfOk result (λ over. over.total ≡ sum_by (λ (p : ℕ × ℕ). p.0 - p.1) (zip demands.now capacities.now)) }
 {
     let wires = demands.len();
-    let mut listing = Listing {
-        over: vec![in alloc; false; wires]?,
-        places: Vec::new(alloc),
-        total: 0,
-    };
+    let mut listing = listing;
     let mut from = 0;
     while from < wires {
         let to = wires.min(from + RUN);
@@ -159,4 +231,16 @@ fn overfull_of(alloc: Global, demands: &Numbers, capacities: &[u32]) -> Result<O
         places: listing.places,
         total: listing.total,
     })
+}
+
+/// Puts false at some places.
+fn clear_places(over: &mut Vec<bool>, places: &[u32])
+    requires { All (λ place. place < length over.old.items) places.now }
+    ensures long { length over.new.items ≡ length over.old.items }
+    ensures each { (n : ℕ) → slice_index_or over.new.items n false
+        ≡ cond (has_number places.now n) false (slice_index_or over.old.items n false) }
+{
+    for place in places {
+        over[*place as usize] = false;
+    }
 }

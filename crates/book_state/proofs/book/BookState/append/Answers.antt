@@ -1,6 +1,7 @@
-use Rattle.std.proofs.Common.{List, length, refl, sym, ap, subst, ◌∙◌, arith}
+use Rattle.std.proofs.Common.{List, Option, IfSome, length, refl, sym, ap, subst, ◌∙◌, arith}
 use Rattle.std.specs.Arc.{arc_value}
 use Rattle.std.proofs.lemmas.List.{length_push}
+use Rattle.grid_demand.specs.Overfull.{OverfullView, AreOverfull}
 use Rattle.grid_demand.specs.Tables.{CapacityView}
 use Rattle.book_state.specs.Books.{IsLegal, IsRight}
 use Rattle.book_state.specs.Extents.{AreParts}
@@ -34,7 +35,7 @@ invariant_of-self-2 c =
       parts =
           subst (λ (h : List Entry). AreParts (arc_value s.capacity) h s.parts.items) (sym c.in_ok-push.ensures.ok)
           (parts-more (arc_value s.capacity) s.history c.args.entry s.parts.items c.self.invariant.parts);
-      over = tt;
+      over = subst (λ (o : Option OverfullView). IfSome o (AreOverfull (arc_value s.capacity) c.follow.new.self.loads)) (sym c.give_up.ensures) tt;
     }
 
 pub returns-clause-legal : goal.returns-clause-legal
