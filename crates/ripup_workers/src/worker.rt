@@ -126,7 +126,7 @@ impl<N: BookName> Worker<N> {
         self.hold_more(rt, book)
     }
 
-    /// The pass sees the whole history, and holds it.
+    /// The pass sees the whole history, and holds it. Where there is nothing new, that takes no lock.
     fn hold_more<R: Wait>(&mut self, rt: &R, book: &TrackBook<N>) -> Result<(), AllocError>
         ensures before { IsPass N.capacity self.old.pass }
         ensures learnt { OnOk result (HasLearnt N.capacity self.old.pass self.new.pass) }
@@ -134,10 +134,26 @@ impl<N: BookName> Worker<N> {
         ensures replica { OnOk result (self.new.replica ≡ self.old.replica) }
     {
         let known = self.pass.known();
+        if self.holds_whole(book) {
+            return Ok(());
+        }
         book.hold(rt, &mut self.pass)?;
         let longer = known <= self.pass.known();
         prove!(longer);
         Ok(())
+    }
+
+    /// Whether the pass holds all entries that the book counts. The count is read without the lock.
+    fn holds_whole(&mut self, book: &TrackBook<N>) -> bool
+        ensures pass { self.new.pass ≡ self.old.pass }
+        ensures replica { self.new.replica ≡ self.old.replica }
+        ensures held { IsTrue result → self.new.pass.held ≡ length self.new.pass.seen }
+    {
+        if !self.pass.holds_all() {
+            return false;
+        }
+        let known = self.pass.known();
+        book.front(&mut self.pass) == known
     }
 
     /// Frees a net.
