@@ -23,10 +23,14 @@ use net_plan::Planner;
 use std::alloc::AllocError;
 use std::sync::Wait;
 use std::thread::Threads;
-use track_book::BookName;
+use track_book::{BookName, Visit};
 
 /// How often a net is planned before its release at most.
 const MOST_PLANS: u32 = 8;
+
+/// How often a worker that has a plan enters the book at most, until it finds nothing there that it
+/// doesn't know.
+const MOST_LOOKS: u32 = 8;
 
 /// A net's plan in a window, as the net's release behind the first `front` entries leaves it.
 #[derive(Drop)]
@@ -43,6 +47,7 @@ impl<N: BookName, R: Threads + Wait + Sync, G: Gate> Ground<'_, N, R, G> {
     pub(crate) fn foresee(
         &self,
         wish: &Wish<'_>,
+        visit: &mut Visit<'_, N>,
         worker: &mut Worker<N>,
         planner: &mut Planner,
     ) -> Result<Option<Foreseen>, AllocError>
@@ -53,12 +58,12 @@ impl<N: BookName, R: Threads + Wait + Sync, G: Gate> Ground<'_, N, R, G> {
         ensures foreseen { IfOk result (λ plan. IfSome plan (IsForeseen wish.now.design.now wish.now.rule.now.formula
             wish.now.net wish.now.kind worker.new.pass.seen)) }
     {
-        worker.sync(self.rt, self.book)?;
+        worker.sync(self.rt, visit)?;
         for _ in 0..MOST_PLANS {
-            let Some(plan) = self.plan_ahead(wish, worker, planner)? else {
+            let Some(plan) = self.plan_ahead(wish, visit, worker, planner)? else {
                 return Ok(None);
             };
-            if let Some(plan) = self.kept(wish, plan, worker)? {
+            if let Some(plan) = self.settled(wish, plan, visit, worker)? {
                 return Ok(Some(plan));
             }
         }
@@ -69,6 +74,7 @@ impl<N: BookName, R: Threads + Wait + Sync, G: Gate> Ground<'_, N, R, G> {
     fn plan_ahead(
         &self,
         wish: &Wish<'_>,
+        visit: &mut Visit<'_, N>,
         worker: &mut Worker<N>,
         planner: &mut Planner,
     ) -> Result<Option<Foreseen>, AllocError>
@@ -84,6 +90,7 @@ impl<N: BookName, R: Threads + Wait + Sync, G: Gate> Ground<'_, N, R, G> {
             return Ok(None);
         };
         let number = worker.pass.number();
+        visit.leave();
         self.gate
             .pass(self.rt, number, Stop::Search { net: wish.net });
         let front = worker.pass.known();
@@ -97,12 +104,49 @@ impl<N: BookName, R: Threads + Wait + Sync, G: Gate> Ground<'_, N, R, G> {
         }))
     }
 
+    /// The same plan, where nothing that was added since may change it. The visit is then inside, and
+    /// nothing is there that the worker doesn't know, unless others went on adding as it looked.
+    fn settled(
+        &self,
+        wish: &Wish<'_>,
+        plan: Foreseen,
+        visit: &mut Visit<'_, N>,
+        worker: &mut Worker<N>,
+    ) -> Result<Option<Foreseen>, AllocError>
+        requires design { HasCapacity wish.now.design.now N.capacity }
+        requires net { wish.now.net < nets_of N.capacity }
+        requires foreseen { IsForeseen wish.now.design.now wish.now.rule.now.formula
+            wish.now.net wish.now.kind worker.old.pass.seen plan }
+        ensures led { (t : Setting) (round : ℕ) → IsOver wish.now.design.now wish.now.rule.now.formula t →
+            OnOk result (HasLed t round Rests Rests [] worker.old.pass worker.new.pass) }
+        ensures held { OnOk result (worker.new.pass.held ≡ length worker.new.pass.seen) }
+        ensures stands { OnOk result (StandsFor N.capacity worker.new.pass.seen worker.new.replica) }
+        ensures foreseen { IfOk result (λ plan. IfSome plan (IsForeseen wish.now.design.now wish.now.rule.now.formula
+            wish.now.net wish.now.kind worker.new.pass.seen)) }
+    {
+        let Some(mut plan) = self.kept(wish, plan, visit, worker)? else {
+            return Ok(None);
+        };
+        for _ in 0..MOST_LOOKS {
+            visit.enter(self.rt);
+            if worker.holds_whole(visit) {
+                return Ok(Some(plan));
+            }
+            let Some(later) = self.kept(wish, plan, visit, worker)? else {
+                return Ok(None);
+            };
+            plan = later;
+        }
+        Ok(Some(plan))
+    }
+
     /// The same plan, where nothing that was added since may change it: in the plan's window the net costs
     /// the same, or more on edges that the plan leaves aside. None elsewhere.
     fn kept(
         &self,
         wish: &Wish<'_>,
         plan: Foreseen,
+        visit: &mut Visit<'_, N>,
         worker: &mut Worker<N>,
     ) -> Result<Option<Foreseen>, AllocError>
         requires design { HasCapacity wish.now.design.now N.capacity }
@@ -122,7 +166,7 @@ impl<N: BookName, R: Threads + Wait + Sync, G: Gate> Ground<'_, N, R, G> {
             window: plan.window,
             tree: &plan.tree,
         };
-        let still = worker.sync_beside(self.rt, self.book, &sought)?;
+        let still = worker.sync_beside(self.rt, visit, &sought)?;
         if still && read == plan.front {
             let front = worker.pass.known();
             return Ok(Some(Foreseen { front, ..plan }));
@@ -137,6 +181,7 @@ impl<N: BookName, R: Threads + Wait + Sync, G: Gate> Ground<'_, N, R, G> {
         &self,
         wish: &Wish<'_>,
         foreseen: Option<Foreseen>,
+        visit: &mut Visit<'_, N>,
         worker: &mut Worker<N>,
         planner: &mut Planner,
     ) -> Result<RouteTree, AllocError>
@@ -150,7 +195,7 @@ impl<N: BookName, R: Threads + Wait + Sync, G: Gate> Ground<'_, N, R, G> {
             worker.new.pass.seen wish.now.net wish.now.kind) }
     {
         let Some(foreseen) = foreseen else {
-            return self.search(wish, worker, planner);
+            return self.search(wish, visit, worker, planner);
         };
         let read = worker.replica.front();
         let sought = Sought {
@@ -158,10 +203,10 @@ impl<N: BookName, R: Threads + Wait + Sync, G: Gate> Ground<'_, N, R, G> {
             window: foreseen.window,
             tree: &foreseen.tree,
         };
-        let still = worker.sync_freed(self.rt, self.book, &sought)?;
+        let still = worker.sync_freed(self.rt, visit, &sought)?;
         if still && read == foreseen.front {
             return Ok(foreseen.tree);
         }
-        self.plan(wish, worker, planner)
+        self.plan(wish, visit, worker, planner)
     }
 }

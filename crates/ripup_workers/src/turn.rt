@@ -23,7 +23,7 @@ use net_plan::Planner;
 use std::alloc::{AllocError, Global};
 use std::sync::Wait;
 use std::thread::Threads;
-use track_book::{BookName, TrackBook};
+use track_book::{BookName, TrackBook, Visit};
 
 /// By how many tiles the window of a net's pins grows on each side with each round.
 const MARGIN: u32 = 4;
@@ -39,7 +39,8 @@ pub(crate) struct Ground<'a, N: BookName, R, G> {
 /// Attempts a net in a round, of which round 0 is the first. In round 0 it claims the net for its
 /// pattern plan at any demand. Later it releases the net, and claims it for its maze plan until a
 /// claim isn't answered `Full`: twice with room within capacity alone, and then at any demand. The
-/// first of these plans is made before the release, so that the book lacks the net only for a moment.
+/// first of these plans is made before the release, and release and claims stand under one hold of the
+/// lock where they can, so that others hardly ever see the book without the net.
 /// The only error is want of memory.
 pub(crate) fn attempt<N: BookName, R: Threads + Wait + Sync, G: Gate>(
     rt: &R,
@@ -69,12 +70,13 @@ pub(crate) fn attempt<N: BookName, R: Threads + Wait + Sync, G: Gate>(
         kind: kind_of(round),
     };
     let ground = Ground { rt, book, gate };
+    let mut visit = Visit::new(book);
     if round == 0 {
-        return ground.claim_first(&wish, worker, planner);
+        return ground.claim_first(&wish, &mut visit, worker, planner);
     }
-    let foreseen = ground.foresee(&wish, worker, planner)?;
-    worker.release(rt, book, net)?;
-    ground.claim_until_got(&wish, foreseen, worker, planner)
+    let foreseen = ground.foresee(&wish, &mut visit, worker, planner)?;
+    worker.release(rt, &mut visit, net)?;
+    ground.claim_until_got(&wish, foreseen, &mut visit, worker, planner)
 }
 
 /// How plans are made in a round.
@@ -95,6 +97,7 @@ impl<N: BookName, R: Threads + Wait + Sync, G: Gate> Ground<'_, N, R, G> {
     fn claim_first(
         &self,
         wish: &Wish<'_>,
+        visit: &mut Visit<'_, N>,
         worker: &mut Worker<N>,
         planner: &mut Planner,
     ) -> Result<(), AllocError>
@@ -103,8 +106,8 @@ impl<N: BookName, R: Threads + Wait + Sync, G: Gate> Ground<'_, N, R, G> {
         ensures { (t : Setting) → IsOver wish.now.design.now wish.now.rule.now.formula t →
             OnOk result (HasLed t 0 Rests Rests (wish.now.net ∷ []) worker.old.pass worker.new.pass) }
     {
-        let tree = self.search(wish, worker, planner)?;
-        self.claim(wish, tree, None, worker)?;
+        let tree = self.search(wish, visit, worker, planner)?;
+        self.claim(wish, tree, None, visit, worker)?;
         Ok(())
     }
 
@@ -113,6 +116,7 @@ impl<N: BookName, R: Threads + Wait + Sync, G: Gate> Ground<'_, N, R, G> {
         &self,
         wish: &Wish<'_>,
         foreseen: Option<Foreseen>,
+        visit: &mut Visit<'_, N>,
         worker: &mut Worker<N>,
         planner: &mut Planner,
     ) -> Result<(), AllocError>
@@ -125,17 +129,17 @@ impl<N: BookName, R: Threads + Wait + Sync, G: Gate> Ground<'_, N, R, G> {
             OnOk result (HasLed t round (Claiming wish.now.net slacks_of_turn) Rests []
             worker.old.pass worker.new.pass) }
     {
-        let tree = self.search_freed(wish, foreseen, worker, planner)?;
-        let Some(tree) = self.claim_within(wish, tree, worker, planner)? else {
+        let tree = self.search_freed(wish, foreseen, visit, worker, planner)?;
+        let Some(tree) = self.claim_within(wish, tree, visit, worker, planner)? else {
             return Ok(());
         };
-        let Some(tree) = self.claim_within(wish, tree, worker, planner)? else {
+        let Some(tree) = self.claim_within(wish, tree, visit, worker, planner)? else {
             return Ok(());
         };
         // This claim is never refused, so what came since the plan is looked at once more.
         let front = worker.pass.known();
-        let tree = self.search_again(wish, tree, front, worker, planner)?;
-        self.claim(wish, tree, None, worker)?;
+        let tree = self.search_again(wish, tree, front, visit, worker, planner)?;
+        self.claim(wish, tree, None, visit, worker)?;
         Ok(())
     }
 
@@ -145,6 +149,7 @@ impl<N: BookName, R: Threads + Wait + Sync, G: Gate> Ground<'_, N, R, G> {
         &self,
         wish: &Wish<'_>,
         tree: RouteTree,
+        visit: &mut Visit<'_, N>,
         worker: &mut Worker<N>,
         planner: &mut Planner,
     ) -> Result<Option<RouteTree>, AllocError>
@@ -159,20 +164,22 @@ impl<N: BookName, R: Threads + Wait + Sync, G: Gate> Ground<'_, N, R, G> {
     {
         let front = worker.pass.known();
         let same = tree.copy(wish.alloc)?;
-        let reply = self.claim(wish, tree, Some(0), worker)?;
+        let reply = self.claim(wish, tree, Some(0), visit, worker)?;
         if !is_full(reply) {
             return Ok(None);
         }
-        let next = self.search_again(wish, same, front, worker, planner)?;
+        let next = self.search_again(wish, same, front, visit, worker, planner)?;
         Ok(Some(next))
     }
 
-    /// Claims the net for its plan over all that the worker knows.
+    /// Claims the net for its plan over all that the worker knows. The gate may wait, so the visit leaves
+    /// before it and enters again.
     fn claim(
         &self,
         wish: &Wish<'_>,
         tree: RouteTree,
         slack: Option<u32>,
+        visit: &mut Visit<'_, N>,
         worker: &mut Worker<N>,
     ) -> Result<Reply, AllocError>
         requires design { HasCapacity wish.now.design.now N.capacity }
@@ -183,15 +190,18 @@ impl<N: BookName, R: Threads + Wait + Sync, G: Gate> Ground<'_, N, R, G> {
             worker.old.pass worker.new.pass) }
     {
         let number = worker.pass.number();
+        visit.leave();
         self.gate
             .pass(self.rt, number, Stop::Claim { net: wish.net });
-        worker.claim(self.rt, self.book, wish.net, tree, slack, wish.kind)
+        visit.enter(self.rt);
+        worker.claim(self.rt, visit, wish.net, tree, slack, wish.kind)
     }
 
     /// The net's plan over what the book holds now, all of which the worker comes to know.
     pub(crate) fn search(
         &self,
         wish: &Wish<'_>,
+        visit: &mut Visit<'_, N>,
         worker: &mut Worker<N>,
         planner: &mut Planner,
     ) -> Result<RouteTree, AllocError>
@@ -201,8 +211,8 @@ impl<N: BookName, R: Threads + Wait + Sync, G: Gate> Ground<'_, N, R, G> {
         ensures plan { IfOk result (IsPlanFor wish.now.design.now wish.now.rule.now.formula
             worker.new.pass.seen wish.now.net wish.now.kind) }
     {
-        worker.sync(self.rt, self.book)?;
-        self.plan(wish, worker, planner)
+        worker.sync(self.rt, visit)?;
+        self.plan(wish, visit, worker, planner)
     }
 
     /// The same, where `tree` is the net's plan over the first `front` entries. Where nothing was added
@@ -212,6 +222,7 @@ impl<N: BookName, R: Threads + Wait + Sync, G: Gate> Ground<'_, N, R, G> {
         wish: &Wish<'_>,
         tree: RouteTree,
         front: u64,
+        visit: &mut Visit<'_, N>,
         worker: &mut Worker<N>,
         planner: &mut Planner,
     ) -> Result<RouteTree, AllocError>
@@ -224,7 +235,7 @@ impl<N: BookName, R: Threads + Wait + Sync, G: Gate> Ground<'_, N, R, G> {
             worker.new.pass.seen wish.now.net wish.now.kind) }
     {
         let Some(window) = wish.window() else {
-            return self.search(wish, worker, planner);
+            return self.search(wish, visit, worker, planner);
         };
         let read = worker.replica.front();
         let sought = Sought {
@@ -232,17 +243,19 @@ impl<N: BookName, R: Threads + Wait + Sync, G: Gate> Ground<'_, N, R, G> {
             window,
             tree: &tree,
         };
-        let still = worker.sync_beside(self.rt, self.book, &sought)?;
+        let still = worker.sync_beside(self.rt, visit, &sought)?;
         if still && read == front {
             return Ok(tree);
         }
-        self.plan(wish, worker, planner)
+        self.plan(wish, visit, worker, planner)
     }
 
-    /// The net's plan over all that the worker knows, for which its replica stands.
+    /// The net's plan over all that the worker knows, for which its replica stands. Others can go on
+    /// meanwhile, for the visit leaves.
     pub(crate) fn plan(
         &self,
         wish: &Wish<'_>,
+        visit: &mut Visit<'_, N>,
         worker: &Worker<N>,
         planner: &mut Planner,
     ) -> Result<RouteTree, AllocError>
@@ -252,6 +265,7 @@ impl<N: BookName, R: Threads + Wait + Sync, G: Gate> Ground<'_, N, R, G> {
             worker.now.pass.seen wish.now.net wish.now.kind) }
     {
         let number = worker.pass.number();
+        visit.leave();
         self.gate
             .pass(self.rt, number, Stop::Search { net: wish.net });
         wish.plan(planner, self.book.capacity(), worker.replica.loads())

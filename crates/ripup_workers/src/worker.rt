@@ -16,7 +16,7 @@ use grid_demand::Capacity;
 use net_plan::Planner;
 use std::alloc::AllocError;
 use std::sync::Wait;
-use track_book::{BookName, Pass, TrackBook};
+use track_book::{BookName, Pass, Visit};
 
 /// One worker: its pass, and a replica that stands for a first part of what the pass has seen.
 #[derive(Drop)]
@@ -28,15 +28,20 @@ pub(crate) struct Worker<N: BookName> {
 
 impl<N: BookName> Worker<N> {
     /// The worker comes to know the whole history as it stood at its last call, or later.
-    pub(crate) fn sync<R: Wait>(&mut self, rt: &R, book: &TrackBook<N>) -> Result<(), AllocError>
+    pub(crate) fn sync<R: Wait>(
+        &mut self,
+        rt: &R,
+        visit: &mut Visit<'_, N>,
+    ) -> Result<(), AllocError>
         ensures before { IsPass N.capacity self.old.pass }
         ensures learnt { OnOk result (HasLearnt N.capacity self.old.pass self.new.pass) }
         ensures pass { OnOk result (IsPass N.capacity self.new.pass) }
         ensures held { OnOk result (self.new.pass.held ≡ length self.new.pass.seen) }
         ensures stands { OnOk result (StandsFor N.capacity self.new.pass.seen self.new.replica) }
     {
-        self.hold(rt, book)?;
-        self.replica.catch_up(book.capacity(), self.pass.past());
+        self.pass.let_go();
+        self.hold(rt, visit)?;
+        self.replica.catch_up(visit.capacity(), self.pass.past());
         Ok(())
     }
 
@@ -46,7 +51,7 @@ impl<N: BookName> Worker<N> {
     pub(crate) fn sync_beside<R: Wait>(
         &mut self,
         rt: &R,
-        book: &TrackBook<N>,
+        visit: &mut Visit<'_, N>,
         sought: &Sought<'_>,
     ) -> Result<bool, AllocError>
         ensures before { IsPass N.capacity self.old.pass }
@@ -57,9 +62,9 @@ impl<N: BookName> Worker<N> {
         ensures still { IfOk result (λ still. IsTrue still → StaysBest N.capacity sought.now.net sought.now.window
             sought.now.tree.now (take self.old.replica.front self.new.pass.seen) self.new.pass.seen) }
     {
-        self.hold_more(rt, book)?;
+        self.hold_more(rt, visit)?;
         let past = self.pass.past();
-        Ok(self.replica.catch_up_beside(book.capacity(), past, sought))
+        Ok(self.replica.catch_up_beside(visit.capacity(), past, sought))
     }
 
     /// The worker comes to know the whole history as it stood at its last call, or later. The result is
@@ -68,7 +73,7 @@ impl<N: BookName> Worker<N> {
     pub(crate) fn sync_freed<R: Wait>(
         &mut self,
         rt: &R,
-        book: &TrackBook<N>,
+        visit: &mut Visit<'_, N>,
         sought: &Sought<'_>,
     ) -> Result<bool, AllocError>
         requires { sought.now.net < nets_of N.capacity }
@@ -80,9 +85,9 @@ impl<N: BookName> Worker<N> {
             StaysBest N.capacity sought.now.net sought.now.window sought.now.tree.now
             (take self.old.replica.front self.new.pass.seen ++ e ∷ []) self.new.pass.seen) }
     {
-        self.hold(rt, book)?;
+        self.hold(rt, visit)?;
         let past = self.pass.past();
-        Ok(self.replica.catch_up_freed(book.capacity(), past, sought))
+        Ok(self.replica.catch_up_freed(visit.capacity(), past, sought))
     }
 
     /// The net's plan over all that the worker knows, as if the net was released. None where it isn't
@@ -113,7 +118,7 @@ impl<N: BookName> Worker<N> {
 
     /// The pass holds all that it has seen. Each of its calls has left it so, unless memory was wanting;
     /// else it sees the whole history.
-    fn hold<R: Wait>(&mut self, rt: &R, book: &TrackBook<N>) -> Result<(), AllocError>
+    fn hold<R: Wait>(&mut self, rt: &R, visit: &mut Visit<'_, N>) -> Result<(), AllocError>
         ensures before { IsPass N.capacity self.old.pass }
         ensures learnt { OnOk result (HasLearnt N.capacity self.old.pass self.new.pass) }
         ensures held { OnOk result (self.new.pass.held ≡ length self.new.pass.seen) }
@@ -123,28 +128,31 @@ impl<N: BookName> Worker<N> {
         if self.pass.holds_all() {
             return Ok(());
         }
-        self.hold_more(rt, book)
+        self.hold_more(rt, visit)
     }
 
     /// The pass sees the whole history, and holds it. Where there is nothing new, that takes no lock.
-    fn hold_more<R: Wait>(&mut self, rt: &R, book: &TrackBook<N>) -> Result<(), AllocError>
+    /// Else the visit leaves, for it takes a while to read what is new.
+    fn hold_more<R: Wait>(&mut self, rt: &R, visit: &mut Visit<'_, N>) -> Result<(), AllocError>
         ensures before { IsPass N.capacity self.old.pass }
         ensures learnt { OnOk result (HasLearnt N.capacity self.old.pass self.new.pass) }
         ensures held { OnOk result (self.new.pass.held ≡ length self.new.pass.seen) }
         ensures replica { OnOk result (self.new.replica ≡ self.old.replica) }
     {
         let known = self.pass.known();
-        if self.holds_whole(book) {
+        if self.holds_whole(visit) {
             return Ok(());
         }
-        book.hold(rt, &mut self.pass)?;
+        visit.hold(rt, &mut self.pass)?;
+        visit.leave();
         let longer = known <= self.pass.known();
         prove!(longer);
         Ok(())
     }
 
-    /// Whether the pass holds all entries that the book counts. The count is read without the lock.
-    fn holds_whole(&mut self, book: &TrackBook<N>) -> bool
+    /// Whether the pass holds all entries that the book counts, and so all that there are while the visit
+    /// is inside. That takes no lock.
+    pub(crate) fn holds_whole(&mut self, visit: &Visit<'_, N>) -> bool
         ensures pass { self.new.pass ≡ self.old.pass }
         ensures replica { self.new.replica ≡ self.old.replica }
         ensures held { IsTrue result → self.new.pass.held ≡ length self.new.pass.seen }
@@ -153,14 +161,14 @@ impl<N: BookName> Worker<N> {
             return false;
         }
         let known = self.pass.known();
-        book.front(&mut self.pass) == known
+        visit.front(&mut self.pass) == known
     }
 
     /// Frees a net.
     pub(crate) fn release<R: Wait>(
         &mut self,
         rt: &R,
-        book: &TrackBook<N>,
+        visit: &mut Visit<'_, N>,
         net: u32,
     ) -> Result<Reply, AllocError>
         requires { net < nets_of N.capacity }
@@ -170,7 +178,7 @@ impl<N: BookName> Worker<N> {
         ensures pass { OnOk result (IsPass N.capacity self.new.pass) }
     {
         let known = self.pass.known();
-        let reply = book.release(rt, &mut self.pass, net)?;
+        let reply = visit.release(rt, &mut self.pass, net)?;
         let longer = known < self.pass.known();
         prove!(longer);
         Ok(reply)
@@ -180,7 +188,7 @@ impl<N: BookName> Worker<N> {
     pub(crate) fn claim<R: Wait>(
         &mut self,
         rt: &R,
-        book: &TrackBook<N>,
+        visit: &mut Visit<'_, N>,
         net: u32,
         tree: RouteTree,
         slack: Option<u32>,
@@ -201,7 +209,7 @@ impl<N: BookName> Worker<N> {
             front,
             kind,
         };
-        let Ok(reply) = book.claim(rt, &mut self.pass, claim) else {
+        let Ok(reply) = visit.claim(rt, &mut self.pass, claim) else {
             return Err(AllocError);
         };
         let longer = front < self.pass.known();

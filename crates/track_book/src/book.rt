@@ -48,7 +48,7 @@ impl<N: BookName> TrackBook<N> {
     }
 
     /// What lies under the lock, once no other caller holds it.
-    fn locked<R: Wait>(&self, rt: &R) -> MutexGuard<'_, Locked<N>> {
+    pub(crate) fn locked<R: Wait>(&self, rt: &R) -> MutexGuard<'_, Locked<N>> {
         for look in 0..LOOKS {
             if let Some(guard) = self.lock.try_lock() {
                 return guard;

@@ -9,9 +9,11 @@ mod locked;
 mod name;
 mod pass;
 mod seats;
+mod visit;
 
 pub use blank::Blank;
 pub use book::TrackBook;
 pub use closed::ClosedBook;
 pub use name::BookName;
 pub use pass::Pass;
+pub use visit::Visit;

@@ -71,8 +71,9 @@ impl<N: BookName> Pass<N> {
         self.past.len() == self.known
     }
 
-    /// Lets go of holds that the pass needs no more.
-    pub(crate) fn let_go(&mut self)
+    /// Lets go of holds that the pass needs no more. The book's own calls do so; calls of a visit leave it
+    /// to the caller, for it takes a while.
+    pub fn let_go(&mut self)
         ensures { self.new ≡ self.old }
     {
         self.past.let_go();

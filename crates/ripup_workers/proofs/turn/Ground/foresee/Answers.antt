@@ -21,10 +21,10 @@ pub returns-in-Some-2-clause-led : goal.returns-in-Some-2-clause-led
 returns-in-Some-2-clause-led g c = λ t round over.
     let o = c.args.worker.now.pass in
     let p = c.plan_ahead.new.worker.pass in
-    let q = c.kept.new.worker.pass in
+    let q = c.settled.new.worker.pass in
     led-then t round Rests Rests Rests [] [] o p q
     (subst (λ (s : PassView). HasLed t round Rests Rests [] o s) (sym c.in_ok-plan.ensures.pass) (c.loop.invariant.led t round over))
-    (followed-led t round Rests p q (c.in_ok-plan-2.ensures.learnt t over))
+    (c.in_ok-plan-2.ensures.led t round over)
 
 pub loop-preserved : goal.loop-preserved
 loop-preserved g c = record {
@@ -33,8 +33,8 @@ loop-preserved g c = record {
   led = λ t round over.
       let o = c.args.worker.now.pass in
       let p = c.plan_ahead.new.worker.pass in
-      let q = c.kept.new.worker.pass in
+      let q = c.settled.new.worker.pass in
       led-then t round Rests Rests Rests [] [] o p q
       (subst (λ (s : PassView). HasLed t round Rests Rests [] o s) (sym c.in_ok-plan.ensures.pass) (c.loop.invariant.led t round over))
-      (followed-led t round Rests p q (c.in_ok-plan-2.ensures.learnt t over));
+      (c.in_ok-plan-2.ensures.led t round over);
 }
