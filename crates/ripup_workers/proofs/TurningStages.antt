@@ -311,6 +311,11 @@ pub ok-all : {A E P : Type 0} (r : Result A E) → P → OnOk r P
 ok-all (Ok x) fact = fact
 ok-all (Err e) fact = tt
 
+-- and one that follows from another
+pub ok-then : {A E P Q : Type 0} (r : Result A E) → OnOk r P → (P → Q) → OnOk r Q
+ok-then (Ok x) was then_so = then_so was
+ok-then (Err e) was then_so = was
+
 -- a round that isn't round 0 is a later one
 pub later : (r : ℕ) → (r ≡ 0 → ⊥) → 0 < r
 later zero other = absurd (other refl)

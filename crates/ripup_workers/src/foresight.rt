@@ -28,10 +28,6 @@ use track_book::{BookName, Visit};
 /// How often a net is planned before its release at most.
 const MOST_PLANS: u32 = 8;
 
-/// How often a worker that has a plan enters the book at most, until it finds nothing there that it
-/// doesn't know.
-const MOST_LOOKS: u32 = 8;
-
 /// A net's plan in a window, as the net's release behind the first `front` entries leaves it.
 #[derive(Drop)]
 pub(crate) struct Foreseen {
@@ -105,7 +101,8 @@ impl<N: BookName, R: Threads + Wait + Sync, G: Gate> Ground<'_, N, R, G> {
     }
 
     /// The same plan, where nothing that was added since may change it. The visit is then inside, and
-    /// nothing is there that the worker doesn't know, unless others went on adding as it looked.
+    /// there is nothing that the worker doesn't know. What came while the plan was made is read before
+    /// the visit enters, so that others wait for little.
     fn settled(
         &self,
         wish: &Wish<'_>,
@@ -124,20 +121,11 @@ impl<N: BookName, R: Threads + Wait + Sync, G: Gate> Ground<'_, N, R, G> {
         ensures foreseen { IfOk result (λ plan. IfSome plan (IsForeseen wish.now.design.now wish.now.rule.now.formula
             wish.now.net wish.now.kind worker.new.pass.seen)) }
     {
-        let Some(mut plan) = self.kept(wish, plan, visit, worker)? else {
+        let Some(plan) = self.kept(wish, plan, visit, worker)? else {
             return Ok(None);
         };
-        for _ in 0..MOST_LOOKS {
-            visit.enter(self.rt);
-            if worker.holds_whole(visit) {
-                return Ok(Some(plan));
-            }
-            let Some(later) = self.kept(wish, plan, visit, worker)? else {
-                return Ok(None);
-            };
-            plan = later;
-        }
-        Ok(Some(plan))
+        visit.enter(self.rt);
+        self.kept(wish, plan, visit, worker)
     }
 
     /// The same plan, where nothing that was added since may change it: in the plan's window the net costs

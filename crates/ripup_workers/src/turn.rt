@@ -172,8 +172,8 @@ impl<N: BookName, R: Threads + Wait + Sync, G: Gate> Ground<'_, N, R, G> {
         Ok(Some(next))
     }
 
-    /// Claims the net for its plan over all that the worker knows. The gate may wait, so the visit leaves
-    /// before it and enters again.
+    /// Claims the net for its plan over all that the worker knows. Where a worker may wait at the gate, the
+    /// visit leaves before it and enters again.
     fn claim(
         &self,
         wish: &Wish<'_>,
@@ -190,7 +190,9 @@ impl<N: BookName, R: Threads + Wait + Sync, G: Gate> Ground<'_, N, R, G> {
             worker.old.pass worker.new.pass) }
     {
         let number = worker.pass.number();
-        visit.leave();
+        if self.gate.may_wait() {
+            visit.leave();
+        }
         self.gate
             .pass(self.rt, number, Stop::Claim { net: wish.net });
         visit.enter(self.rt);

@@ -132,7 +132,6 @@ impl<N: BookName> Worker<N> {
     }
 
     /// The pass sees the whole history, and holds it. Where there is nothing new, that takes no lock.
-    /// Else the visit leaves, for it takes a while to read what is new.
     fn hold_more<R: Wait>(&mut self, rt: &R, visit: &mut Visit<'_, N>) -> Result<(), AllocError>
         ensures before { IsPass N.capacity self.old.pass }
         ensures learnt { OnOk result (HasLearnt N.capacity self.old.pass self.new.pass) }
@@ -144,7 +143,6 @@ impl<N: BookName> Worker<N> {
             return Ok(());
         }
         visit.hold(rt, &mut self.pass)?;
-        visit.leave();
         let longer = known <= self.pass.known();
         prove!(longer);
         Ok(())
@@ -152,7 +150,7 @@ impl<N: BookName> Worker<N> {
 
     /// Whether the pass holds all entries that the book counts, and so all that there are while the visit
     /// is inside. That takes no lock.
-    pub(crate) fn holds_whole(&mut self, visit: &Visit<'_, N>) -> bool
+    fn holds_whole(&mut self, visit: &Visit<'_, N>) -> bool
         ensures pass { self.new.pass ≡ self.old.pass }
         ensures replica { self.new.replica ≡ self.old.replica }
         ensures held { IsTrue result → self.new.pass.held ≡ length self.new.pass.seen }
