@@ -1,30 +1,60 @@
 -- How often nets stand in lists that are put together from parts.
-use Rattle.std.proofs.Common.{◌≡◌, ℕ, ◌+◌, List, [], ◌∷◌, ◌++◌, ◌==◌, length, take, drop, cond, refl, sym, ap, ◌∙◌, arith}
-use Rattle.std.proofs.lemmas.List.{take-append-drop}
-use Rattle.std.proofs.lemmas.List.Sums.{sum_by-append}
+use Rattle.std.proofs.Common.{◌≡◌, ℕ, suc, ◌+◌, ◌<◌, ◌≤◌, List, [], ◌∷◌, ◌++◌, ◌==◌, All, length, take, drop, cond, get_or, map, sum_by, Vec, Global, IsPermutation, refl, sym, ap, ◌∙◌, arith}
+use Rattle.std.proofs.lemmas.List.{map-append, take-append-drop, take_all, take_more}
+use Rattle.std.proofs.lemmas.List.Sorted.{IsPermutation-map, sum_by-IsPermutation}
+use Rattle.std.proofs.lemmas.List.Sums.{sum_by-append, sum_by-cons}
 use Rattle.work_share.specs.Views.{times}
+use Rattle.ripup_workers.specs.Orders.{net_in}
 
 times-append : (net : ℕ) (xs ys : List ℕ) → times net (xs ++ ys) ≡ times net xs + times net ys
 times-append net xs ys = sum_by-append (λ (other : ℕ). cond {A = ℕ} (other == net) 1 0) xs ys
 
--- a group that is turned
-pub times-turned : (net by : ℕ) (order new group : List ℕ) → new ≡ (order ++ drop by group) ++ take by group →
-    times net new ≡ times net order + times net group
-times-turned net by order new group is =
-    let all = ap (times net) is ∙ times-append net (order ++ drop by group) (take by group) in
-    let first = times-append net order (drop by group) in
-    let parts = sym (times-append net (take by group) (drop by group)) ∙ ap (times net) (take-append-drop by group) in
-    omega (arith, all, first, parts)
+-- the first of nets behind places, and the rest
+pub times-cut : (net at : ℕ) (placed first rest : List ℕ) → first ≡ take at placed → rest ≡ drop at placed →
+    times net (map net_in placed) ≡ times net (map net_in first) + times net (map net_in rest)
+times-cut net at placed first rest first_is rest_is =
+    ap (λ (l : List ℕ). times net (map net_in l)) (sym (take-append-drop at placed) ∙ (λ k. sym first_is k ++ sym rest_is k))
+    ∙ ap (times net) (map-append net_in first rest)
+    ∙ times-append net (map net_in first) (map net_in rest)
 
--- a list's first part and the rest
-pub times-parts : (net at : ℕ) (nets first rest : List ℕ) → first ≡ take at nets → rest ≡ drop at nets →
-    times net nets ≡ times net first + times net rest
-times-parts net at nets first rest first_is rest_is =
-    let whole = sym (ap (times net) (take-append-drop at nets)) ∙ times-append net (take at nets) (drop at nets) in
-    let one = ap (times net) first_is in
-    let other = ap (times net) rest_is in
-    omega (arith, whole, one, other)
+-- nets in another order
+pub times-sorted : (net : ℕ) (nets sorted : List ℕ) → IsPermutation nets sorted → times net sorted ≡ times net nets
+times-sorted net nets sorted same = sum_by-IsPermutation (λ (other : ℕ). cond {A = ℕ} (other == net) 1 0) nets sorted same
 
-pub times-none : (net : ℕ) (nets : List ℕ) → length nets ≡ 0 → times net nets ≡ 0
-times-none net [] none = refl
-times-none net (_ ∷ _) none = absurd (omega (arith, none))
+-- a net more
+pub times-push : (net x : ℕ) (nets new : List ℕ) → new ≡ nets ++ x ∷ [] → times net new ≡ times net nets + times net (x ∷ [])
+times-push net x nets new is = ap (times net) is ∙ times-append net nets (x ∷ [])
+
+-- the net at a list's place
+pub times-at : (net at x : ℕ) (nets : List ℕ) → at < length nets → x ≡ get_or nets at x →
+    times net (take (at + 1) nets) ≡ times net (take at nets) + times net (x ∷ [])
+times-at net at x nets within is = times-push net x (take at nets) (take (at + 1) nets) (take_more nets at x within ∙ ap (λ y. take at nets ++ y ∷ []) (sym is))
+
+-- a list that ends before a place
+pub times-past : (net at : ℕ) (nets : List ℕ) → length nets ≤ at → times net (take (at + 1) nets) ≡ times net (take at nets)
+times-past net at nets past = ap (times net) (take_all (at + 1) nets (omega (arith, past)) ∙ sym (take_all at nets past))
+
+-- a sum of what is nothing each time
+pub sum-nothing : {X : Type 0} (f : X → ℕ) → ((x : X) → f x ≡ 0) → (xs : List X) → sum_by f xs ≡ 0
+sum-nothing f none [] = refl
+sum-nothing f none (x ∷ xs) =
+    let first = sum_by-cons f x xs in
+    let here = none x in
+    let rest = sum-nothing f none xs in
+    omega (arith, first, here, rest)
+
+-- lists that end before a place are taken whole
+pub sum-whole : (net at : ℕ) (lists : List (Vec ℕ Global)) → All (λ r. length r.items ≤ at) lists →
+    sum_by (λ r. times net (take at r.items)) lists ≡ sum_by (λ r. times net r.items) lists
+sum-whole net at [] short = refl
+sum-whole net at (r ∷ lists) short =
+    let some = sum_by-cons (λ (q : Vec ℕ Global). times net (take at q.items)) r lists in
+    let all = sum_by-cons (λ (q : Vec ℕ Global). times net q.items) r lists in
+    let here = ap (times net) (take_all at r.items (short 0 r (omega arith))) in
+    let rest = sum-whole net at lists (λ k d within. short (suc k) d (omega (arith, within))) in
+    omega (arith, some, all, here, rest)
+
+-- nets behind places, in another order
+pub times-placed : (net : ℕ) (placed sorted : List ℕ) → IsPermutation placed sorted →
+    times net (map net_in sorted) ≡ times net (map net_in placed)
+times-placed net placed sorted same = times-sorted net (map net_in placed) (map net_in sorted) (IsPermutation-map net_in placed sorted same)

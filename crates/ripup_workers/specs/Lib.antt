@@ -7,3 +7,4 @@ pub mod Meetings
 pub mod Marking
 pub mod Rounding
 pub mod Closing
+pub mod Orders

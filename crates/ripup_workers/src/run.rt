@@ -9,7 +9,7 @@ ghost use Rattle.ripup_workers.specs.Rounding.{setting_of, is_stop_at, IsRoundOv
 
 use crate::asked::Asked;
 use crate::gate::Gate;
-use crate::order::turned;
+use crate::order::by_regions;
 use crate::round::attempt_nets;
 use crate::team::{Coordinator, RoundEnd};
 use crate::worker::Worker;
@@ -160,7 +160,7 @@ fn run_round<N: BookName + Send + Sync, R: Threads + Wait + Sync, G: Gate + Sync
         coordinator.old.pass coordinator.new.pass
         (map (λ w. w.pass) workers.items) (map (λ w. w.pass) end.workers.items)) }
 {
-    let order = turned(alloc, &nets, asked.workers)?;
+    let order = by_regions(alloc, asked.design, &nets, asked.workers)?;
     let mut workers = attempt_nets(rt, alloc, asked, round, &order, book, gate, workers)?;
     let marked = coordinator.end_round(rt, book, &mut workers, asked.workers)?;
     let kept = routed_of(alloc, asked.design, marked.victims.as_slice())?;
