@@ -1,7 +1,8 @@
 //! The book: calls, their replies, and what can be asked of it.
-ghost use Rattle.std.specs.Prelude.{◌≡◌, ℕ, ◌+◌, ◌<◌, ◌≤◌, [], length, take, None, Some, IfOk, IfErr, OnOk, OnErr, IsTrue};
+ghost use Rattle.std.specs.Prelude.{◌≡◌, ℕ, ◌+◌, ◌<◌, ◌≤◌, [], length, take, None, Some, IfOk, IfErr, IfSome, OnOk, OnErr, IsTrue};
 ghost use Rattle.std.specs.Arc.{arc_value};
 ghost use Rattle.std.specs.Option.{option_copied};
+ghost use Rattle.grid_demand.specs.Overfull.{AreOverfull};
 ghost use Rattle.grid_demand.specs.Tables.{capacity_of};
 ghost use Rattle.book_state.specs.Books.{nets_of, booked as booked_tree, demand, reply_to_free as free_reply, reply_to_claim, reply_to_release, reply_to_mark, booked_routes, IsClaim, IsRight, IsLegal, AreLoadsOf, victims as victims_of};
 ghost use Rattle.book_state.specs.Entries.{is_claim_call};
@@ -178,9 +179,9 @@ impl BookState {
         ensures legal { IsLegal self.new.capacity self.new.history }
     {
         let alloc = self.history.alloc();
+        let known = self.over.take();
         let spent = self.spent.take();
-        let loads = self.replica.loads();
-        let over = loads.overfull_in(alloc, &self.capacity, spent)?;
+        let over = known_or_found(alloc, &self.replica, &self.capacity, known, spent)?;
         let reply = Reply::Marked {
             overflow: over.total(),
         };
@@ -197,6 +198,27 @@ impl BookState {
         self.least = least_after(self.least, reply, self.history.len());
         self.over = Some(over);
         Ok(reply)
+    }
+
+    /// Looks for the edges over their capacity, by at most so many threads, where they aren't known: a
+    /// mark or a look for victims that comes next needs them. The only error is want of memory.
+    pub fn find_overfull<R: Threads + Sync>(
+        &mut self,
+        rt: &R,
+        threads: u32,
+    ) -> Result<(), AllocError>
+        requires { 0 < threads }
+        ensures { self.new ≡ self.old }
+    {
+        if self.over.is_some() {
+            return Ok(());
+        }
+        let alloc = self.history.alloc();
+        let spent = self.spent.take();
+        let loads = self.replica.loads();
+        let over = loads.overfull_by(rt, alloc, &self.capacity, spent, threads)?;
+        self.over = Some(over);
+        Ok(())
     }
 
     fn reply_to_claim(&self, claim: &Claim) -> Reply
@@ -248,10 +270,8 @@ impl BookState {
         ensures victims { IfOk result (λ nets. nets ≡ victims_of self.old.capacity self.old.history) }
     {
         let alloc = self.history.alloc();
-        let over = match self.over.take() {
-            Some(over) => over,
-            None => self.replica.loads().overfull(alloc, &self.capacity)?,
-        };
+        let known = self.over.take();
+        let over = known_or_found(alloc, &self.replica, &self.capacity, known, None)?;
         let crowds = Crowds::of(alloc, self.capacity.shape(), over)?;
         look_at_all(
             rt,
@@ -337,6 +357,25 @@ impl Model for BookState {
     ghost view = { seen };
 
     ghost invariant = { Keeps };
+}
+
+/// The edges over their capacity, where they are known, and else found in the memory of a table that is
+/// given up, if there is one. The only error is want of memory.
+fn known_or_found(
+    alloc: Global,
+    replica: &Replica,
+    capacity: &Capacity,
+    known: Option<Overfull>,
+    spent: Option<Overfull>,
+) -> Result<Overfull, AllocError>
+    requires shape { capacity.now.shape ≡ replica.now.loads.shape }
+    requires known { IfSome known (AreOverfull capacity.now replica.now.loads) }
+    ensures { IfOk result (AreOverfull capacity.now replica.now.loads) }
+{
+    match known {
+        Some(over) => Ok(over),
+        None => replica.loads().overfull_in(alloc, capacity, spent),
+    }
 }
 
 /// Gives up a table, of which the memory is kept. Most entries come where there is none.

@@ -96,7 +96,7 @@ fn last_columns(alloc: Global, shape: Shape, tiles: &[bool]) -> Result<Vec<u32>,
         if *crowded {
             told = column + 1;
         }
-        last.push(told)?;
+        last.push_reserved(told);
         column += 1;
         if column == shape.columns() {
             column = 0;

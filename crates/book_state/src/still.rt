@@ -10,7 +10,7 @@ use crate::entry::{Call, Reply};
 use crate::history::History;
 use crate::past::Past;
 use crate::replica::Replica;
-use crate::touches::{Touch, are_settled, note_tree};
+use crate::touches::{Touch, are_settled, lies_beyond, note_tree};
 use gr_base::RouteTree;
 use grid_demand::Capacity;
 use maze_route::Window;
@@ -56,13 +56,43 @@ impl Replica {
         ensures still { IsTrue result → StaysBest capacity.now sought.now.net sought.now.window sought.now.tree.now
             (take self.old.front history.now) (take end history.now) }
     {
+        let near = self.nodes_near(history, end, sought.window);
         let mut touches = Vec::new(history.alloc());
-        let mut still = true;
+        let mut still = touches.reserve(near).is_ok();
         for place in self.front()..end {
             still = still && self.note_entry(capacity, history, place, sought, &mut touches);
             self.read_entry(capacity, history, place);
         }
         still && are_settled(capacity, self.loads(), sought, &touches)
+    }
+
+    /// How many nodes the trees have that the entries before `end` book or free and that may reach a
+    /// window, as far as the replica knows them. That takes a look at the first node of each tree and at
+    /// no more. What other threads wrote comes from far, and so it comes at the same time for several
+    /// entries, and not for one after another as they are read.
+    fn nodes_near(&self, history: &History, end: u64, window: Window) -> usize
+        requires { end ≤ length history.now }
+    {
+        let mut nodes: usize = 0;
+        for place in self.front()..end {
+            if let Some(tree) = self.tree_of(history, place)
+                && !lies_beyond(tree, window)
+            {
+                nodes = nodes.saturating_add(tree.len() as usize);
+            }
+        }
+        nodes
+    }
+
+    /// The tree that an entry books or frees, as far as the replica knows it.
+    fn tree_of<'a>(&self, history: &'a History, place: u64) -> Option<&'a RouteTree>
+        requires { place < length history.now }
+    {
+        match &history.entry(place).call {
+            Call::Claim(claim) => Some(&claim.tree),
+            Call::Release { net } => self.tree(history, *net),
+            Call::Mark => None,
+        }
     }
 
     /// Notes what the entry that is to be read next may change for the net in the window. False where it

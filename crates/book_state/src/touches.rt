@@ -56,7 +56,7 @@ pub(crate) fn note_tree(
 
 /// Whether a tree has too few nodes to reach a window from its first cell: a node lies at most as many
 /// steps away from there as its number says.
-fn lies_beyond(tree: &RouteTree, window: Window) -> bool
+pub(crate) fn lies_beyond(tree: &RouteTree, window: Window) -> bool
     ensures beyond { IsTrue result → BeginsNone tree.now window }
     ensures tree { IsTree tree.now }
 {

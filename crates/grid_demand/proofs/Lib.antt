@@ -8,6 +8,7 @@ pub mod LoadLemmas
 pub mod RangeFilters
 pub mod PlacedEdges
 pub mod ToldEdges
+pub mod CalmRuns
 pub mod OverfullSteps
 pub mod ClearedTables
 pub mod MarkSteps

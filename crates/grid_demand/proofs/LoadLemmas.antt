@@ -1,6 +1,7 @@
 -- Loads as sums of tables.
 use Rattle.std.proofs.Common.{◌≡◌, ℕ, suc, zero, ◌+◌, ◌-◌, ◌*◌, ◌<◌, ◌≤◌, inl, inr, max, Bool, true, false, nat_lt, List, [], ◌∷◌, map, filter, fold, zip, sum_by, length, get_or, replicate, All, slice_index, slice_index_or, IsTrue, refl, sym, ap, subst, ◌∙◌, arith}
 use Rattle.std.proofs.lemmas.Bool.{cases_Bool, both_ways}
+use Rattle.std.proofs.lemmas.Bool.Decides.{nat_tests}
 use Rattle.std.proofs.lemmas.List.{length-replicate, get_or-replicate}
 use Rattle.std.proofs.lemmas.List.Elements.{All-head, All-tail, All-map, All-replicate}
 use Rattle.std.proofs.lemmas.List.FromFn.{get_or-map-range_with_len}
@@ -18,6 +19,7 @@ use Rattle.grid_demand.proofs.LoadSteps.{tree-edge}
 use Rattle.grid_demand.proofs.PlaneLemmas.{StandsAt, stands, length-by_number, by_number-zeros, each-number, sum-tables, most-tables, sum-planes, most-planes}
 use Rattle.grid_demand.proofs.WireLemmas.{table-at, table-is, table-self, length-table, length-wires, number-below, number-wire_at, wire-wire_at}
 use Rattle.gr_base.specs.Limits.{most_marks}
+use Rattle.grid_demand.specs.Listings.{AreTables}
 use Rattle.grid_demand.specs.LoadSums.{LoadsView, no_loads, demand_at, marks_at, share, added, taken, mark_of, marked, AreLoads}
 use Rattle.grid_demand.specs.Overfull.{OverfullView, AreOverfull}
 use Rattle.grid_demand.specs.Planes.{place_of, by_number}
@@ -176,6 +178,17 @@ pub capacities-long : (l : LoadsView) (c : CapacityView) (capacities : List ℕ)
     length capacities ≡ 2 * cells_of l.shape
 capacities-long l c capacities tables same is =
     sym (length-by_number 0 capacities) ∙ ap length is ∙ tables.wires ∙ ap (λ (g : Shape). 2 * cells_of g) same
+
+pub tables-fit : (l : LoadsView) (c : CapacityView) (demands capacities : List ℕ) → AreLoads l → IsCapacity c → c.shape ≡ l.shape →
+    by_number 0 demands ≡ l.demands → by_number 0 capacities ≡ c.capacities → AreTables demands capacities
+tables-fit l c demands capacities loads tables same is also =
+    let long = demands-long l demands loads is in
+    let valid = l.shape.valid in
+    record {
+      same = capacities-long l c capacities tables same also ∙ sym long;
+      halves = omega (arith, long);
+      few = grind (arith, nat_tests, long, valid);
+    }
 
 pub marks-long : (l : LoadsView) (marks : List ℕ) → AreLoads l → by_number 0 marks ≡ l.marks → length marks ≡ 2 * cells_of l.shape
 marks-long l marks loads is = sym (length-by_number 0 marks) ∙ ap length is ∙ loads.marks

@@ -1,6 +1,7 @@
 //! The capacity of a design's wire edges, and what the trees that are in take of it.
 #![tactic(auto)]
 
+mod calm;
 mod capacity;
 mod loads;
 mod numbers;

@@ -1,11 +1,12 @@
 //! Which wire edges have more demand than capacity.
 ghost use Rattle.std.specs.Prelude.{◌≡◌, ℕ, ◌-◌, ◌*◌, ◌/◌, ◌^◌, ◌<◌, ◌≤◌, [], false, cond, All, nat_lt, length, slice_get, slice_index, slice_index_or, sum_by, zip, IfOk, OnOk, Some};
 ghost use Rattle.gr_base.specs.Sums.{wire_number as number_of};
-ghost use Rattle.grid_demand.specs.Listings.{Lists};
+ghost use Rattle.grid_demand.specs.Listings.{Lists, AreTables, AreCalm};
 ghost use Rattle.gr_base.specs.Grid.{cells_of};
 ghost use Rattle.grid_demand.specs.Overfull.{has_number, is_told, told_places, told_edges, AreOverfull};
 ghost use Rattle.grid_demand.specs.Planes.{by_number};
 
+use crate::calm::{RUN, calm_runs, calm_runs_by};
 use crate::capacity::Capacity;
 use crate::loads::Loads;
 use crate::numbers::Numbers;
@@ -13,6 +14,7 @@ use crate::wires::{edge_placed, place};
 use gr_base::Edge;
 use std::alloc::{AllocError, Global};
 use std::marker::Model;
+use std::thread::Threads;
 
 /// The wire edges with more demand than capacity, as a table that takes a byte an edge: where many
 /// edges are asked, it is read faster than demand and capacity. Beside it stand the places of which
@@ -42,10 +44,7 @@ impl Loads {
         requires { capacity.now.shape ≡ self.now.shape }
         ensures { IfOk result (AreOverfull capacity.now self.now) }
     {
-        let demands = self.demands();
-        let listing = Listing::none(alloc, demands.len())?;
-        let over = overfull_of(listing, demands, capacity.table())?;
-        Ok(over)
+        self.overfull_in(alloc, capacity, None)
     }
 
     /// The same, in the memory of a table that is given up, where there is one of these edges.
@@ -58,21 +57,32 @@ impl Loads {
         requires { capacity.now.shape ≡ self.now.shape }
         ensures { IfOk result (AreOverfull capacity.now self.now) }
     {
-        match spent {
-            Some(spent) if spent.over.len() == self.demands().len() => {
-                self.overfull_anew(capacity, spent)
-            }
-            _ => self.overfull(alloc, capacity),
-        }
+        let demands = self.demands();
+        let capacities = capacity.table();
+        let calm = calm_runs(alloc, demands, capacities)?;
+        let listing = Listing::none_in(alloc, demands.len(), spent)?;
+        let over = overfull_of(listing, demands, capacities, &calm)?;
+        Ok(over)
     }
 
-    /// The same, in the memory of a table of these edges. The only error is want of memory.
-    fn overfull_anew(&self, capacity: &Capacity, spent: Overfull) -> Result<Overfull, AllocError>
-        requires shape { capacity.now.shape ≡ self.now.shape }
-        requires long { length spent.table ≡ 2 * cells_of self.now.shape }
+    /// The same, by at most so many threads.
+    pub fn overfull_by<R: Threads + Sync>(
+        &self,
+        rt: &R,
+        alloc: Global,
+        capacity: &Capacity,
+        spent: Option<Overfull>,
+        threads: u32,
+    ) -> Result<Overfull, AllocError>
+        requires capacity { capacity.now.shape ≡ self.now.shape }
+        requires threads { 0 < threads }
         ensures { IfOk result (AreOverfull capacity.now self.now) }
     {
-        let over = overfull_of(spent.into_none(), self.demands(), capacity.table())?;
+        let demands = self.demands();
+        let capacities = capacity.table();
+        let calm = calm_runs_by(rt, alloc, demands, capacities, threads)?;
+        let listing = Listing::none_in(alloc, demands.len(), spent)?;
+        let over = overfull_of(listing, demands, capacities, &calm)?;
         Ok(over)
     }
 }
@@ -140,9 +150,6 @@ impl Overfull {
     }
 }
 
-/// How many places are asked together whether one of their demands is above its capacity.
-const RUN: usize = 64;
-
 /// What is listed of the demands before a place: which of them are above their capacities, the places
 /// of these, and by how much they are above together.
 #[derive(Debug, Drop)]
@@ -165,6 +172,20 @@ impl Listing {
             places: Vec::new(alloc),
             total: 0,
         })
+    }
+
+    /// The same, in the memory of a table that is given up, where there is one of so many demands.
+    fn none_in(alloc: Global, wires: usize, spent: Option<Overfull>) -> Result<Listing, AllocError>
+        requires { wires ≡ 2 * (wires / 2) }
+        ensures long { IfOk result (λ listing. length listing.over.items ≡ wires) }
+        ensures none { (n : ℕ) → IfOk result (λ listing. slice_index_or listing.over.items n false ≡ false) }
+        ensures places { IfOk result (λ listing. listing.places.items ≡ []) }
+        ensures total { IfOk result (λ listing. listing.total ≡ 0) }
+    {
+        match spent {
+            Some(spent) if spent.over.len() == wires => Ok(spent.into_none()),
+            _ => Listing::none(alloc, wires),
+        }
     }
 
     /// Lists the demands from a place to below another, one by one.
@@ -197,20 +218,20 @@ impl Listing {
     }
 }
 
-/// Which demands are above capacities, where both are in planes. Few are: most runs of places are
-/// passed over by one question.
+/// Which demands are above capacities, where both are in planes. Few are: most runs of places are told
+/// to have none, and are passed over.
 fn overfull_of(
     listing: Listing,
     demands: &Numbers,
     capacities: &[u32],
+    calm: &[bool],
 ) -> Result<Overfull, AllocError>
     requires long { length listing.over.items ≡ length demands.now }
     requires none { (n : ℕ) → slice_index_or listing.over.items n false ≡ false }
     requires places { listing.places.items ≡ [] }
     requires total { listing.total ≡ 0 }
-    requires capacities { length capacities.now ≡ length demands.now }
-    requires halves { length demands.now ≡ 2 * (length demands.now / 2) }
-    requires few { length demands.now < 2 ^ 32 }
+    requires tables { AreTables demands.now capacities.now }
+    requires calm { AreCalm demands.now capacities.now calm.now }
     ensures long { IfOk result (λ over. length over.table ≡ length demands.now) }
     ensures each { IfOk result (λ over. (n : ℕ) → n < length demands.now → slice_index_or over.table n false
         ≡ nat_lt (slice_index (by_number 0 capacities.now) n) (slice_index (by_number 0 demands.now) n)) }
@@ -219,18 +240,27 @@ fn overfull_of(
     let wires = demands.len();
     let mut listing = listing;
     let mut from = 0;
+    let mut run = 0;
     while from < wires {
         let to = wires.min(from + RUN);
-        if demands.may_exceed(capacities, from, to) {
+        if !is_told_calm(calm, run) {
             listing.list_run(demands, capacities, from, to)?;
         }
         from = to;
+        run += 1;
     }
     Ok(Overfull {
         over: listing.over,
         places: listing.places,
         total: listing.total,
     })
+}
+
+/// Whether a run is told to be calm.
+fn is_told_calm(calm: &[bool], run: usize) -> bool
+    ensures { result ≡ slice_index_or calm.now run false }
+{
+    calm.get(run).copied().unwrap_or(false)
 }
 
 /// Puts false at some places.

@@ -86,6 +86,7 @@ impl<N: BookName> Coordinator<N> {
         requires { 0 < threads }
         ensures { IfOk result (IsMarked N.capacity self.old.pass self.new.pass) }
     {
+        book.find_overfull(rt, threads)?;
         let Reply::Marked { overflow } = book.mark(rt, &mut self.pass)? else {
             unreachable!()
         };

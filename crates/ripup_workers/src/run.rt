@@ -16,6 +16,7 @@ use crate::worker::Worker;
 use book_state::Replica;
 use cost_rules::{Going, Sight};
 use gr_base::Design;
+use net_plan::Planner;
 use round_core::routed_nets;
 use std::alloc::{AllocError, Global};
 use std::sync::Wait;
@@ -94,7 +95,12 @@ fn worker_with<N: BookName>(
     ensures { IfOk result (λ worker. worker.pass ≡ pass) }
 {
     let replica = Replica::of(alloc, book.capacity(), design.nets())?;
-    Ok(Worker { pass, replica })
+    let planner = Planner::new(alloc)?;
+    Ok(Worker {
+        pass,
+        replica,
+        planner,
+    })
 }
 
 /// The rounds, each up to and with its mark.

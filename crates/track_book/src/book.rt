@@ -102,6 +102,19 @@ impl<N: BookName> TrackBook<N> {
         self.locked(rt).mark(&self.front, pass)
     }
 
+    /// Looks for the edges whose demand is above their capacity, by at most so many threads, while the lock
+    /// is held. A mark that comes next then needn't. That changes nothing that is seen of the book. The
+    /// only error is want of memory.
+    pub fn find_overfull<R: Threads + Wait + Sync>(
+        &self,
+        rt: &R,
+        threads: u32,
+    ) -> Result<(), AllocError>
+        requires { 0 < threads }
+    {
+        self.locked(rt).find_overfull(rt, threads)
+    }
+
     /// The pass sees the whole history, and holds it, so that replicas can read it when the lock is free
     /// again. The only error is want of memory, and leaves the pass as it was.
     pub fn hold<R: Wait>(&self, rt: &R, pass: &mut Pass<N>) -> Result<(), AllocError>

@@ -111,6 +111,18 @@ impl<N: BookName> Locked<N> {
         Ok(reply)
     }
 
+    /// Looks for the edges over their capacity, by at most so many threads.
+    pub(crate) fn find_overfull<R: Threads + Sync>(
+        &mut self,
+        rt: &R,
+        threads: u32,
+    ) -> Result<(), AllocError>
+        requires { 0 < threads }
+        ensures { self.new ≡ self.old }
+    {
+        self.state.find_overfull(rt, threads)
+    }
+
     /// The pass sees the whole history, and holds it. An error leaves the pass as it was.
     pub(crate) fn sync(&mut self, front: &Front, pass: &mut Pass<N>) -> Result<(), AllocError>
         requires front { word_of front.now ≡ N.word }

@@ -25,7 +25,7 @@ loop-crowded-preserved c =
       | else-crowded w ↦
           subst (IsColumn columns tiles tile) (sym w.told-is) (column-past columns tiles tile c.loop-crowded.told w.if-crowded.false before.before)
     ] in
-    let pushed = c.in_ok-push.ensures.items in
+    let pushed = c.push_reserved.ensures.items in
     let Next : ℕ → ℕ → Type 0 = λ at number. (at ≡ (tile + 1) % columns) × IsBefore columns tiles (tile + 1) number in
     let next : Next c.if-column-columns.column c.if-column-columns.told = elim c.if-column-columns.branch [
       | then-column-columns w ↦

@@ -1,10 +1,9 @@
 use Rattle.std.proofs.Common.{ℕ, ◌≡◌, ◌++◌, ◌∷◌, [], List, true, length, refl, sym, ap, subst, ◌∙◌, arith}
 use Rattle.std.specs.Arc.{arc_value}
 use Rattle.std.proofs.lemmas.List.{length_push}
-use Rattle.grid_demand.specs.LoadSums.{LoadsView}
 use Rattle.grid_demand.specs.Overfull.{AreOverfull}
 use Rattle.grid_demand.specs.Tables.{CapacityView}
-use Rattle.book_state.specs.Books.{IsLegal, reply_to_mark, AreLoadsOf}
+use Rattle.book_state.specs.Books.{IsLegal, reply_to_mark}
 use Rattle.book_state.specs.Entries.{is_mark_at}
 use Rattle.book_state.specs.Extents.{AreParts}
 use Rattle.book_state.specs.LeastSearch.{IsLeast}
@@ -23,9 +22,8 @@ pub follow_mark-requires-clause-legal : goal.follow_mark-requires-clause-legal
 follow_mark-requires-clause-legal c =
     let s = c.self.inside in
     let capacity = arc_value s.capacity in
-    let of = subst (λ (l : LoadsView). AreLoadsOf capacity s.history l) (sym c.loads-loads.ensures) c.self.invariant.stands.loads in
-    let are = subst (λ (v : CapacityView). AreOverfull v c.loads-loads.result.now c.in_ok-over.over) c.deref.ensures c.in_ok-over.ensures in
-    let reply = marked-reply capacity s.history c.loads-loads.result.now c.in_ok-over.over c.total.result of are c.total.ensures in
+    let are = subst (λ (v : CapacityView). AreOverfull v s.replica.loads c.in_ok-over.over) c.deref.ensures c.in_ok-over.ensures in
+    let reply = marked-reply capacity s.history s.replica.loads c.in_ok-over.over c.total.result c.self.invariant.stands.loads are c.total.ensures in
     subst (λ (v : CapacityView). IsLegal v c.push.new.self) (sym c.deref-2.ensures)
     (legal-mark capacity s.history c.push.new.self c.args.number c.total.result c.self.invariant.legal reply c.in-Ok.ensures.ok)
 
@@ -42,9 +40,8 @@ invariant_of-self-2 c =
     let capacity = arc_value s.capacity in
     let e = entry_of c.args.number Mark (Marked c.total.result) in
     let pushed = c.in-Ok.ensures.ok in
-    let of = subst (λ (l : LoadsView). AreLoadsOf capacity s.history l) (sym c.loads-loads.ensures) c.self.invariant.stands.loads in
-    let are = subst (λ (v : CapacityView). AreOverfull v c.loads-loads.result.now c.in_ok-over.over) c.deref.ensures c.in_ok-over.ensures in
-    let reply = marked-reply capacity s.history c.loads-loads.result.now c.in_ok-over.over c.total.result of are c.total.ensures in
+    let are = subst (λ (v : CapacityView). AreOverfull v s.replica.loads c.in_ok-over.over) c.deref.ensures c.in_ok-over.ensures in
+    let reply = marked-reply capacity s.history s.replica.loads c.in_ok-over.over c.total.result c.self.invariant.stands.loads are c.total.ensures in
     record {
       legal = legal-mark capacity s.history c.push.new.self c.args.number c.total.result c.self.invariant.legal reply pushed;
       stands = subst (λ (v : CapacityView). StandsFor v c.push.new.self c.follow_mark.new.self) c.deref-2.ensures c.follow_mark.ensures.stands;
@@ -62,16 +59,14 @@ pub returns-clause-reply : goal.returns-clause-reply
 returns-clause-reply c =
     let s = c.self.inside in
     let capacity = arc_value s.capacity in
-    let of = subst (λ (l : LoadsView). AreLoadsOf capacity s.history l) (sym c.loads-loads.ensures) c.self.invariant.stands.loads in
-    let are = subst (λ (v : CapacityView). AreOverfull v c.loads-loads.result.now c.in_ok-over.over) c.deref.ensures c.in_ok-over.ensures in
-    let reply = marked-reply capacity s.history c.loads-loads.result.now c.in_ok-over.over c.total.result of are c.total.ensures in
+    let are = subst (λ (v : CapacityView). AreOverfull v s.replica.loads c.in_ok-over.over) c.deref.ensures c.in_ok-over.ensures in
+    let reply = marked-reply capacity s.history s.replica.loads c.in_ok-over.over c.total.result c.self.invariant.stands.loads are c.total.ensures in
     reply ∙ ap (λ (b : BookView). reply_to_mark b.capacity b.history) c.self.view_is
 
 pub returns-clause-legal : goal.returns-clause-legal
 returns-clause-legal c =
     let s = c.self.inside in
     let capacity = arc_value s.capacity in
-    let of = subst (λ (l : LoadsView). AreLoadsOf capacity s.history l) (sym c.loads-loads.ensures) c.self.invariant.stands.loads in
-    let are = subst (λ (v : CapacityView). AreOverfull v c.loads-loads.result.now c.in_ok-over.over) c.deref.ensures c.in_ok-over.ensures in
-    let reply = marked-reply capacity s.history c.loads-loads.result.now c.in_ok-over.over c.total.result of are c.total.ensures in
+    let are = subst (λ (v : CapacityView). AreOverfull v s.replica.loads c.in_ok-over.over) c.deref.ensures c.in_ok-over.ensures in
+    let reply = marked-reply capacity s.history s.replica.loads c.in_ok-over.over c.total.result c.self.invariant.stands.loads are c.total.ensures in
     legal-mark capacity s.history c.push.new.self c.args.number c.total.result c.self.invariant.legal reply c.in-Ok.ensures.ok

@@ -1,0 +1,27 @@
+use Rattle.std.proofs.Common.{arith}
+use Rattle.grid_demand.proofs.LoadLemmas.{tables-fit, overfull-whole}
+use Rattle.grid_demand.proofs.loads.Loads.overfull_in.Goals as goal
+
+pub calm_runs-requires : goal.calm_runs-requires
+calm_runs-requires c =
+    (tables-fit c.args.self.now c.args.capacity.now c.demands-demands.result.now c.table-capacities.result.now c.demands-demands.ensures.loads
+    c.table-capacities.ensures.tables c.requires c.demands-demands.ensures.demands c.table-capacities.ensures.table).same
+
+pub none_in-requires : goal.none_in-requires
+none_in-requires c =
+    let fit =
+    tables-fit c.args.self.now c.args.capacity.now c.demands-demands.result.now c.table-capacities.result.now c.demands-demands.ensures.loads
+    c.table-capacities.ensures.tables c.requires c.demands-demands.ensures.demands c.table-capacities.ensures.table in
+    let halves = fit.halves in
+    omega (arith, halves, c.len.ensures)
+
+pub overfull_of-requires-clause-tables : goal.overfull_of-requires-clause-tables
+overfull_of-requires-clause-tables c =
+    tables-fit c.args.self.now c.args.capacity.now c.demands-demands.result.now c.table-capacities.result.now c.demands-demands.ensures.loads
+    c.table-capacities.ensures.tables c.requires c.demands-demands.ensures.demands c.table-capacities.ensures.table
+
+pub returns : goal.returns
+returns c =
+    overfull-whole c.args.capacity.now c.args.self.now c.demands-demands.result.now c.table-capacities.result.now c.in_ok-over.over
+    c.demands-demands.ensures.loads c.table-capacities.ensures.tables c.requires c.demands-demands.ensures.demands c.table-capacities.ensures.table
+    c.in_ok-over.ensures.long c.in_ok-over.ensures.each c.in_ok-over.ensures.total
