@@ -13,12 +13,12 @@ const NUMBERS: u64 = 4_294_967_296;
 /// The same nets in an order in which each worker is dealt those of a region of its own, as they stand
 /// in the design: one net after the other goes to one worker after the other.
 ///
-/// A region has as many nets as any other, whose drivers follow one another in Morton's order. Workers in
-/// regions of their own seldom change what others plan with, and find more of what they read in caches
-/// of their own. The work of one worker is the nets as they stand.
+/// A region has as many nets as any other, whose drivers follow one another by these places. Workers in
+/// regions of their own seldom change what others plan with. The work of one worker is the nets as they
+/// stand.
 pub(crate) fn by_regions(
     alloc: Global,
-    design: &Design,
+    places: &[u32],
     nets: &[u32],
     workers: u32,
 ) -> Result<Vec<u32>, AllocError>
@@ -29,20 +29,40 @@ pub(crate) fn by_regions(
         return Vec::from_slice(alloc, nets);
     }
     let size = nets.len().div_ceil(workers as usize);
-    let mut placed = placed_nets(alloc, design, nets)?;
+    let mut placed = placed_nets(alloc, places, nets)?;
     placed.sort_unstable();
     let regions = regions(alloc, &placed, size)?;
     let order = in_turn(alloc, &regions, size)?;
     Ok(order)
 }
 
-/// The nets, each behind the place of its driver's tile in Morton's order.
-fn placed_nets(alloc: Global, design: &Design, nets: &[u32]) -> Result<Vec<u64>, AllocError>
+/// The places of all nets' drivers by which `by_regions` goes, by net. None where one worker does all.
+///
+/// They are looked up once for all rounds: nets lie scattered in memory, so that takes longer than to
+/// sort.
+pub(crate) fn driver_places(
+    alloc: Global,
+    design: &Design,
+    workers: u32,
+) -> Result<Vec<u32>, AllocError> {
+    let mut places = Vec::new(alloc);
+    if workers == 1 {
+        return Ok(places);
+    }
+    places.reserve(design.nets() as usize)?;
+    for net in 0..design.nets() {
+        places.push(driver_place(design, net))?;
+    }
+    Ok(places)
+}
+
+/// The nets, each behind the place of its driver.
+fn placed_nets(alloc: Global, places: &[u32], nets: &[u32]) -> Result<Vec<u64>, AllocError>
     ensures { IfOk result (λ placed. map net_in placed.items ≡ nets.now) }
 {
     let mut placed = Vec::with_capacity(alloc, nets.len())?;
     for &net in nets {
-        let place = morton_place(design, net);
+        let place = places.get(net as usize).copied().unwrap_or(0);
         placed.push(u64::from(place) * NUMBERS + u64::from(net))?;
     }
     Ok(placed)
@@ -63,10 +83,9 @@ fn nets_of(alloc: Global, placed: &[u64]) -> Result<Vec<u32>, AllocError>
 /// mostly lie near one another. 0 where the design has no such pin.
 ///
 /// After Morton, "A computer oriented geodetic data base and a new technique in file sequencing", 1966.
-fn morton_place(design: &Design, net: u32) -> u32 {
-    if net >= design.nets() {
-        return 0;
-    }
+fn driver_place(design: &Design, net: u32) -> u32
+    requires { net < length design.now.nets }
+{
     match design.net(net).pins.as_slice().first() {
         Some(driver) => tile_place(design.frame().shape, *driver),
         None => 0,
