@@ -16,7 +16,6 @@ use crate::worker::Worker;
 use book_state::Replica;
 use cost_rules::{Going, Sight};
 use gr_base::Design;
-use net_plan::Planner;
 use round_core::routed_nets;
 use std::alloc::{AllocError, Global};
 use std::sync::Wait;
@@ -95,12 +94,7 @@ fn worker_with<N: BookName>(
     ensures { IfOk result (λ worker. worker.pass ≡ pass) }
 {
     let replica = Replica::of(alloc, book.capacity(), design.nets())?;
-    let planner = Planner::new(alloc)?;
-    Ok(Worker {
-        pass,
-        replica,
-        planner,
-    })
+    Ok(Worker { pass, replica })
 }
 
 /// The rounds, each up to and with its mark.

@@ -14,7 +14,6 @@ use cost_rules::CostRule;
 use gr_base::Design;
 use net_plan::Planner;
 use std::alloc::{AllocError, Global};
-use std::mem::replace;
 use std::sync::Wait;
 use std::thread::Threads;
 use track_book::{BookName, TrackBook};
@@ -44,7 +43,7 @@ pub(crate) fn work<N: BookName, R: Threads + Wait + Sync, G: Gate>(
         OnOk result (HasWorked t round hand.old.taken hand.new.taken worker.old.pass worker.new.pass) }
 {
     let known = worker.pass.known();
-    let mut planner = replace(&mut worker.planner, Planner::new(alloc)?);
+    let mut planner = Planner::new(alloc)?;
     for _ in rt.forever() {
         let Some(net) = share.take(hand) else {
             break;
@@ -62,7 +61,6 @@ pub(crate) fn work<N: BookName, R: Threads + Wait + Sync, G: Gate>(
             &mut planner,
         )?;
     }
-    worker.planner = planner;
     let grown = known <= worker.pass.known();
     prove!(grown);
     Ok(())

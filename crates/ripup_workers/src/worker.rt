@@ -18,13 +18,11 @@ use std::alloc::AllocError;
 use std::sync::Wait;
 use track_book::{BookName, Pass, Visit};
 
-/// One worker: its pass, a replica that stands for a first part of what the pass has seen, and what it
-/// makes plans with, which keeps its memory from round to round.
+/// One worker: its pass, and a replica that stands for a first part of what the pass has seen.
 #[derive(Drop)]
 pub(crate) struct Worker<N: BookName> {
     pub(crate) pass: Pass<N>,
     pub(crate) replica: Replica,
-    pub(crate) planner: Planner,
     ghost stands: { StandsFor N.capacity (take replica.front pass.seen) replica },
 }
 
