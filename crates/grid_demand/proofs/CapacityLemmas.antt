@@ -1,5 +1,6 @@
 -- The tables of a capacity.
 use Rattle.std.proofs.Common.{◌≡◌, ℕ, suc, zero, ◌+◌, ◌-◌, ◌*◌, ◌<◌, ◌≤◌, inl, inr, Bool, true, false, List, [], ◌∷◌, ◌++◌, map, reverse, length, take, get_or, replicate, All, slice_index, slice_set, slice_get, find, Option, Some, None, IfSome, option_map, unwrap_or, if◌then◌else◌, IsTrue, refl, sym, ap, subst, ◌∙◌, arith}
+use Rattle.std.proofs.lemmas.Bool.{both_ways}
 use Rattle.std.proofs.lemmas.Bool.Decides.{nat_tests}
 use Rattle.std.proofs.Math.Nat.{div-div-eq-div-mul}
 use Rattle.std.proofs.lemmas.Nat.{div-mul-add}
@@ -10,10 +11,10 @@ use Rattle.std.proofs.lemmas.List.Sorted.{All-permutation, IsPermutation-reverse
 use Rattle.std.proofs.lemmas.Option.{get_or_from_slice_get, slice_get_within, slice_get-get_or}
 use Rattle.std.specs.List.{range_with_len}
 use Rattle.gr_base.proofs.GridLemmas.{place-inside}
-use Rattle.gr_base.specs.Capacities.{stated_along, stated, capacity_by, capacity, widths_of}
+use Rattle.gr_base.specs.Capacities.{stated_along, stated, capacity_by, capacity, need_along, widths_of}
 use Rattle.gr_base.specs.Designs.{DesignView, IsDesign, IsLayer, IsNet, IsAdjustment}
 use Rattle.gr_base.specs.EdgeSets.{is_edge}
-use Rattle.gr_base.specs.Grid.{cells_of, place_at, edge_at, has_edge, is_wire}
+use Rattle.gr_base.specs.Grid.{cells_of, place_at, edge_at, has_edge, is_wire, is_wire_way}
 use Rattle.gr_base.specs.Limits.{most_capacity, most_width}
 use Rattle.gr_base.specs.Sums.{wire_at, wire_number, wires_from_cells}
 use Rattle.gr_base.specs.declared.frame.Adjustment.{Adjustment}
@@ -26,6 +27,7 @@ use Rattle.gr_base.specs.declared.grid.Way.{Way}
 use Rattle.gr_base.specs.declared.grid.Way.TheVariants.{East, North, Up}
 use Rattle.grid_demand.proofs.PlaneLemmas.{StandsAt, stands, placed, length-by_number, by_number-at}
 use Rattle.grid_demand.proofs.WireLemmas.{table-edge, table-set, table-same, table-is, length-table, number-below, wire_at-east, wire_at-north}
+use Rattle.grid_demand.specs.LayerNeeds.{IsLayerNeed}
 use Rattle.grid_demand.specs.Planes.{place_of, by_number}
 use Rattle.grid_demand.specs.Tables.{CapacityView, capacity_of, capacity_at, IsCapacity, cell_layers, stated_table, stated_along_way}
 
@@ -188,6 +190,34 @@ few_layers g cell below =
     let inside = (place-inside g cell below).layer in
     let few : g.layers ≤ 16 = let v = g.valid in grind (arith, nat_tests) in
     omega arith
+
+-- a net takes as much of an East edge as of a North edge
+ways : (a b : Way) (width : ℕ) (layer : Option Layer) → IsTrue (is_wire_way a) → IsTrue (is_wire_way b) → need_along a width layer ≡ need_along b width layer
+ways Up b width layer is _ = absurd (both_ways false refl is)
+ways East Up width layer _ is = absurd (both_ways false refl is)
+ways North Up width layer _ is = absurd (both_ways false refl is)
+ways East East width layer _ _ = refl
+ways North North width layer _ _ = refl
+ways East North width None _ _ = refl
+ways North East width None _ _ = refl
+ways East North width (Some layer) _ _ = refl
+ways North East width (Some layer) _ _ = refl
+
+-- what a net takes of the wire edges on the layer of one
+pub layer-need : (c : CapacityView) (width : ℕ) (e : Edge) (layer cells need : ℕ) → IsTrue (is_wire e) → layer ≡ (place_at c.shape e.low).layer →
+    cells ≡ c.shape.columns * c.shape.rows → need ≡ need_along e.way width (slice_get c.layers (place_at c.shape e.low).layer) → need ≤ 2 * most_width →
+    IsLayerNeed c width (record { from = layer * cells; to = layer * cells + cells; need = need })
+layer-need c width e layer cells need wire at many is few =
+    record {
+      each = λ a also low high.
+          let first : layer * cells ≡ layer * (c.shape.columns * c.shape.rows) = ap (λ (n : ℕ). layer * n) many in
+          let there : layer * (c.shape.columns * c.shape.rows) + (a.low - layer * cells) ≡ a.low = omega (arith, first, low) in
+          let same : (place_at c.shape a.low).layer ≡ layer =
+          ap (λ (n : ℕ). (place_at c.shape n).layer) (sym there) ∙ layer-of c.shape layer (a.low - layer * cells) (omega (arith, high, low, many)) in
+          is ∙ ways e.way a.way width (slice_get c.layers (place_at c.shape e.low).layer) wire also
+          ∙ ap (λ (n : ℕ). need_along a.way width (slice_get c.layers n)) (sym at ∙ sym same);
+      most = few;
+    }
 
 -- an adjustment of a design names a wire edge
 pub adjustment-in : (g : Shape) (xs : List Adjustment) (k : ℕ) (a : Adjustment) → All (IsAdjustment g) xs → slice_get xs k ≡ Some a → IsAdjustment g a

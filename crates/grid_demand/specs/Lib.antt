@@ -1,5 +1,6 @@
 pub mod Planes
 pub mod Tables
+pub mod LayerNeeds
 pub mod CapacityStore
 pub mod JoinedLists
 pub mod NumbersStore

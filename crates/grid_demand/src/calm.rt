@@ -1,6 +1,6 @@
 //! Runs of wire edges without more demand than capacity.
 ghost use Rattle.std.specs.Prelude.{◌≡◌, ◌<◌, length, IfOk, IsTrue};
-ghost use Rattle.grid_demand.specs.Listings.{IsCalmRun, AreCalm};
+ghost use Rattle.grid_demand.specs.Listings.{AreTables, IsCalmRun, AreCalm};
 
 use crate::numbers::Numbers;
 use beside_calls::for_each_beside;
@@ -17,7 +17,7 @@ pub(crate) fn calm_runs(
     demands: &Numbers,
     capacities: &[u32],
 ) -> Result<Vec<bool>, AllocError>
-    requires { length capacities.now ≡ length demands.now }
+    requires { AreTables demands.now capacities.now }
     ensures { IfOk result (λ calm. AreCalm demands.now capacities.now calm.items) }
 {
     let mut calm = vec![in alloc; false; demands.len().div_ceil(RUN)]?;
@@ -35,7 +35,7 @@ pub(crate) fn calm_runs_by<R: Threads + Sync>(
     capacities: &[u32],
     threads: u32,
 ) -> Result<Vec<bool>, AllocError>
-    requires capacities { length capacities.now ≡ length demands.now }
+    requires tables { AreTables demands.now capacities.now }
     requires threads { 0 < threads }
     ensures { IfOk result (λ calm. AreCalm demands.now capacities.now calm.items) }
 {

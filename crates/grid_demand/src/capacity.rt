@@ -1,5 +1,5 @@
 //! The capacity of wire edges, and what nets need of them.
-ghost use Rattle.std.specs.Prelude.{◌≡◌, ℕ, ◌*◌, ◌≤◌, ◌++◌, IfOk, OnOk, IsTrue, map, slice_get, Some};
+ghost use Rattle.std.specs.Prelude.{◌≡◌, ℕ, ◌+◌, ◌*◌, ◌^◌, ◌<◌, ◌≤◌, ◌++◌, IfOk, OnOk, IsTrue, map, slice_get, Some};
 ghost use Rattle.gr_base.specs.Designs.{DesignView, IsFrame, IsLayer};
 ghost use Rattle.gr_base.specs.Capacities.{stated_along, capacity, usable, need, need_along, width_in, widths_of};
 ghost use Rattle.gr_base.specs.Grid.{cells_of, place_at, has_edge, is_wire};
@@ -7,6 +7,7 @@ ghost use Rattle.gr_base.specs.Limits.{most_capacity, most_width};
 ghost use Rattle.gr_base.specs.Sums.{wires_from_cells};
 ghost use Rattle.grid_demand.specs.Planes.{by_number};
 ghost use Rattle.grid_demand.specs.Tables.{capacity_of, stated_table, stated_along_way, capacity_table, capacity_at, usable_at, need_at, cell_layers, IsCapacity};
+ghost use Rattle.grid_demand.specs.LayerNeeds.{IsLayerNeed};
 
 use crate::wires::place;
 use gr_base::{Design, Edge, Frame, Layer, Shape, Way};
@@ -112,6 +113,42 @@ impl Capacity {
         u64::from(width.max(layer.width) + layer.spacing)
     }
 
+    /// What a net of a width takes of the wire edges on the layer of one: what is known, where that is of
+    /// this layer. Most edges of a tree lie on the layer of the one before.
+    #[inline(always)]
+    pub(crate) fn need_on_layer(&self, known: LayerNeed, width: u32, e: Edge) -> LayerNeed
+        requires edge { IsTrue (has_edge self.now.shape e) }
+        requires wire { IsTrue (is_wire e) }
+        requires width { width ≤ most_width }
+        requires known { IsLayerNeed self.now width known }
+        ensures layer { IsLayerNeed self.now width result }
+        ensures value { result.need ≡ need_along e.way width
+            (slice_get self.now.layers (place_at self.now.shape e.low).layer) }
+    {
+        if known.from <= e.low && e.low < known.to {
+            return known;
+        }
+        self.layer_need(width, e)
+    }
+
+    /// What a net of a width takes of the wire edges on the layer of one.
+    fn layer_need(&self, width: u32, e: Edge) -> LayerNeed
+        requires edge { IsTrue (has_edge self.now.shape e) }
+        requires wire { IsTrue (is_wire e) }
+        requires width { width ≤ most_width }
+        ensures layer { IsLayerNeed self.now width result }
+        ensures value { result.need ≡ need_along e.way width
+            (slice_get self.now.layers (place_at self.now.shape e.low).layer) }
+    {
+        let layer = u32::from(self.cell_layers[e.low as usize]);
+        let cells = cells_a_layer(self.shape);
+        LayerNeed {
+            from: layer * cells,
+            to: layer * cells + cells,
+            need: self.need_of_width(width, e),
+        }
+    }
+
     /// The layer of an edge's low end.
     fn layer_of(&self, e: Edge) -> Layer
         requires { IsTrue (has_edge self.now.shape e) }
@@ -127,6 +164,30 @@ impl Capacity {
         ensures tables { IsCapacity self.now }
     {
         &self.capacities
+    }
+}
+
+/// What a net takes of each wire edge whose low end is a cell from one to below another, by number: the
+/// cells of a layer.
+#[derive(Clone, Copy, Debug)]
+pub(crate) struct LayerNeed {
+    from: u32,
+    to: u32,
+    pub(crate) need: u64,
+}
+
+impl LayerNeed {
+    ghost use Rattle.grid_demand.specs.Tables.{CapacityView};
+
+    /// What it takes of no edge.
+    pub(crate) fn none() -> LayerNeed
+        ensures { (c : CapacityView) (width : ℕ) → IsLayerNeed c width result }
+    {
+        LayerNeed {
+            from: 0,
+            to: 0,
+            need: 0,
+        }
     }
 }
 

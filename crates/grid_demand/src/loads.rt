@@ -12,7 +12,7 @@ ghost use Rattle.grid_demand.specs.Tables.{capacity_of, capacity_at, need_at};
 ghost use Rattle.grid_demand.specs.LoadSums.{no_loads, demand_at, marks_at, share, charged, added, taken, marked, mark_of, mark_where, HasRoom, HasShare, AreLoads, Fits, changed_by};
 ghost use Rattle.grid_demand.specs.Overfull.{AreOverfull, has_number};
 
-use crate::capacity::Capacity;
+use crate::capacity::{Capacity, LayerNeed};
 use crate::numbers::Numbers;
 use crate::overfull::Overfull;
 use crate::wires::place;
@@ -200,14 +200,15 @@ fn change_along(
     ensures tree { IsTree tree.now }
 {
     let width = capacity.width(net);
+    let mut layer = LayerNeed::none();
     for node in 0..tree.len() {
         let Some(e) = tree.wire_to_parent(node) else {
             continue;
         };
         let at = place(e, demands.len());
         let demand = demands.at(at);
-        let need = capacity.need_of_width(width, e);
-        demands.put(at, changed(change, demand, need));
+        layer = capacity.need_on_layer(layer, width, e);
+        demands.put(at, changed(change, demand, layer.need));
     }
 }
 

@@ -60,8 +60,7 @@ impl Loads {
         let demands = self.demands();
         let capacities = capacity.table();
         let calm = calm_runs(alloc, demands, capacities)?;
-        let listing = Listing::none_in(alloc, demands.len(), spent)?;
-        let over = overfull_of(listing, demands, capacities, &calm)?;
+        let over = overfull_beside(alloc, demands, capacities, &calm, spent)?;
         Ok(over)
     }
 
@@ -81,8 +80,7 @@ impl Loads {
         let demands = self.demands();
         let capacities = capacity.table();
         let calm = calm_runs_by(rt, alloc, demands, capacities, threads)?;
-        let listing = Listing::none_in(alloc, demands.len(), spent)?;
-        let over = overfull_of(listing, demands, capacities, &calm)?;
+        let over = overfull_beside(alloc, demands, capacities, &calm, spent)?;
         Ok(over)
     }
 }
@@ -216,6 +214,26 @@ impl Listing {
         }
         Ok(())
     }
+}
+
+/// Which demands are above capacities, beside runs of places that are told to have none, in the memory of
+/// a table that is given up, where there is one. The only error is want of memory.
+fn overfull_beside(
+    alloc: Global,
+    demands: &Numbers,
+    capacities: &[u32],
+    calm: &[bool],
+    spent: Option<Overfull>,
+) -> Result<Overfull, AllocError>
+    requires tables { AreTables demands.now capacities.now }
+    requires calm { AreCalm demands.now capacities.now calm.now }
+    ensures long { IfOk result (λ over. length over.table ≡ length demands.now) }
+    ensures each { IfOk result (λ over. (n : ℕ) → n < length demands.now → slice_index_or over.table n false
+        ≡ nat_lt (slice_index (by_number 0 capacities.now) n) (slice_index (by_number 0 demands.now) n)) }
+    ensures total { IfOk result (λ over. over.total ≡ sum_by (λ (p : ℕ × ℕ). p.0 - p.1) (zip demands.now capacities.now)) }
+{
+    let listing = Listing::none_in(alloc, demands.len(), spent)?;
+    overfull_of(listing, demands, capacities, calm)
 }
 
 /// Which demands are above capacities, where both are in planes. Few are: most runs of places are told

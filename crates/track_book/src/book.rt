@@ -28,8 +28,8 @@ const LOOKS: u32 = 64;
 const LONGEST: u32 = 4;
 
 /// The book N, which threads share. Each call is one entry of one history, and its reply is the one
-/// that a book for one thread gives there. `claim`, `release`, `mark`, `hold`, `sync`, `victims`,
-/// `meet` and `meet_and_bring_up` take the lock and may wait for it; no other call does.
+/// that a book for one thread gives there. `claim`, `release`, `mark`, `find_overfull`, `hold`, `sync`,
+/// `victims`, `meet` and `meet_and_bring_up` take the lock and may wait for it; no other call does.
 #[derive(Drop)]
 pub struct TrackBook<N: BookName> {
     pub(crate) front: Front,

@@ -71,8 +71,8 @@ impl<N: BookName> Pass<N> {
         self.past.len() == self.known
     }
 
-    /// Lets go of holds that the pass needs no more. The book's own calls do so; calls of a visit leave it
-    /// to the caller, for it takes a while.
+    /// Lets go of holds that the pass needs no more. The book's own `claim`, `release` and `hold` do so;
+    /// those of a visit leave it to the caller, for it takes a while.
     pub fn let_go(&mut self)
         ensures { self.new ≡ self.old }
     {

@@ -1,22 +1,13 @@
-use Rattle.std.proofs.Common.{arith}
 use Rattle.grid_demand.proofs.LoadLemmas.{tables-fit, overfull-whole}
 use Rattle.grid_demand.proofs.loads.Loads.overfull_in.Goals as goal
 
 pub calm_runs-requires : goal.calm_runs-requires
 calm_runs-requires c =
-    (tables-fit c.args.self.now c.args.capacity.now c.demands-demands.result.now c.table-capacities.result.now c.demands-demands.ensures.loads
-    c.table-capacities.ensures.tables c.requires c.demands-demands.ensures.demands c.table-capacities.ensures.table).same
-
-pub none_in-requires : goal.none_in-requires
-none_in-requires c =
-    let fit =
     tables-fit c.args.self.now c.args.capacity.now c.demands-demands.result.now c.table-capacities.result.now c.demands-demands.ensures.loads
-    c.table-capacities.ensures.tables c.requires c.demands-demands.ensures.demands c.table-capacities.ensures.table in
-    let halves = fit.halves in
-    omega (arith, halves, c.len.ensures)
+    c.table-capacities.ensures.tables c.requires c.demands-demands.ensures.demands c.table-capacities.ensures.table
 
-pub overfull_of-requires-clause-tables : goal.overfull_of-requires-clause-tables
-overfull_of-requires-clause-tables c =
+pub overfull_beside-requires-clause-tables : goal.overfull_beside-requires-clause-tables
+overfull_beside-requires-clause-tables c =
     tables-fit c.args.self.now c.args.capacity.now c.demands-demands.result.now c.table-capacities.result.now c.demands-demands.ensures.loads
     c.table-capacities.ensures.tables c.requires c.demands-demands.ensures.demands c.table-capacities.ensures.table
 
