@@ -1,25 +1,12 @@
 -- How often nets stand in lists that are put together from parts.
-use Rattle.std.proofs.Common.{◌≡◌, ℕ, suc, ◌+◌, ◌<◌, ◌≤◌, List, [], ◌∷◌, ◌++◌, ◌==◌, All, length, take, drop, cond, get_or, map, sum_by, Vec, Global, IsPermutation, refl, sym, ap, ◌∙◌, arith}
-use Rattle.std.proofs.lemmas.List.{map-append, take-append-drop, take_all, take_more}
-use Rattle.std.proofs.lemmas.List.Sorted.{IsPermutation-map, sum_by-IsPermutation}
+use Rattle.std.proofs.Common.{◌≡◌, ℕ, suc, ◌+◌, ◌<◌, ◌≤◌, List, [], ◌∷◌, ◌++◌, ◌==◌, All, length, take, cond, get_or, sum_by, Vec, Global, refl, sym, ap, ◌∙◌, arith}
+use Rattle.std.proofs.lemmas.List.{take_all, take_more}
+use Rattle.std.proofs.lemmas.List.Elements.{All-push, All-same}
 use Rattle.std.proofs.lemmas.List.Sums.{sum_by-append, sum_by-cons}
 use Rattle.work_share.specs.Views.{times}
-use Rattle.ripup_workers.specs.Orders.{net_in}
 
 times-append : (net : ℕ) (xs ys : List ℕ) → times net (xs ++ ys) ≡ times net xs + times net ys
 times-append net xs ys = sum_by-append (λ (other : ℕ). cond {A = ℕ} (other == net) 1 0) xs ys
-
--- the first of nets behind places, and the rest
-pub times-cut : (net at : ℕ) (placed first rest : List ℕ) → first ≡ take at placed → rest ≡ drop at placed →
-    times net (map net_in placed) ≡ times net (map net_in first) + times net (map net_in rest)
-times-cut net at placed first rest first_is rest_is =
-    ap (λ (l : List ℕ). times net (map net_in l)) (sym (take-append-drop at placed) ∙ (λ k. sym first_is k ++ sym rest_is k))
-    ∙ ap (times net) (map-append net_in first rest)
-    ∙ times-append net (map net_in first) (map net_in rest)
-
--- nets in another order
-pub times-sorted : (net : ℕ) (nets sorted : List ℕ) → IsPermutation nets sorted → times net sorted ≡ times net nets
-times-sorted net nets sorted same = sum_by-IsPermutation (λ (other : ℕ). cond {A = ℕ} (other == net) 1 0) nets sorted same
 
 -- a net more
 pub times-push : (net x : ℕ) (nets new : List ℕ) → new ≡ nets ++ x ∷ [] → times net new ≡ times net nets + times net (x ∷ [])
@@ -43,6 +30,15 @@ sum-nothing f none (x ∷ xs) =
     let rest = sum-nothing f none xs in
     omega (arith, first, here, rest)
 
+-- a list more, and a greater bound on how long they are
+pub short-more : (most more at : ℕ) (lists : List (Vec ℕ Global)) (r : Vec ℕ Global) → at < length lists → r ≡ get_or lists at r →
+    All (λ q. length q.items ≤ most) (take at lists) → most ≤ more → length r.items ≤ more → All (λ q. length q.items ≤ more) (take (at + 1) lists)
+short-more most more at lists r within is short greater fits =
+    All-same (λ (q : Vec ℕ Global). length q.items ≤ more) _ (take at lists ++ r ∷ [])
+    (take_more lists at r within ∙ ap (λ (q : Vec ℕ Global). take at lists ++ q ∷ []) (sym is))
+    (All-push (λ (q : Vec ℕ Global). length q.items ≤ more) (take at lists) r
+    (λ k d inside. let before = short k d inside in omega (arith, before, greater)) fits)
+
 -- lists that end before a place are taken whole
 pub sum-whole : (net at : ℕ) (lists : List (Vec ℕ Global)) → All (λ r. length r.items ≤ at) lists →
     sum_by (λ r. times net (take at r.items)) lists ≡ sum_by (λ r. times net r.items) lists
@@ -53,8 +49,3 @@ sum-whole net at (r ∷ lists) short =
     let here = ap (times net) (take_all at r.items (short 0 r (omega arith))) in
     let rest = sum-whole net at lists (λ k d within. short (suc k) d (omega (arith, within))) in
     omega (arith, some, all, here, rest)
-
--- nets behind places, in another order
-pub times-placed : (net : ℕ) (placed sorted : List ℕ) → IsPermutation placed sorted →
-    times net (map net_in sorted) ≡ times net (map net_in placed)
-times-placed net placed sorted same = times-sorted net (map net_in placed) (map net_in sorted) (IsPermutation-map net_in placed sorted same)

@@ -8,6 +8,7 @@ mod gate;
 mod members;
 mod order;
 mod parts;
+mod ready;
 mod round;
 mod rounds;
 mod run;

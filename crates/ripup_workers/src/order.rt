@@ -1,13 +1,13 @@
 //! In which order the nets of a round are shared.
-ghost use Rattle.std.specs.Prelude.{◌≡◌, ◌<◌, ◌≤◌, ◌+◌, ℕ, length, map, take, sum_by, All, IfOk, OnOk};
+ghost use Rattle.std.specs.Prelude.{◌≡◌, ◌<◌, ◌≤◌, ◌+◌, ◌∷◌, [], ℕ, length, map, take, sum_by, All, IfOk, OnOk};
 ghost use Rattle.ripup_workers.specs.Orders.{net_in};
 ghost use Rattle.work_share.specs.Views.{times};
 
 use gr_base::{Design, Shape};
 use std::alloc::{AllocError, Global};
 
-/// How many numbers there are for nets. A net behind its place is one number, by which nets are sorted
-/// without a call for each comparison.
+/// How many numbers there are for nets. A net behind its place is one number, so that nets are compared
+/// without a call.
 const NUMBERS: u64 = 4_294_967_296;
 
 /// The same nets in an order in which each worker is dealt those of a region of its own, as they stand
@@ -29,10 +29,10 @@ pub(crate) fn by_regions(
         return Vec::from_slice(alloc, nets);
     }
     let size = nets.len().div_ceil(workers as usize);
-    let mut placed = placed_nets(alloc, places, nets)?;
-    placed.sort_unstable();
-    let regions = regions(alloc, &placed, size)?;
-    let order = in_turn(alloc, &regions, size)?;
+    let placed = placed_nets(alloc, places, nets)?;
+    let firsts = firsts_of_regions(alloc, &placed, size)?;
+    let regions = regions(alloc, &placed, &firsts, size)?;
+    let order = in_turn(alloc, &regions)?;
     Ok(order)
 }
 
@@ -68,17 +68,6 @@ fn placed_nets(alloc: Global, places: &[u32], nets: &[u32]) -> Result<Vec<u64>, 
     Ok(placed)
 }
 
-/// The nets behind these places.
-fn nets_of(alloc: Global, placed: &[u64]) -> Result<Vec<u32>, AllocError>
-    ensures { IfOk result (λ nets. nets.items ≡ map net_in placed.now) }
-{
-    let mut nets = Vec::with_capacity(alloc, placed.len())?;
-    for &both in placed {
-        nets.push((both % NUMBERS) as u32)?;
-    }
-    Ok(nets)
-}
-
 /// The place of the tile of a net's driver in Morton's order, in which tiles that follow one another
 /// mostly lie near one another. 0 where the design has no such pin.
 ///
@@ -108,36 +97,102 @@ fn spread(number: u32) -> u32 {
     (pairs | pairs << 1) & 0x5555_5555
 }
 
-/// The nets behind places in runs of so many, each in the order of the design.
-fn regions(alloc: Global, placed: &[u64], size: usize) -> Result<Vec<Vec<u32>>, AllocError>
+/// The first net of each region but the first one, behind its place, where each region has so many nets
+/// and the last one what is left. To select them takes less than to sort all nets.
+fn firsts_of_regions(alloc: Global, placed: &[u64], size: usize) -> Result<Vec<u64>, AllocError>
     requires { 0 < length placed.now → 0 < size }
-    ensures same { (net : ℕ) → IfOk result
-        (λ regions. sum_by (λ r. times net r.items) regions.items ≡ times net (map net_in placed.now)) }
-    ensures long { IfOk result (λ regions. All (λ r. length r.items ≤ size) regions.items) }
 {
-    let mut regions = Vec::new(alloc);
-    let mut rest = placed;
-    while !rest.is_empty() {
-        let (first, others) = rest.split_at(rest.len().min(size));
-        let mut region = nets_of(alloc, first)?;
-        region.sort_unstable();
-        regions.push(region)?;
-        rest = others;
+    let mut firsts = Vec::new(alloc);
+    let mut split = Vec::from_slice(alloc, placed)?;
+    let mut from = 0;
+    while split.len() - from > size {
+        firsts.push(first_behind(&mut split, from, size))?;
+        from += size;
+    }
+    Ok(firsts)
+}
+
+/// Moves the least so many of the numbers from a place on to the front of these. The result is the next
+/// one, which comes to stand behind them.
+fn first_behind(numbers: &mut Vec<u64>, from: usize, count: usize) -> u64
+    requires { from + count < length numbers.old.items }
+    ensures { length numbers.new.items ≡ length numbers.old.items }
+{
+    let (_, first, _) = numbers[from..].select_nth_unstable(count);
+    *first
+}
+
+/// The nets behind places, by region and as they stand.
+fn regions(
+    alloc: Global,
+    placed: &[u64],
+    firsts: &[u64],
+    size: usize,
+) -> Result<Vec<Vec<u32>>, AllocError>
+    ensures { (net : ℕ) → IfOk result
+        (λ regions. sum_by (λ r. times net r.items) regions.items ≡ times net (map net_in placed.now)) }
+{
+    let mut regions = empty_regions(alloc, firsts.len() + 1, size)?;
+    for &both in placed {
+        let region = region_of(firsts, both);
+        push_net(&mut regions, region, both)?;
     }
     Ok(regions)
 }
 
-/// One net of each region after the other, of regions of at most so many nets.
-fn in_turn(alloc: Global, regions: &[Vec<u32>], size: usize) -> Result<Vec<u32>, AllocError>
-    requires { All (λ r. length r.items ≤ size) regions.now }
+/// So many regions without nets, each with room for as many as are told.
+fn empty_regions(alloc: Global, count: usize, room: usize) -> Result<Vec<Vec<u32>>, AllocError>
+    ensures long { IfOk result (λ regions. length regions.items ≡ count) }
+    ensures none { (net : ℕ) → IfOk result (λ regions. sum_by (λ r. times net r.items) regions.items ≡ 0) }
+{
+    let mut regions = Vec::with_capacity(alloc, count)?;
+    for _ in 0..count {
+        regions.push(Vec::with_capacity(alloc, room)?)?;
+    }
+    Ok(regions)
+}
+
+/// The number of a net's region: how many of the first nets of regions stand at its place or before.
+fn region_of(firsts: &[u64], both: u64) -> usize
+    ensures { result ≤ length firsts.now }
+{
+    firsts.iter().filter(|first| **first <= both).count()
+}
+
+/// Adds the net behind a place to a region.
+fn push_net(regions: &mut Vec<Vec<u32>>, region: usize, both: u64) -> Result<(), AllocError>
+    requires { region < length regions.old.items }
+    ensures long { length regions.new.items ≡ length regions.old.items }
+    ensures more { (net : ℕ) → OnOk result (sum_by (λ r. times net r.items) regions.new.items
+        ≡ sum_by (λ r. times net r.items) regions.old.items + times net (net_in both ∷ [])) }
+{
+    regions[region].push((both % NUMBERS) as u32)?;
+    Ok(())
+}
+
+/// One net of each region after the other.
+fn in_turn(alloc: Global, regions: &[Vec<u32>]) -> Result<Vec<u32>, AllocError>
     ensures { (net : ℕ) → IfOk result
         (λ order. times net order.items ≡ sum_by (λ r. times net r.items) regions.now) }
 {
     let mut order = Vec::new(alloc);
-    for at in 0..size {
+    for at in 0..longest(regions) {
         push_each(&mut order, regions, at)?;
     }
     Ok(order)
+}
+
+/// How many nets the region has that has the most.
+fn longest(regions: &[Vec<u32>]) -> usize
+    ensures { All (λ r. length r.items ≤ result) regions.now }
+{
+    let mut longest = 0;
+    for region in regions {
+        if longest < region.len() {
+            longest = region.len();
+        }
+    }
+    longest
 }
 
 /// Adds the net at a place of each region that has one there.

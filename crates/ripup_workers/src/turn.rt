@@ -14,6 +14,7 @@ ghost use Rattle.ripup_workers.specs.Working.{HasLed, HasAttempted};
 
 use crate::foresight::Foreseen;
 use crate::gate::{Gate, Stop};
+use crate::ready::ready_memory;
 use crate::wish::Wish;
 use crate::worker::Worker;
 use book_state::{PlanKind, Reply, Sought};
@@ -107,6 +108,10 @@ impl<N: BookName, R: Threads + Wait + Sync, G: Gate> Ground<'_, N, R, G> {
             OnOk result (HasLed t 0 Rests Rests (wish.now.net ∷ []) worker.old.pass worker.new.pass) }
     {
         let tree = self.search(wish, visit, worker, planner)?;
+        // Where others add entries too, they may wait at the lock.
+        if !worker.holds_whole(visit) {
+            ready_memory(wish.alloc);
+        }
         self.claim(wish, tree, None, visit, worker)?;
         Ok(())
     }

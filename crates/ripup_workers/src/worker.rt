@@ -150,7 +150,7 @@ impl<N: BookName> Worker<N> {
 
     /// Whether the pass holds all entries that the book counts, and so all that there are while the visit
     /// is inside. That takes no lock.
-    fn holds_whole(&mut self, visit: &Visit<'_, N>) -> bool
+    pub(crate) fn holds_whole(&mut self, visit: &Visit<'_, N>) -> bool
         ensures pass { self.new.pass ≡ self.old.pass }
         ensures replica { self.new.replica ≡ self.old.replica }
         ensures held { IsTrue result → self.new.pass.held ≡ length self.new.pass.seen }

@@ -1,14 +1,12 @@
 use Rattle.std.proofs.Common.{ℕ, Vec, Global, map, sum_by, ap, ◌∙◌}
 use Rattle.work_share.specs.Views.{times}
 use Rattle.ripup_workers.specs.Orders.{net_in}
-use Rattle.ripup_workers.proofs.SharedOrder.{times-placed}
 use Rattle.ripup_workers.proofs.order.by_regions.Goals as goal
 
 pub returns : goal.returns
 returns c = λ net.
     c.in_ok-order.ensures net
-    ∙ ap (sum_by (λ (r : Vec ℕ Global). times net r.items)) c.deref-2.ensures.value
-    ∙ c.in_ok-regions.ensures.same net
-    ∙ ap (λ l. times net (map net_in l)) c.deref.ensures.value
-    ∙ times-placed net _ _ c.sort_unstable.ensures.permutation
+    ∙ ap (sum_by (λ (r : Vec ℕ Global). times net r.items)) c.deref-4.ensures.value
+    ∙ c.in_ok-regions.ensures net
+    ∙ ap (λ l. times net (map net_in l)) c.deref-2.ensures.value
     ∙ ap (times net) c.in_ok-placed.ensures

@@ -9,4 +9,4 @@ loop-at-init c = λ net. ap (times net) c.new-order.ensures.items ∙ sym (sum-n
 pub returns : goal.returns
 returns c = λ net.
     c.loop-at.invariant net
-    ∙ sum-whole net c.loop-at.at c.args.regions.now (λ k d within. let long = c.requires k d within in let ends = c.loop-at-test.false in omega (arith, long, ends))
+    ∙ sum-whole net c.loop-at.at c.args.regions.now (λ k d within. let long = c.longest-at-end.ensures k d within in let ends = c.loop-at-test.false in omega (arith, long, ends))

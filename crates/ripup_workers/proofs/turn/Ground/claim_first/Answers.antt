@@ -1,6 +1,7 @@
 use Rattle.std.proofs.Common.{[], ◌∷◌, None, subst}
 use Rattle.book_state.specs.declared.entry.PlanKind.{PlanKind}
 use Rattle.round_core.specs.Attempts.{Rests}
+use Rattle.track_book.specs.Passes.{PassView}
 use Rattle.ripup_workers.specs.Turning.{HasTried}
 use Rattle.ripup_workers.proofs.TurningStages.{led-then, followed-led, first-led}
 use Rattle.ripup_workers.proofs.turn.Ground.claim_first.Goals as goal
@@ -14,4 +15,5 @@ returns g c = λ t over.
     led-then t 0 Rests Rests Rests [] (net ∷ []) p q s
     (followed-led t 0 Rests p q (c.in_ok-tree.ensures.learnt t over))
     (first-led t net c.in_ok-claim.field-0 q s
-    (subst (λ (kind : PlanKind). HasTried t net kind None c.in_ok-claim.field-0 q s) c.requires.kind (c.in_ok-claim.ensures t over)))
+    (subst (λ (kind : PlanKind). HasTried t net kind None c.in_ok-claim.field-0 q s) c.requires.kind
+    (subst (λ (pass : PassView). HasTried t net c.args.wish.now.kind None c.in_ok-claim.field-0 pass s) c.holds_whole.ensures.pass (c.in_ok-claim.ensures t over))))
