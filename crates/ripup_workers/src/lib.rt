@@ -12,6 +12,7 @@ mod ready;
 mod round;
 mod rounds;
 mod run;
+mod survey;
 mod team;
 mod turn;
 mod wish;

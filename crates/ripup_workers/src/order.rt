@@ -1,24 +1,31 @@
 //! In which order the nets of a round are shared.
-ghost use Rattle.std.specs.Prelude.{◌≡◌, ◌<◌, ◌≤◌, ◌+◌, ◌∷◌, [], ℕ, length, map, take, sum_by, All, IfOk, OnOk};
-ghost use Rattle.ripup_workers.specs.Orders.{net_in};
+ghost use Rattle.std.specs.Prelude.{◌≡◌, ◌<◌, ◌≤◌, ◌+◌, ◌∷◌, [], ℕ, length, map, take, slice_index_or, sum_by, All, IfOk, OnOk};
+ghost use Rattle.ripup_workers.specs.Orders.{net_in, AreSameNets};
 ghost use Rattle.work_share.specs.Views.{times};
 
-use gr_base::{Design, Shape};
+use crate::survey::{Rank, Survey};
+use beside_calls::for_each_beside;
 use std::alloc::{AllocError, Global};
+use std::thread::Threads;
 
-/// How many numbers there are for nets. A net behind its place is one number, so that nets are compared
-/// without a call.
+/// How many numbers there are for nets. A net behind another number is one number with it, so that nets are
+/// compared without a call.
 const NUMBERS: u64 = 4_294_967_296;
 
-/// The same nets in an order in which each worker is dealt those of a region of its own, as they stand
-/// in the design: one net after the other goes to one worker after the other.
+/// So few nets are put in the order of their ranks before further threads would have begun.
+const FEW: usize = 8_192;
+
+/// The same nets in an order in which each worker is dealt those of a region of its own: one net after the
+/// other goes to one worker after the other. The nets of a region go by their freedom.
 ///
-/// A region has as many nets as any other, whose drivers follow one another by these places. Workers in
+/// A region has as many nets as any other, whose drivers follow one another by their places. Workers in
 /// regions of their own seldom change what others plan with. The work of one worker is the nets as they
 /// stand.
-pub(crate) fn by_regions(
+pub(crate) fn by_regions<R: Threads + Sync>(
+    rt: &R,
     alloc: Global,
-    places: &[u32],
+    survey: &Survey,
+    round: u32,
     nets: &[u32],
     workers: u32,
 ) -> Result<Vec<u32>, AllocError>
@@ -29,72 +36,95 @@ pub(crate) fn by_regions(
         return Vec::from_slice(alloc, nets);
     }
     let size = nets.len().div_ceil(workers as usize);
-    let placed = placed_nets(alloc, places, nets)?;
+    let placed = nets_behind(alloc, survey, Rank::Place, nets)?;
     let firsts = firsts_of_regions(alloc, &placed, size)?;
-    let regions = regions(alloc, &placed, &firsts, size)?;
+    let mut regions = regions(alloc, &placed, &firsts, size)?;
+    let threads = if nets.len() < FEW { 1 } else { workers };
+    rank_each(
+        rt,
+        alloc,
+        survey,
+        Rank::in_round(round),
+        threads,
+        &mut regions,
+    );
     let order = in_turn(alloc, &regions)?;
     Ok(order)
 }
 
-/// The places of all nets' drivers by which `by_regions` goes, by net. None where one worker does all.
-///
-/// They are looked up once for all rounds: nets lie scattered in memory, so that takes longer than to
-/// sort.
-pub(crate) fn driver_places(
+/// Puts the nets of each region in the order of their ranks, by at most so many threads. Where memory is
+/// wanting, they stay as they stand.
+fn rank_each<R: Threads + Sync>(
+    rt: &R,
     alloc: Global,
-    design: &Design,
-    workers: u32,
-) -> Result<Vec<u32>, AllocError> {
-    let mut places = Vec::new(alloc);
-    if workers == 1 {
-        return Ok(places);
-    }
-    places.reserve(design.nets() as usize)?;
-    for net in 0..design.nets() {
-        places.push(driver_place(design, net))?;
-    }
-    Ok(places)
+    survey: &Survey,
+    rank: Rank,
+    threads: u32,
+    regions: &mut Vec<Vec<u32>>,
+)
+    requires { 0 < threads }
+    ensures count { length regions.new.items ≡ length regions.old.items }
+    ensures each { (at : ℕ) (d : _) → at < length regions.old.items →
+        AreSameNets (slice_index_or regions.old.items at d).items (slice_index_or regions.new.items at d).items }
+{
+    for_each_beside(
+        rt,
+        regions.as_mut_slice(),
+        threads as usize,
+        &|_, region: &mut Vec<u32>|
+            ensures { AreSameNets region.entry.now.items region.exit.now.items }
+        {
+            rank_one(alloc, survey, rank, region);
+        },
+    );
 }
 
-/// The nets, each behind the place of its driver.
-fn placed_nets(alloc: Global, places: &[u32], nets: &[u32]) -> Result<Vec<u64>, AllocError>
-    ensures { IfOk result (λ placed. map net_in placed.items ≡ nets.now) }
+/// The same for one region.
+fn rank_one(alloc: Global, survey: &Survey, rank: Rank, region: &mut Vec<u32>)
+    ensures { AreSameNets region.old.items region.new.items }
 {
-    let mut placed = Vec::with_capacity(alloc, nets.len())?;
+    match by_rank(alloc, survey, rank, region) {
+        Ok(ranked) => *region = ranked,
+        Err(AllocError) => {}
+    }
+}
+
+/// The same nets in the order of their ranks, and in that of the design where these are equal.
+fn by_rank(alloc: Global, survey: &Survey, rank: Rank, nets: &[u32]) -> Result<Vec<u32>, AllocError>
+    ensures { (net : ℕ) → IfOk result (λ ranked. times net ranked.items ≡ times net nets.now) }
+{
+    let mut ranked = nets_behind(alloc, survey, rank, nets)?;
+    ranked.sort_unstable();
+    let nets = nets_of(alloc, &ranked)?;
+    Ok(nets)
+}
+
+/// The nets, each behind its number of this rank.
+fn nets_behind(
+    alloc: Global,
+    survey: &Survey,
+    rank: Rank,
+    nets: &[u32],
+) -> Result<Vec<u64>, AllocError>
+    ensures { IfOk result (λ behind. map net_in behind.items ≡ nets.now) }
+{
+    let mut behind = Vec::with_capacity(alloc, nets.len())?;
     for &net in nets {
-        let place = places.get(net as usize).copied().unwrap_or(0);
-        placed.push(u64::from(place) * NUMBERS + u64::from(net))?;
+        let number = survey.number(rank, net);
+        behind.push(u64::from(number) * NUMBERS + u64::from(net))?;
     }
-    Ok(placed)
+    Ok(behind)
 }
 
-/// The place of the tile of a net's driver in Morton's order, in which tiles that follow one another
-/// mostly lie near one another. 0 where the design has no such pin.
-///
-/// After Morton, "A computer oriented geodetic data base and a new technique in file sequencing", 1966.
-fn driver_place(design: &Design, net: u32) -> u32
-    requires { net < length design.now.nets }
+/// The nets that stand behind numbers.
+fn nets_of(alloc: Global, behind: &[u64]) -> Result<Vec<u32>, AllocError>
+    ensures { IfOk result (λ nets. nets.items ≡ map net_in behind.now) }
 {
-    match design.net(net).pins.as_slice().first() {
-        Some(driver) => tile_place(design.frame().shape, *driver),
-        None => 0,
+    let mut nets = Vec::with_capacity(alloc, behind.len())?;
+    for &both in behind {
+        nets.push((both % NUMBERS) as u32)?;
     }
-}
-
-/// The place of a cell's tile in Morton's order: the bits of its column and of its row in turn.
-fn tile_place(shape: Shape, cell: u32) -> u32 {
-    let column = cell % shape.columns();
-    let row = cell / shape.columns() % shape.rows();
-    spread(column) | spread(row) << 1
-}
-
-/// The low 16 bits of a number, each with a 0 before it.
-fn spread(number: u32) -> u32 {
-    let low = number & 0xffff;
-    let bytes = (low | low << 8) & 0x00ff_00ff;
-    let halves = (bytes | bytes << 4) & 0x0f0f_0f0f;
-    let pairs = (halves | halves << 2) & 0x3333_3333;
-    (pairs | pairs << 1) & 0x5555_5555
+    Ok(nets)
 }
 
 /// The first net of each region but the first one, behind its place, where each region has so many nets
@@ -122,7 +152,7 @@ fn first_behind(numbers: &mut Vec<u64>, from: usize, count: usize) -> u64
     *first
 }
 
-/// The nets behind places, by region and as they stand.
+/// The nets behind places, by region, in the order in which they stand.
 fn regions(
     alloc: Global,
     placed: &[u64],

@@ -9,8 +9,9 @@ ghost use Rattle.ripup_workers.specs.Rounding.{setting_of, is_stop_at, IsRoundOv
 
 use crate::asked::Asked;
 use crate::gate::Gate;
-use crate::order::{by_regions, driver_places};
+use crate::order::by_regions;
 use crate::round::attempt_nets;
+use crate::survey::Survey;
 use crate::team::{Coordinator, RoundEnd};
 use crate::worker::Worker;
 use book_state::Replica;
@@ -113,7 +114,7 @@ fn run_rounds<N: BookName + Send + Sync, R: Threads + Wait + Sync, G: Gate + Syn
         (map (λ w. w.pass) after.items)) }
 {
     let mut workers = workers;
-    let places = driver_places(alloc, asked.design, asked.workers)?;
+    let survey = Survey::of(rt, alloc, asked.design, asked.workers)?;
     let mut nets = routed_nets(alloc, asked.design)?;
     let mut before = None;
     for round in 0..asked.rounds + 1 {
@@ -122,7 +123,7 @@ fn run_rounds<N: BookName + Send + Sync, R: Threads + Wait + Sync, G: Gate + Syn
             alloc,
             asked,
             round,
-            &places,
+            &survey,
             nets,
             book,
             gate,
@@ -142,13 +143,13 @@ fn run_rounds<N: BookName + Send + Sync, R: Threads + Wait + Sync, G: Gate + Syn
     Ok(workers)
 }
 
-/// A round of these nets, whose drivers have these places, up to and with its mark.
+/// A round of these nets up to and with its mark. The survey tells in which order they go.
 fn run_round<N: BookName + Send + Sync, R: Threads + Wait + Sync, G: Gate + Sync>(
     rt: &R,
     alloc: Global,
     asked: &Asked,
     round: u32,
-    places: &[u32],
+    survey: &Survey,
     nets: Vec<u32>,
     book: &TrackBook<N>,
     gate: &G,
@@ -163,7 +164,7 @@ fn run_round<N: BookName + Send + Sync, R: Threads + Wait + Sync, G: Gate + Sync
         coordinator.old.pass coordinator.new.pass
         (map (λ w. w.pass) workers.items) (map (λ w. w.pass) end.workers.items)) }
 {
-    let order = by_regions(alloc, places, &nets, asked.workers)?;
+    let order = by_regions(rt, alloc, survey, round, &nets, asked.workers)?;
     let mut workers = attempt_nets(rt, alloc, asked, round, &order, book, gate, workers)?;
     let marked = coordinator.end_round(rt, book, &mut workers, asked.workers)?;
     let kept = routed_of(alloc, asked.design, marked.victims.as_slice())?;
