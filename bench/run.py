@@ -1,21 +1,18 @@
 #!/usr/bin/env python3
-"""Times the built programs and writes a table: bench/run.py [--beside PROGRAM] [DESIGN ..]
+"""Times the built programs and writes the tables of bench/RESULTS.md: bench/run.py [--beside PROGRAM] [DESIGN ..]
 
-Each command is run three times, and the least time counts. Each design is routed without rounds,
-and its routes are judged; then it, and crowded designs, are routed with some numbers of rounds.
-Beside the files named, designs are made: nets of 2, 3 or 12 pins near one another, on layers that
-go one way each. Each is routed with a library of its number of layers, without kinds of buffers; then
-some with 4 and with 32 kinds, and their routes get buffers alone. A crowded design is routed by
-several numbers of workers, by the clock.
+Each command is run three times, and the least time counts. Beside the files named, designs are made: nets of 2, 3 or
+12 pins near one another, on layers that go one way each. They are routed without rounds, and their routes are judged;
+some are routed and buffered with kinds of buffers; crowded ones are routed with rounds, also by several workers, by
+the clock. A library or a solution with a wrong last token is read whole, and nothing is done with it: that tells what
+reading it costs.
 
-The texts are read whole before the first route is written, so a design with the same nets of more
-than 1,000 pins, which are read and not routed, tells what reading alone costs. A library or a
-solution with a wrong last token is read whole, and nothing is done with it: that tells what reading
-it costs. What PROFILE.md says of where the time goes, written by hand, ends the table.
+What stands in RESULTS.md from its heading "Rounds by workers" on is written by hand, and kept. README's rows of the
+same names become those of the tables.
 
-A program beside is another router with the same commands, and has to write the same bytes. Its runs
-alternate with ours. Least walks are compared with those of a plain program in Rust, which cargo
-builds: both have to find walks of one sum.
+A program beside is another router with the same commands, and has to write the same bytes. Its runs alternate with
+ours. Least walks are compared with those of a plain program in Rust, which cargo builds: both have to find walks of
+one sum.
 """
 import argparse
 import datetime
@@ -28,7 +25,8 @@ import time
 
 HERE = os.path.dirname(os.path.abspath(__file__))
 RESULTS = os.path.join(HERE, "RESULTS.md")
-PROFILE = os.path.join(HERE, "PROFILE.md")
+README = os.path.join(HERE, "..", "README.md")
+BY_HAND = "## Rounds by workers"
 CRATES = os.path.join(HERE, "..", "crates")
 ROUTER = os.path.join(CRATES, "groute", "out", "groute")
 PLANNERS = os.path.join(CRATES, "plan_rows", "out", "plan_rows")
@@ -46,7 +44,8 @@ PLAIN = os.path.join(HERE, "plain_maze")
 MAZES = [("20 by 20", 20, 1_000), ("300 by 300", 300, 100)]
 SIZES = [(50, 50, 4, 2_000), (100, 100, 6, 10_000), (300, 300, 6, 100_000)]
 CROWDED = [(50, 50, 4, 8_000), (100, 100, 6, 40_000)]
-READ_ALONE = 1_400_000
+LARGE = (1_024, 1_024, 8, 1_000_000)
+WORKED = (400, 400, 8, 500_000)
 LONG_LIBRARY = (300, 300, 6, 100_000)
 BLOCKS = 50_000
 ROUNDS = [0, 3, 10]
@@ -86,13 +85,6 @@ def made(columns, rows, layers, nets):
             y = min(rows - 1, row + draw.send(8))
             lines.append(f"{10 * x + 5} {10 * y + 5} 1\n")
     return "".join(lines)
-
-
-def only_read(tokens):
-    """A text of about so many tokens whose nets have too many pins to be routed."""
-    nets = max(1, tokens // 3_600)
-    pins = "".join(f"{10 * (pin % 100) + 5} {10 * (pin // 12) + 5} 1\n" for pin in range(1_200))
-    return head(100, 100, 6, nets) + "".join(f"n{net} {net} 1200 1\n{pins}" for net in range(nets))
 
 
 def library(layers, items=""):
@@ -143,21 +135,6 @@ def timed(*commands, status=0):
     return [min(of_one) for of_one in zip(*runs)]
 
 
-def earlier():
-    """By design, the seconds of routing in the table that stands there."""
-    found, column = {}, None
-    with open(RESULTS) as table:
-        for line in table:
-            cells = [cell.strip() for cell in line.split("|")]
-            if "route, s" in cells:
-                column = cells.index("route, s")
-            elif len(cells) == 1:
-                column = None
-            elif column is not None:
-                found[cells[1]] = cells[column]
-    return found
-
-
 class Bench:
     """The routers that are timed, ours first, and a folder for the texts."""
 
@@ -172,22 +149,24 @@ class Bench:
         return path
 
     def library_of(self, path):
-        """The path of a library for the design at this path, and the design's number of tokens."""
-        with open(path, "rb") as text:
-            tokens = text.read().split()
-        return self.put("library", library(int(tokens[3]))), len(tokens)
+        """The path of a library for the design at this path."""
+        with open(path) as text:
+            return self.put("library", library(int(text.read(200).split()[3])))
 
-    def timed(self, *words, status=0):
-        return timed(*([router, *words] for router in self.routers), status=status)
+    def table(self, name, *columns):
+        """The first two lines of a table, in which a program beside has two columns more."""
+        return head_of([name, "seconds", *(["plain router, s", "ratio"] if len(self.routers) > 1 else []), *columns])
 
-    def columns(self, name):
-        """The names of the columns of a time; a program beside has two more."""
-        return f"{name} | beside, s | ratio" if len(self.routers) > 1 else name
+    def row(self, name, seconds, *cells):
+        """A row of such a table, by the seconds of each router."""
+        ours, *others = seconds
+        beside = [cell for other in others for cell in (f"{other:.3f}", f"{ours / other:.2f}")]
+        return f"| {' | '.join([name, f'{ours:.3f}', *beside, *cells])} |\n"
 
-    def cells(self, times):
-        """The cells of these columns."""
-        (ours, _), *others = times
-        return " | ".join([f"{ours:.3f}", *(f"{other:.3f} | {ours / other:.2f}" for other, _ in others)])
+    def timed(self, name, *words, status=0):
+        """The row of a run, and what the routers took."""
+        times = timed(*([router, *words] for router in self.routers), status=status)
+        return self.row(name, [seconds for seconds, _ in times], f"{times[0][1]:,}"), times
 
     def outputs(self, *words):
         """Standard output and standard error, which are the same of all routers."""
@@ -200,110 +179,132 @@ class Bench:
 
 def head_of(columns):
     """The first two lines of a table."""
-    line = f"| {' | '.join(columns)} |\n"
-    return [line, "|" + (line.count("|") - 1) * "---|" + "\n"]
+    return [f"| {' | '.join(columns)} |\n", f"|{len(columns) * '---|'}\n"]
 
 
-def route_row(bench, name, path, before):
-    rc, tokens = bench.library_of(path)
-    routed = bench.timed("route", path, rc, "0")
+def named(columns, rows, layers, nets):
+    """What a made design is called."""
+    return f"{nets:,} nets on {columns:,} by {rows:,} by {layers}"
+
+
+def judged(bench, name, path):
+    """A design, routed without rounds and judged, and the reading of both texts."""
+    rc = bench.library_of(path)
+    routed, _ = bench.timed(f"`route`, {name}, 0 rounds", "route", path, rc, "0")
     solution, _ = bench.outputs("route", path, rc, "0")
     right = bench.put("solution", solution.decode())
     faulty = bench.put("faulty", solution.decode() + "none -1\n")
-    judged = bench.timed("evaluate", path, right)
-    (read, _), *_ = bench.timed("evaluate", path, faulty, status=5)
-    return (f"| {name} | {tokens:,} | {before.get(name, '')} | {bench.cells(routed)} | {routed[0][1]:,} "
-            f"| {read:.3f} | {bench.cells(judged)} | {judged[0][0] / read:.2f} | {judged[0][1]:,} |\n")
+    evaluated, _ = bench.timed(f"`evaluate`, {name}", "evaluate", path, right)
+    read, _ = bench.timed(f"reading both, {name}", "evaluate", path, faulty, status=5)
+    return [routed, evaluated, read]
 
 
-def routes(bench, designs):
-    """Designs, routed without rounds and judged."""
-    before = earlier()
-    table = head_of(["design", "tokens", "route in the table before, s", bench.columns("route, s"), "KiB",
-                     "read both, s", bench.columns("evaluate, s"), "evaluate / read", "KiB"])
-    table += [route_row(bench, os.path.basename(path), path, before) for path in designs]
-    texts = [(f"made {x} by {y} by {l}, {n:,} nets", made(x, y, l, n)) for x, y, l, n in SIZES]
-    for name, text in [*texts, ("read alone", only_read(READ_ALONE))]:
-        table.append(route_row(bench, name, bench.put("design", text), before))
-    return table
+def buffered(bench, name, path, layers, count):
+    """A design, routed and buffered with so many kinds of buffers, and its routes buffered alone."""
+    rc = bench.put("kinds", library(layers, kinds(count)))
+    routed, _ = bench.timed(f"`route`, {name}, 0 rounds, {count} kinds of buffers", "route", path, rc, "0")
+    solution, _ = bench.outputs("route", path, rc, "0")
+    right = bench.put("solution", solution.decode())
+    bench.outputs("buffer", path, rc, right)
+    alone, _ = bench.timed(f"`buffer`, {name}, {count} kinds of buffers", "buffer", path, rc, right)
+    return [routed, alone]
+
+
+def buffers(bench):
+    """Designs, routed and buffered."""
+    path = bench.put("design", made(*BUFFERED))
+    rows = [row for count in KINDS for row in buffered(bench, named(*BUFFERED), path, BUFFERED[2], count)]
+    x, y, l, n = WIDE
+    path = bench.put("design", wide(x, y, l, n))
+    return rows + buffered(bench, f"one net of {n:,} pins on {x} by {y} by {l}", path, l, KINDS[-1])
+
+
+def rerouted(bench, name, path, counts):
+    """A design, routed with some numbers of rounds."""
+    rc = bench.library_of(path)
+    return [bench.timed(f"`route`, {name}, {count} round{'s' * (count != 1)}", "route", path, rc, str(count))[0]
+            for count in counts]
+
+
+def crowded(size):
+    """What a crowded design is called."""
+    return f"{named(*size)} (crowded)"
 
 
 def long_read(bench):
     """A long library and its design, read and not routed."""
-    x, y, l, n = LONG_LIBRARY
-    design = made(x, y, l, n)
-    text = long_library(x, y, l, n)
-    path, tokens, items = bench.put("design", design), len(design.split()), len(text.split())
-    alone = bench.timed("route", path, bench.put("wrong", "none\n"), "0", status=4)
-    both = bench.timed("route", path, bench.put("faulty", text + "none\n"), "0", status=4)
-    table = head_of(["read alone", "tokens", bench.columns("seconds"), "ns a token", "KiB"])
-    parts = [(max(b - a, 1e-9), kib) for (a, _), (b, kib) in zip(alone, both)]
-    table.append(f"| a design, made {x} by {y} by {l}, {n:,} nets | {tokens:,} "
-                 f"| {bench.cells(alone)} | {alone[0][0] / tokens * 1e9:.0f} | {alone[0][1]:,} |\n")
-    table.append(f"| behind it a library with {n:,} sinks and {BLOCKS:,} blocked tiles | {items:,} "
-                 f"| {bench.cells(parts)} | {parts[0][0] / items * 1e9:.0f} | {parts[0][1]:,} |\n")
+    design, text = made(*LONG_LIBRARY), long_library(*LONG_LIBRARY)
+    path = bench.put("design", design)
+    alone, before = bench.timed(f"reading a design of {len(design.split()):,} tokens", "route", path,
+                                bench.put("wrong", "none\n"), "0", status=4)
+    _, both = bench.timed("", "route", path, bench.put("faulty", text + "none\n"), "0", status=4)
+    parts = [max(b - a, 1e-9) for (a, _), (b, _) in zip(before, both)]
+    behind = bench.row(f"reading a library of {len(text.split()):,} tokens behind it", parts, f"{both[0][1]:,}")
+    return [alone, behind]
+
+
+def runs(bench, designs):
+    """All runs whose processor time counts."""
+    table = bench.table("run", "KiB")
+    texts = [(os.path.basename(path), path) for path in designs]
+    for name, path in texts:
+        table += [*judged(bench, name, path), *rerouted(bench, name, path, ROUNDS[1:])]
+    for size in SIZES:
+        table += judged(bench, named(*size), bench.put("design", made(*size)))
+    table += buffers(bench)
+    for size in CROWDED:
+        table += rerouted(bench, crowded(size), bench.put("design", made(*size)), ROUNDS)
+    table += rerouted(bench, named(*LARGE), bench.put("design", made(*LARGE)), [1])
+    return table + long_read(bench)
+
+
+def overflows(bench, designs):
+    """The least overflow of crowded designs after each round."""
+    table = head_of(["design, one worker", f"least overflow after 0 to {ROUNDS[-1]} rounds"])
+    texts = [(os.path.basename(path), path) for path in designs]
+    for name, path in texts + [(crowded(size), bench.put(f"crowded{size[3]}", made(*size))) for size in CROWDED]:
+        rc = bench.library_of(path)
+        reports = [bench.outputs("route", path, rc, str(rounds))[1] for rounds in range(ROUNDS[-1] + 1)]
+        table.append(f"| {name} | {', '.join(report.split()[3].decode() for report in reports)} |\n")
     return table
 
 
-def buffers_row(bench, name, path, layers, count):
-    rc = bench.put("kinds", library(layers, kinds(count)))
-    routed = bench.timed("route", path, rc, "0")
-    solution, report = bench.outputs("route", path, rc, "0")
-    right = bench.put("solution", solution.decode())
-    bench.outputs("buffer", path, rc, right)
-    buffered = bench.timed("buffer", path, rc, right)
-    placed = next(line for line in report.decode().splitlines() if line.startswith("buffers ")).split()[1]
-    return (f"| {name} | {count} | {int(placed):,} | {bench.cells(routed)} | {routed[0][1]:,} | {bench.cells(buffered)} "
-            f"| {buffered[0][1]:,} |\n")
+def clock_rows(bench, name, path, rounds, counts):
+    """By the clock, a design that is routed by some numbers of workers."""
+    rc, alone, rows = bench.library_of(path), None, []
+    for workers in counts:
+        seconds = [by_clock([router, "route", path, rc, str(rounds), "--workers", str(workers)])
+                   for router in bench.routers]
+        alone = alone or seconds[0]
+        fast = f"{alone / seconds[0]:.2f}" if counts[0] == 1 else ""
+        label = f"{name}, {rounds} round{'s' * (rounds != 1)}, {workers} worker{'s' * (workers != 1)}"
+        rows.append(bench.row(label, seconds, fast))
+    return rows
 
 
-def buffers(bench):
-    """Designs, routed and buffered with kinds of buffers, and their routes buffered alone."""
-    table = head_of(["buffers", "kinds", "placed", bench.columns("route 0 rounds, s"), "KiB",
-                     bench.columns("buffer, s"), "KiB"])
-    x, y, l, n = BUFFERED
-    path = bench.put("design", made(x, y, l, n))
-    table += [buffers_row(bench, f"made {x} by {y} by {l}, {n:,} nets", path, l, count) for count in KINDS]
-    x, y, l, n = WIDE
-    path = bench.put("design", wide(x, y, l, n))
-    table.append(buffers_row(bench, f"one net of {n:,} pins on {x} by {y} by {l}", path, l, KINDS[-1]))
-    return table
-
-
-def rounds_row(bench, name, path):
-    """Times of some numbers of rounds, and the least overflow after each round."""
-    rc, _ = bench.library_of(path)
-    times = [bench.timed("route", path, rc, str(rounds)) for rounds in ROUNDS]
-    reports = [bench.outputs("route", path, rc, str(rounds))[1] for rounds in range(ROUNDS[-1] + 1)]
-    over = ", ".join(report.split()[3].decode() for report in reports)
-    return f"| {name} | {' | '.join(bench.cells(found) for found in times)} | {times[-1][0][1]:,} | {over} |\n"
-
-
-def rounds(bench, designs):
-    """Designs, routed with some numbers of rounds."""
-    table = head_of(["design", *(bench.columns(f"{count} rounds, s") for count in ROUNDS), "KiB",
-                     f"least overflow after 0 to {ROUNDS[-1]} rounds"])
-    table += [rounds_row(bench, os.path.basename(path), path) for path in designs]
-    for x, y, l, n in CROWDED:
-        table.append(rounds_row(bench, f"made {x} by {y} by {l}, {n:,} nets", bench.put("design", made(x, y, l, n))))
-    return table
+def clock(bench):
+    """Designs, routed by several numbers of workers, by the clock."""
+    table = bench.table("`route` by the clock", "times as fast as one worker")
+    path = bench.put("design", made(*SHARED))
+    for rounds in SHARED_ROUNDS:
+        table += clock_rows(bench, crowded(SHARED), path, rounds, THREADS)
+    return table + clock_rows(bench, named(*WORKED), bench.put("design", made(*WORKED)), 1, THREADS[-1:])
 
 
 def plans():
     """The parts of pattern plans."""
-    table = head_of(["plans", "seconds", "microseconds a plan"])
+    rows = []
     for name, words, count in PLANS:
         (seconds, _), = timed([PLANNERS, *words])
-        table.append(f"| {name} | {seconds:.3f} | {seconds / count * 1e6:.1f} |\n")
-    return table
+        rows.append(f"| {name} | {seconds:.3f} | {seconds / count * 1e6:.1f} microseconds | | |\n")
+    return rows
 
 
 def mazes():
     """Least walks: by the proved planner, and by the plain program."""
     subprocess.run(["cargo", "build", "--release", "--quiet"], cwd=PLAIN, check=True)
     plain = os.path.join(PLAIN, "target", "release", "plain_maze")
-    table = head_of(["least walks on 300 by 300 by 6, windows of", "cells settled", "seconds", "ns a cell",
-                     "plain Rust, s", "ns a cell", "ratio", "KiB"])
+    rows = []
     for name, side, count in MAZES:
         ours, theirs = [PLANNERS, "mazes", str(side), str(count)], [plain, str(side), str(count)]
         found = subprocess.run(ours, capture_output=True, check=True, text=True).stdout.split()
@@ -311,34 +312,26 @@ def mazes():
         if found[0] != sums[0]:
             sys.exit(f"the walks in windows of {name} differ: {found[0]} and {sums[0]}")
         settled = int(sums[1])
-        (seconds, memory), (other, _) = timed(ours, theirs)
-        table.append(f"| {name}, {count:,} walks | {settled:,} | {seconds:.3f} | {seconds / settled * 1e9:.0f} "
-                     f"| {other:.3f} | {other / settled * 1e9:.0f} | {seconds / other:.2f} | {memory:,} |\n")
-    return table
+        (seconds, _), (other, _) = timed(ours, theirs)
+        rows.append(f"| {count:,} least walks in windows of {name} by 6, {settled:,} cells settled | {seconds:.3f} "
+                    f"| {seconds / settled * 1e9:.0f} ns a cell | {other:.3f} | {seconds / other:.2f} |\n")
+    return rows
 
 
-def workers_row(bench, path, rc, rounds):
-    """By the clock, the seconds of a run with so many rounds, for each number of workers."""
-    row = f"| {rounds} "
-    alone = [None] * len(bench.routers)
-    for threads in THREADS:
-        for at, router in enumerate(bench.routers):
-            seconds = by_clock([router, "route", path, rc, str(rounds), "--workers", str(threads)])
-            alone[at] = alone[at] or seconds
-            row += f"| {seconds:.2f} " if threads == 1 else f"| {seconds:.2f} ({alone[at] / seconds:.2f}) "
-    return row + "|\n"
+def book():
+    """Claims and releases of the shared book, with trees of 20 nodes."""
+    rows = []
+    for name, words in [("claims and releases of the shared book", "claims"), ("the same, with replicas", "syncs")]:
+        for threads in THREADS:
+            seconds = by_clock([BOOK, words, str(threads), str(TURNS // threads)])
+            rows.append(f"| {name}, {threads} thread{'s' * (threads != 1)}, by the clock | {seconds:.3f} "
+                        f"| {2 * TURNS / seconds:,.0f} a second | | |\n")
+    return rows
 
 
-def workers(bench):
-    """A crowded design, routed by several numbers of workers."""
-    names = ["workers {}, s", "beside, s"][:len(bench.routers)]
-    columns = [name.format(threads) for threads in THREADS for name in names]
-    x, y, l, n = SHARED
-    path = bench.put("design", made(x, y, l, n))
-    rc, _ = bench.library_of(path)
-    table = head_of([f"by the clock (times as fast as one), made {x} by {y} by {l}, {n:,} nets: rounds", *columns])
-    table += [workers_row(bench, path, rc, rounds) for rounds in SHARED_ROUNDS]
-    return table
+def parts():
+    """The parts of the router, called alone."""
+    return head_of(["part", "seconds", "each", "plain Rust, s", "ratio"]) + plans() + mazes() + book()
 
 
 def machine():
@@ -348,12 +341,22 @@ def machine():
     return f"{len(names)} processors ({names[0]}), {datetime.date.today():%d %B %Y}"
 
 
-def profile():
-    """What is written of where the time goes, if anything is."""
-    if not os.path.exists(PROFILE):
+def by_hand():
+    """What stands in RESULTS.md and isn't made here."""
+    if not os.path.exists(RESULTS):
         return ""
-    with open(PROFILE) as file:
-        return "\n" + file.read()
+    with open(RESULTS) as file:
+        text = file.read()
+    return text[text.index(BY_HAND):] if BY_HAND in text else ""
+
+
+def fill_in_readme(tables):
+    """README's rows become those of the same names and numbers of columns."""
+    rows = {(line.split(" | ")[0], line.count("|")): line for line in tables.splitlines() if line.startswith("| ")}
+    with open(README) as file:
+        lines = file.read().splitlines()
+    with open(README, "w") as file:
+        file.writelines(rows.get((line.split(" | ")[0], line.count("|")), line) + "\n" for line in lines)
 
 
 def by_clock(command):
@@ -365,16 +368,6 @@ def by_clock(command):
     return min(run() for _ in range(3))
 
 
-def book():
-    """Claims and releases of the shared book, with trees of 20 nodes."""
-    table = head_of(["calls of the shared book, trees of 20 nodes", "threads", "seconds by the clock", "calls a second"])
-    for name, words in [("claims and releases", "claims"), ("the same, followed by replicas", "syncs")]:
-        for threads in THREADS:
-            seconds = by_clock([BOOK, words, str(threads), str(TURNS // threads)])
-            table.append(f"| {name} | {threads} | {seconds:.3f} | {2 * TURNS / seconds:,.0f} |\n")
-    return table
-
-
 def main():
     parser = argparse.ArgumentParser(description="Times the built programs and writes bench/RESULTS.md.")
     parser.add_argument("--beside", metavar="PROGRAM", type=os.path.abspath,
@@ -383,15 +376,17 @@ def main():
     given = parser.parse_args()
     with tempfile.TemporaryDirectory() as folder:
         bench = Bench([ROUTER, *([given.beside] if given.beside else [])], folder)
-        tables = [routes(bench, given.designs), long_read(bench), buffers(bench), rounds(bench, given.designs),
-                  workers(bench), plans(), mazes(), book()]
-    note = (f"On {machine()}. Processor time, least of three runs; what is written goes to a null device. `read both` reads a design "
-            "and its routes and judges nothing.")
+        tables = [runs(bench, given.designs), clock(bench), overflows(bench, given.designs), parts()]
+    note = (f"On {machine()}. Seconds of processor time where nothing else is said, least of three runs, with what is "
+            "written going to a null device. Designs are made, columns by rows by layers. `reading both` reads a "
+            "design and its routes and judges nothing.")
     if given.beside:
-        note += " `beside` is a plain Rust router of the same rules, whose runs alternate with ours."
+        note += " The plain router follows the same rules in Rust, writes the same bytes, and its runs alternate."
     text = "\n".join("".join(table) for table in tables)
+    kept = by_hand()
     with open(RESULTS, "w") as file:
-        file.write(f"# Times of the built programs\n\n{note}\n\n{text}{profile()}")
+        file.write(f"# Times of the built programs\n\n{note}\n\n{text}" + (f"\n{kept}" if kept else ""))
+    fill_in_readme(text)
     print(text, end="")
 
 
