@@ -2,8 +2,8 @@
 # Packs the proved program: see --help.
 usage="tools/pack.sh [FOLDER]
 
-Builds the proved program through ./groute, which proves it where that is needed, and packs it with its documents, the
-man page, examples and tools, VERSION, and PROVED_WITH (the sums of the toolchain and of the sources that it was proved
+Builds the proved program through ./groute, which proves it where that is needed, and packs it with its licence,
+documents, man page, examples and tools, VERSION, and PROVED_WITH (the sums of the toolchain and of the sources that it was proved
 with) as FOLDER/groute-VERSION-linux-x86_64.tar.xz and FOLDER/groute_VERSION_amd64.deb. FOLDER is dist where none is
 given. It wants git, xz, gzip and dpkg-deb."
 
@@ -44,8 +44,8 @@ proved_with() {
 
 # The files of the package, under their names in the repository, in the folder $1.
 put_files() {
-    git ls-files -z README.md CHANGELOG.md VERSION docs examples man tools | tar -c --null -T - | tar -x -C "$1"
-    rm "$1/tools/pack.sh" "$1/tools/test_pack.sh" "$1/tools/test.py"
+    git ls-files -z README.md LICENSE CHANGELOG.md VERSION docs examples man tools | tar -c --null -T - | tar -x -C "$1"
+    rm "$1/tools/pack.sh" "$1/tools/test_pack.sh" "$1/tools/test.py" "$1/tools/definitions.py"
     proved_with >"$1/PROVED_WITH"
 }
 

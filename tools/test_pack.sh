@@ -35,6 +35,7 @@ try() {
     cd "$work/$1"
     alone "$2" route examples/small.ispd examples/small.library 3 >out 2>err
     cmp out examples/small.solution
+    cmp LICENSE "$here/LICENSE"
     [ "$(head -n 2 err)" = "routed 1
 overflow 0" ]
     alone tools/where.py examples/small.ispd 2 >/dev/null
