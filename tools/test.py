@@ -6,6 +6,7 @@ written, with that program as ./groute. NAMEs pick tests, as in unittest. Pictur
 matplotlib are there, and docs/FLOW.md only where Debian's qflow-tech-osu035 is.
 """
 import argparse
+import glob
 import importlib.util
 import os
 import random
@@ -84,8 +85,7 @@ class Samples(unittest.TestCase):
 
 def samples(document):
     """The commands of a document, and what they should write."""
-    with open(f"{ROOT}/{document}", encoding="utf-8") as file:
-        lines = file.read().split("\n")
+    lines = text_of(document).split("\n")
     command, wanted = None, []
     for line in [*lines, ""]:
         if command is not None and (line[:6] == "    $ " or line[:4] != "    "):
@@ -97,14 +97,50 @@ def samples(document):
             wanted.append(line[4:])
 
 
+def text_of(name):
+    """The text of a file of the repository."""
+    with open(f"{ROOT}/{name}", encoding="utf-8") as file:
+        return file.read()
+
+
+class Documents(unittest.TestCase):
+    """What stands in two places is the same, and what is named is there."""
+
+    def test_definitions(self):
+        self.assertEqual(text_of("docs/DEFINITIONS.md"), importlib.import_module("definitions").document())
+
+    def test_times(self):
+        """README's times are rows of bench/RESULTS.md."""
+        table = text_of("README.md").split("| run |", 1)[1].split("\n\n", 1)[0].splitlines()
+        self.assertEqual(len(table), 7)
+        results = text_of("bench/RESULTS.md").splitlines()
+        for line in [f"| run |{table[0]}", *table[2:]]:
+            self.assertIn(line, results)
+
+    def test_names_of_contracts(self):
+        """The names in docs/PROVED.md are those of definitions or of code."""
+        words = set()
+        for path in glob.glob(f"{ROOT}/crates/*/s*/**/*", recursive=True):
+            if path.endswith((".rt", ".antt")):
+                words.update(re.findall(r"\w+", text_of(os.path.relpath(path, ROOT))))
+        for name in re.findall(r"`([A-Z]\w+)`", text_of("docs/PROVED.md")):
+            self.assertIn(name, words)
+
+    def test_paths(self):
+        """Files that the documents name are there."""
+        for document in ["README.md", "examples/README.md", *DOCUMENTS]:
+            for path in re.findall(r"`((?:bench|docs|examples|man|reference|tools)/[\w./]+\w)", text_of(document)):
+                if not path.startswith("examples/smtbmc"):
+                    with self.subTest(document=document, path=path):
+                        self.assertTrue(os.path.exists(f"{ROOT}/{path}"))
+
+
 class Manual(unittest.TestCase):
     """The man page says what docs/FORMATS.md says."""
 
     def test_faults_and_words(self):
-        with open(f"{ROOT}/docs/FORMATS.md", encoding="utf-8") as file:
-            formats = file.read()
-        with open(f"{ROOT}/man/groute.1", encoding="utf-8") as file:
-            manual = re.sub(r"\\f[BIR]", "", file.read()).replace("\\-", "-")
+        formats = text_of("docs/FORMATS.md")
+        manual = re.sub(r"\\f[BIR]", "", text_of("man/groute.1")).replace("\\-", "-")
         faults = re.findall(r"^\| ([0-9]+) \| ([^|]+) \|$", formats, re.MULTILINE)
         self.assertEqual(len(faults), 13 + 9 + 12)
         for number, says in faults:
