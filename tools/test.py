@@ -7,7 +7,7 @@ matplotlib are there, and docs/FLOW.md only where Debian's qflow-tech-osu035 is.
 """
 import argparse
 import glob
-import importlib.util
+import importlib
 import os
 import random
 import re
@@ -17,49 +17,15 @@ import sys
 import tempfile
 import unittest
 
-HERE = os.path.dirname(os.path.abspath(__file__))
-ROOT = os.path.dirname(HERE)
+import testing
+from test_answers import Hotspots, Names    # for unittest to find them
+from testing import HERE, PICTURES, ROOT, InFolder, run, tool
+
 DOCUMENTS = ["README.md", *(f"docs/{name}" for name in sorted(os.listdir(f"{ROOT}/docs")) if name.endswith(".md"))]
 if not os.path.exists("/usr/share/qflow/tech/osu035/osu035_stdcells.lef"):
     DOCUMENTS.remove("docs/FLOW.md")    # its samples want this file of qflow-tech-osu035
-PICTURES = all(importlib.util.find_spec(name) for name in ("numpy", "matplotlib"))
 NAME = 32   # the token of examples/small.ispd that may be any: its net's name
-LIBRARY = "library 1\n%svia 10 10\ndriver 100\nsink 10 0\nend\n"
 program = None      # the path of groute
-
-
-def run(*words, folder=None, **options):
-    """Status, standard output and standard error."""
-    done = subprocess.run(words, capture_output=True, check=False, cwd=folder, **options)
-    return done.returncode, done.stdout.decode(), done.stderr.decode()
-
-
-def tool(name, *words):
-    """What a tool did."""
-    return run(sys.executable, os.path.join(HERE, name), *words)
-
-
-class InFolder(unittest.TestCase):
-    """Tests with a folder of their own."""
-
-    def setUp(self):
-        self.folder = tempfile.TemporaryDirectory()
-        self.addCleanup(self.folder.cleanup)
-
-    def put(self, name, text):
-        """The path of a file with this text."""
-        path = os.path.join(self.folder.name, name)
-        with open(path, "w", encoding="utf-8") as file:
-            file.write(text)
-        return path
-
-    def routed(self, design, layers, rounds=0):
-        """The path of the routes of a design."""
-        wires = "".join(f"wire {layer} 100 100\n" for layer in range(1, layers + 1))
-        library = self.put("library", LIBRARY % wires)
-        status, out, err = run(program, "route", design, library, str(rounds))
-        self.assertEqual((status, err[:7]), (0, "routed "))
-        return self.put("solution", out)
 
 
 class Samples(unittest.TestCase):
@@ -428,7 +394,7 @@ def main():
     parser.add_argument("--program", required=True, metavar="PATH", help="a built groute")
     parser.add_argument("names", nargs="*", metavar="NAME", help="of a test, as Where or Congestion.test_table")
     asked = parser.parse_args()
-    program = os.path.abspath(asked.program)
+    program = testing.program = os.path.abspath(asked.program)
     unittest.main(argv=[sys.argv[0], *asked.names], verbosity=1)
 
 

@@ -8,6 +8,7 @@ A wire edge is (way, number): EAST is along a row, NORTH along a column. The num
 way first: (layer * rows + row) * columns + column for EAST, (layer * columns + column) * rows + row for NORTH. Layers,
 columns and rows count from 0.
 """
+import array
 import io
 import re
 
@@ -139,6 +140,7 @@ class Design:
             self.read_net(tokens)
         self.routed = sum(width is not None for width in self.widths.values())
         self.adjusted = {} if tokens.is_ended() else dict(self.adjustments(tokens))
+        tokens.file.close()
 
     def by_layer(self, tokens, *words):
         """A line of the header: two words and a number for each layer."""
@@ -193,6 +195,109 @@ class Design:
     def need(self, layer, width):
         """What a net of this width takes of a wire edge."""
         return max(width, self.width[layer]) + self.spacing[layer]
+
+
+class Netlist(Design):
+    """A design with its nets, in the order of the text: ids, and by id the name and the place among them. `points` has
+    x, y and layer of all pins, net by net, the driver first; those of the net at a place begin with pin first[place].
+    """
+
+    def __init__(self, tokens):
+        self.ids, self.names, self.places = [], {}, {}
+        self.first, self.points = [0], array.array("q")
+        Design.__init__(self, tokens)
+
+    def read_net(self, tokens):
+        """A net."""
+        name, id_, pins = Design.read_net(self, tokens)
+        id_ = int(id_)
+        self.places[id_] = len(self.ids)
+        self.ids.append(id_)
+        self.names[id_] = name.decode(errors="surrogateescape")
+        try:
+            self.points.extend(map(int, pins))
+        except ValueError:
+            raise tokens.fault("x, y and layer of a pin are due") from None
+        self.first.append(len(self.points) // 3)
+        return name, id_, pins
+
+    def pins(self, id_):
+        """x, y and layer of each pin of a net."""
+        place = self.places[id_]
+        return [tuple(self.points[3 * at:3 * at + 3]) for at in range(self.first[place], self.first[place + 1])]
+
+
+class Library:
+    """What is known of a library: its kinds of buffers, and the times at which sinks want their signals.
+
+    `time` is that of all sinks, `times` has by net's id those of single sinks by their number; all in femtoseconds.
+    """
+    SIZES = {b"wire": 3, b"via": 2, b"driver": 1, b"sink": 2, b"kind": 4, b"inverter": 4, b"block": 2, b"drive": 2,
+             b"pin": 4, b"flip": 2}     # how many tokens stand behind an item's word
+
+    def __init__(self, tokens):
+        tokens.words(b"library")
+        tokens.numbers(1)
+        self.kinds, self.time, self.times = [], 0, {}
+        while (word := tokens.take(1)[0]) != b"end":
+            if word not in self.SIZES:
+                raise tokens.fault("an item of a library is due")
+            if word in (b"kind", b"inverter"):
+                self.kinds.append(tokens.take(4)[0].decode(errors="surrogateescape"))
+            elif word == b"sink":
+                self.time = tokens.numbers(2)[1]
+            elif word == b"pin":
+                net, pin, _, time = tokens.numbers(4)
+                self.times.setdefault(net, {})[pin] = time
+            else:
+                tokens.take(self.SIZES[word])
+
+    def shared_time(self, id_, sinks):
+        """The time that all sinks of a net share, or None."""
+        own = self.times.get(id_, {})
+        times = set(own.values()) | ({self.time} if len(own) < sinks else set())
+        return times.pop() if len(times) == 1 else None
+
+    def has_times(self):
+        """Whether a time isn't 0."""
+        return self.time != 0 or any(time for own in self.times.values() for time in own.values())
+
+
+def totals_of(path):
+    """The five totals of a report's text, by their words."""
+    tokens, found = Tokens(path), {}
+    for word in ("routed", "overflow", "maximum", "wirelength", "vias"):
+        tokens.words(word.encode())
+        found[word] = tokens.numbers(1)[0]
+    return found
+
+
+def buffered(design, path):
+    """Of each net in a report's or a buffers' text: its id, its required time in half femtoseconds, and of each of its
+    buffers the cell and the kind."""
+    tokens = Tokens(path)
+    while tokens.take(1)[0] != b"buffers":
+        tokens.numbers(1)
+    tokens.numbers(1)
+    while not tokens.is_ended():
+        tokens.words(b"net")
+        tokens.take(1)
+        id_ = tokens.numbers(1)[0]
+        if id_ not in design.widths:
+            raise tokens.fault("the id of a net of the design is due")
+        tokens.words(b"required")
+        required = tokens.numbers(1)[0]
+        tokens.words(b"buffers")
+        yield id_, required, [buffer_of(design, tokens) for _ in range(tokens.numbers(1)[0])]
+
+
+def buffer_of(design, tokens):
+    """The cell and the kind of a buffer."""
+    point, kind = tokens.take(2)
+    form = re.fullmatch(POINT, point)
+    if form is None:
+        raise tokens.fault("the place of a buffer is due before")
+    return design.cell(*map(int, form.groups())), kind.decode(errors="surrogateescape")
 
 
 def records(design, path):

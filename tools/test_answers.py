@@ -1,0 +1,210 @@
+"""Tests of the tools that rank and show what a solution does; test.py runs them."""
+import csv
+import importlib
+import os
+import random
+import re
+import shlex
+import shutil
+import sys
+import unittest
+
+import testing
+from testing import PICTURES, ROOT, InFolder, run, tool
+
+SMALL = f"{ROOT}/examples/small.ispd"
+CROWD = f"{ROOT}/examples/crowd.ispd"
+NAMES = "units 100\norigin -50 70\ntile 15 20\n\nlayer 2 m2\nlayer 1 metal1\n"
+
+
+def random_designs(count):
+    """Seeds, and the texts of random designs."""
+    sys.path.insert(0, f"{ROOT}/reference")
+    compare = importlib.import_module("compare")
+    for seed in range(1, count + 1):
+        yield seed, compare.design(random.Random(seed)).decode()
+
+
+class Names(InFolder):
+    """Texts of names, read and written."""
+
+    def test_both_ways(self):
+        names = importlib.import_module("names")
+        read = names.read_names(self.put("names", NAMES))
+        self.assertEqual((read.units, read.origin, read.tile, read.layers), (100, (-50, 70), (15, 20), ["metal1", "m2"]))
+        path = os.path.join(self.folder.name, "written")
+        names.write_names(names.Names(read.units, read.origin, read.tile, read.layers), path)
+        with open(path, encoding="utf-8") as file:
+            self.assertEqual(file.read(), "units 100\norigin -50 70\ntile 15 20\nlayer 1 metal1\nlayer 2 m2\n")
+
+    def test_microns(self):
+        names, texts = importlib.import_module("names"), importlib.import_module("texts")
+        design = texts.Design(texts.Tokens(SMALL))
+        self.assertEqual(names.Terms(design).words((1, 0), (2, 1)), "(10, 0) - (30, 20)")
+        self.assertEqual(names.Terms(design, self.put("names", NAMES)).words((1, 0), (2, 1)),
+                         "(-0.35, 0.7) - (-0.05, 1.1)")
+
+    def test_faults(self):
+        names, texts = importlib.import_module("names"), importlib.import_module("texts")
+        for old, new, says in (
+            ("units 100\n", "", "are due"),
+            ("units 100", "units 0", "at least 1"),
+            ("units 100", "units 100\nunits 100", ":2: `units 100` is said twice"),
+            ("tile 15 20", "tile 15 wide", ":3: `tile 15 wide` wants whole numbers"),
+            ("tile 15 20", "tile 15", ":3: `tile 15` is no statement"),
+            ("tile 15 20", "tile 15 20\npitch 3", ":4: `pitch 3` is no statement"),
+            ("layer 1", "layer 3", "layers from 1 are due"),
+            ("layer 1", "layer 2", "said twice"),
+        ):
+            self.assertIn(old, NAMES)
+            with self.assertRaisesRegex(texts.Fault, says):
+                names.read_names(self.put("names", NAMES.replace(old, new, 1)))
+        status, out, err = tool("hotspots.py", CROWD, self.put("none", ""), "--names", self.put("names", NAMES))
+        self.assertEqual((status, out), (1, ""))
+        self.assertIn("names of 2 layers, and the design has 1", err)
+
+
+CROWDED = """routed 2
+overflow 4
+maximum 2
+wirelength 4
+vias 0
+
+layer  direction   resource  demand  use, %  greatest  overflow  edges over  at capacity 0
+    1  horizontal        12       8    66.7         2         4           2              0
+    1  vertical          12       0     0.0         0         0           0              0
+  all                    24       8    33.3         2         4           2              0
+
+ACE, average use in % of the fullest edges: 200.0 of 0.5 %, 200.0 of 1 %, 200.0 of 2 %, 200.0 of 5 %
+
+    region  box, units         overflow  edges over  at capacity 0  nets
+1  0 0 2 2  (0, 0) - (30, 30)         4           2              0     2
+
+nets, and how many of the region's overfull edges they need
+1  a 2, b 2
+"""
+CROWDED_TABLE = """region,column,row,to_column,to_row,x1 (units),y1 (units),x2 (units),y2 (units),overflow,edges_over,\
+overflow_at_capacity_0,nets
+1,0,0,2,2,0,0,30,30,4,2,0,a b
+"""
+# What OpenROAD reads a congestion report by.
+VIOLATION = re.compile(r"violation type: (Horizontal|Vertical) congestion\n\tsrcs: ((?:net:\S+ ?)*)\n"
+                       r"\tcongestion information: capacity:(\d+) usage:(\d+) overflow:(\d+)\n"
+                       r"\tbbox = \((.*), (.*)\) - \((.*), (.*)\) on Layer (\S+)\n")
+KLAYOUT = """
+import pya
+database = pya.ReportDatabase("read")
+database.load(path)
+for category in database.each_category():
+    for item in database.each_item_per_category(category.rdb_id()):
+        print(category.name(), *(value.to_s() for value in item.each_value()))
+"""
+
+
+@unittest.skipUnless(PICTURES, "numpy and matplotlib are not there")
+class Hotspots(InFolder):
+    """hotspots.py: what it counts is what is counted edge by edge."""
+
+    def test_crowd(self):
+        table = os.path.join(self.folder.name, "table")
+        self.assertEqual(tool("hotspots.py", CROWD, self.routed(CROWD, 1), "--csv", table), (0, CROWDED, ""))
+        with open(table, encoding="ascii") as file:
+            self.assertEqual(file.read(), CROWDED_TABLE)
+
+    def test_edge_by_edge(self):
+        """Random designs, beside plain Python: regions, their nets, and the nets of each overfull edge."""
+        texts, plain, loads, edges_numpy, reports, names = map(importlib.import_module, (
+            "texts", "edges_plain", "loads", "edges_numpy", "reports", "names"))
+        regions = 0
+        for seed, text in random_designs(40):
+            path = self.put("design", text)
+            solution = self.routed(path, int(text.split()[3]))
+            design = texts.Netlist(texts.Tokens(path))
+            edges = plain.Edges(design, solution)
+            over = {edge[:2]: edge[3] - edge[2] for edge in edges.used() if edge[3] > edge[2]}
+            covered = {id_: {edge for segment in segments for edge in edges.covered(segment)}
+                       for id_, segments in texts.records(design, solution)}
+            mine = loads.Loads(edges_numpy.Edges(design, solution))
+            with self.subTest(seed=seed):
+                left = {edge for edge in over if edges.capacity(*edge)}
+                for region in mine.regions(10):
+                    regions += 1
+                    inside = {edge for edge in over if is_in(region, design.place(*edge))}
+                    here = inside & left
+                    left -= inside
+                    self.assertEqual(region.overflow, sum(map(over.get, here)))
+                    self.assertEqual(region.closed, sum(map(over.get, inside)) - region.overflow)
+                    self.assertEqual(region.over, len(here))
+                    needs = {id_: len(here & some) for id_, some in covered.items() if here & some}
+                    self.assertEqual(region.nets, sorted(needs.items(), key=lambda net: -net[1]))
+                self.assertEqual(left, set())
+                found = reports.overfull(mine, design, names.Terms(design))
+                self.assertEqual(sorted(sorted(edge.nets) for edge in found), sorted(
+                    sorted(design.names[id_] for id_, some in covered.items() if edge in some) for edge in over))
+                self.assertEqual(sum(edge.demand - edge.capacity for edge in found), sum(over.values()))
+        self.assertGreater(regions, 10)
+
+    def test_an_overfull_chip(self):
+        """Ten regions, each of other tiles, the worst first."""
+        design = self.put("design", run(testing.program, "make", "11", "40", "30", "4", "9000")[1])
+        table = os.path.join(self.folder.name, "table")
+        self.assertEqual(tool("hotspots.py", design, self.routed(design, 4), "--csv", table)[0], 0)
+        with open(table, encoding="ascii") as file:
+            rows = list(csv.DictReader(file))
+        self.assertEqual(len(rows), 10)
+        tiles = [(column, row) for line in rows for column in range(int(line["column"]), int(line["to_column"]) + 1)
+                 for row in range(int(line["row"]), int(line["to_row"]) + 1)]
+        self.assertEqual((len(tiles), len(set(tiles))), (640, 640))
+        overflow = [int(line["overflow"]) for line in rows]
+        self.assertEqual(overflow, sorted(overflow, reverse=True))
+
+    def reports(self):
+        """A design whose net has a hard name, its overfull edges for OpenROAD, and for KLayout."""
+        with open(CROWD, encoding="ascii") as file:
+            design = self.put("design", file.read().replace("\na 0", "\n<a&'\\> 0"))
+        paths = [os.path.join(self.folder.name, name) for name in ("openroad", "klayout.lyrdb")]
+        names = self.put("names", NAMES.replace("layer 2 m2\n", ""))
+        solution = self.routed(design, 1)
+        done = tool("hotspots.py", design, solution, "--names", names, "--openroad", paths[0], "--klayout", paths[1])
+        self.assertEqual((done[0], done[2]), (0, ""))
+        self.assertIn("--openroad is in microns", tool("hotspots.py", design, solution, "--openroad", "x")[2])
+        return paths
+
+    def test_openroad(self):
+        with open(self.reports()[0], encoding="utf-8") as file:
+            text = file.read()
+        self.assertEqual(VIOLATION.sub("", text), "")
+        self.assertEqual([found[1:] for found in VIOLATION.findall(text)], [
+            ("net:<a&'\\> net:b", "2", "4", "2", "-0.5", "0.9", "-0.2", "1.1", "metal1"),
+            ("net:<a&'\\> net:b", "2", "4", "2", "-0.35", "0.9", "-0.05", "1.1", "metal1")])
+
+    @unittest.skipUnless(shutil.which("klayout"), "klayout is not there")
+    def test_klayout(self):
+        environment = {**os.environ, "QT_QPA_PLATFORM": "offscreen"}
+        status, out, err = run("klayout", "-b", "-r", self.put("read.py", KLAYOUT), "-rd", f"path={self.reports()[1]}",
+                               env=environment, timeout=60)
+        self.assertEqual((status, err), (0, ""))
+        edge = r"text: 'capacity 2 demand 4 overflow 2 nets <a&\'\\> b'"
+        self.assertEqual(out.splitlines(), [
+            r"regions box: (-0.5,0.7;-0.05,1.3) text: 'overflow 4 edges 2 at capacity 0 0 nets <a&\'\\> b'",
+            f"metal1 box: (-0.5,0.9;-0.2,1.1) {edge}", f"metal1 box: (-0.35,0.9;-0.05,1.1) {edge}"])
+
+    def test_ends(self):
+        """A closed pipe, a full device, a missing file."""
+        words = shell_words("hotspots.py", CROWD, self.routed(CROWD, 1))
+        self.assertEqual(run("sh", "-c", f"{words} | true"), (0, "", ""))
+        status, _, err = run("sh", "-c", f"{words} > /dev/full")
+        self.assertEqual(status, 1)
+        self.assertEqual(err, "hotspots: [Errno 28] No space left on device\n")
+        status, _, err = tool("hotspots.py", CROWD, "missing")
+        self.assertEqual((status, err), (1, "hotspots: [Errno 2] No such file or directory: 'missing'\n"))
+
+
+def is_in(region, place):
+    """Whether a wire edge with this lower end belongs to a region."""
+    return all(low <= at <= high for low, at, high in zip(region.low, place, region.high))
+
+
+def shell_words(name, *words):
+    """The words of a shell that call a tool."""
+    return shlex.join([sys.executable, os.path.join(testing.HERE, name), *words])
