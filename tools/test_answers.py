@@ -200,6 +200,108 @@ class Hotspots(InFolder):
         self.assertEqual((status, err), (1, "hotspots: [Errno 2] No such file or directory: 'missing'\n"))
 
 
+# Worked out by hand. Sink 1 of net a is in the same row as its driver, four steps away; its delay without buffers is
+# 100 * 410 (the driver) + 4 wires of 100 ohms with 100 femtofarads each: 100 * (50 + 310) + .. + 100 * (50 + 10), in all
+# 137 ps, and so its required time is -137 ps, or -274000 half femtoseconds. Net b has two sinks with two times.
+TIMED = """grid 5 1 1
+vertical capacity 0
+horizontal capacity 4
+minimum width 1
+minimum spacing 1
+via spacing 1
+0 0 10 10
+num net 3
+a 0 2 1
+5 5 1
+45 5 1
+b 7 3 1
+5 5 1
+15 5 1
+25 5 1
+c 3 1 1
+5 5 1
+"""
+TIMED_SOLUTION = "a 0 (5,5,1)-(45,5,1) ! b 7 (5,5,1)-(25,5,1) !"
+TIMED_REPORT = """buffers 3
+net a 0 required -274000 buffers 2
+(15,5,1) mid
+(25,5,1) mid
+net b 7 required 6000 buffers 1
+(15,5,1) low
+net c 3 required 0 buffers 0
+"""
+SLOWEST = """net  required, ps  delay, ps  pins  wire, tiles  vias  box, units         buffers
+a          -137.0      137.0     2            4     0  (0, 0) - (50, 10)  mid 2
+c             0.0          -     1            0     0  (0, 0) - (10, 10)
+b             3.0       -3.0     3            2     0  (0, 0) - (30, 10)  low 1
+
+from, ps  to, ps  nets
+  -137.0  -123.0     1  #########################
+  -123.0  -109.0     0
+  -109.0   -95.0     0
+   -95.0   -81.0     0
+   -81.0   -67.0     0
+   -67.0   -53.0     0
+   -53.0   -39.0     0
+   -39.0   -25.0     0
+   -25.0   -11.0     0
+   -11.0     3.0     2  ##################################################
+"""
+
+
+@unittest.skipUnless(PICTURES, "numpy is not there")
+class Slowest(InFolder):
+    """slowest.py on a report that was worked out by hand."""
+
+    def slowest(self, *words, library="sink 10 0\n", report=TIMED_REPORT):
+        """What the tool did."""
+        text = f"library 2\nwire 1 100 100\nvia 0 0\ndriver 100\nkind mid 1 2 3\nkind low 1 2 3\n{library}end\n"
+        return tool("slowest.py", self.put("design", TIMED), self.put("library", text),
+                    self.put("solution", TIMED_SOLUTION), self.put("report", report), *words)
+
+    def test_table(self):
+        self.assertEqual(self.slowest(), (0, SLOWEST, ""))
+        behind = "routed 3\noverflow 0\nmaximum 0\nwirelength 6\nvias 0\n" + TIMED_REPORT
+        self.assertEqual(self.slowest(report=behind), self.slowest())
+
+    def test_times(self):
+        """Slack comes where a time isn't 0, delay where the sinks of a net share theirs."""
+        library = "sink 10 0\npin 7 1 10 9000\n"
+        found = self.slowest("--worst", "3", library=library)[1].splitlines()
+        self.assertEqual(found[0], "slack of nets, not of paths, ps: worst -137.0, total negative -137.0 of 1 nets")
+        self.assertEqual([line.split()[:3] for line in found[3:6]],
+                         [["a", "-137.0", "137.0"], ["c", "0.0", "-"], ["b", "3.0", "-"]])
+        found = self.slowest(library=library + "pin 7 2 10 9000\n")[1]
+        self.assertIn("b             3.0        6.0", found)
+
+    def test_scale_and_names(self):
+        names = self.put("names", "units 1\norigin 3 4\ntile 5 6\nlayer 1 m\n")
+        found = self.slowest("--scale", "10", "--worst", "1", "--names", names)[1].splitlines()
+        self.assertIn("box, microns", found[0])
+        self.assertEqual(found[1:3], ["a            -1.4        1.4     2            4     0  (3, 4) - (28, 10)  mid 2",
+                                      ""])
+
+    def test_a_real_report(self):
+        """Required times are those that groute told, wire and vias those of its totals."""
+        with open(f"{ROOT}/examples/small.ispd", encoding="ascii") as file:
+            design = self.put("design", file.read())
+        library = f"{ROOT}/examples/small.library"
+        _, solution, report = run(testing.program, "route", design, library, "0")
+        found = tool("slowest.py", design, library, self.put("solution", solution), self.put("report", report))[1]
+        required = int(report.split("required ")[1].split()[0])
+        self.assertEqual(found.splitlines()[1].split()[:6],
+                         ["a", f"{required / 2000:.1f}", f"{-required / 2000:.1f}", "2", "3", "2"])
+
+    def test_faults(self):
+        for old, new, says in (("a 0 required", "a 5 required", "no net 5"), ("buffers 3", "buffer 3", "whole number"),
+                               ("required 6000", "needs 5000", "a line `net"), ("(15,5,1) low\n", "", "ends after"),
+                               ("net c 3 required 0 buffers 0", "net c", "ends after")):
+            self.assertIn(old, TIMED_REPORT)
+            status, out, err = self.slowest(report=TIMED_REPORT.replace(old, new, 1))
+            self.assertEqual((status, out), (1, ""))
+            self.assertIn(says, err)
+
+
 def is_in(region, place):
     """Whether a wire edge with this lower end belongs to a region."""
     return all(low <= at <= high for low, at, high in zip(region.low, place, region.high))

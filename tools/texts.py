@@ -273,30 +273,26 @@ def totals_of(path):
 
 
 def buffered(design, path):
-    """Of each net in a report's or a buffers' text: its id, its required time in half femtoseconds, and of each of its
-    buffers the cell and the kind."""
+    """Of each net in a report's or a buffers' text: its id, its required time in half femtoseconds, and two tokens for
+    each of its buffers, which `buffer_of` reads."""
     tokens = Tokens(path)
     while tokens.take(1)[0] != b"buffers":
         tokens.numbers(1)
     tokens.numbers(1)
     while not tokens.is_ended():
-        tokens.words(b"net")
-        tokens.take(1)
-        id_ = tokens.numbers(1)[0]
-        if id_ not in design.widths:
-            raise tokens.fault("the id of a net of the design is due")
-        tokens.words(b"required")
-        required = tokens.numbers(1)[0]
-        tokens.words(b"buffers")
-        yield id_, required, [buffer_of(design, tokens) for _ in range(tokens.numbers(1)[0])]
+        net, _, id_, word, required, word2, count = tokens.take(7)
+        if (net, word, word2) != (b"net", b"required", b"buffers") or not (id_.isdigit() and count.isdigit()):
+            raise tokens.fault("a line `net NAME ID required TIME buffers NUMBER` ends here or before")
+        if int(id_) not in design.widths:
+            raise tokens.fault(f"the design has no net {id_.decode()}")
+        yield int(id_), int(required), tokens.take(2 * int(count))
 
 
-def buffer_of(design, tokens):
+def buffer_of(design, point, kind):
     """The cell and the kind of a buffer."""
-    point, kind = tokens.take(2)
     form = re.fullmatch(POINT, point)
     if form is None:
-        raise tokens.fault("the place of a buffer is due before")
+        raise Fault(f"{point.decode(errors='replace')} is no place of a buffer")
     return design.cell(*map(int, form.groups())), kind.decode(errors="surrogateescape")
 
 
