@@ -98,6 +98,18 @@ class Edges:
             found += numpy.rint(numpy.bincount(self.net[mine], count, len(self.ids))).astype(numpy.int64)
         return found
 
+    def runs_of(self, id_):
+        """The first and the last cell of each run of a net: column, row and layer, from 0."""
+        design = self.design
+        mine = (self.net == self.ids.index(id_)).nonzero()[0] if id_ in self.ids else []
+        for way, number, length in zip(*(some[mine].tolist() for some in (self.way, self.number, self.length))):
+            if way == UP:
+                tile = number // design.layers
+                low = tile % design.columns, tile // design.columns, number % design.layers
+            else:
+                low = design.place(way, number)
+            yield low, (*low[:way], low[way] + length, *low[way + 1:])
+
     def sizes(self):
         """Of each net of `ids`, how many wire edges and how many vias it has."""
         wires, vias = (numpy.bincount(self.net[mine], self.length[mine], len(self.ids)).astype(numpy.int64)

@@ -18,7 +18,7 @@ import tempfile
 import unittest
 
 import testing
-from test_answers import Hotspots, Names, Slowest   # for unittest to find them
+from test_answers import Hotspots, Names, Pictures, Slowest     # for unittest to find them
 from testing import HERE, PICTURES, ROOT, InFolder, run, tool
 
 DOCUMENTS = ["README.md", *(f"docs/{name}" for name in sorted(os.listdir(f"{ROOT}/docs")) if name.endswith(".md"))]

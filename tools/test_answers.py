@@ -302,6 +302,77 @@ class Slowest(InFolder):
             self.assertIn(says, err)
 
 
+@unittest.skipUnless(PICTURES, "numpy and matplotlib are not there")
+class Pictures(InFolder):
+    """congestion.py's picture of tiles."""
+
+    def picture(self, *words):
+        """The pixels of a picture, with numbers from 0 to 255."""
+        path = os.path.join(self.folder.name, "out.png")
+        status, _, err = tool("congestion.py", *words, "-o", path)
+        self.assertEqual((status, err), (0, ""))
+        return (importlib.import_module("matplotlib.image").imread(path)[:, :, :3] * 255).round().astype(int)
+
+    def count(self, pixels, colour):
+        """How many pixels have a colour."""
+        return int((pixels == [int(colour[at:at + 2], 16) for at in (1, 3, 5)]).all(axis=2).sum())
+
+    def test_tiles_edge_by_edge(self):
+        """Random designs, beside plain Python: the worst of each tile's wire edges."""
+        texts, plain, loads, edges_numpy = map(importlib.import_module, (
+            "texts", "edges_plain", "loads", "edges_numpy"))
+        for seed, text in random_designs(20):
+            path = self.put("design", text)
+            solution = self.routed(path, int(text.split()[3]))
+            design = texts.Design(texts.Tokens(path))
+            edges = plain.Edges(design, solution)
+            layers, ways = seed % design.layers, [(0, 1), (0,), (1,)][seed % 3]
+            wanted = {}
+            for way in ways:
+                for column in range(design.columns - (way == 0)):
+                    for row in range(design.rows - (way == 1)):
+                        number = design.number(way, column, row, layers)
+                        capacity, demand = edges.capacity(way, number), edges.demand.get((way, number), 0)
+                        over = max(0, demand - capacity)
+                        found = (demand / capacity, over, 0) if capacity else (-1, 0, over)
+                        for tile in ((row, column), (row + (way == 1), column + (way == 0))):
+                            wanted[tile] = tuple(map(max, found, wanted.get(tile, (-1, 0, 0))))
+            maps = loads.Loads(edges_numpy.Edges(design, solution)).by_tile(slice(layers, layers + 1), ways)
+            for (row, column), (full, over, closed) in wanted.items():
+                mine = [some[row, column] for some in maps]
+                self.assertEqual([-1 if mine[0] != mine[0] else mine[0], *mine[1:]], [full, over, closed])
+
+    def test_grades(self):
+        """The tiles of overflow 2 have the first grade's colour, and none has it after a round."""
+        before = self.count(self.picture(CROWD, self.routed(CROWD, 1)), "#fdb863")
+        legend = self.count(self.picture(CROWD, self.routed(CROWD, 1, 1)), "#fdb863")
+        self.assertLess(legend, 500)
+        self.assertGreater(before - legend, 3 * 110 ** 2)
+
+    def test_what_is_drawn(self):
+        """A net, buffers, regions, a part of the chip and one direction each change the picture."""
+        library = f"{ROOT}/examples/small.library"
+        _, solution, report = run(testing.program, "route", SMALL, library, "0")
+        words = SMALL, self.put("solution", solution)
+        report = self.put("report", report.replace("buffers 0", "buffers 1") + "(15,5,1) mid\n")
+        plain = self.picture(*words)
+        for more in (("--net", "a"), ("--buffers", report), ("--region", "1", "0", "2", "1"), ("--direction", "v"),
+                     ("--layer", "2"), ("--edges",), ("--names", self.put("names", NAMES))):
+            other = self.picture(*words, *more)
+            self.assertFalse(other.shape == plain.shape and (other == plain).all(), more)
+        crowd = CROWD, self.routed(CROWD, 1)
+        self.assertGreater(abs(self.picture(*crowd, "--worst", "1") - self.picture(*crowd)).sum(), 0)
+
+    def test_faults(self):
+        solution = self.put("solution", "")
+        path = os.path.join(self.folder.name, "out.png")
+        for words, says in ((("--net", "b"), "no net b"), (("--region", "0", "0", "3", "1"), "tiles 0 0 to 2 1"),
+                            (("--region", "2", "0", "1", "1"), "tiles"), (("--edges", "--worst", "1"), "of tiles")):
+            status, _, err = tool("congestion.py", SMALL, solution, "-o", path, *words)
+            self.assertNotEqual(status, 0)
+            self.assertIn(says, err)
+
+
 def is_in(region, place):
     """Whether a wire edge with this lower end belongs to a region."""
     return all(low <= at <= high for low, at, high in zip(region.low, place, region.high))
