@@ -47,6 +47,11 @@ class Edges:
         need = numpy.maximum(width, numpy.array(self.design.width)[layer]) + numpy.array(self.design.spacing)[layer]
         return [some.astype(numpy.int32) for some in (net + len(self.ids), way, number, last - first, need)]
 
+    def cell_numbers(self, points):
+        """Of points of the text, by column, then row, then layer."""
+        column, row, layer = self.cells_of(points).T
+        return (layer * self.design.rows + row) * self.design.columns + column
+
     def cells_of(self, points):
         """Column, row and layer of points of the text."""
         design = self.design
@@ -55,7 +60,7 @@ class Edges:
         away = points - numpy.array([design.left, design.low, 1])
         border = size * tile - numpy.array([0, 0, 1])
         if ((away < 0) | (away > border)).any():
-            raise Fault("a segment of the solution ends outside the chip")
+            raise Fault("a point lies outside the chip")
         return numpy.minimum(away // tile, size - 1)
 
     def numbers(self, way, cells):
@@ -156,17 +161,27 @@ def batches(design, solution):
 
 def ends(segments):
     """The six numbers of each segment's token."""
-    count = len(segments)
-    text = b"\n" + b"\n".join(segments) + b"\n"
+    return parsed(segments, b"(,,)-(,,)", (b"\n(", b")-(", b")\n"), "a segment of the solution has not the form "
+                  "(x,y,layer)-(x,y,layer)")
+
+
+def points(tokens):
+    """The three numbers of each point's token."""
+    return parsed(tokens, b"(,,)", (b"\n(", b")\n"), "the place of a buffer has not the form (x,y,layer)")
+
+
+def parsed(tokens, form, marks, fault):
+    """The numbers of tokens, a row for each. `form` is one without its numbers, and marks are where none stand."""
+    each, count = form.count(b",") + form.count(b"("), len(tokens)
+    text = b"\n" + b"\n".join(tokens) + b"\n" * (count > 0)
     signs = text.translate(None, b"0123456789").replace(b"(-", b"(").replace(b",-", b",")
-    has_form = signs == b"\n" + b"(,,)-(,,)\n" * count and all(
-        text.count(mark) == count for mark in (b"\n(", b")-(", b")\n"))
+    has_form = signs == b"\n" + (form + b"\n") * count and all(text.count(mark) == count for mark in marks)
     # A number that is left out would make too few.
     blanks = text.replace(b")-(", b" ").translate(bytes.maketrans(b"(),", b"   "))
-    numbers = numpy.fromstring(blanks, numpy.int64, sep=" ") if has_form else numpy.zeros(0, int)
-    if len(numbers) != 6 * count:
-        raise Fault("a segment of the solution has not the form (x,y,layer)-(x,y,layer)")
-    return numbers.reshape(count, 6)
+    numbers = numpy.fromstring(blanks, numpy.int64, sep=" ") if has_form and count else numpy.zeros(0, int)
+    if len(numbers) != each * count:
+        raise Fault(fault)
+    return numbers.reshape(count, each)
 
 
 def merged(first, last):

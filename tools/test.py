@@ -19,6 +19,7 @@ import unittest
 
 import testing
 from test_answers import Hotspots, Names, Pictures, Slowest     # for unittest to find them
+from test_report import FirstPicture, Page, Report
 from testing import HERE, PICTURES, ROOT, InFolder, run, tool
 
 DOCUMENTS = ["README.md", *(f"docs/{name}" for name in sorted(os.listdir(f"{ROOT}/docs")) if name.endswith(".md"))]
