@@ -26,7 +26,7 @@ class Edges:
         self.vias = int(self.length[self.way == UP].sum(dtype=numpy.int64))
         self.wires = int(self.length.sum(dtype=numpy.int64)) - self.vias
         self.demand = [self.summed(way) for way in (EAST, NORTH)]
-        self.capacity = [self.capacities(way) for way in (EAST, NORTH)]
+        self.capacity = [capacities(design, way) for way in (EAST, NORTH)]
 
     def gather(self, ids, counts, points):
         """The runs of a batch of nets, each edge of a net once."""
@@ -80,17 +80,6 @@ class Edges:
         change -= numpy.bincount(first + self.length[mine], need, self.cells)
         return numpy.rint(change.cumsum()).astype(numpy.int64)
 
-    def by_layer(self, way, values):
-        """Values by number as an array by layer, row and column."""
-        design = self.design
-        if way == EAST:
-            return values.reshape(design.layers, design.rows, design.columns)
-        return values.reshape(design.layers, design.columns, design.rows).transpose(0, 2, 1)
-
-    def by_number(self, way, array):
-        """The values of such an array by number."""
-        return (array if way == EAST else array.transpose(0, 2, 1)).ravel()
-
     def through(self, marked):
         """Of each net of `ids`, through how many of the marked wire edges it goes: marked[way] is true or false by
         number."""
@@ -121,16 +110,6 @@ class Edges:
                        for mine in (self.way != UP, self.way == UP))
         return wires, vias
 
-    def capacities(self, way):
-        """Capacity by number; numbers at the border, where there is no edge, have none."""
-        design = self.design
-        line = design.columns if way == EAST else design.rows
-        stated = numpy.repeat(numpy.array(design.capacity[way]), design.columns * design.rows)
-        stated[line - 1::line] = 0
-        mine = {number: capacity for (at, number), capacity in design.adjusted.items() if at == way}
-        stated[list(mine)] = list(mine.values())
-        return stated
-
     def used(self):
         """Way, number, capacity and demand of each wire edge that is used."""
         for way in (EAST, NORTH):
@@ -143,6 +122,28 @@ class Edges:
         """The sum and the greatest of what demand has above capacity."""
         over = [numpy.maximum(self.demand[way] - self.capacity[way], 0) for way in (EAST, NORTH)]
         return sum(int(some.sum()) for some in over), max(int(some.max()) for some in over)
+
+
+def capacities(design, way):
+    """Capacity by number; numbers at the border, where there is no edge, have none."""
+    line = design.columns if way == EAST else design.rows
+    stated = numpy.repeat(numpy.array(design.capacity[way]), design.columns * design.rows)
+    stated[line - 1::line] = 0
+    mine = {number: capacity for (at, number), capacity in design.adjusted.items() if at == way}
+    stated[list(mine)] = list(mine.values())
+    return stated
+
+
+def by_layer(design, way, values):
+    """Values by number as an array by layer, row and column, which shares their place."""
+    if way == EAST:
+        return values.reshape(design.layers, design.rows, design.columns)
+    return values.reshape(design.layers, design.columns, design.rows).transpose(0, 2, 1)
+
+
+def by_number(way, array):
+    """The values of such an array by number."""
+    return (array if way == EAST else array.transpose(0, 2, 1)).ravel()
 
 
 def batches(design, solution):

@@ -8,6 +8,7 @@ from dataclasses import dataclass
 
 import numpy
 
+from edges_numpy import by_layer, by_number
 from texts import EAST, NORTH
 
 WAYS = {EAST: "horizontal", NORTH: "vertical"}
@@ -57,8 +58,8 @@ class Loads:
 
     def __init__(self, edges):
         self.edges, self.design = edges, edges.design
-        self.demand = [edges.by_layer(way, edges.demand[way]) for way in (EAST, NORTH)]
-        self.capacity = [edges.by_layer(way, edges.capacity[way]) for way in (EAST, NORTH)]
+        self.demand = [by_layer(edges.design, way, edges.demand[way]) for way in (EAST, NORTH)]
+        self.capacity = [by_layer(edges.design, way, edges.capacity[way]) for way in (EAST, NORTH)]
         self.excess = [numpy.maximum(demand - capacity, 0) for demand, capacity in zip(self.demand, self.capacity)]
         self.open = [capacity > 0 for capacity in self.capacity]
         self.room = [numpy.where(some, excess, 0) for some, excess in zip(self.open, self.excess)]
@@ -139,7 +140,7 @@ class Loads:
         for way in (EAST, NORTH):
             mine = numpy.zeros(self.room[way].shape, bool)
             mine[place] = room[way] > 0
-            marked.append(self.edges.by_number(way, mine))
+            marked.append(by_number(way, mine))
         overflow, total = (sum(int(some.sum()) for some in both)
                            for both in (room, [excess[place] for excess in self.excess]))
         through = self.edges.through(marked)

@@ -4,6 +4,7 @@ from xml.sax.saxutils import escape
 
 import numpy
 
+from edges_numpy import by_number
 from loads import WAYS
 from texts import EAST, NORTH
 
@@ -24,7 +25,7 @@ def overfull(loads, design, terms):
     """All wire edges that are over their capacity, with their nets, layer by layer."""
     found = []
     for way in (EAST, NORTH):
-        numbers = loads.edges.by_number(way, loads.excess[way]).nonzero()[0]
+        numbers = by_number(way, loads.excess[way]).nonzero()[0]
         nets = nets_of(loads.edges, way, numbers)
         for number, mine in zip(numbers.tolist(), nets):
             column, row, layer = design.place(way, number)

@@ -18,7 +18,7 @@ import tempfile
 import unittest
 
 import testing
-from test_answers import Hotspots, Names, Pictures, Slowest     # for unittest to find them
+from test_answers import Adjusted, Hotspots, Names, Pictures, Slowest   # for unittest to find them
 from test_report import FirstPicture, Page, Report
 from testing import HERE, PICTURES, ROOT, InFolder, run, tool
 

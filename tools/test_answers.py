@@ -373,6 +373,77 @@ class Pictures(InFolder):
             self.assertIn(says, err)
 
 
+@unittest.skipUnless(PICTURES, "numpy is not there")
+class Adjusted(InFolder):
+    """adjust.py: what is cut, to what sum, and what stays."""
+
+    def capacities(self, path):
+        """Of a design, the capacity of each wire edge that is there, by way, layer, column and row."""
+        texts = importlib.import_module("texts")
+        design = texts.Design(texts.Tokens(path))
+        return design, {
+            (way, layer, column, row): design.adjusted.get((way, design.number(way, column, row, layer)),
+                                                           design.capacity[way][layer])
+            for way in (texts.EAST, texts.NORTH) for layer in range(design.layers)
+            for column in range(design.columns - (way == texts.EAST)) for row in range(design.rows - (way == texts.NORTH))}
+
+    def adjusted(self, path, *words):
+        """The capacities before and after, and the design after."""
+        status, out, err = tool("adjust.py", path, *words)
+        self.assertEqual((status, err), (0, ""))
+        design, before = self.capacities(path)
+        return before, self.capacities(self.put("adjusted", out))[1], design, out
+
+    def test_random_designs(self):
+        """Each layer's sum is the share of its tracks to within one; no edge has more than before, or a part of a track."""
+        for seed, text in random_designs(30):
+            path = self.put("design", text)
+            share = ("0.8", "0.5", "0.123", "0")[seed % 4]
+            before, after, design, out = self.adjusted(path, "--layer", "all", share)
+            for way, layer in {key[:2] for key in before}:
+                track = max(1, design.width[layer] + design.spacing[layer])
+                mine = [(before[key] // track, after[key]) for key in before if key[:2] == (way, layer)]
+                self.assertTrue(all(new % track == 0 and new // track <= old for old, new in mine))
+                wanted = float(share) * sum(old for old, _ in mine)
+                self.assertLess(abs(sum(new for _, new in mine) / track - wanted), 1)
+            library = self.put("library", testing.LIBRARY % "".join(
+                f"wire {layer + 1} 1 1\n" for layer in range(design.layers)))
+            routed = [run(testing.program, "route", some, library, "0") for some in (path, self.put("adjusted", out))]
+            self.assertEqual([found[0] for found in routed], [0, 0])
+            self.assertEqual(*(found[2].split()[1] for found in routed))
+
+    def test_nothing_is_cut(self):
+        for seed, text in random_designs(10):
+            path = self.put("design", text)
+            before, after, _, out = self.adjusted(path, "--layer", "all", "1")
+            self.assertEqual(before, after, seed)
+            again = self.put("again", out)
+            self.assertEqual(tool("adjust.py", again)[1], out)
+        path = self.put("unrouted", "grid 2 1 1 vertical capacity 0 horizontal capacity 3 minimum width 1 "
+                        "minimum spacing 1 via spacing 4 -5 6 7 8 num net 1 a 9 1001 5 " + "1 8 1 " * 1001)
+        self.assertIn("via spacing 4\n-5 6 7 8\nnum net 1\na 9 1001 5\n1 8 1\n", self.adjusted(path)[3])
+
+    def test_regions_and_directions(self):
+        design = self.put("design", run(testing.program, "make", "11", "9", "8", "3", "10")[1])
+        before, after, *_ = self.adjusted(design, "--region", "2", "1", "5", "3", "0.5", "--direction", "h",
+                                          "--layer", "3", "0.5")
+        for (way, layer, column, row), held in before.items():
+            is_inside = 2 <= column < 5 and 1 <= row <= 3
+            wanted = held / 2 ** (is_inside + (layer == 2)) if way == 0 else held
+            self.assertLessEqual(abs(after[way, layer, column, row] - wanted), 1, (way, layer, column, row))
+        self.assertEqual(sum(after[key] for key in after if key[:2] == (0, 0)),
+                         sum(before[key] for key in before if key[:2] == (0, 0)) - 3 * 3 * 10)
+
+    def test_faults(self):
+        for words, says in ((("--layer", "3", "0.5"), "3 is no layer"), (("--layer", "1", "1.5"), "no share"),
+                            (("--layer", "1", "0.12345"), "no share"), (("--layer", "1", "half"), "no share"),
+                            (("--region", "0", "0", "3", "1", "1"), "3 is no column"),
+                            (("--region", "1", "0", "0", "1", "1"), "lower left")):
+            status, out, err = tool("adjust.py", SMALL, *words)
+            self.assertEqual((status, out), (1, ""))
+            self.assertIn(says, err)
+
+
 def is_in(region, place):
     """Whether a wire edge with this lower end belongs to a region."""
     return all(low <= at <= high for low, at, high in zip(region.low, place, region.high))

@@ -119,7 +119,7 @@ class Design:
     """A grid of tiles, its capacities, and what is known of its nets.
 
     capacity[way][layer], width[layer] and spacing[layer] are those of the header; `widths` has for each net's id its
-    width, or None where the net is not routed; `adjusted` has capacities of single wire edges.
+    width, or None where the net is not routed, and its width stands in `unrouted`; `adjusted` has capacities of single wire edges.
     """
 
     def __init__(self, tokens):
@@ -130,11 +130,11 @@ class Design:
         self.capacity = horizontal, vertical
         self.width = self.by_layer(tokens, b"minimum", b"width")
         self.spacing = self.by_layer(tokens, b"minimum", b"spacing")
-        self.by_layer(tokens, b"via", b"spacing")
+        self.via_spacing = self.by_layer(tokens, b"via", b"spacing")
         self.left, self.low, self.tile_width, self.tile_height = tokens.numbers(4)
         if min(self.columns, self.rows, self.layers, self.tile_width, self.tile_height) < 1:
             raise tokens.fault("the grid and its tiles are at least 1 wide and high")
-        self.widths = {}
+        self.widths, self.unrouted = {}, {}
         tokens.words(b"num", b"net")
         for _ in range(tokens.numbers(1)[0]):
             self.read_net(tokens)
@@ -154,6 +154,8 @@ class Design:
             raise tokens.fault("a net's id, number of pins and width are due")
         id_, count = int(id_), int(pins)
         self.widths[id_] = int(width) if count <= MOST_ROUTED else None
+        if count > MOST_ROUTED:
+            self.unrouted[id_] = int(width)
         return name, id_, tokens.take(3 * count)
 
     def adjustments(self, tokens):
