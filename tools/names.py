@@ -1,34 +1,41 @@
 """Names of layers, and microns: what a design text doesn't say of the chip that it was made of.
 
-A names text has a statement a line, in any order, each once:
+A names text has a statement a line, in any order; all but `layer` and `lower` stand once:
 
-    units N          database units a micron
-    origin X Y       the lower left corner of the grid, in database units
-    tile W H         a tile's width and height, in database units
-    layer K NAME     for each layer, from 1
+    units N              database units a micron
+    origin X Y           the lower left corner of the grid, in database units
+    tile W H             a tile's width and height, in database units
+    layer K NAME         for each layer, from 1
+    die X1 Y1 X2 Y2      the chip's area, in database units; may be left out
+    lower 0 NAME         a layer below the first, which holds pins alone; may be left out
 
-Without such a text the tools speak of layers by number and of the design's own units.
+`names 1` may stand before these lines, and `end` behind them. Without such a text the tools speak of layers by number
+and of the design's own units.
 """
+import re
 from fractions import Fraction
 
 from texts import Fault
 
-COUNTS = {"units": 1, "origin": 2, "tile": 2, "layer": 2}   # how many words stand behind each
+COUNTS = {"names": 1, "units": 1, "origin": 2, "tile": 2, "layer": 2, "die": 4, "lower": 2, "end": 0}   # words behind
 
 
 class Names:
     """What a names text says."""
 
-    def __init__(self, units, origin, tile, layers):
+    def __init__(self, units, origin, tile, layers, die=None, lower=()):
         self.units, self.origin, self.tile, self.layers = units, tuple(origin), tuple(tile), list(layers)
+        self.die, self.lower = die and tuple(die), list(lower)
 
     def lines(self):
         """The lines of the text."""
         yield f"units {self.units}"
         yield f"origin {self.origin[0]} {self.origin[1]}"
         yield f"tile {self.tile[0]} {self.tile[1]}"
-        for number, name in enumerate(self.layers, 1):
-            yield f"layer {number} {name}"
+        if self.die:
+            yield "die " + " ".join(map(str, self.die))
+        yield from (f"lower 0 {name}" for name in self.lower)
+        yield from (f"layer {number} {name}" for number, name in enumerate(self.layers, 1))
 
 
 def write_names(names, path):
@@ -39,34 +46,37 @@ def write_names(names, path):
 
 def read_names(path):
     """The names of a text."""
-    found = {}
+    found, layers, lower = {}, {}, []
     with open(path, encoding="utf-8", errors="surrogateescape") as file:
         for number, line in enumerate(file, 1):
             words = line.split()
-            if not words:
-                continue
-            if len(words) != COUNTS.get(words[0], -1) + 1:
-                raise Fault(f"{path}:{number}: `{line.strip()}` is no statement of a names text")
-            key, values = (" ".join(words[:2]), words[2]) if words[0] == "layer" else (words[0], whole(words[1:]))
-            if values is None or key in found:
-                raise Fault(f"{path}:{number}: `{line.strip()}` " + ("is said twice" if key in found else
-                                                                    "wants whole numbers"))
-            found[key] = values
-    layers = [found.pop(f"layer {number}", None) for number in range(1, len(found) + 1)]
-    layers = layers[:layers.index(None)]
-    if sorted(found) != ["origin", "tile", "units"] or not layers:
-        raise Fault(f"{path}: units, origin, tile and the layers from 1 are due, each once")
+            if words and not took(words, found, layers, lower):
+                raise Fault(f"{path}:{number}: `{line.strip()}` is no statement of a names text, or said twice")
+    if not {"units", "origin", "tile"} <= set(found) or found.get("names", [1]) != [1]:
+        raise Fault(f"{path}: units, origin and tile are due, each once")
+    if not layers or sorted(layers) != list(range(1, len(layers) + 1)):
+        raise Fault(f"{path}: the layers are due, from 1")
     if found["units"][0] < 1 or min(found["tile"]) < 1:
         raise Fault(f"{path}: units and tile are at least 1")
-    return Names(found["units"][0], found["origin"], found["tile"], layers)
+    named = [layers[number] for number in sorted(layers)]
+    return Names(found["units"][0], found["origin"], found["tile"], named, found.get("die"), lower)
 
 
-def whole(words):
-    """The whole numbers that these words are, or None."""
-    try:
-        return list(map(int, words))
-    except ValueError:
-        return None
+def took(words, found, layers, lower):
+    """Whether these words are a statement that may stand here; it is then put where it belongs."""
+    word, *rest = words
+    has_name = word in ("layer", "lower")
+    numbers = rest[:1] if has_name else rest
+    if len(rest) != COUNTS.get(word, -1) or not all(re.fullmatch("-?[0-9]+", number) for number in numbers):
+        return False
+    if word == "lower":
+        lower.append(rest[1])
+        return True
+    into, key, value = (layers, int(rest[0]), rest[1]) if has_name else (found, word, list(map(int, rest)))
+    if key in into:
+        return False
+    into[key] = value
+    return True
 
 
 class Terms:

@@ -17,7 +17,6 @@ import sys
 import tempfile
 import unittest
 
-import testing
 from test_answers import Adjusted, Hotspots, Names, Pictures, Slowest   # for unittest to find them
 from test_report import FirstPicture, Page, Report
 from testing import HERE, PICTURES, ROOT, InFolder, run, tool
@@ -395,7 +394,7 @@ def main():
     parser.add_argument("--program", required=True, metavar="PATH", help="a built groute")
     parser.add_argument("names", nargs="*", metavar="NAME", help="of a test, as Where or Congestion.test_table")
     asked = parser.parse_args()
-    program = testing.program = os.path.abspath(asked.program)
+    program = os.environ["GROUTE"] = os.path.abspath(asked.program)
     unittest.main(argv=[sys.argv[0], *asked.names], verbosity=1)
 
 

@@ -36,6 +36,11 @@ class Names(InFolder):
         names.write_names(names.Names(read.units, read.origin, read.tile, read.layers), path)
         with open(path, encoding="utf-8") as file:
             self.assertEqual(file.read(), "units 100\norigin -50 70\ntile 15 20\nlayer 1 metal1\nlayer 2 m2\n")
+        more = self.put("more", f"names 1\ndie 1 2 3 4\n{NAMES}lower 0 li1\nlower 0 poly\nend\n")
+        names.write_names(names.read_names(more), path)
+        with open(path, encoding="utf-8") as file:
+            self.assertEqual(file.read(), "units 100\norigin -50 70\ntile 15 20\ndie 1 2 3 4\nlower 0 li1\nlower 0 poly\n"
+                                          "layer 1 metal1\nlayer 2 m2\n")
 
     def test_microns(self):
         names, texts = importlib.import_module("names"), importlib.import_module("texts")
@@ -47,14 +52,15 @@ class Names(InFolder):
     def test_faults(self):
         names, texts = importlib.import_module("names"), importlib.import_module("texts")
         for old, new, says in (
-            ("units 100\n", "", "are due"),
+            ("units 100\n", "", "units, origin and tile are due"),
             ("units 100", "units 0", "at least 1"),
-            ("units 100", "units 100\nunits 100", ":2: `units 100` is said twice"),
-            ("tile 15 20", "tile 15 wide", ":3: `tile 15 wide` wants whole numbers"),
+            ("units 100", "names 2\nunits 100", "are due"),
+            ("units 100", "units 100\nunits 100", ":2: `units 100` is no .* or said twice"),
+            ("tile 15 20", "tile 15 wide", ":3: `tile 15 wide` is no"),
             ("tile 15 20", "tile 15", ":3: `tile 15` is no statement"),
             ("tile 15 20", "tile 15 20\npitch 3", ":4: `pitch 3` is no statement"),
-            ("layer 1", "layer 3", "layers from 1 are due"),
-            ("layer 1", "layer 2", "said twice"),
+            ("layer 1", "layer 3", "layers are due, from 1"),
+            ("layer 1", "layer 2", ":6: .* said twice"),
         ):
             self.assertIn(old, NAMES)
             with self.assertRaisesRegex(texts.Fault, says):
@@ -146,7 +152,7 @@ class Hotspots(InFolder):
 
     def test_an_overfull_chip(self):
         """Ten regions, each of other tiles, the worst first."""
-        design = self.put("design", run(testing.program, "make", "11", "40", "30", "4", "9000")[1])
+        design = self.put("design", run(testing.program(), "make", "11", "40", "30", "4", "9000")[1])
         table = os.path.join(self.folder.name, "table")
         self.assertEqual(tool("hotspots.py", design, self.routed(design, 4), "--csv", table)[0], 0)
         with open(table, encoding="ascii") as file:
@@ -286,7 +292,7 @@ class Slowest(InFolder):
         with open(f"{ROOT}/examples/small.ispd", encoding="ascii") as file:
             design = self.put("design", file.read())
         library = f"{ROOT}/examples/small.library"
-        _, solution, report = run(testing.program, "route", design, library, "0")
+        _, solution, report = run(testing.program(), "route", design, library, "0")
         found = tool("slowest.py", design, library, self.put("solution", solution), self.put("report", report))[1]
         required = int(report.split("required ")[1].split()[0])
         self.assertEqual(found.splitlines()[1].split()[:6],
@@ -352,7 +358,7 @@ class Pictures(InFolder):
     def test_what_is_drawn(self):
         """A net, buffers, regions, a part of the chip and one direction each change the picture."""
         library = f"{ROOT}/examples/small.library"
-        _, solution, report = run(testing.program, "route", SMALL, library, "0")
+        _, solution, report = run(testing.program(), "route", SMALL, library, "0")
         words = SMALL, self.put("solution", solution)
         report = self.put("report", report.replace("buffers 0", "buffers 1") + "(15,5,1) mid\n")
         plain = self.picture(*words)
@@ -408,7 +414,7 @@ class Adjusted(InFolder):
                 self.assertLess(abs(sum(new for _, new in mine) / track - wanted), 1)
             library = self.put("library", testing.LIBRARY % "".join(
                 f"wire {layer + 1} 1 1\n" for layer in range(design.layers)))
-            routed = [run(testing.program, "route", some, library, "0") for some in (path, self.put("adjusted", out))]
+            routed = [run(testing.program(), "route", some, library, "0") for some in (path, self.put("adjusted", out))]
             self.assertEqual([found[0] for found in routed], [0, 0])
             self.assertEqual(*(found[2].split()[1] for found in routed))
 
@@ -424,7 +430,7 @@ class Adjusted(InFolder):
         self.assertIn("via spacing 4\n-5 6 7 8\nnum net 1\na 9 1001 5\n1 8 1\n", self.adjusted(path)[3])
 
     def test_regions_and_directions(self):
-        design = self.put("design", run(testing.program, "make", "11", "9", "8", "3", "10")[1])
+        design = self.put("design", run(testing.program(), "make", "11", "9", "8", "3", "10")[1])
         before, after, *_ = self.adjusted(design, "--region", "2", "1", "5", "3", "0.5", "--direction", "h",
                                           "--layer", "3", "0.5")
         for (way, layer, column, row), held in before.items():

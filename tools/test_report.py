@@ -29,7 +29,7 @@ class Report(InFolder):
         crowd, library = f"{ROOT}/examples/crowd.ispd", f"{ROOT}/examples/crowd.library"
         reports = []
         for rounds in "01":
-            _, out, err = run(testing.program, "route", crowd, library, rounds)
+            _, out, err = run(testing.program(), "route", crowd, library, rounds)
             reports.append(self.put(f"report{rounds}", err))
             solution = self.put(f"solution{rounds}", out)
         out, _ = self.page(crowd, solution, library, reports[1], "--before", reports[0])
@@ -53,7 +53,7 @@ class Report(InFolder):
         most = report.MOST_NETS, report.SLOWEST
         self.addCleanup(lambda: (setattr(report, "MOST_NETS", most[0]), setattr(report, "SLOWEST", most[1])))
         report.MOST_NETS, report.SLOWEST = 10, 2
-        design = self.put("design", run(testing.program, "make", "11", "24", "20", "4", "600")[1])
+        design = self.put("design", run(testing.program(), "make", "11", "24", "20", "4", "600")[1])
         path = os.path.join(self.folder.name, "page")
         asked = type("Asked", (), {"design": design, "names": None, "solution": self.routed(design, 4), "scale": 1,
                                    "library": None, "report": None})
@@ -73,7 +73,7 @@ class Page(InFolder):
         """The address of a page of a real chip, without rounds, and its report."""
         data = run("xz", "-dc", f"{ROOT}/examples/{GROM}.ispd.xz")[1]
         design, library = self.put("grom.ispd", data), f"{ROOT}/examples/osu035.library"
-        _, solution, report = run(testing.program, "route", design, library, "0")
+        _, solution, report = run(testing.program(), "route", design, library, "0")
         page = os.path.join(self.folder.name, "grom.html")
         done = tool("report.py", design, self.put("solution", solution), library, self.put("report", report), "--names",
                     f"{ROOT}/examples/{GROM}.names", "-o", page)
@@ -243,7 +243,7 @@ class FirstPicture(InFolder):
     """How long a page of 14,000 nets takes to its first picture."""
 
     def test_within_a_second(self):
-        design = self.put("design", run(testing.program, "make", "5", "110", "110", "6", "14000")[1])
+        design = self.put("design", run(testing.program(), "make", "5", "110", "110", "6", "14000")[1])
         path = os.path.join(self.folder.name, "page.html")
         self.assertEqual(tool("report.py", design, self.routed(design, 6), "-o", path)[0], 0)
         times = []

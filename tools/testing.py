@@ -10,7 +10,11 @@ HERE = os.path.dirname(os.path.abspath(__file__))
 ROOT = os.path.dirname(HERE)
 PICTURES = all(importlib.util.find_spec(name) for name in ("numpy", "matplotlib"))
 LIBRARY = "library 1\n%svia 10 10\ndriver 100\nsink 10 0\nend\n"
-program = None      # the path of groute
+
+
+def program():
+    """The path of groute."""
+    return os.environ["GROUTE"]
 
 
 def run(*words, folder=None, **options):
@@ -42,6 +46,6 @@ class InFolder(unittest.TestCase):
         """The path of the routes of a design."""
         wires = "".join(f"wire {layer} 100 100\n" for layer in range(1, layers + 1))
         library = self.put("library", LIBRARY % wires)
-        status, out, err = run(program, "route", design, library, str(rounds))
+        status, out, err = run(program(), "route", design, library, str(rounds))
         self.assertEqual((status, err[:7]), (0, "routed "))
         return self.put("solution", out)

@@ -119,7 +119,7 @@ class Design:
     """A grid of tiles, its capacities, and what is known of its nets.
 
     capacity[way][layer], width[layer] and spacing[layer] are those of the header; `widths` has for each net's id its
-    width, or None where the net is not routed, and its width stands in `unrouted`; `adjusted` has capacities of single wire edges.
+    width, or None where the net is not routed and `unrouted` has it; `adjusted` has capacities of single wire edges.
     """
 
     def __init__(self, tokens):
@@ -197,6 +197,21 @@ class Design:
     def need(self, layer, width):
         """What a net of this width takes of a wire edge."""
         return max(width, self.width[layer]) + self.spacing[layer]
+
+
+def records(design, path):
+    """Of each record of a solution's text whose net is routed: its net's id and its segments' tokens."""
+    tokens = Tokens(path)
+    while not tokens.is_ended():
+        id_ = tokens.take(2)[1]
+        id_ = int(id_) if id_.isdigit() else None
+        if id_ not in design.widths:
+            raise tokens.fault("the id of a net of the design is due")
+        segments = tokens.until(b"!")
+        if segments and not segments[0].startswith(b"("):
+            del segments[0]     # a number that says nothing
+        if design.widths[id_] is not None:
+            yield id_, segments
 
 
 class Netlist(Design):
@@ -296,18 +311,3 @@ def buffer_of(design, point, kind):
     if form is None:
         raise Fault(f"{point.decode(errors='replace')} is no place of a buffer")
     return design.cell(*map(int, form.groups())), kind.decode(errors="surrogateescape")
-
-
-def records(design, path):
-    """Of each record of a solution's text whose net is routed: its net's id and its segments' tokens."""
-    tokens = Tokens(path)
-    while not tokens.is_ended():
-        id_ = tokens.take(2)[1]
-        id_ = int(id_) if id_.isdigit() else None
-        if id_ not in design.widths:
-            raise tokens.fault("the id of a net of the design is due")
-        segments = tokens.until(b"!")
-        if segments and not segments[0].startswith(b"("):
-            del segments[0]     # a number that says nothing
-        if design.widths[id_] is not None:
-            yield id_, segments
