@@ -5,7 +5,8 @@ Each cut leaves the share SHARE of what some wire edges hold, in whole tracks (a
 its minimum spacing). What rounding would lose is spread over neighbours: on each layer and in each direction the edges
 of a cut hold together SHARE of their tracks, to within one. --layer cuts a layer, or `all`; --region cuts the edges
 between the tiles from one to another, on all layers; each may stand several times, and cuts come in the order of the
-words. --direction leaves the edges of the other direction as they are. What is 0 then stays open to routes, as overflow.
+words. --direction leaves the edges of the other direction as they are. What holds 0 then stays open to routes, as
+overflow.
 """
 import argparse
 import sys

@@ -101,6 +101,10 @@ class Browser:
             raise RuntimeError(f"{words}: {found['exceptionDetails']}")
         return found["result"].get("value")
 
+    def text(self, selector):
+        """What an element says."""
+        return self.value(f"document.querySelector({json.dumps(selector)}).textContent")
+
     def wait(self, words):
         """Until an expression is true; the timer ends what never comes."""
         while not self.value(words):
@@ -125,8 +129,10 @@ class Browser:
 
     def middle(self, selector):
         """The middle of an element."""
-        return self.value(f"""(() => {{ const box = document.querySelector({json.dumps(selector)}).getBoundingClientRect();
-            return [box.x + box.width / 2, box.y + box.height / 2]; }})()""")
+        return self.value(f"""(() => {{
+            const box = document.querySelector({json.dumps(selector)}).getBoundingClientRect();
+            return [box.x + box.width / 2, box.y + box.height / 2];
+        }})()""")
 
     def screenshot(self, path):
         """Writes what is seen as .png."""
@@ -149,7 +155,7 @@ class Browser:
 def main():
     """Writes a screenshot of a page, as those in docs/ are made."""
     parser = argparse.ArgumentParser(description=main.__doc__)
-    parser.add_argument("address", metavar="ADDRESS", help="of a page of report.py, as file:///tmp/report.html#region=1")
+    parser.add_argument("address", metavar="ADDRESS", help="of a page of report.py, as file:///tmp/a.html#region=1")
     parser.add_argument("output", metavar="FILE", help="the .png that is written")
     parser.add_argument("--dark", action="store_true", help="in dark colours")
     asked = parser.parse_args()

@@ -48,7 +48,7 @@ def words():
                         help="show the tiles from one to another alone")
     parser.add_argument("--worst", type=int, default=0, metavar="N", help="frame the N worst regions of hotspots.py")
     parser.add_argument("--net", metavar="NAME", help="draw this net")
-    parser.add_argument("--buffers", metavar="REPORT", help="draw the buffers that a report tells, of the net or of all")
+    parser.add_argument("--buffers", metavar="REPORT", help="draw the buffers that a report tells of")
     command.add_names(parser)
     asked = parser.parse_args()
     if asked.output and os.path.splitext(asked.output)[1] not in (".png", ".svg", ".csv"):

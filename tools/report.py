@@ -13,7 +13,6 @@ import base64
 import hashlib
 import json
 import os
-import re
 import struct
 import sys
 import zlib
@@ -22,7 +21,8 @@ import command
 from names import Terms
 from texts import EAST, NORTH, Fault, Library, Netlist, Tokens, buffered, totals_of
 
-HERE = os.path.dirname(os.path.abspath(__file__))
+HERE = os.path.dirname(os.path.realpath(__file__))
+SCRIPTS = ("page_tables.js", "page_map.js", "page.js")  # the last one begins
 MOST_NETS = 100_000     # of which all are on the page
 MOST_BYTES = 20_000_000
 REGIONS, SLOWEST = 10, 1000     # how many are always there
@@ -154,7 +154,7 @@ def add_nets(packed, routes, ids):
     packed.add("runs", numpy.bincount(net[order], minlength=len(ids)))
     for name, some in (("runWay", edges.way), ("runFirst", edges.number), ("runLength", edges.length)):
         packed.add(name, some[order])
-    through = edges.through([excess > 0 for excess in (edges.demand[way] - edges.capacity[way] for way in (EAST, NORTH))])
+    through = edges.through([edges.demand[way] > edges.capacity[way] for way in (EAST, NORTH)])
     for name, some in (("wires", edges.sizes()[0]), ("vias", edges.sizes()[1]), ("over", through)):
         found = numpy.zeros(len(ids), numpy.int64)
         found[mine[:-1][mine[:-1] >= 0]] = some[mine[:-1] >= 0]
@@ -180,15 +180,18 @@ def add_buffers(packed, routes, ids):
 
 def page(data):
     """The page with this data, and a policy that allows its own script and style alone."""
-    with open(os.path.join(HERE, "report.html"), encoding="utf-8") as file:
-        text = file.read()
-    hashes = []
-    for tag in ("script", "style"):
-        inner = re.search(f"<{tag}>(.*?)</{tag}>", text, re.DOTALL).group(1)
-        hashes.append(base64.b64encode(hashlib.sha256(inner.encode()).digest()).decode())
+    style, script = part("page.css"), '"use strict";\n' + "".join(map(part, SCRIPTS))
+    hashes = [base64.b64encode(hashlib.sha256(inner.encode()).digest()).decode() for inner in (script, style)]
     policy = ("default-src 'none'; script-src 'sha256-{}'; style-src 'sha256-{}'; base-uri 'none'; "
               "form-action 'none'").format(*hashes)
-    return text.replace("@POLICY@", policy).replace("@DATA@", data)
+    text = part("page.html").replace("@POLICY@", policy).replace("@STYLE@", style).replace("@SCRIPT@", script)
+    return text.replace("@DATA@", data)
+
+
+def part(name):
+    """A file of the page."""
+    with open(os.path.join(HERE, name), encoding="utf-8") as file:
+        return file.read()
 
 
 def words():
@@ -199,7 +202,8 @@ def words():
     parser.add_argument("library", metavar="LIBRARY", nargs="?", help="the library of the report")
     parser.add_argument("report", metavar="REPORT", nargs="?",
                         help="what `route` wrote on standard error, or `buffer` on output")
-    parser.add_argument("--before", nargs="+", default=[], metavar="REPORT", help="reports of earlier rounds, from 0 on")
+    parser.add_argument("--before", nargs="+", default=[], metavar="REPORT",
+                        help="reports of earlier rounds, from 0 on")
     parser.add_argument("--scale", type=int, default=1, metavar="N", help="of the library's numbers; else 1")
     parser.add_argument("-o", "--output", metavar="FILE", required=True, help="the page, .html")
     command.add_names(parser)

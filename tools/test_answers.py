@@ -31,7 +31,8 @@ class Names(InFolder):
     def test_both_ways(self):
         names = importlib.import_module("names")
         read = names.read_names(self.put("names", NAMES))
-        self.assertEqual((read.units, read.origin, read.tile, read.layers), (100, (-50, 70), (15, 20), ["metal1", "m2"]))
+        self.assertEqual((read.units, read.origin, read.tile), (100, (-50, 70), (15, 20)))
+        self.assertEqual(read.layers, ["metal1", "m2"])
         path = os.path.join(self.folder.name, "written")
         names.write_names(names.Names(read.units, read.origin, read.tile, read.layers), path)
         with open(path, encoding="utf-8") as file:
@@ -39,8 +40,8 @@ class Names(InFolder):
         more = self.put("more", f"names 1\ndie 1 2 3 4\n{NAMES}lower 0 li1\nlower 0 poly\nend\n")
         names.write_names(names.read_names(more), path)
         with open(path, encoding="utf-8") as file:
-            self.assertEqual(file.read(), "units 100\norigin -50 70\ntile 15 20\ndie 1 2 3 4\nlower 0 li1\nlower 0 poly\n"
-                                          "layer 1 metal1\nlayer 2 m2\n")
+            self.assertEqual(file.read(), "units 100\norigin -50 70\ntile 15 20\ndie 1 2 3 4\nlower 0 li1\n"
+                                          "lower 0 poly\nlayer 1 metal1\nlayer 2 m2\n")
 
     def test_microns(self):
         names, texts = importlib.import_module("names"), importlib.import_module("texts")
@@ -207,8 +208,8 @@ class Hotspots(InFolder):
 
 
 # Worked out by hand. Sink 1 of net a is in the same row as its driver, four steps away; its delay without buffers is
-# 100 * 410 (the driver) + 4 wires of 100 ohms with 100 femtofarads each: 100 * (50 + 310) + .. + 100 * (50 + 10), in all
-# 137 ps, and so its required time is -137 ps, or -274000 half femtoseconds. Net b has two sinks with two times.
+# 100 * 410 (the driver) + 4 wires of 100 ohms with 100 femtofarads each: 100 * (50 + 310) + .. + 100 * (50 + 10), in
+# all 137 ps, and so its required time is -137 ps, or -274000 half femtoseconds. Net b has two sinks with two times.
 TIMED = """grid 5 1 1
 vertical capacity 0
 horizontal capacity 4
@@ -391,7 +392,8 @@ class Adjusted(InFolder):
             (way, layer, column, row): design.adjusted.get((way, design.number(way, column, row, layer)),
                                                            design.capacity[way][layer])
             for way in (texts.EAST, texts.NORTH) for layer in range(design.layers)
-            for column in range(design.columns - (way == texts.EAST)) for row in range(design.rows - (way == texts.NORTH))}
+            for column in range(design.columns - (way == texts.EAST))
+            for row in range(design.rows - (way == texts.NORTH))}
 
     def adjusted(self, path, *words):
         """The capacities before and after, and the design after."""
@@ -401,7 +403,7 @@ class Adjusted(InFolder):
         return before, self.capacities(self.put("adjusted", out))[1], design, out
 
     def test_random_designs(self):
-        """Each layer's sum is the share of its tracks to within one; no edge has more than before, or a part of a track."""
+        """Each layer's sum is the share of its tracks to within one; no edge has more than before."""
         for seed, text in random_designs(30):
             path = self.put("design", text)
             share = ("0.8", "0.5", "0.123", "0")[seed % 4]

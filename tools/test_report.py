@@ -1,6 +1,5 @@
 """Tests of report.py's page, in a browser; test.py runs them."""
 import importlib
-import json
 import os
 import re
 import unittest
@@ -100,21 +99,21 @@ class Page(InFolder):
         address, report = self.grom()
         with browser.Browser() as page:
             self.opened(page, address)
-            self.assertTrue(page.value("document.querySelector('h1').textContent").startswith("overflow 348; fullest "))
+            self.assertTrue(page.text("h1").startswith("overflow 348; fullest "))
             self.assertEqual(page.value("document.querySelectorAll('#regions tbody tr').length"), 4)
             whole = self.changed(page, None)[1]
             page.click(*page.middle("#regions tbody tr:nth-child(1) button"))
             self.assertRegex(page.value("location.hash"), r"^#region=1&view=[\d.%C]+$")
             count, region = self.changed(page, whole)
             self.assertGreater(count, region.size // 3 // 4)
-            self.assertIn("region 1", page.value("document.querySelector('#nets caption').textContent"))
-            self.assertEqual(page.value("document.getElementById('found').textContent"), "177 of 177")
+            self.assertIn("region 1", page.text("#nets caption"))
+            self.assertEqual(page.text("#found"), "177 of 177")
             first = "#nets tbody tr:nth-child(1) button"
-            name = page.value(f"document.querySelector('{first}').textContent")
+            name = page.text(first)
             page.click(*page.middle(first))
             self.assertEqual(page.value("new URLSearchParams(location.hash.slice(1)).get('net')"), name)
             number = next(line for line in report.splitlines() if line.startswith(f"net {name} ")).split()[4]
-            self.assertIn(f"required {int(number) / 2000:.1f} ps", page.value("document.getElementById('shown').textContent"))
+            self.assertIn(f"required {int(number) / 2000:.1f} ps", page.text("#shown"))
             with_net = self.changed(page, region)[1]
             self.assertEqual(self.wire_colours(page, with_net), self.wire_layers(page))
             link = page.value("location.href")
@@ -145,7 +144,8 @@ class Page(InFolder):
         with browser.Browser() as page:
             self.opened(page, address)
             nodes = page.call("Accessibility.getFullAXTree")["nodes"]
-            roles = [(node["role"]["value"], node.get("name", {}).get("value")) for node in nodes if not node["ignored"]]
+            roles = [(node["role"]["value"], node.get("name", {}).get("value")) for node in nodes
+                     if not node["ignored"]]
             for name in ("Layers", "Worst regions", "Nets"):
                 self.assertIn(("table", name), roles)
             self.assertIn(("columnheader", "required, ps"), roles)
@@ -153,16 +153,16 @@ class Page(InFolder):
             self.assertLess(page.value("document.querySelectorAll('#nets tbody tr').length"), 80)
             page.value("document.getElementById('map').focus()")
             page.press("ArrowRight")
-            said = page.value("document.getElementById('live').textContent")
+            said = page.text("#live")
             self.assertRegex(said, r"^Tile 13 12, \(\d.* microns\nfullest edge: metal\d \w+: capacity \d+, demand \d+")
             page.press("ArrowRight")
-            said = page.value("document.getElementById('live').textContent")
+            said = page.text("#live")
             self.assertRegex(said, r"^Edge of tiles 13 12 and 14 12, .*\nmetal1 horizontal: capacity 0, .*; metal3 hor")
             page.press("PageUp")
-            self.assertEqual(page.value("document.getElementById('live').textContent"), "metal1")
+            self.assertEqual(page.text("#live"), "metal1")
             page.call("Input.dispatchMouseEvent", type="mouseMoved", x=200, y=400)
             page.settle()
-            self.assertRegex(page.value("document.getElementById('told').textContent"), r"^(Tile|Edge) .* microns\n.*metal1")
+            self.assertRegex(page.text("#told"), r"^(Tile|Edge) .* microns\n.*metal1")
             self.assertEqual(page.complaints(), [])
 
     def test_sort_and_search(self):
@@ -184,6 +184,30 @@ class Page(InFolder):
             self.assertTrue(all(name.startswith("clk_bF") for name in names))
             self.assertEqual(page.complaints(), [])
 
+    def test_zoom_and_pan(self):
+        """The wheel keeps what is under the pointer, a drag moves it along, and the browser's way back leads back."""
+        address, _ = self.grom()
+        with browser.Browser() as page:
+            self.opened(page, address)
+            left, top = page.value("(({x, y}) => [x, y])(document.getElementById('map').getBoundingClientRect())")
+            under = "picture.toTiles({}, {}).map((value) => Math.round(10 * value))"
+            before = page.value(under.format(150, 120))
+            page.call("Input.dispatchMouseEvent", type="mouseWheel", x=left + 150, y=top + 120, deltaX=0, deltaY=-300)
+            page.settle()
+            self.assertEqual(page.value(under.format(150, 120)), before)
+            self.assertRegex(page.value("location.hash"), "^#view=")
+            page.call("Input.dispatchMouseEvent", type="mousePressed", x=left + 150, y=top + 120, button="left")
+            page.call("Input.dispatchMouseEvent", type="mouseMoved", x=left + 190, y=top + 90, button="left")
+            page.call("Input.dispatchMouseEvent", type="mouseReleased", x=left + 190, y=top + 90, button="left")
+            page.settle()
+            self.assertEqual(page.value(under.format(190, 90)), before)
+            page.click(*page.middle("#regions tbody tr:nth-child(2) button"))
+            self.assertIn("region=2", page.value("location.hash"))
+            page.value("history.back()")
+            page.wait("!location.hash.includes('region')")
+            self.assertEqual(page.text("#found"), "1,999 of 1,999")
+            self.assertEqual(page.complaints(), [])
+
     def test_a_hard_name(self):
         """A net's name is text, whatever it looks like."""
         with open(f"{ROOT}/examples/small.ispd", encoding="ascii") as file:
@@ -195,9 +219,9 @@ class Page(InFolder):
         self.assertEqual(tool("report.py", design, solution, "-o", path)[::2], (0, ""))
         with browser.Browser() as page:
             self.opened(page, "file://" + importlib.import_module("urllib.parse").quote(path))
-            self.assertEqual(page.value("document.querySelector('#nets tbody button').textContent"), HARD)
+            self.assertEqual(page.text("#nets tbody button"), HARD)
             page.click(*page.middle("#nets tbody button"))
-            self.assertIn(HARD, page.value("document.getElementById('shown').textContent"))
+            self.assertIn(HARD, page.text("#shown"))
             self.assertEqual(page.value("document.scripts.length"), 1)
             self.assertEqual(page.complaints(), [])
 
@@ -221,8 +245,8 @@ class Page(InFolder):
                 page.screenshot(path)
                 pixels = image.imread(path)
                 seen = []
-                for x, y in json.loads(page.value("JSON.stringify([...document.querySelectorAll('#legend canvas')].slice(0, 5)"
-                                                  ".map((item) => item.getBoundingClientRect()).map(({x, y}) => [x, y]))")):
+                for x, y in page.value("[...document.querySelectorAll('#legend canvas')].slice(0, 5)"
+                                       ".map((item) => item.getBoundingClientRect()).map(({x, y}) => [x, y])"):
                     box = pixels[int(y) + 2:int(y) + 12, int(x) + 2:int(x) + 24, :3]
                     seen.append(box.reshape(-1, 3).mean(axis=0))
                 for at, one in enumerate(seen):
