@@ -190,17 +190,21 @@ class Page(InFolder):
         with browser.Browser() as page:
             self.opened(page, address)
             left, top = page.value("(({x, y}) => [x, y])(document.getElementById('map').getBoundingClientRect())")
-            under = "picture.toTiles({}, {}).map((value) => Math.round(10 * value))"
-            before = page.value(under.format(150, 120))
+
+            def assert_under(x, y, tile):
+                for one, other in zip(page.value(f"picture.toTiles({x}, {y})"), tile):
+                    self.assertAlmostEqual(one, other, delta=0.2)
+
+            before = page.value("picture.toTiles(150, 120)")
             page.call("Input.dispatchMouseEvent", type="mouseWheel", x=left + 150, y=top + 120, deltaX=0, deltaY=-300)
             page.settle()
-            self.assertEqual(page.value(under.format(150, 120)), before)
+            assert_under(150, 120, before)
             self.assertRegex(page.value("location.hash"), "^#view=")
             page.call("Input.dispatchMouseEvent", type="mousePressed", x=left + 150, y=top + 120, button="left")
             page.call("Input.dispatchMouseEvent", type="mouseMoved", x=left + 190, y=top + 90, button="left")
             page.call("Input.dispatchMouseEvent", type="mouseReleased", x=left + 190, y=top + 90, button="left")
             page.settle()
-            self.assertEqual(page.value(under.format(190, 90)), before)
+            assert_under(190, 90, before)
             page.click(*page.middle("#regions tbody tr:nth-child(2) button"))
             self.assertIn("region=2", page.value("location.hash"))
             page.value("history.back()")
