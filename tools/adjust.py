@@ -13,6 +13,7 @@ import sys
 from fractions import Fraction
 
 import command
+from names import Terms
 from texts import EAST, NORTH, Fault, Netlist, Tokens
 
 MOST = 10_000   # of which a share is so many parts
@@ -30,11 +31,12 @@ def words():
     parser = command.parser(__doc__)
     parser.set_defaults(cuts=[])
     parser.add_argument("design", metavar="DESIGN", help="a design text")
-    parser.add_argument("--layer", nargs=2, action=Cut, metavar=("N", "SHARE"), help="a layer from 1, or all")
+    parser.add_argument("--layer", nargs=2, action=Cut, metavar=("N", "SHARE"), help="a layer from 1 or by its name, or all")
     parser.add_argument("--region", nargs=5, action=Cut, metavar=("X0", "Y0", "X1", "Y1", "SHARE"),
                         help="columns and rows from 0")
     parser.add_argument("--direction", choices=("h", "v"), help="cut horizontal or vertical wire edges alone")
     parser.add_argument("-o", "--output", metavar="FILE", help="the design that is written; else standard output")
+    command.add_names(parser)
     return parser.parse_args()
 
 
@@ -56,11 +58,11 @@ def whole(word, least, most, what):
     return int(word)
 
 
-def place(design, cut):
+def place(terms, cut):
     """The layers, rows and columns of a cut, the latter with all their tiles."""
-    option, values = cut
+    design, (option, values) = terms.design, cut
     if option == "--layer":
-        layer = None if values[0] == "all" else whole(values[0], 1, design.layers, "layer")
+        layer = None if values[0] == "all" else terms.layer(values[0])
         return slice(None) if layer is None else slice(layer - 1, layer), (0, design.rows - 1), (0, design.columns - 1)
     x0, x1 = (whole(word, 0, design.columns - 1, "column") for word in values[:3:2])
     y0, y1 = (whole(word, 0, design.rows - 1, "row") for word in values[1:4:2])
@@ -69,9 +71,10 @@ def place(design, cut):
     return slice(None), (y0, y1), (x0, x1)
 
 
-def cut_edges(design, capacity, cut, ways):
+def cut_edges(terms, capacity, cut, ways):
     """Cuts capacities, by way arrays by layer, row and column, in place."""
-    layers, rows, columns = place(design, cut)
+    design = terms.design
+    layers, rows, columns = place(terms, cut)
     share = share_of(cut[1][-1])
     for way in ways:
         # The edge of the last tile goes on to one outside.
@@ -140,11 +143,12 @@ def main():
     """Writes the design."""
     asked = words()
     design = Netlist(Tokens(asked.design))
+    terms = Terms(design, asked.names)
     from edges_numpy import by_layer, capacities
     capacity = [by_layer(design, way, capacities(design, way)) for way in (EAST, NORTH)]
     ways = [way for way, letter in ((EAST, "h"), (NORTH, "v")) if asked.direction in (None, letter)]
     for cut in asked.cuts:
-        cut_edges(design, capacity, cut, ways)
+        cut_edges(terms, capacity, cut, ways)
     text = (f"{line}\n" for line in lines(design, capacity))
     if asked.output is None:
         sys.stdout.writelines(text)

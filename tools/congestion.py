@@ -41,7 +41,7 @@ def words():
     parser.add_argument("design", metavar="DESIGN", help="a design text")
     parser.add_argument("solution", metavar="SOLUTION", help="a solution text of it")
     parser.add_argument("-o", "--output", metavar="FILE", help="a file .png, .svg or .csv; without it, only the totals")
-    parser.add_argument("--layer", type=int, metavar="N", help="show this layer alone, from 1")
+    parser.add_argument("--layer", metavar="N", help="show this layer alone, from 1 or by its name")
     parser.add_argument("--edges", action="store_true", help="a picture of wire edges and not of tiles")
     parser.add_argument("--direction", choices=("h", "v"), help="show horizontal or vertical wire edges alone")
     parser.add_argument("--region", nargs=4, type=int, metavar=("X0", "Y0", "X1", "Y1"),
@@ -59,10 +59,10 @@ def words():
     return asked
 
 
-def checked(asked, design):
-    """Refuses what the design doesn't have; the net becomes its id."""
-    if asked.layer is not None and not 1 <= asked.layer <= design.layers:
-        raise Fault(f"the design has layers 1 to {design.layers}")
+def checked(asked, design, terms):
+    """Refuses what the design doesn't have; the layer becomes its number, and the net its id."""
+    if asked.layer is not None:
+        asked.layer = terms.layer(asked.layer)
     if asked.region:
         x0, y0, x1, y1 = asked.region
         if not (0 <= x0 <= x1 < design.columns and 0 <= y0 <= y1 < design.rows):
@@ -85,7 +85,7 @@ def main():
     asked = words()
     design = (Design if asked.net is None else Netlist)(Tokens(asked.design))
     terms = Terms(design, asked.names)
-    checked(asked, design)
+    checked(asked, design, terms)
     edges = Edges(design, asked.solution)
     name = os.path.basename(asked.design)
     if asked.output and asked.output.endswith(".csv"):

@@ -4,6 +4,7 @@ All is of wire edges as they are, layer by layer. An edge of capacity 0 has no u
 more room elsewhere would not help: such overflow is counted apart. An edge belongs to the region of its lower end, so
 that regions without a common tile have no common edge.
 """
+import functools
 from dataclasses import dataclass
 
 import numpy
@@ -87,6 +88,7 @@ class Loads:
             setattr(total, word, sum(getattr(line, word) for line in lines))
         return [*lines, total]
 
+    @functools.cached_property
     def uses(self):
         """Demand over capacity of each wire edge that has capacity, the fullest first."""
         found = numpy.concatenate([self.demand[way][self.open[way]] / self.capacity[way][self.open[way]]
@@ -95,7 +97,7 @@ class Loads:
 
     def fullest(self):
         """The average use in percent of so many percent of the edges, the fullest ones, for each of SHARES."""
-        uses = self.uses()
+        uses = self.uses
         counts = [max(1, int(numpy.ceil(len(uses) * share / 100))) for share in SHARES]
         return [100 * float(uses[:count].mean()) if len(uses) else 0.0 for count in counts]
 

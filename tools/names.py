@@ -95,6 +95,15 @@ class Terms:
         self.corner, self.step = ([Fraction(value, self.names.units) for value in some]
                                   for some in (self.names.origin, self.names.tile))
 
+    def layer(self, word):
+        """The number of a layer, from 1, that is given by its number or by its name."""
+        if word in self.layers:
+            return self.layers.index(word) + 1
+        if not (word.isdecimal() and 1 <= int(word) <= self.design.layers):
+            raise Fault(f"{word} is no layer: the design has layers 1 to {self.design.layers}"
+                        + ("" if self.names is None else f", {', '.join(self.layers)}"))
+        return int(word)
+
     def point(self, column, row):
         """x and y of the lower left corner of a tile, as texts."""
         return tuple(shortest(self.corner[at] + value * self.step[at]) for at, value in enumerate((column, row)))

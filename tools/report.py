@@ -19,7 +19,7 @@ import zlib
 
 import command
 from names import Terms
-from texts import EAST, NORTH, Fault, Library, Netlist, Tokens, buffered, totals_of
+from texts import EAST, NORTH, Fault, Library, Netlist, Tokens, buffered, overflow_of
 
 HERE = os.path.dirname(os.path.realpath(__file__))
 SCRIPTS = ("page_tables.js", "page_map.js", "page.js")  # the last one begins
@@ -28,6 +28,7 @@ MOST_BYTES = 20_000_000
 REGIONS, SLOWEST = 10, 1000     # how many are always there
 HALVES = 2000           # half femtoseconds a picosecond
 PAD = 8                 # bytes to which arrays are aligned
+LEVEL = 4               # of zlib; more takes longer and saves little
 
 
 class Packed:
@@ -50,7 +51,8 @@ class Packed:
         """Head and arrays, deflated, in base64."""
         words = json.dumps({**head, "arrays": self.places}).encode()
         words += b" " * (-(len(words) + 4) % PAD)
-        return base64.b64encode(zlib.compress(struct.pack("<I", len(words)) + words + b"".join(self.parts))).decode()
+        return base64.b64encode(zlib.compress(
+            struct.pack("<I", len(words)) + words + b"".join(self.parts), LEVEL)).decode()
 
 
 class Routes:
@@ -74,7 +76,7 @@ class Routes:
 
     def check(self, report):
         """That a report with totals is of these routes."""
-        if Tokens(report).take(1) == [b"routed"] and totals_of(report)["overflow"] != self.edges.overflow()[0]:
+        if overflow_of(report) not in (None, self.edges.overflow()[0]):
             raise Fault(f"{report} tells another overflow than the solution has")
 
     def verdict(self, before):
@@ -82,10 +84,12 @@ class Routes:
         overflow = self.edges.overflow()[0]
         words = f"overflow {overflow:,}"
         if before:
-            by_round = [*(totals_of(path)["overflow"] for path in before), overflow]
+            by_round = [*map(overflow_of, before), overflow]
+            if None in by_round:
+                raise Fault("a text of buffers tells no overflow: reports of `groute route` are due before")
             words += (f" after {len(before)} round{'s' * (len(before) > 1)} "
                       f"({', '.join(f'{value:,}' for value in by_round)})")
-        uses = self.loads.uses()
+        uses = self.loads.uses
         if len(uses):
             words += f"; fullest tile {100 * uses[0]:,.0f} %"
         if self.required:

@@ -197,14 +197,21 @@ class Hotspots(InFolder):
             f"metal1 box: (-0.5,0.9;-0.2,1.1) {edge}", f"metal1 box: (-0.35,0.9;-0.05,1.1) {edge}"])
 
     def test_ends(self):
-        """A closed pipe, a full device, a missing file."""
-        words = shell_words("hotspots.py", CROWD, self.routed(CROWD, 1))
-        self.assertEqual(run("sh", "-c", f"{words} | true"), (0, "", ""))
-        status, _, err = run("sh", "-c", f"{words} > /dev/full")
-        self.assertEqual(status, 1)
-        self.assertEqual(err, "hotspots: [Errno 28] No space left on device\n")
-        status, _, err = tool("hotspots.py", CROWD, "missing")
-        self.assertEqual((status, err), (1, "hotspots: [Errno 2] No such file or directory: 'missing'\n"))
+        """A closed pipe, a full device, a missing file: of each tool a line at most."""
+        crowd = CROWD, self.routed(CROWD, 1)
+        _, out, err = run(testing.program(), "route", CROWD, f"{ROOT}/examples/crowd.library", "0")
+        slowest = CROWD, f"{ROOT}/examples/crowd.library", self.put("routes", out), self.put("report", err)
+        for name, words in (("hotspots", crowd), ("congestion", crowd), ("slowest", slowest), ("adjust", [CROWD]),
+                            ("report", [*crowd, "-o", self.put("page", "")])):
+            called = shell_words(f"{name}.py", *words)
+            self.assertEqual(run("sh", "-c", f"{called} | true"), (0, "", ""))
+            status, _, err = run("sh", "-c", f"{called} > /dev/full")
+            self.assertEqual((status, err), (1, f"{name}: [Errno 28] No space left on device\n"))
+            status, _, err = tool(f"{name}.py", "missing", *words[1:])
+            self.assertEqual((status, err), (1, f"{name}: [Errno 2] No such file or directory: 'missing'\n"))
+        for words in (["hotspots.py", *crowd, "--csv"], ["report.py", *crowd, "-o"], ["adjust.py", CROWD, "-o"]):
+            self.assertEqual(tool(*words, "/dev/full")[::2],
+                             (1, f"{words[0][:-3]}: [Errno 28] No space left on device\n"))
 
 
 # Worked out by hand. Sink 1 of net a is in the same row as its driver, four steps away; its delay without buffers is
@@ -450,6 +457,13 @@ class Adjusted(InFolder):
             status, out, err = tool("adjust.py", SMALL, *words)
             self.assertEqual((status, out), (1, ""))
             self.assertIn(says, err)
+
+    def test_layers_by_name(self):
+        names = self.put("names", NAMES)
+        self.assertEqual(tool("adjust.py", SMALL, "--layer", "m2", "0.5", "--names", names),
+                         tool("adjust.py", SMALL, "--layer", "2", "0.5"))
+        self.assertIn("m3 is no layer: the design has layers 1 to 2, metal1, m2",
+                      tool("adjust.py", SMALL, "--layer", "m3", "0.5", "--names", names)[2])
 
 
 def is_in(region, place):

@@ -13,7 +13,7 @@ import io
 import re
 
 EAST, NORTH, UP = range(3)
-PIECE = 1 << 24         # bytes that are read at once
+PIECE, SMALL_PIECE = 1 << 24, 1 << 10     # bytes that are read at once, and where only the first tokens are wanted
 MOST_ROUTED = 1000      # a net of more pins is not routed
 TOKEN = re.compile(rb"[^ \t\r\n]+")
 POINT = rb"\((-?[0-9]+),(-?[0-9]+),(-?[0-9]+)\)"
@@ -33,15 +33,15 @@ def split(data):
 class Tokens:
     """The tokens of a file, which is read in pieces."""
 
-    def __init__(self, path):
-        self.path, self.file = path, open(path, "rb")
+    def __init__(self, path, piece=PIECE):
+        self.path, self.file, self.piece = path, open(path, "rb"), piece
         self.tokens, self.at = [], 0    # those in hand, and how many of them were taken
         self.before = 0                 # how many tokens there were before these
         self.rest = b""                 # the bytes behind the last blank that was read
 
     def fill(self):
         """Reads one more piece; false at the end of the file."""
-        piece = self.file.read(PIECE)
+        piece = self.file.read(self.piece)
         if not piece:
             self.file.close()
             self.file = io.BytesIO()    # so that there is no more
@@ -280,13 +280,14 @@ class Library:
         return self.time != 0 or any(time for own in self.times.values() for time in own.values())
 
 
-def totals_of(path):
-    """The five totals of a report's text, by their words."""
-    tokens, found = Tokens(path), {}
-    for word in ("routed", "overflow", "maximum", "wirelength", "vias"):
-        tokens.words(word.encode())
-        found[word] = tokens.numbers(1)[0]
-    return found
+def overflow_of(path):
+    """The overflow that a report tells, or None of a text of `groute buffer`, which has no totals."""
+    tokens = Tokens(path, SMALL_PIECE)
+    with tokens.file:
+        if tokens.take(2)[0] == b"buffers":
+            return None
+        tokens.words(b"overflow")
+        return tokens.numbers(1)[0]
 
 
 def buffered(design, path):
