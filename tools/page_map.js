@@ -167,7 +167,7 @@ class Picture {
         if (this.closed[at]) shut.rect(left, top, right - left, low - top);
       }
     }
-    paths.forEach((path, grade) => this.fillWith(path, patternOf(this.pen, grade, this.colours.ink)));
+    paths.forEach((path, grade) => this.fillWith(path, patternOf(this.pen, grade, LIGHT.ink)));
     this.fillWith(shut, patternOf(this.pen, "closed", this.colours.ink));
   }
 
@@ -269,7 +269,7 @@ function patternOf(pen, kind, ink) {
     const tile = document.createElement("canvas"), marks = tile.getContext("2d");
     tile.width = tile.height = 8;
     marks.fillStyle = marks.strokeStyle = ink;
-    marks.globalAlpha = ink === LIGHT.ink ? 0.5 : 0.35;
+    marks.globalAlpha = 0.5;
     if (kind === 0) marks.fillRect(3, 3, 2, 2);
     if (kind === 1) marks.fillRect(0, 3, 8, 1);
     if (kind === 2) {
@@ -325,7 +325,7 @@ function paintLegend(colours) {
     ["100 % of capacity", (pen) => fillAll(pen, `rgb(${colours.full.at(-1)})`)],
     ...GRADES.map(([, words], grade) => [`overflow ${words}`, (pen) => {
       fillAll(pen, `rgb(${colours.over[grade]})`);
-      fillAll(pen, patternOf(pen, grade, colours.ink));
+      fillAll(pen, patternOf(pen, grade, LIGHT.ink));
     }]),
     ["overflow at capacity 0", (pen) => {
       fillAll(pen, `rgb(${colours.none})`);
