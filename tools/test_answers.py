@@ -263,7 +263,7 @@ from, ps  to, ps  nets
 """
 
 
-@unittest.skipUnless(PICTURES, "numpy is not there")
+@unittest.skipUnless(PICTURES, "numpy and matplotlib are not there")
 class Slowest(InFolder):
     """slowest.py on a report that was worked out by hand."""
 
@@ -387,7 +387,7 @@ class Pictures(InFolder):
             self.assertIn(says, err)
 
 
-@unittest.skipUnless(PICTURES, "numpy is not there")
+@unittest.skipUnless(PICTURES, "numpy and matplotlib are not there")
 class Adjusted(InFolder):
     """adjust.py: what is cut, to what sum, and what stays."""
 

@@ -12,7 +12,7 @@ GROM = "grom_osu035"
 HARD = "</script><script>alert(1)</script>"    # a net may be called so
 
 
-@unittest.skipUnless(PICTURES, "numpy is not there")
+@unittest.skipUnless(PICTURES, "numpy and matplotlib are not there")
 class Report(InFolder):
     """What report.py writes and prints."""
 
@@ -64,7 +64,7 @@ class Report(InFolder):
         self.assertFalse(os.path.exists(path))
 
 
-@unittest.skipUnless(PICTURES and browser.is_there(), "chromium is not there")
+@unittest.skipUnless(PICTURES and browser.is_there(), "numpy, matplotlib or chromium is not there")
 class Page(InFolder):
     """The page in a browser. Each test ends within a minute, as the browser is ended then."""
 
@@ -160,9 +160,11 @@ class Page(InFolder):
             self.assertRegex(said, r"^Edge of tiles 13 12 and 14 12, .*\nmetal1 horizontal: capacity 0, .*; metal3 hor")
             page.press("PageUp")
             self.assertEqual(page.text("#live"), "metal1")
+            page.press("PageDown")
+            self.assertEqual(page.text("#live"), "all layers")
             page.call("Input.dispatchMouseEvent", type="mouseMoved", x=200, y=400)
             page.settle()
-            self.assertRegex(page.text("#told"), r"^(Tile|Edge) .* microns\n.*metal1")
+            self.assertRegex(page.text("#told"), r"^(Tile|Edge) .* microns\n.*metal\d")
             self.assertEqual(page.complaints(), [])
 
     def test_sort_and_search(self):
@@ -266,7 +268,7 @@ class Page(InFolder):
                 page.value("(() => { for (;;) {} })()")
 
 
-@unittest.skipUnless(PICTURES and browser.is_there(), "chromium is not there")
+@unittest.skipUnless(PICTURES and browser.is_there(), "numpy, matplotlib or chromium is not there")
 class FirstPicture(InFolder):
     """How long a page of 14,000 nets takes to its first picture."""
 
