@@ -170,7 +170,7 @@ class Hotspots(InFolder):
         with open(CROWD, encoding="ascii") as file:
             design = self.put("design", file.read().replace("\na 0", "\n<a&'\\> 0"))
         paths = [os.path.join(self.folder.name, name) for name in ("openroad", "klayout.lyrdb")]
-        names = self.put("names", NAMES.replace("layer 2 m2\n", ""))
+        names = self.put("names", NAMES.replace("layer 2 m2\n", "").replace("metal1", "<m>'1"))
         solution = self.routed(design, 1)
         done = tool("hotspots.py", design, solution, "--names", names, "--openroad", paths[0], "--klayout", paths[1])
         self.assertEqual((done[0], done[2]), (0, ""))
@@ -182,8 +182,8 @@ class Hotspots(InFolder):
             text = file.read()
         self.assertEqual(VIOLATION.sub("", text), "")
         self.assertEqual([found[1:] for found in VIOLATION.findall(text)], [
-            ("net:<a&'\\> net:b", "2", "4", "2", "-0.5", "0.9", "-0.2", "1.1", "metal1"),
-            ("net:<a&'\\> net:b", "2", "4", "2", "-0.35", "0.9", "-0.05", "1.1", "metal1")])
+            ("net:<a&'\\> net:b", "2", "4", "2", "-0.5", "0.9", "-0.2", "1.1", "<m>'1"),
+            ("net:<a&'\\> net:b", "2", "4", "2", "-0.35", "0.9", "-0.05", "1.1", "<m>'1")])
 
     @unittest.skipUnless(shutil.which("klayout"), "klayout is not there")
     def test_klayout(self):
@@ -193,8 +193,8 @@ class Hotspots(InFolder):
         self.assertEqual((status, err), (0, ""))
         edge = r"text: 'capacity 2 demand 4 overflow 2 nets <a&\'\\> b'"
         self.assertEqual(out.splitlines(), [
-            r"regions box: (-0.5,0.7;-0.05,1.3) text: 'overflow 4 edges 2 at capacity 0 0 nets <a&\'\\> b'",
-            f"metal1 box: (-0.5,0.9;-0.2,1.1) {edge}", f"metal1 box: (-0.35,0.9;-0.05,1.1) {edge}"])
+            r"worst regions box: (-0.5,0.7;-0.05,1.3) text: 'overflow 4 edges 2 at capacity 0 0 nets <a&\'\\> b'",
+            f"<m>'1 box: (-0.5,0.9;-0.2,1.1) {edge}", f"<m>'1 box: (-0.35,0.9;-0.05,1.1) {edge}"])
 
     def test_ends(self):
         """A closed pipe, a full device, a missing file: of each tool a line at most."""

@@ -79,21 +79,22 @@ KLAYOUT = """<?xml version="1.0" encoding="utf-8"?>
 {items} </items>
 </report-database>
 """
+REGIONS = "worst regions"   # two words, as a layer's name is one
 CATEGORY = "  <category><name>{}</name><description>{}</description><categories/></category>\n"
-ITEM = ("  <item><tags/><category>'{}'</category><cell>{}</cell><visited>false</visited><multiplicity>1</multiplicity>"
+ITEM = ("  <item><tags/><category>{}</category><cell>{}</cell><visited>false</visited><multiplicity>1</multiplicity>"
         "<comment/><image/><values><value>box: ({},{};{},{})</value><value>text: {}</value></values></item>\n")
 
 
 def write_klayout(found, regions, design, terms, cell, path):
     """A report database: a category of regions, and one of each layer with its overfull edges."""
     cell = xml_text(cell)
-    regions_text = (ITEM.format("regions", cell, *terms.box(region.low, region.high), quoted(
+    regions_text = (ITEM.format(quoted(REGIONS), cell, *terms.box(region.low, region.high), quoted(
         f"overflow {region.overflow} edges {region.over} at capacity 0 {region.closed} nets "
         + " ".join(design.names[id_] for id_, _ in region.nets))) for region in regions)
-    edges_text = (ITEM.format(xml_text(edge.layer_name), cell, *edge.box, quoted(
+    edges_text = (ITEM.format(quoted(edge.layer_name), cell, *edge.box, quoted(
         f"capacity {edge.capacity} demand {edge.demand} overflow {edge.demand - edge.capacity} nets "
         + " ".join(edge.nets))) for edge in found)
-    categories = CATEGORY.format("regions", "windows of most overflow, the worst first")
+    categories = CATEGORY.format(REGIONS, "windows of most overflow, the worst first")
     for name in terms.layers:
         categories += CATEGORY.format(xml_text(name), "wire edges over their capacity")
     with open(path, "w", encoding="utf-8") as file:
