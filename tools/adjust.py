@@ -31,7 +31,8 @@ def words():
     parser = command.parser(__doc__)
     parser.set_defaults(cuts=[])
     parser.add_argument("design", metavar="DESIGN", help="a design text")
-    parser.add_argument("--layer", nargs=2, action=Cut, metavar=("N", "SHARE"), help="a layer from 1 or by its name, or all")
+    parser.add_argument("--layer", nargs=2, action=Cut, metavar=("N", "SHARE"),
+                        help="a layer from 1 or by its name, or all")
     parser.add_argument("--region", nargs=5, action=Cut, metavar=("X0", "Y0", "X1", "Y1", "SHARE"),
                         help="columns and rows from 0")
     parser.add_argument("--direction", choices=("h", "v"), help="cut horizontal or vertical wire edges alone")

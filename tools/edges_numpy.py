@@ -80,16 +80,20 @@ class Edges:
         change -= numpy.bincount(first + self.length[mine], need, self.cells)
         return numpy.rint(change.cumsum()).astype(numpy.int64)
 
-    def through(self, marked):
+    def through(self, marked, runs=None):
         """Of each net of `ids`, through how many of the marked wire edges it goes: marked[way] is true or false by
-        number."""
-        found = numpy.zeros(len(self.ids), numpy.int64)
+        number. Where the places of some runs are given, only these are looked at."""
+        runs = numpy.arange(len(self.net)) if runs is None else runs
+        return numpy.rint(numpy.bincount(self.net[runs], self.marks(marked, runs), len(self.ids))).astype(numpy.int64)
+
+    def marks(self, marked, runs):
+        """How many of the marked wire edges each of these runs has."""
+        found = numpy.zeros(len(runs), numpy.int64)
         for way in (EAST, NORTH):
             before = numpy.concatenate(([0], marked[way].cumsum(dtype=numpy.int64)))
-            mine = self.way == way
-            first = self.number[mine]
-            count = before[first + self.length[mine]] - before[first]
-            found += numpy.rint(numpy.bincount(self.net[mine], count, len(self.ids))).astype(numpy.int64)
+            mine = (self.way[runs] == way).nonzero()[0]
+            first = self.number[runs[mine]]
+            found[mine] = before[first + self.length[runs[mine]]] - before[first]
         return found
 
     def runs_of(self, id_):

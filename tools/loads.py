@@ -129,14 +129,16 @@ class Loads:
         high, wide = min(SIDE, design.rows), min(SIDE, design.columns)
         left = windows(sum(room.sum(axis=0) for room in self.room), high, wide)
         found = []
+        overfull = [by_number(way, room > 0) for way, room in enumerate(self.room)]
+        runs = self.edges.marks(overfull, numpy.arange(len(self.edges.net))).nonzero()[0]
         while len(found) < most and left.max() > 0:
             row, column = map(int, numpy.unravel_index(left.argmax(), left.shape))
-            found.append(self.region(slice(row, row + high), slice(column, column + wide)))
+            found.append(self.region(slice(row, row + high), slice(column, column + wide), runs))
             left[max(0, row - high + 1):row + high, max(0, column - wide + 1):column + wide] = 0
         return found
 
-    def region(self, rows, columns):
-        """The region of these tiles."""
+    def region(self, rows, columns, runs):
+        """The region of these tiles. `runs` has at least the places of the runs through its overfull edges."""
         place = slice(None), rows, columns
         room = [room[place] for room in self.room]
         marked = []
@@ -146,7 +148,7 @@ class Loads:
             marked.append(by_number(way, mine))
         overflow, total = (sum(int(some.sum()) for some in both)
                            for both in (room, [excess[place] for excess in self.excess]))
-        through = self.edges.through(marked)
+        through = self.edges.through(marked, runs)
         order = (-through).argsort(kind="stable")[:numpy.count_nonzero(through)]
         nets = [(self.edges.ids[net], int(through[net])) for net in order]
         return Region((columns.start, rows.start), (columns.stop - 1, rows.stop - 1), overflow,

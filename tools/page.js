@@ -38,7 +38,7 @@ function begins(counts) {
 /* What is shown, and its words in the address: layer from 1 or 0 for all, way 0, 1 or null, region from 1 or 0, a net's
    number or -1, the place that the keys have come to, and the view. */
 
-const shown = { layer: 0, way: null, region: 0, net: -1, at: null, view: null };
+const shown = { layer: 0, way: null, region: 0, net: -1, at: null, view: null, missing: "" };
 let data, picture, layersTable, regionsTable, netsTable;
 
 function toAddress() {
@@ -55,16 +55,17 @@ function fromAddress() {
   const words = new URLSearchParams(location.hash.slice(1));
   const layer = parseInt(words.get("layer"), 10), region = parseInt(words.get("region"), 10);
   shown.layer = layer >= 1 && layer <= data.layers.length ? layer : 0;
-  shown.way = words.has("way") ? Math.max(0, "hv".indexOf(words.get("way"))) : null;
+  shown.way = words.get("way") === "h" ? 0 : words.get("way") === "v" ? 1 : null;
   shown.region = region >= 1 && region <= data.regions.length ? region : 0;
   shown.net = words.has("net") ? data.names.indexOf(words.get("net")) : -1;
+  shown.missing = words.has("net") && shown.net < 0 ? `net ${words.get("net")} is not on this page` : "";
   const view = (words.get("view") ?? "").split(",").map(Number);
   shown.view = view.length === 3 && view.every(Number.isFinite) && view[2] > 0 ? view : null;
 }
 
 // Shows what has changed; a step that one may want to go back over is one of the browser's history.
 function go(changes, isStep) {
-  Object.assign(shown, changes);
+  Object.assign(shown, { missing: "" }, changes);
   shown.view &&= shown.view.map((value) => +value.toFixed(3));    // as the address has it
   const address = `#${toAddress()}`;
   if (address !== (location.hash || "#")) history[isStep ? "pushState" : "replaceState"](null, "", address);
@@ -74,7 +75,8 @@ function go(changes, isStep) {
 function show() {
   byId("layer").value = shown.layer;
   byId("way").value = shown.way === null ? "" : "hv"[shown.way];
-  byId("shown").textContent = shown.net >= 0 ? netWords(shown.net) : shown.region ? `Region ${shown.region}` : "";
+  byId("shown").textContent = shown.net >= 0 ? netWords(shown.net)
+    : shown.missing || (shown.region ? `Region ${shown.region}` : "");
   layersTable.mark((row) => shown.layer && data.table[row].layer === data.layers[shown.layer - 1]);
   regionsTable.mark((row) => row === shown.region - 1);
   listNets();
@@ -286,4 +288,7 @@ async function begin() {
   show();
 }
 
-begin();
+begin().catch((fault) => {
+  byId("verdict").textContent = `This browser can't show the page: ${fault.message}`;
+  throw fault;
+});

@@ -159,7 +159,7 @@ def add_nets(packed, routes, ids):
     for name, some in (("runWay", edges.way), ("runFirst", edges.number), ("runLength", edges.length)):
         packed.add(name, some[order])
     through = edges.through([edges.demand[way] > edges.capacity[way] for way in (EAST, NORTH)])
-    for name, some in (("wires", edges.sizes()[0]), ("vias", edges.sizes()[1]), ("over", through)):
+    for name, some in zip(("wires", "vias", "over"), (*edges.sizes(), through)):
         found = numpy.zeros(len(ids), numpy.int64)
         found[mine[:-1][mine[:-1] >= 0]] = some[mine[:-1] >= 0]
         packed.add(name, found)

@@ -171,6 +171,9 @@ class Page(InFolder):
             self.opened(page, link)
             page.settle()
             self.assertLess(self.changed(page, with_net)[0], 20)
+            page.open("about:blank")
+            self.opened(page, address + "#net=none&region=9&layer=x&view=1,2&way=")
+            self.assertEqual(page.text("#shown"), "net none is not on this page")
             self.assertEqual(page.complaints(), [])
 
     def wire_colours(self, page, pixels):

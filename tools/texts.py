@@ -72,11 +72,13 @@ class Tokens:
 
     def take(self, count):
         """The next so many tokens."""
-        while self.at + count > len(self.tokens):
+        first, end = self.at, self.at + count
+        while end > len(self.tokens):
             if not self.fill():
                 raise self.ended()
-        self.at += count
-        return self.tokens[self.at - count:self.at]
+            first, end = self.at, self.at + count
+        self.at = end
+        return self.tokens[first:end]
 
     def until(self, last):
         """The tokens before the next one that is `last`, which is taken with them."""
