@@ -1,9 +1,8 @@
 ghost use Rattle.std.specs.Prelude.{◌≡◌, ℕ, ◌+◌, ◌^◌, ◌<◌, ◌≤◌, true, length, Option, Some, IfSome, OnOk, IsTrue, if◌then◌else◌};
 ghost use Rattle.cost_rules.specs.Formulas.{most_cost};
-ghost use Rattle.cost_rules.specs.Prices.{IsBelowVias};
 ghost use Rattle.gr_base.specs.declared.grid.Edge.{Edge};
 ghost use Rattle.maze_route.specs.Labels.{label_at};
-ghost use Rattle.maze_route.specs.Steps.{size_of, rest_of, IsSpot, pane_graph, beside, step_to};
+ghost use Rattle.maze_route.specs.Steps.{size_of, rest_of, FitsIn, IsGuide, IsSpot, pane_graph, beside, step_to};
 ghost use Rattle.maze_route.specs.Windows.{TreeLiesIn};
 ghost use Rattle.maze_route.specs.Search.{most_distance, is_above, HasSources, IsSearching, is_marked, CanReach, Finds};
 ghost use Rattle.maze_route.specs.Handing.{IsLow, IsReach, HandsOn};
@@ -47,14 +46,15 @@ fn reach(front: &mut Front, from: u64, step: Option<Step>) -> Result<(), AllocEr
 }
 
 /// Makes it the front at which the tree's cells alone have a label, 0, and wait.
-fn seed(pane: Pane, aim: Aim, tree: &RouteTree, front: &mut Front) -> Result<(), AllocError>
+fn seed(pane: Pane, aim: &Aim, tree: &RouteTree, front: &mut Front) -> Result<(), AllocError>
+    requires aim { FitsIn pane aim.now }
     requires grid { tree.now.shape ≡ pane.grid }
     requires tree { TreeLiesIn pane.window tree.now }
     ensures size { OnOk result (length front.new.labels.costs.items ≡ size_of pane) }
     ensures sources { (price : Edge → Option ℕ) →
         OnOk result (HasSources (pane_graph pane tree.now price) (label_at front.new.labels.costs.items)) }
     ensures searching { (price : Edge → Option ℕ) → OnOk result (
-        IsSearching (pane_graph pane tree.now price) (rest_of pane aim)
+        IsSearching (pane_graph pane tree.now price) (rest_of pane aim.now)
         (label_at front.new.labels.costs.items) front.new.queue.pairs (size_of pane)) }
 {
     front.clear(pane.size())?;
@@ -101,20 +101,20 @@ fn is_low_beside(labels: &Labels, pane: Pane, spot: Spot, from: u64, side: Side)
 fn hand<C: Costs>(
     costs: &C,
     pane: Pane,
-    aim: Aim,
+    aim: &Aim,
     front: &mut Front,
     spot: Spot,
     from: u64,
     side: Side,
 ) -> Result<(), AllocError>
     requires grid { C.grid costs.now ≡ pane.grid }
-    requires vias { IsBelowVias pane.grid (C.price costs.now) aim.via }
+    requires guide { IsGuide pane (C.price costs.now) aim.now }
     requires spot { IsSpot pane spot }
     requires from { from ≤ most_distance }
     requires size { length front.old.labels.costs.items ≡ size_of pane }
-    requires key { front.old.queue.last ≤ from + rest_of pane aim spot.local }
+    requires key { front.old.queue.last ≤ from + rest_of pane aim.now spot.local }
     ensures done { OnOk result (IsReach from
-        (step_to pane (C.price costs.now) aim spot.local (beside pane.shape spot.local side)) front.old front.new) }
+        (step_to pane (C.price costs.now) aim.now spot.local (beside pane.shape spot.local side)) front.old front.new) }
     ensures size { length front.new.labels.costs.items ≡ length front.old.labels.costs.items }
     ensures last { front.new.queue.last ≡ front.old.queue.last }
 {
@@ -129,18 +129,18 @@ fn hand<C: Costs>(
 fn settle<C: Costs>(
     costs: &C,
     pane: Pane,
-    aim: Aim,
+    aim: &Aim,
     front: &mut Front,
     spot: Spot,
     from: u64,
 ) -> Result<(), AllocError>
     requires grid { C.grid costs.now ≡ pane.grid }
-    requires vias { IsBelowVias pane.grid (C.price costs.now) aim.via }
+    requires guide { IsGuide pane (C.price costs.now) aim.now }
     requires spot { IsSpot pane spot }
     requires from { from ≤ most_distance }
     requires size { length front.old.labels.costs.items ≡ size_of pane }
-    requires key { front.old.queue.last ≤ from + rest_of pane aim spot.local }
-    ensures { OnOk result (HandsOn pane (C.price costs.now) aim spot.local from front.old front.new) }
+    requires key { front.old.queue.last ≤ from + rest_of pane aim.now spot.local }
+    ensures { OnOk result (HandsOn pane (C.price costs.now) aim.now spot.local from front.old front.new) }
 {
     hand(costs, pane, aim, front, spot, from, Behind(Way::Up))?;
     hand(costs, pane, aim, front, spot, from, Behind(Way::North))?;
@@ -160,20 +160,20 @@ fn settle<C: Costs>(
 pub(crate) fn search<C: Costs>(
     costs: &C,
     pane: Pane,
-    aim: Aim,
+    aim: &Aim,
     marks: &[bool],
     tree: &RouteTree,
     front: &mut Front,
 ) -> Result<(), AllocError>
     requires costs { C.grid costs.now ≡ pane.grid }
-    requires vias { IsBelowVias pane.grid (C.price costs.now) aim.via }
+    requires guide { IsGuide pane (C.price costs.now) aim.now }
     requires grid { tree.now.shape ≡ pane.grid }
     requires tree { TreeLiesIn pane.window tree.now }
     requires marks { length marks.now ≡ size_of pane }
-    requires aim { (cell : ℕ) → is_marked marks.now cell ≡ true → rest_of pane aim cell ≡ 0 }
+    requires aim { (cell : ℕ) → is_marked marks.now cell ≡ true → rest_of pane aim.now cell ≡ 0 }
     requires goal { CanReach (pane_graph pane tree.now (C.price costs.now)) marks.now }
     ensures found { OnOk result (let label = label_at front.new.labels.costs.items in
-        Finds (pane_graph pane tree.now (C.price costs.now)) (rest_of pane aim) marks.now label) }
+        Finds (pane_graph pane tree.now (C.price costs.now)) (rest_of pane aim.now) marks.now label) }
     ensures size { OnOk result (length front.new.labels.costs.items ≡ size_of pane) }
 {
     seed(pane, aim, tree, front)?;

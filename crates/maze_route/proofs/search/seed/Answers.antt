@@ -5,6 +5,7 @@ use Rattle.maze_route.specs.Steps.{cell_in, rest_of, pane_graph, size_of}
 use Rattle.maze_route.specs.declared.pane.Step.{Step}
 use Rattle.maze_route.specs.Labels.{label_at}
 use Rattle.maze_route.proofs.SeedLemmas.{seed-start, seed-turn, seed-done, tree-window}
+use Rattle.maze_route.proofs.SpotLemmas.{fits-at}
 use Rattle.maze_route.proofs.search.seed.Goals as goal
 
 pub loop-node-init : goal.loop-node-init
@@ -12,12 +13,18 @@ loop-node-init c = record {
   size = c.in_ok-clear.ensures.size ∙ c.size.ensures;
   last = ap (λ (q : QueueView). q.last) c.in_ok-clear.ensures.queue;
   seeded = λ k cell below is. absurd (omega arith);
-  searching = λ price. seed-start (pane_graph c.args.pane c.args.tree.now price) (rest_of c.args.pane c.args.aim) (label_at c.clear.new.self.labels.costs.items)
+  searching = λ price. seed-start (pane_graph c.args.pane c.args.tree.now price) (rest_of c.args.pane c.args.aim.now) (label_at c.clear.new.self.labels.costs.items)
       c.clear.new.self.queue.pairs (size_of c.args.pane) c.in_ok-clear.ensures.none (ap (λ (q : QueueView). q.pairs) c.in_ok-clear.ensures.queue);
 }
 
 pub local-requires : goal.local-requires
 local-requires c = tree-window c.args.pane c.args.tree.now c.loop-node.node c.cell.result c.requires.grid c.requires.tree c.cell.ensures.only
+
+pub distance_to-requires : goal.distance_to-requires
+distance_to-requires c =
+    let spot = c.spot-spot.ensures.spot in
+    let bounds = fits-at c.args.pane c.args.aim.now c.spot-spot.result.local c.spot-spot.result.place c.requires.aim spot.inside spot.place in
+    record { column = bounds.0; row = bounds.1 }
 
 pub reach-requires : goal.reach-requires
 reach-requires c = record {
@@ -32,7 +39,7 @@ pub loop-node-preserved : goal.loop-node-preserved
 loop-node-preserved c =
     let step : Step = record { cell = c.spot-spot.result.local; cost = 0; rest = c.distance_to.result } in
     let back = ap (λ (n : ℕ). cell_in c.args.pane n) (sym c.local.ensures.local) ∙ c.local.ensures.cell in
-    let turn = λ (price : Edge → Option ℕ). seed-turn c.args.pane c.args.tree.now price c.args.aim c.loop-node.node (c.loop-node.node + 1) c.cell.result c.spot-spot.result step c.loop-node.front c.reach.new.front
+    let turn = λ (price : Edge → Option ℕ). seed-turn c.args.pane c.args.tree.now price c.args.aim.now c.loop-node.node (c.loop-node.node + 1) c.cell.result c.spot-spot.result step c.loop-node.front c.reach.new.front
     refl c.cell.ensures.cell c.cell.ensures.only c.spot-spot.ensures.spot (c.spot-spot.ensures.local ∙ c.local.ensures.local) back
     refl refl c.distance_to.ensures.least c.loop-node.invariant.size c.in_ok-reach.ensures.done (c.loop-node.invariant.searching price) c.loop-node.invariant.seeded in
     record {

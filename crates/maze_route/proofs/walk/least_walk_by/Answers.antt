@@ -4,7 +4,7 @@ use Rattle.gr_base.specs.declared.grid.Edge.{Edge}
 use Rattle.gr_base.specs.declared.grid.Shape.{Shape}
 use Rattle.maze_route.proofs.AttachLemmas.{least-attaches-in}
 use Rattle.maze_route.proofs.GoalLemmas.{result-then}
-use Rattle.maze_route.proofs.walk.least_walk_in.Goals as goal
+use Rattle.maze_route.proofs.walk.least_walk_by.Goals as goal
 
 pub returns-clause-attaches : goal.returns-clause-attaches
 returns-clause-attaches g c =
@@ -12,4 +12,4 @@ returns-clause-attaches g c =
     let P : Shape → Type 0 = λ s. ArePrices s (g.C.Costs.ways c.args.costs.now) price in
     let prices = subst P c.requires.grid (g.met.C.Costs.prices c.args.costs.now) in
     result-then c.walk_in.result _ _ c.walk_in.ensures (λ cells least.
-    least-attaches-in c.new.result c.args.tree.now (g.C.Costs.ways c.args.costs.now) price c.args.goals.now cells (c.new.ensures.grid ∙ c.shape.ensures.shape) prices least)
+    least-attaches-in c.new-pane.result c.args.tree.now (g.C.Costs.ways c.args.costs.now) price c.args.goals.now cells (c.new-pane.ensures.grid ∙ c.shape.ensures.shape) prices least)
