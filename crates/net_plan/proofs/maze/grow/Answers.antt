@@ -1,5 +1,6 @@
 use Rattle.std.proofs.Common.{sym, subst, ◌∙◌}
 use Rattle.gr_base.specs.declared.grid.Shape.{Shape}
+use Rattle.maze_route.specs.Scales.{AreScales}
 use Rattle.maze_route.specs.Windows.{IsWindow, IsPassable, LieIn}
 use Rattle.net_plan.proofs.GrowthLemmas.{growing-first, growing-goals, growing-turn, growing-done, growing-pins, growing-driver, no-goals}
 use Rattle.net_plan.proofs.maze.grow.Goals as goal
@@ -9,15 +10,19 @@ loop-alloc-init g c =
     growing-first c.args.shape c.args.window (g.C.Costs.price c.args.costs.now) c.args.pins.now c.in_ok-tree.tree c.in_ok-goals.goals.items c.requires.some c.requires.pins
     c.in_ok-tree.ensures.tree c.in_ok-goals.ensures
 
-pub least_walk_in-requires-clause-window : goal.least_walk_in-requires-clause-window
-least_walk_in-requires-clause-window g c = subst (λ (s : Shape). IsWindow s c.args.window) (sym c.loop-alloc.invariant.shape) c.requires.window
+pub least_walk_by-requires-clause-window : goal.least_walk_by-requires-clause-window
+least_walk_by-requires-clause-window g c = subst (λ (s : Shape). IsWindow s c.args.window) (sym c.loop-alloc.invariant.shape) c.requires.window
 
-pub least_walk_in-requires-clause-passable : goal.least_walk_in-requires-clause-passable
-least_walk_in-requires-clause-passable g c =
+pub least_walk_by-requires-clause-scales : goal.least_walk_by-requires-clause-scales
+least_walk_by-requires-clause-scales g c =
+    subst (λ (s : Shape). AreScales s c.args.window (g.C.Costs.price c.args.costs.now) c.in_ok-scales.scales) (sym c.loop-alloc.invariant.shape) c.in_ok-scales.ensures
+
+pub least_walk_by-requires-clause-passable : goal.least_walk_by-requires-clause-passable
+least_walk_by-requires-clause-passable g c =
     subst (λ (s : Shape). IsPassable s (g.C.Costs.ways c.args.costs.now) c.args.window) (sym c.loop-alloc.invariant.shape) c.requires.passable
 
-pub least_walk_in-requires-clause-goals : goal.least_walk_in-requires-clause-goals
-least_walk_in-requires-clause-goals g c =
+pub least_walk_by-requires-clause-goals : goal.least_walk_by-requires-clause-goals
+least_walk_by-requires-clause-goals g c =
     subst (LieIn c.loop-alloc.tree.shape c.args.window) (sym c.deref.ensures.value)
     (growing-goals c.args.shape c.args.window (g.C.Costs.price c.args.costs.now) c.args.pins.now c.loop-alloc.tree c.loop-alloc.goals.items c.requires.pins c.loop-alloc.invariant)
 
