@@ -28,3 +28,4 @@ pub mod PlaceLemmas
 pub mod KeepLemmas
 pub mod RenewLemmas
 pub mod SeedLemmas
+pub mod KeptLemmas

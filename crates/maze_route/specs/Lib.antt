@@ -17,3 +17,4 @@ pub mod Stored
 pub mod Spreading
 pub mod Places
 pub mod Renewed
+pub mod Kept

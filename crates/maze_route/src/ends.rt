@@ -1,6 +1,7 @@
-ghost use Rattle.std.specs.Prelude.{◌≡◌, ℕ, ◌<◌, All, length, map, OnOk};
+ghost use Rattle.std.specs.Prelude.{◌≡◌, ℕ, ◌<◌, All, length, map, OnOk, IfSome};
 ghost use Rattle.gr_base.specs.Trees.{is_among};
 ghost use Rattle.maze_route.specs.Ends.{IsFirstOf, earlier_of};
+ghost use Rattle.maze_route.specs.Kept.{IsLabelOf};
 ghost use Rattle.maze_route.specs.Labels.{label_at};
 ghost use Rattle.maze_route.specs.Search.{is_marked};
 ghost use Rattle.maze_route.specs.Steps.{size_of, local_of};
@@ -61,4 +62,13 @@ pub(crate) fn first_reached(labels: &Labels, ends: &[u32]) -> Option<Reached>
         first = earlier(first, labels.at(end), end);
     }
     first
+}
+
+/// The least label of these cells, if one has a label.
+pub(crate) fn nearest_of(labels: &Labels, ends: &[u32]) -> Option<u64>
+    requires { All (λ end. end < length labels.now.costs.items) ends.now }
+    ensures { IfSome result (IsLabelOf (label_at labels.now.costs.items) ends.now) }
+{
+    let first = first_reached(labels, ends)?;
+    Some(first.cost)
 }

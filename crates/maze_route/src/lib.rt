@@ -13,6 +13,7 @@ mod pane;
 mod places;
 mod positions;
 mod queue;
+mod resume;
 mod room;
 mod scales;
 mod search;

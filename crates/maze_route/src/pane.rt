@@ -5,7 +5,7 @@ use crate::window::Window;
 use gr_base::{Cell, Shape};
 
 /// The cells of a window, numbered from 0 in the order of their numbers in the grid.
-#[derive(Clone, Copy)]
+#[derive(Clone, Copy, Debug)]
 pub(crate) struct Pane {
     pub(crate) grid: Shape,
     pub(crate) window: Window,

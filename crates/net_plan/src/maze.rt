@@ -72,6 +72,7 @@ fn grow<C: Costs>(
     ensures pins { IfOk result (λ t. All (λ pin. IsTrue (holds t pin)) pins.now) }
 {
     let scales = Scales::new(alloc, costs, shape, window)?;
+    room.begin(shape, window)?;
     let mut tree = RouteTree::start(alloc, shape, pins[0])?;
     let mut goals = missing(alloc, &tree, pins)?;
     while !goals.is_empty() {

@@ -5,17 +5,22 @@ use Rattle.gr_base.specs.declared.grid.Edge.{Edge}
 use Rattle.gr_base.specs.declared.grid.Shape.{Shape}
 use Rattle.maze_route.specs.Steps.{size_of, rest_of, pane_graph}
 use Rattle.maze_route.proofs.HandingLemmas.{pane-rest}
+use Rattle.std.proofs.lemmas.List.Sorted.{IsPermutation-trans}
+use Rattle.maze_route.specs.Queues.{QueueView}
+use Rattle.maze_route.specs.Search.{IsSearching}
+use Rattle.maze_route.proofs.KeptLemmas.{search-again}
+use Rattle.maze_route.proofs.SearchLemmas.{labels_of}
 use Rattle.maze_route.proofs.SpotLemmas.{fits-at}
 use Rattle.maze_route.proofs.TurnLemmas.{taken-has, is-some, stale-turn, settled-turn, stop-turn, end-turn, spot-rest}
 use Rattle.maze_route.proofs.search.search.Goals as goal
 
 pub loop-key-init : goal.loop-key-init
 loop-key-init g c = record {
-  size_is = c.in_ok-seed.ensures.size;
-  sources = c.in_ok-seed.ensures.sources (g.C.Costs.price c.args.costs.now);
-  searching = c.in_ok-seed.ensures.searching (g.C.Costs.price c.args.costs.now);
-  goal = tt;
-  near = tt;
+  size_is = c.requires.size;
+  sources = c.requires.sources;
+  searching = c.requires.searching;
+  goal = c.requires.known;
+  near = c.requires.near;
 }
 
 pub spot-spot-requires : goal.spot-spot-requires
@@ -65,6 +70,14 @@ returns-then-is_past-clause-found g c =
     c.in-Some.key c.in-Some.cell c.pop.new.self (pane-rest c.args.pane c.args.tree.now price c.args.aim.now c.requires.guide)
     c.loop-key.invariant c.in-Some.ensures (sym c.is_past.ensures ∙ c.if-is_past.true)
 
+pub returns-then-is_past-clause-kept : goal.returns-then-is_past-clause-kept
+returns-then-is_past-clause-kept g c = record {
+  rest = rest_of c.args.pane c.args.aim.now;
+  searching = search-again (pane_graph c.args.pane c.args.tree.now (g.C.Costs.price c.args.costs.now)) (rest_of c.args.pane c.args.aim.now) (labels_of c.loop-key.front)
+      c.loop-key.front.queue.pairs c.push.new.self.pairs (size_of c.args.pane) c.loop-key.invariant.searching
+      (IsPermutation-trans c.loop-key.front.queue.pairs _ c.push.new.self.pairs c.in-Some.ensures.pairs c.in_ok-push.ensures.ok.pairs);
+}
+
 pub loop-key-preserved : goal.loop-key-preserved
 loop-key-preserved g c =
     (settled-turn c.args.pane c.args.tree.now (g.C.Costs.grid c.args.costs.now) (g.C.Costs.ways c.args.costs.now) (g.C.Costs.price c.args.costs.now) c.args.aim.now c.args.marks.now
@@ -101,6 +114,11 @@ pub returns : goal.returns
 returns g c =
     let price : Edge → Option ℕ = g.C.Costs.price c.args.costs.now in
     record {
+      kept = record {
+        rest = rest_of c.args.pane c.args.aim.now;
+        searching = subst (λ (q : QueueView). IsSearching (pane_graph c.args.pane c.args.tree.now price) (rest_of c.args.pane c.args.aim.now)
+            (labels_of c.loop-key.front) q.pairs (size_of c.args.pane)) (sym c.in_default.ensures.1) c.loop-key.invariant.searching;
+      };
       found = end-turn (pane_graph c.args.pane c.args.tree.now price) (rest_of c.args.pane c.args.aim.now) c.args.marks.now (size_of c.args.pane) c.loop-key.nearest c.loop-key.front
           (pane-rest c.args.pane c.args.tree.now price c.args.aim.now c.requires.guide) c.requires.aim c.loop-key.invariant c.in_default.ensures.0 c.requires.goal;
       size = c.loop-key.invariant.size_is;

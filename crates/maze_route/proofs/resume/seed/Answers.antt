@@ -4,17 +4,16 @@ use Rattle.maze_route.specs.Queues.{QueueView}
 use Rattle.maze_route.specs.Steps.{cell_in, rest_of, pane_graph, size_of}
 use Rattle.maze_route.specs.declared.pane.Step.{Step}
 use Rattle.maze_route.specs.Labels.{label_at}
-use Rattle.maze_route.proofs.SeedLemmas.{seed-start, seed-turn, seed-done, tree-window}
+use Rattle.maze_route.proofs.SeedLemmas.{seed-turn, seeded-turn, seed-done, tree-window}
 use Rattle.maze_route.proofs.SpotLemmas.{fits-at}
-use Rattle.maze_route.proofs.search.seed.Goals as goal
+use Rattle.maze_route.proofs.resume.seed.Goals as goal
 
 pub loop-node-init : goal.loop-node-init
 loop-node-init c = record {
-  size = c.in_ok-clear.ensures.size ∙ c.size.ensures;
-  last = ap (λ (q : QueueView). q.last) c.in_ok-clear.ensures.queue;
+  size = c.requires.size;
+  last = c.requires.last;
   seeded = λ k cell below is. absurd (omega arith);
-  searching = λ price. seed-start (pane_graph c.args.pane c.args.tree.now price) (rest_of c.args.pane c.args.aim.now) (label_at c.clear.new.self.labels.costs.items)
-      c.clear.new.self.queue.pairs (size_of c.args.pane) c.in_ok-clear.ensures.none (ap (λ (q : QueueView). q.pairs) c.in_ok-clear.ensures.queue);
+  searching = λ price searching. searching;
 }
 
 pub local-requires : goal.local-requires
@@ -39,20 +38,21 @@ pub loop-node-preserved : goal.loop-node-preserved
 loop-node-preserved c =
     let step : Step = record { cell = c.spot-spot.result.local; cost = 0; rest = c.distance_to.result } in
     let back = ap (λ (n : ℕ). cell_in c.args.pane n) (sym c.local.ensures.local) ∙ c.local.ensures.cell in
-    let turn = λ (price : Edge → Option ℕ). seed-turn c.args.pane c.args.tree.now price c.args.aim.now c.loop-node.node (c.loop-node.node + 1) c.cell.result c.spot-spot.result step c.loop-node.front c.reach.new.front
-    refl c.cell.ensures.cell c.cell.ensures.only c.spot-spot.ensures.spot (c.spot-spot.ensures.local ∙ c.local.ensures.local) back
-    refl refl c.distance_to.ensures.least c.loop-node.invariant.size c.in_ok-reach.ensures.done (c.loop-node.invariant.searching price) c.loop-node.invariant.seeded in
     record {
       size = c.reach.ensures.size ∙ c.loop-node.invariant.size;
       last = c.reach.ensures.last ∙ c.loop-node.invariant.last;
-      seeded = (turn (λ _. Some 0)).1;
-      searching = λ price. (turn price).0;
+      seeded = seeded-turn c.args.pane c.args.tree.now c.loop-node.node (c.loop-node.node + 1) c.cell.result c.spot-spot.result step c.loop-node.front c.reach.new.front
+          refl c.cell.ensures.cell c.spot-spot.ensures.spot (c.spot-spot.ensures.local ∙ c.local.ensures.local) refl refl c.loop-node.invariant.size c.in_ok-reach.ensures.done
+          c.loop-node.invariant.seeded;
+      searching = λ price begun. seed-turn c.args.pane c.args.tree.now price c.args.aim.now c.loop-node.node c.cell.result c.spot-spot.result step c.loop-node.front c.reach.new.front
+          c.cell.ensures.only c.spot-spot.ensures.spot (c.spot-spot.ensures.local ∙ c.local.ensures.local) back refl refl c.distance_to.ensures.least c.loop-node.invariant.size
+          c.in_ok-reach.ensures.done (c.loop-node.invariant.searching price begun);
     }
 
-pub returns : goal.returns
-returns c = record {
-  size = c.loop-node.invariant.size;
-  sources = λ price. seed-done c.args.pane c.args.tree.now price (label_at c.loop-node.front.labels.costs.items) c.loop-node.node
-      (omega (arith, c.loop-node-test.false, c.len-node-end.ensures.len)) c.loop-node.invariant.seeded;
-  searching = c.loop-node.invariant.searching;
-}
+pub returns-clause-sources : goal.returns-clause-sources
+returns-clause-sources c price =
+    seed-done c.args.pane c.args.tree.now price (label_at c.loop-node.front.labels.costs.items) c.loop-node.node
+    (omega (arith, c.loop-node-test.false, c.len-node-end.ensures.len)) c.loop-node.invariant.seeded
+
+pub returns-clause-searching : goal.returns-clause-searching
+returns-clause-searching c price searching = c.loop-node.invariant.searching price searching
