@@ -1,5 +1,5 @@
 -- A bound that is made by scales falls with a step by no more than the step costs.
-use Rattle.std.proofs.Common.{◌≡◌, ℕ, suc, zero, ◌+◌, ◌-◌, ◌*◌, ◌<◌, ◌≤◌, ◌⊎◌, inl, inr, List, [], ◌∷◌, length, map, get_or, Option, Some, IfSome, refl, sym, ap, subst, ◌∙◌, arith}
+use Rattle.std.proofs.Common.{◌≡◌, ℕ, ◌+◌, ◌-◌, ◌*◌, ◌<◌, ◌≤◌, ◌⊎◌, inl, inr, List, length, map, Option, Some, refl, sym, ap, subst, ◌∙◌, arith}
 use Rattle.std.proofs.lemmas.Bool.{cases_lt}
 use Rattle.std.proofs.lemmas.List.{length-map, get_or-map, get_or_past}
 use Rattle.std.proofs.Math.Nat.{mul-le-mul_right}
@@ -8,10 +8,10 @@ use Rattle.gr_base.specs.declared.grid.Cell.{Cell}
 use Rattle.gr_base.specs.declared.grid.Edge.{Edge}
 use Rattle.gr_base.specs.declared.grid.Way.{Way}
 use Rattle.gr_base.specs.declared.grid.Way.TheVariants.{East, North, Up}
-use Rattle.gr_base.specs.Grid.{gap, place_at, IsInside, beyond}
+use Rattle.gr_base.specs.Grid.{gap, place_at, beyond}
 use Rattle.gr_base.proofs.GridLemmas.{place-inside}
 use Rattle.maze_route.specs.Positions.{most_position, at, AreUpTo, outside}
-use Rattle.maze_route.specs.Scales.{apart, AreScales}
+use Rattle.maze_route.specs.Scales.{AreScales}
 use Rattle.maze_route.specs.Spans.{outside_by}
 use Rattle.maze_route.specs.Steps.{size_of, cell_in, pane_step}
 use Rattle.maze_route.specs.Windows.{window_step}
@@ -19,7 +19,7 @@ use Rattle.maze_route.specs.declared.pane.Pane.{Pane}
 use Rattle.maze_route.specs.declared.scales.Scales.{Scales}
 use Rattle.maze_route.specs.declared.span.Span.{Span}
 use Rattle.maze_route.proofs.PaneLemmas.{place-cell}
-use Rattle.maze_route.proofs.StepLemmas.{IsStepBy, IsNext, step-by, chosen-some, at-some}
+use Rattle.maze_route.proofs.StepLemmas.{IsStepBy, step-by, chosen-some, at-some}
 
 -- how far outside a box something lies grows by no more than it moves
 outside-near : (from to a b : ℕ) → outside from to a ≤ gap a b + outside from to b

@@ -1,5 +1,5 @@
 -- What is kept of a search stands for a tree that has grown, and by another bound.
-use Rattle.std.proofs.Common.{◌≡◌, ℕ, ◌+◌, ◌<◌, ◌≤◌, ◌⊎◌, inl, inr, Bool, true, false, ◌&&◌, ◌||◌, ◌==◌, nat_lt, List, [], ◌∷◌, ◌++◌, length, map, take, get_or, All, Contains, Option, Some, None, Result, Ok, Err, OnOk, IfSome, IsSomeAnd, IsTrue, refl, sym, ap, subst, ◌∙◌, arith}
+use Rattle.std.proofs.Common.{◌≡◌, ℕ, ◌+◌, ◌<◌, ◌≤◌, inl, inr, Bool, true, false, ◌&&◌, ◌||◌, ◌==◌, nat_lt, List, [], ◌∷◌, ◌++◌, length, take, get_or, All, Contains, Option, Some, None, Result, Ok, Err, OnOk, IfSome, IsSomeAnd, IsTrue, refl, sym, ap, subst, ◌∙◌, arith}
 use Rattle.std.specs.List.Sorted.{IsPermutation}
 use Rattle.std.proofs.lemmas.Bool.{both_ways}
 use Rattle.std.proofs.lemmas.Bool.Decides.{nat_tests}
@@ -8,19 +8,18 @@ use Rattle.std.proofs.lemmas.List.{take_more}
 use Rattle.std.proofs.lemmas.List.Sorted.{Contains-permutation, IsPermutation-sym}
 use Rattle.std.proofs.lemmas.Option.{none-some, same_Some}
 use Rattle.gr_base.specs.declared.grid.Edge.{Edge}
-use Rattle.gr_base.specs.declared.grid.Shape.{Shape}
 use Rattle.gr_base.specs.Trees.{TreeView, holds, is_among}
 use Rattle.maze_route.specs.Kept.{cells_of_pairs, AreWaiting, IsKept, IsLabelOf, Serves}
 use Rattle.maze_route.specs.Labels.{label_at}
 use Rattle.maze_route.specs.Queues.{QueueView, IsPushed}
-use Rattle.maze_route.specs.Search.{most_distance, IsAtMost, IsRelaxed, IsSearching, is_marked, HasGoal}
+use Rattle.maze_route.specs.Search.{most_distance, IsAtMost, IsSearching, is_marked, HasGoal}
 use Rattle.maze_route.specs.Steps.{size_of, cell_in, pane_source, pane_graph}
 use Rattle.maze_route.specs.Walks.{Graph, Reaches, Starts, Goes_on}
 use Rattle.maze_route.specs.declared.front.Front.{Front}
 use Rattle.maze_route.specs.declared.pane.Pane.{Pane}
 use Rattle.maze_route.specs.declared.room.MazeRoom.{MazeRoom}
 use Rattle.maze_route.specs.declared.window.Window.{Window}
-use Rattle.maze_route.proofs.Distances.{at-most, make-at-most}
+use Rattle.maze_route.proofs.Distances.{make-at-most}
 use Rattle.maze_route.proofs.EndLemmas.{among-cases}
 use Rattle.maze_route.proofs.LabelLemmas.{contains-head, contains-more, contains-cases}
 

@@ -1,9 +1,7 @@
 -- The least costs of crossing a window's borders, and their sums.
-use Rattle.std.proofs.Common.{◌≡◌, ◌≢◌, ℕ, suc, zero, ◌+◌, ◌-◌, ◌*◌, ◌<◌, ◌≤◌, ◌⊎◌, inl, inr, Bool, true, false, ◌&&◌, nat_lt, min, List, [], ◌∷◌, length, replicate, get_or, Option, Some, None, IsSome, IsTrue, slice_set, refl, sym, ap, subst, ◌∙◌, arith, length-set}
-use Rattle.std.proofs.lemmas.Bool.{cases_lt, cases_eq, both_ways}
+use Rattle.std.proofs.Common.{◌≡◌, ℕ, suc, zero, ◌+◌, ◌*◌, ◌<◌, ◌≤◌, inl, inr, Bool, true, false, ◌&&◌, nat_lt, List, [], ◌∷◌, length, replicate, Option, IsSome, IsTrue, refl, sym, ap, subst, ◌∙◌, arith}
+use Rattle.std.proofs.lemmas.Bool.{cases_lt, both_ways}
 use Rattle.std.proofs.lemmas.Bool.Decides.{nat_tests}
-use Rattle.std.proofs.lemmas.List.{get_or_past, get_or-set_same, get_or_default}
-use Rattle.std.proofs.lemmas.Option.{none-some}
 use Rattle.std.proofs.Math.Nat.{add-mul}
 use Rattle.cost_rules.specs.Prices.{layer_of, ArePrices}
 use Rattle.gr_base.specs.declared.grid.Cell.{Cell}
@@ -13,7 +11,7 @@ use Rattle.gr_base.specs.declared.grid.Way.{Way}
 use Rattle.gr_base.specs.declared.grid.Way.TheVariants.{East, North, Up}
 use Rattle.gr_base.specs.Grid.{cells_of, number_of, place_at, IsInside, stride, has_room, has_edge, edge_at}
 use Rattle.gr_base.proofs.GridLemmas.{some_layers, number-place, place-inside, same_cell, place-number, number-below}
-use Rattle.maze_route.specs.Positions.{most_position, at, AreUpTo, sums_from, lowered_to, AreLowered, borders_of, lines_of, start_of, border_of, line_of, IsBefore, IsLine, IsUnderLine, AreUnder, IsCrossed, ArePositions}
+use Rattle.maze_route.specs.Positions.{most_position, at, AreUpTo, sums_from, AreLowered, borders_of, lines_of, start_of, border_of, line_of, IsBefore, IsLine, IsUnderLine, AreUnder, ArePositions}
 use Rattle.maze_route.specs.Windows.{IsWindow, is_within, in_window}
 use Rattle.maze_route.specs.declared.window.Window.{Window}
 use Rattle.maze_route.proofs.SpotLemmas.{few-each}

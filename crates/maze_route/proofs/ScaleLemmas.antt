@@ -1,5 +1,5 @@
 -- Positions of columns and rows are scales.
-use Rattle.std.proofs.Common.{◌≡◌, ℕ, ◌+◌, ◌-◌, ◌<◌, ◌≤◌, inl, inr, Bool, ◌&&◌, List, length, Option, Some, IsTrue, refl, sym, ap, subst, ◌∙◌, arith}
+use Rattle.std.proofs.Common.{◌≡◌, ℕ, ◌+◌, ◌-◌, ◌<◌, ◌≤◌, inl, inr, ◌&&◌, List, length, Option, Some, IsTrue, sym, ap, subst, ◌∙◌, arith}
 use Rattle.std.specs.Prelude.{option_and_then}
 use Rattle.std.proofs.lemmas.Bool.Decides.{nat_tests}
 use Rattle.gr_base.specs.declared.grid.Cell.{Cell}
@@ -9,9 +9,9 @@ use Rattle.gr_base.specs.declared.grid.Way.{Way}
 use Rattle.gr_base.specs.declared.grid.Way.TheVariants.{East, North, Up}
 use Rattle.gr_base.specs.Grid.{cells_of, gap, place_at, beyond, high_of, has_edge, edge_at, edge_of, Joins}
 use Rattle.gr_base.proofs.GridLemmas.{place-high, edge_of-joins}
-use Rattle.maze_route.specs.Positions.{at, borders_of, border_of, IsCrossed, ArePositions}
-use Rattle.maze_route.specs.Scales.{apart, AreScales}
-use Rattle.maze_route.specs.Windows.{IsWindow, in_window, window_step}
+use Rattle.maze_route.specs.Positions.{at, borders_of, IsCrossed, ArePositions}
+use Rattle.maze_route.specs.Scales.{AreScales}
+use Rattle.maze_route.specs.Windows.{IsWindow, in_window}
 use Rattle.maze_route.specs.declared.scales.Scales.{Scales}
 use Rattle.maze_route.specs.declared.window.Window.{Window}
 use Rattle.maze_route.proofs.PositionLemmas.{IsHeld, window-held}

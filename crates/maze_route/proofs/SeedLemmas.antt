@@ -1,8 +1,8 @@
 -- The front at which a search begins.
-use Rattle.std.proofs.Common.{◌≡◌, ℕ, ◌+◌, ◌<◌, ◌≤◌, inl, inr, Bool, true, ◌&&◌, nat_lt, List, [], length, Option, Some, None, is_some, IsTrue, Contains, sym, ap, subst, ◌∙◌, arith}
+use Rattle.std.proofs.Common.{◌≡◌, ℕ, ◌+◌, ◌<◌, ◌≤◌, inl, inr, Bool, true, ◌&&◌, nat_lt, length, Option, Some, is_some, IsTrue, sym, ap, subst, ◌∙◌, arith}
 use Rattle.std.proofs.lemmas.Bool.{cases_eq}
 use Rattle.std.proofs.lemmas.Bool.Decides.{nat_tests}
-use Rattle.std.proofs.lemmas.Option.{none-some, same_Some}
+use Rattle.std.proofs.lemmas.Option.{same_Some}
 use Rattle.gr_base.specs.declared.grid.Cell.{Cell}
 use Rattle.gr_base.specs.declared.grid.Edge.{Edge}
 use Rattle.gr_base.specs.declared.grid.Shape.{Shape}
@@ -11,7 +11,6 @@ use Rattle.gr_base.proofs.TreeLemmas.{some_from, node_with-at, cell_at-within}
 use Rattle.maze_route.specs.Search.{HasSources, IsSearching}
 use Rattle.maze_route.specs.Handing.{IsReach}
 use Rattle.maze_route.specs.Steps.{size_of, cell_in, local_of, pane_source, pane_graph, rest_of, least_to, IsSpot, IsSeededTo}
-use Rattle.maze_route.specs.Walks.{Graph}
 use Rattle.maze_route.specs.Windows.{in_window, TreeLiesIn}
 use Rattle.maze_route.specs.declared.front.Front.{Front}
 use Rattle.maze_route.specs.declared.pane.Pane.{Pane}

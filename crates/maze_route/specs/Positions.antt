@@ -1,5 +1,5 @@
 -- Positions of columns and rows, as sums of what it costs at least to cross from each to the next.
-use Rattle.std.specs.Prelude.{◌≡◌, ℕ, ◌+◌, ◌-◌, ◌*◌, ◌<◌, ◌≤◌, min, List, [], ◌∷◌, get_or, length, Option, Some, None, IsTrue}
+use Rattle.std.specs.Prelude.{◌≡◌, ℕ, ◌+◌, ◌-◌, ◌*◌, ◌<◌, ◌≤◌, List, [], ◌∷◌, get_or, length, Option, Some, IsTrue}
 use Rattle.cost_rules.specs.Formulas.{most_cost}
 use Rattle.gr_base.specs.declared.grid.Cell.{Cell}
 use Rattle.gr_base.specs.declared.grid.Edge.{Edge}
@@ -36,11 +36,6 @@ outside from to position = (from - position) + (position - to)
 abbrev pub sums_from : ℕ → List ℕ → List ℕ
 sums_from total [] = total ∷ []
 sums_from total (number ∷ numbers) = total ∷ sums_from (total + number) numbers
-
--- the lesser of a number and a cost, if there is one
-abbrev pub lowered_to : ℕ → Option ℕ → ℕ
-lowered_to number None = number
-lowered_to number (Some cost) = min number cost
 
 -- no number is raised
 pub record AreLowered (before after : List ℕ) : Type 0 where

@@ -1,9 +1,9 @@
 //! Positions of columns and rows, as sums of what it costs at least to cross from each to the next.
-ghost use Rattle.std.specs.Prelude.{◌≡◌, ◌+◌, ◌<◌, ◌≤◌, length, IfOk};
+ghost use Rattle.std.specs.Prelude.{◌≡◌, ℕ, ◌+◌, ◌<◌, ◌≤◌, length, Some, IfOk, IsTrue};
 ghost use Rattle.cost_rules.specs.Formulas.{most_cost};
-ghost use Rattle.gr_base.specs.Grid.{number_of};
+ghost use Rattle.gr_base.specs.Grid.{number_of, has_edge};
 ghost use Rattle.gr_base.specs.Limits.{most_cells};
-ghost use Rattle.maze_route.specs.Positions.{most_position, AreUpTo, sums_from, lowered_to, AreLowered, borders_of, lines_of, start_of, IsLine, IsUnderLine, AreUnder, ArePositions};
+ghost use Rattle.maze_route.specs.Positions.{most_position, AreUpTo, sums_from, AreLowered, borders_of, lines_of, start_of, IsLine, IsUnderLine, AreUnder, ArePositions};
 ghost use Rattle.maze_route.specs.Scales.{AreScales};
 ghost use Rattle.maze_route.specs.Windows.{IsWindow};
 
@@ -91,11 +91,18 @@ fn start(grid: Shape, window: Window, way: Way, layer: u32, line: u32) -> u32
     }
 }
 
-/// The lesser of a number and a cost, if there is one.
-fn lesser(number: u64, cost: Option<u64>) -> u64
-    ensures { result ≡ lowered_to number cost }
+/// The lesser of a number and what an edge costs, if it costs something. Since that is at least 1, it is
+/// asked for only where the number is greater.
+#[inline(always)]
+fn lesser<C: Costs>(costs: &C, edge: Edge, number: u64) -> u64
+    requires { IsTrue (has_edge (C.grid costs.now) edge) }
+    ensures lower { result ≤ number }
+    ensures under { (cost : ℕ) → C.price costs.now edge ≡ Some cost → result ≤ cost }
 {
-    match cost {
+    if number <= 1 {
+        return number;
+    }
+    match costs.cost(edge) {
         Some(cost) => number.min(cost),
         None => number,
     }
@@ -111,7 +118,7 @@ fn lower_line<C: Costs>(costs: &C, grid: Shape, way: Way, first: u32, numbers: &
     let stride = grid.stride(way);
     let mut low = first;
     for place in 0..numbers.len() {
-        numbers[place] = lesser(numbers[place], costs.cost(Edge { low, way }));
+        numbers[place] = lesser(costs, Edge { low, way }, numbers[place]);
         low += stride;
     }
 }

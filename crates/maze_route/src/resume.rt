@@ -86,4 +86,3 @@ fn seed(pane: Pane, aim: &Aim, tree: &RouteTree, front: &mut Front) -> Result<()
     }
     Ok(())
 }
-

@@ -7,8 +7,8 @@ ghost use Rattle.maze_route.specs.Walks.{IsLeastWalk};
 ghost use Rattle.maze_route.specs.Windows.{IsWindow, TreeLiesIn, LieIn, IsPassable, window_graph};
 ghost use Rattle.maze_route.specs.Whole.{whole};
 
-use crate::back::walk_back;
 use crate::aim::aim_at;
+use crate::back::walk_back;
 use crate::ends::{first_reached, locals, mark, nearest_of};
 use crate::pane::Pane;
 use crate::resume::resume;

@@ -1,4 +1,4 @@
-use Rattle.std.proofs.Common.{sym, ◌∙◌, arith}
+use Rattle.std.proofs.Common.{◌∙◌, arith}
 use Rattle.maze_route.proofs.PositionLemmas.{lowered-again, line-edges, lines-turn, lines-done}
 use Rattle.maze_route.proofs.positions.lower_layer.Goals as goal
 

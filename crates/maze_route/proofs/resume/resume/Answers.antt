@@ -1,4 +1,4 @@
-use Rattle.std.proofs.Common.{◌≡◌, ℕ, List, All, sym, ap, subst, ◌∙◌}
+use Rattle.std.proofs.Common.{ℕ, List, All, sym, subst, ◌∙◌}
 use Rattle.maze_route.specs.Labels.{label_at}
 use Rattle.maze_route.specs.Search.{most_distance, IsAtMost, IsSearching}
 use Rattle.maze_route.specs.Steps.{size_of, rest_of, pane_graph}

@@ -1,7 +1,5 @@
-use Rattle.std.proofs.Common.{ℕ, ◌+◌, Option, Some, refl, sym, ap, ◌∙◌, arith}
-use Rattle.gr_base.specs.declared.grid.Edge.{Edge}
-use Rattle.maze_route.specs.Queues.{QueueView}
-use Rattle.maze_route.specs.Steps.{cell_in, rest_of, pane_graph, size_of}
+use Rattle.std.proofs.Common.{ℕ, ◌+◌, refl, sym, ap, ◌∙◌, arith}
+use Rattle.maze_route.specs.Steps.{cell_in}
 use Rattle.maze_route.specs.declared.pane.Step.{Step}
 use Rattle.maze_route.specs.Labels.{label_at}
 use Rattle.maze_route.proofs.SeedLemmas.{seed-turn, seeded-turn, seed-done, tree-window}

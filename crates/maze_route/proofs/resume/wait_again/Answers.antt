@@ -1,4 +1,4 @@
-use Rattle.std.proofs.Common.{◌≡◌, ℕ, ◌+◌, List, length, get_or, refl, sym, ap, ◌∙◌, arith}
+use Rattle.std.proofs.Common.{ℕ, ◌+◌, List, length, get_or, refl, sym, ap, ◌∙◌, arith}
 use Rattle.maze_route.specs.Labels.{label_at}
 use Rattle.maze_route.specs.Queues.{QueueView}
 use Rattle.maze_route.specs.Search.{most_distance}

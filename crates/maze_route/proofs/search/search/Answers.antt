@@ -1,8 +1,6 @@
 use Rattle.std.proofs.Common.{◌≡◌, ℕ, Option, refl, sym, subst, ◌∙◌, arith}
 use Rattle.std.proofs.lemmas.Option.{same_Some}
-use Rattle.cost_rules.specs.Prices.{ArePrices}
 use Rattle.gr_base.specs.declared.grid.Edge.{Edge}
-use Rattle.gr_base.specs.declared.grid.Shape.{Shape}
 use Rattle.maze_route.specs.Steps.{size_of, rest_of, pane_graph}
 use Rattle.maze_route.proofs.HandingLemmas.{pane-rest}
 use Rattle.std.proofs.lemmas.List.Sorted.{IsPermutation-trans}

@@ -1,4 +1,4 @@
-use Rattle.std.proofs.Common.{Option, ℕ, subst, ◌∙◌}
+use Rattle.std.proofs.Common.{Option, ℕ, subst}
 use Rattle.cost_rules.specs.Prices.{ArePrices}
 use Rattle.gr_base.specs.declared.grid.Edge.{Edge}
 use Rattle.gr_base.specs.declared.grid.Shape.{Shape}
