@@ -29,3 +29,4 @@ pub mod KeepLemmas
 pub mod RenewLemmas
 pub mod SeedLemmas
 pub mod KeptLemmas
+pub mod DivisorLemmas

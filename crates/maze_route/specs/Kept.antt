@@ -23,7 +23,8 @@ cells_waiting slots = cells_of_pairs (filter_map pair_in slots)
 
 -- these cells wait with their labels and a bound on the rest of the way as keys, and no others
 pub record AreWaiting (rest : ℕ → ℕ) (label : ℕ → Option ℕ) (pairs : List (ℕ × ℕ)) (cells : List ℕ) : Type 0 where
-  pub all : (cell cost : ℕ) → IsTrue (is_among cells cell) → label cell ≡ Some cost → Contains pairs (cost + rest cell, cell)
+  pub all : (cell cost : ℕ) → IsTrue (is_among cells cell) → label cell ≡ Some cost →
+      Contains pairs (cost + rest cell, cell)
   pub only : (key cell : ℕ) → Contains pairs (key, cell) → IsSomeAnd (label cell) (λ cost. cost + rest cell ≤ key)
 
 -- labels are costs of walks, and each labelled cell waits or has handed its label on
@@ -42,7 +43,7 @@ pub record IsLabelOf (label : ℕ → Option ℕ) (ends : List ℕ) (cost : ℕ)
   pub among : IsTrue (is_among ends cell)
   pub labelled : label cell ≡ Some cost
 
--- a room in which least walks to a tree in a window can be searched: what it holds of earlier walks stands for this tree too
+-- a room in which least walks to a tree in a window can be searched: what it holds of earlier walks stands for this tree
 pub record Serves (t : TreeView) (w : Window) (price : Edge → Option ℕ) (room : MazeRoom) : Type 0 where
   pub grid : room.pane.grid ≡ t.shape
   pub window : room.pane.window ≡ w

@@ -18,3 +18,4 @@ pub mod Spreading
 pub mod Places
 pub mod Renewed
 pub mod Kept
+pub mod Divisors

@@ -78,7 +78,8 @@ IsBefore w Up cell = ⊥
 
 -- an edge for each number, one after another along a way
 abbrev pub IsLine : Shape → Way → ℕ → ℕ → Type 0
-IsLine g way first count = (place : ℕ) → place < count → IsTrue (has_edge g (edge_at (first + place * stride g way) way))
+IsLine g way first count = (place : ℕ) → place < count →
+    IsTrue (has_edge g (edge_at (first + place * stride g way) way))
 
 -- no edge of a line costs less than the number for it
 abbrev pub IsUnderLine : Shape → (Edge → Option ℕ) → Way → ℕ → ℕ → List ℕ → Type 0

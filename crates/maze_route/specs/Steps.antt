@@ -73,7 +73,7 @@ abbrev pub beside : Shape → ℕ → Side → Option ℕ
 beside s n (Behind way) = behind_of s n way
 beside s n (Ahead way) = ahead_of s n way
 
--- what a walk between a place and a box costs at least: by the place's column, by its row, and a via edge for each layer
+-- what a walk between a place and a box costs at least: by the place's column and row, and a via edge for each layer
 abbrev pub least_to : Aim → Cell → ℕ
 least_to aim cell = at aim.columns.items cell.x + at aim.rows.items cell.y + (cell.layer - aim.top) * aim.via
 

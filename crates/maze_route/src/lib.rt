@@ -4,6 +4,7 @@
 mod aim;
 mod back;
 mod bucket;
+mod divisor;
 mod ends;
 mod first;
 mod front;

@@ -1,6 +1,8 @@
+ghost use Rattle.std.specs.Prelude.{◌≡◌};
 ghost use Rattle.maze_route.specs.Panes.{IsPane};
 ghost use Rattle.maze_route.specs.Positions.{AreSmall};
 
+use crate::divisor::Divisor;
 use crate::window::Window;
 use gr_base::{Cell, Shape};
 
@@ -11,7 +13,11 @@ pub(crate) struct Pane {
     pub(crate) window: Window,
     /// The window's columns and rows, and the grid's layers.
     pub(crate) shape: Shape,
+    pub(crate) columns: Divisor,
+    pub(crate) rows: Divisor,
     pub(crate) ghost fits: { IsPane grid window shape },
+    pub(crate) ghost by_columns: { columns.by ≡ shape.columns },
+    pub(crate) ghost by_rows: { rows.by ≡ shape.rows },
 }
 
 /// What a walk from a cell of a window to some box costs at least: a part by the cell's column, one

@@ -151,7 +151,8 @@ fn lower<C: Costs>(costs: &C, grid: Shape, window: Window, way: Way, numbers: &m
     requires window { IsWindow grid window }
     requires size { length numbers.old.items ≡ borders_of window way }
     ensures lowered { AreLowered numbers.old.items numbers.new.items }
-    ensures under { AreUnder grid window (C.price costs.now) way (λ place. place.layer < grid.layers) numbers.new.items }
+    ensures under { AreUnder grid window (C.price costs.now) way (λ place. place.layer < grid.layers)
+        numbers.new.items }
 {
     for layer in 0..grid.layers() {
         if !costs.goes(layer, way) {

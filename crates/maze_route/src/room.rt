@@ -58,7 +58,8 @@ impl MazeRoom {
     /// matter. The only error is want of memory.
     pub fn begin(&mut self, grid: Shape, window: Window) -> Result<(), AllocError>
         requires { IsWindow grid window }
-        ensures { (t : TreeView) (price : Edge → Option ℕ) → t.shape ≡ grid → OnOk result (Serves t window price self.new) }
+        ensures { (t : TreeView) (price : Edge → Option ℕ) → t.shape ≡ grid →
+            OnOk result (Serves t window price self.new) }
     {
         self.pane = Pane::new(grid, window);
         self.front.clear(self.pane.size())?;

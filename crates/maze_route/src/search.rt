@@ -145,7 +145,8 @@ pub(crate) fn search<C: Costs>(
     requires costs { C.grid costs.now ≡ pane.grid }
     requires guide { IsGuide pane (C.price costs.now) aim.now }
     requires size { length front.old.labels.costs.items ≡ size_of pane }
-    requires sources { HasSources (pane_graph pane tree.now (C.price costs.now)) (label_at front.old.labels.costs.items) }
+    requires sources { HasSources (pane_graph pane tree.now (C.price costs.now))
+        (label_at front.old.labels.costs.items) }
     requires searching { IsSearching (pane_graph pane tree.now (C.price costs.now)) (rest_of pane aim.now)
         (label_at front.old.labels.costs.items) front.old.queue.pairs (size_of pane) }
     requires known { IfSome known (HasGoal marks.now (label_at front.old.labels.costs.items)) }
