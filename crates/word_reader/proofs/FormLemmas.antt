@@ -20,7 +20,7 @@ at-place : (option : OptionKind) → get_or every_option (place option) option �
 at-place Workers = refl
 at-place other = refl
 
-pub in-place : (option : OptionKind) → place option < length every_option
+in-place : (option : OptionKind) → place option < length every_option
 in-place Workers = omega arith
 in-place other = omega arith
 
@@ -29,7 +29,8 @@ unfit : (command : Command) (sorted : Sorted) → fits command sorted ≡ false 
 unfit command sorted is = rw is refl
 
 -- more positionals than any command has
-pub too-many : (command : Command) (sorted : Sorted) → most_positionals < length sorted.positionals → order_by command sorted ≡ None
+pub too-many : (command : Command) (sorted : Sorted) → most_positionals < length sorted.positionals →
+    order_by command sorted ≡ None
 too-many command sorted more =
     let most = most-words command in
     let other : fills command sorted ≡ false = grind (arith, nat_tests) in
@@ -48,7 +49,9 @@ twice command sorted option more = unfit command sorted (by (fills command sorte
     beyond = let few = most (has command option) in grind (arith, nat_tests)
 
     none : has_all command sorted ≡ false
-    none = list_all_at (suits command sorted) every_option (place option) option (in-place option) (ap (suits command sorted) (at-place option) ∙ beyond)
+    none =
+        list_all_at (suits command sorted) every_option (place option) option (in-place option)
+        (ap (suits command sorted) (at-place option) ∙ beyond)
 
     by : (b : Bool) → (b && has_all command sorted) ≡ false
     by true = none

@@ -52,20 +52,23 @@ place-past (byte ∷ rest) is = by (place-past rest) (is_equals byte) refl is
     by past true h any = absurd cc
     by past false h any = let at = place-behind byte rest h in let more = past any in omega arith
 
--- a word as each option has one: with a hyphen in front, of at least three bytes, and without `=`
+-- a word that isn't a positional or `--`
 abbrev IsLong : List ℕ → Type 0
 IsLong word = (has_hyphen word ≡ true) × (2 < length word)
 
+-- a word as each option has one: it begins with a hyphen, has at least three bytes, and no `=`
 abbrev is_name : List ℕ → Bool
 is_name word = has_hyphen word && (nat_lt 2 (length word) && not (list_any is_equals word))
 
-all-names : list_all (λ option. is_name (option_row option).word) every_option ≡ true
-all-names = refl
+names-are : list_all (λ option. is_name (option_row option).word) every_option ≡ true
+names-are = refl
 
 -- a word that names an option is one
 name-of : (word : List ℕ) (option : OptionKind) → option_of word ≡ Some option → is_name word ≡ true
 name-of word option names =
-    let is = found (λ (o : OptionKind). bytes_eq word (option_row o).word) (λ o. is_name (option_row o).word) every_option option names all-names in
+    let is =
+    found (λ (o : OptionKind). bytes_eq word (option_row o).word) (λ o. is_name (option_row o).word) every_option
+    option names names-are in
     ap is_name (same_bytes word (option_row option).word is.0) ∙ is.1
 
 name-is : (word : List ℕ) → is_name word ≡ true → IsLong word × (list_any is_equals word ≡ false)

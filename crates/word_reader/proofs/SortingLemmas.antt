@@ -5,7 +5,7 @@ use Rattle.std.proofs.lemmas.Bool.Decides.{nat_tests}
 use Rattle.std.proofs.lemmas.List.{append_assoc, length-append}
 use Rattle.std.specs.Option.{option_map, option_and_then}
 use Rattle.word_reader.specs.Forms.{is_option, place}
-use Rattle.word_reader.specs.Kept.{kept_values, values_seen, words_seen, joined, order_after, Adds, Sets, TakesIn}
+use Rattle.word_reader.specs.Kept.{kept_values, values_seen, words_seen, joined, order_after, Adds, Sets, TakesWord}
 use Rattle.word_reader.specs.Meanings.{Meaning, meaning_of, Divides, Positional, Awaits, Holds, Unknown}
 use Rattle.word_reader.specs.Orders.{order_by}
 use Rattle.word_reader.specs.Sorting.{Sorted, nothing, sorted, sorted_by, with_positional, with_value}
@@ -104,40 +104,40 @@ module _ (old new : Kept) (word : List ℕ) where
   by-meaning command rest meaning is =
       ap (λ (m : Meaning). option_and_then (λ b. order_by command (joined (words_seen old) b)) (sorted_by m word (λ next. sorted next rest))) (sym is)
 
-  pub divides : Divides ≡ meaning_of word → TakesIn old Any word (Some Name) old
+  pub divides : Divides ≡ meaning_of word → TakesWord old Any word (Some Name) old
   divides is = λ command rest. by-meaning command rest Divides is
 
-  pub stands : Positional ≡ meaning_of word → Adds old word (Some tt) new → TakesIn old Any word (Some Any) new
+  pub stands : Positional ≡ meaning_of word → Adds old word (Some tt) new → TakesWord old Any word (Some Any) new
   stands is adds = λ command rest. by-meaning command rest Positional is ∙ added command old new word (sorted Any rest) adds
 
-  pub stands-too-many : Positional ≡ meaning_of word → Adds old word None new → TakesIn old Any word None new
+  pub stands-too-many : Positional ≡ meaning_of word → Adds old word None new → TakesWord old Any word None new
   stands-too-many is full = λ command rest. by-meaning command rest Positional is ∙ not-added command old new word (sorted Any rest) full
 
-  pub awaits : (option : OptionKind) → Awaits option ≡ meaning_of word → TakesIn old Any word (Some (Value option)) old
+  pub awaits : (option : OptionKind) → Awaits option ≡ meaning_of word → TakesWord old Any word (Some (Value option)) old
   awaits option is = λ command rest. by-meaning command rest (Awaits option) is
 
   pub holds : (option : OptionKind) (value : List ℕ) → Holds option value ≡ meaning_of word → Sets old option value (Some tt) new →
-      TakesIn old Any word (Some Any) new
+      TakesWord old Any word (Some Any) new
   holds option value is sets = λ command rest. by-meaning command rest (Holds option value) is ∙ set command old new option value (sorted Any rest) sets
 
   pub holds-twice : (option : OptionKind) (value : List ℕ) → Holds option value ≡ meaning_of word → Sets old option value None new →
-      TakesIn old Any word None new
+      TakesWord old Any word None new
   holds-twice option value is given = λ command rest. by-meaning command rest (Holds option value) is ∙ not-set command old new option value (sorted Any rest) given
 
-  pub unknown : Unknown ≡ meaning_of word → TakesIn old Any word None old
+  pub unknown : Unknown ≡ meaning_of word → TakesWord old Any word None old
   unknown is = λ command rest. by-meaning command rest Unknown is
 
   -- what was taken for a value, and for a positional
-  pub value : (option : OptionKind) → Sets old option word (Some tt) new → TakesIn old (Value option) word (Some Any) new
+  pub value : (option : OptionKind) → Sets old option word (Some tt) new → TakesWord old (Value option) word (Some Any) new
   value option sets = λ command rest. set command old new option word (sorted Any rest) sets
 
-  pub value-twice : (option : OptionKind) → Sets old option word None new → TakesIn old (Value option) word None new
+  pub value-twice : (option : OptionKind) → Sets old option word None new → TakesWord old (Value option) word None new
   value-twice option given = λ command rest. not-set command old new option word (sorted Any rest) given
 
-  pub name : Adds old word (Some tt) new → TakesIn old Name word (Some Name) new
+  pub name : Adds old word (Some tt) new → TakesWord old Name word (Some Name) new
   name adds = λ command rest. added command old new word (sorted Name rest) adds
 
-  pub name-too-many : Adds old word None new → TakesIn old Name word None new
+  pub name-too-many : Adds old word None new → TakesWord old Name word None new
   name-too-many full = λ command rest. not-added command old new word (sorted Name rest) full
 
 -- where no word is left

@@ -24,17 +24,18 @@ pub data Takes : Type 0 where
   -- one of these words, or a number from the least to the most
   WordOrNumber : (words : List (List ℕ)) → (least most : ℕ) → Takes
 
--- an option's word, what it takes, and the value that it has where none is given, if it then has one
+-- an option's word, what it takes as its value, and the value that it has where none is given, if it then has one
 pub record OptionRow : Type 0 where
   pub word : List ℕ
   pub takes : Takes
   pub default : Option (List ℕ)
 
--- the options
+-- the row of each option
 abbrev pub option_row : OptionKind → OptionRow
 option_row Workers = record { word = codes "--workers"; takes = Number 1 most_workers; default = Some (codes "1") }
 option_row ViaCost = record { word = codes "--via-cost"; takes = Number 0 most_via_cost; default = Some (codes "1") }
 
+-- the options, each once
 abbrev pub every_option : List OptionKind
 every_option = Workers ∷ ViaCost ∷ []
 
@@ -43,6 +44,7 @@ abbrev pub place : OptionKind → ℕ
 place Workers = 0
 place ViaCost = 1
 
+-- two options are one
 abbrev pub is_option : OptionKind → OptionKind → Bool
 is_option one other = place one == place other
 
@@ -56,7 +58,7 @@ pub record CommandRow : Type 0 where
   pub positionals : ℕ
   pub options : List OptionKind
 
--- the commands
+-- the row of each command
 abbrev pub command_row : Command → CommandRow
 command_row Route = record { word = codes "route"; positionals = 3; options = Workers ∷ ViaCost ∷ [] }
 command_row Evaluate = record { word = codes "evaluate"; positionals = 2; options = ViaCost ∷ [] }
@@ -64,6 +66,7 @@ command_row Buffer = record { word = codes "buffer"; positionals = 3; options = 
 command_row Make = record { word = codes "make"; positionals = 5; options = [] }
 command_row Trial = record { word = codes "trial"; positionals = 6; options = Workers ∷ [] }
 
+-- the commands, each once
 abbrev pub every_command : List Command
 every_command = Route ∷ Evaluate ∷ Buffer ∷ Make ∷ Trial ∷ []
 

@@ -6,8 +6,8 @@ use Rattle.word_reader.specs.Forms.{CommandRow, OptionRow, Takes, Number, Word, 
 use Rattle.word_reader.specs.Meanings.{Meaning, Divides, Positional, Awaits, Holds, Unknown}
 use Rattle.word_reader.specs.Orders.{Order, order_by}
 use Rattle.word_reader.specs.Sorting.{Sorted, sorted}
-use Rattle.word_reader.specs.declared.form.TheConstants.{MOST_POSITIONALS, OPTION_COUNT}
 use Rattle.word_reader.specs.Values.{Value, Absent, Choice, Count}
+use Rattle.word_reader.specs.declared.form.TheConstants.{MOST_POSITIONALS, OPTION_COUNT}
 use Rattle.word_reader.specs.declared.form.Command.{Command}
 use Rattle.word_reader.specs.declared.form.CommandRow.{CommandRow as KeptCommand}
 use Rattle.word_reader.specs.declared.form.OptionKind.{OptionKind}
@@ -19,13 +19,14 @@ use Rattle.word_reader.specs.declared.sorted.Next.TheVariants.{Any}
 use Rattle.word_reader.specs.declared.sorted.Sorted.{Sorted as Kept}
 use Rattle.word_reader.specs.declared.values.Value.{Value as KeptValue}
 
+-- for how many positionals there is room, and for the values of how many options
 abbrev pub most_positionals : ℕ
 most_positionals = MOST_POSITIONALS
 
 abbrev pub option_count : ℕ
 option_count = OPTION_COUNT
 
--- what is kept, as the definitions see it
+-- what is kept, as the definitions see it: words, rows, what a word means, a value
 abbrev pub texts_seen : List (Bor (List ℕ)) → List (List ℕ)
 texts_seen = map (λ (text : Bor (List ℕ)). text.now)
 
@@ -56,6 +57,7 @@ value_seen KeptValue.Absent = Absent
 value_seen (KeptValue.Choice place) = Choice place
 value_seen (KeptValue.Count number) = Count number
 
+-- the values that stand with an option: one at most is kept, at the option's place
 abbrev pub values_seen : Option (Bor (List ℕ)) → List (List ℕ)
 values_seen value = option_to_list (option_map (λ (v : Bor (List ℕ)). v.now) value)
 
@@ -65,6 +67,7 @@ values_at by_place option = values_seen (get_or by_place (place option) None)
 abbrev pub kept_values : Kept → OptionKind → List (List ℕ)
 kept_values kept = values_at kept.values.by_place
 
+-- the words that are kept
 abbrev pub words_seen : Kept → Sorted
 words_seen kept = record {
   positionals = texts_seen kept.positionals.items;
@@ -78,10 +81,10 @@ Adds old word (Some done) new =
 Adds old word None new = most_positionals ≤ length (words_seen old).positionals
 
 -- an option has this value, and the others are as before
-abbrev pub SetsAt : List (Option (Bor (List ℕ))) → OptionKind → List ℕ → List (Option (Bor (List ℕ))) → Type 0
+abbrev pub SetsAt : (old : List (Option (Bor (List ℕ)))) → OptionKind → List ℕ →
+    (new : List (Option (Bor (List ℕ)))) → Type 0
 SetsAt old option value new =
-    (other : OptionKind) →
-    values_at new other ≡ (if is_option option other then value ∷ [] else values_at old other)
+    (other : OptionKind) → values_at new other ≡ (if is_option option other then value ∷ [] else values_at old other)
 
 -- an option that had no value has this one, and the others are as before; or it had one
 abbrev pub Sets : Kept → OptionKind → List ℕ → Option (Unit {0}) → Kept → Type 0
@@ -104,17 +107,18 @@ order_after command kept next rest =
     option_and_then (λ back. order_by command (joined (words_seen kept) back)) (sorted next rest)
 
 -- a word was taken, which changes no order; or there is none with it
-abbrev pub TakesIn : Kept → Next → List ℕ → Option Next → Kept → Type 0
-TakesIn old next word (Some after) new =
+abbrev pub TakesWord : Kept → Next → List ℕ → Option Next → Kept → Type 0
+TakesWord old next word (Some after) new =
     (command : Command) → (rest : List (List ℕ)) →
     order_after command old next (word ∷ rest) ≡ order_after command new after rest
-TakesIn old next word None new =
+TakesWord old next word None new =
     (command : Command) → (rest : List (List ℕ)) → order_after command old next (word ∷ rest) ≡ None
 
 -- the order of a command, by words and by what is kept of them once they are sorted
 abbrev pub order_kept : Command → Option Kept → Option Order
 order_kept command kept = option_and_then (λ words. order_by command (words_seen words)) kept
 
+-- what is kept of the words gives the orders that they do
 abbrev pub Sorts : List (List ℕ) → Option Kept → Type 0
 Sorts words kept =
     (command : Command) → order_kept command kept ≡ option_and_then (order_by command) (sorted Any words)

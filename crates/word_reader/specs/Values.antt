@@ -8,6 +8,7 @@ use Rattle.word_reader.specs.Numbers.{number_in}
 use Rattle.word_reader.specs.Sorting.{Sorted}
 use Rattle.word_reader.specs.declared.form.OptionKind.{OptionKind}
 
+-- what value an option has
 pub data Value : Type 0 where
   -- the option isn't given, and has no default
   Absent : Value
@@ -15,7 +16,7 @@ pub data Value : Type 0 where
   Choice : (place : ℕ) → Value
   Count : (number : ℕ) → Value
 
--- one of the words
+-- one of the words, and a number of the range
 abbrev pub choice_in : List (List ℕ) → List ℕ → Option Value
 choice_in words word = option_map Choice (position (bytes_eq word) words)
 
@@ -37,12 +38,13 @@ value_by row (word ∷ others) = value_in row.takes word
 abbrev pub value_of : OptionKind → Sorted → Option Value
 value_of option sorted = value_by (option_row option) (sorted.values option)
 
+-- the number that a value is
 abbrev pub as_number : Value → Option ℕ
 as_number Absent = None
 as_number (Choice place) = None
 as_number (Count number) = Some number
 
--- the number that an option has
+-- the number that an option has as its value
 abbrev pub number_of : OptionKind → Sorted → Option ℕ
 number_of option sorted = option_and_then as_number (value_of option sorted)
 

@@ -42,7 +42,7 @@ pub(crate) struct OptionRow {
     /// The option's own.
     pub word: &'static str,
     pub takes: Takes,
-    /// The value that it has where none is given, if it then has one.
+    /// What is taken for its value where none is given, if anything is.
     pub default: Option<&'static str>,
 }
 
@@ -103,6 +103,7 @@ pub(crate) fn option_of(word: &str) -> Option<OptionKind>
 }
 
 impl Command {
+    /// The command's row.
     pub(crate) fn row(self) -> CommandRow
         ensures { command_seen result ≡ command_row self }
     {
@@ -144,6 +145,7 @@ impl Command {
 }
 
 impl OptionKind {
+    /// The option's row.
     pub(crate) fn row(self) -> OptionRow
         ensures { option_seen result ≡ option_row self }
     {

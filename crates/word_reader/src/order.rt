@@ -21,9 +21,9 @@ use gr_text::natural_of;
 pub struct Options {
     /// The most rounds of rip-up and reroute, from 0 to 64.
     pub rounds: u32,
-    /// How many hands route, from 1 to 16.
+    /// How many hands route, from 1 to 16; 1 where N isn't given.
     pub workers: u32,
-    /// As how many wire edges a via edge counts in the report, at most 1,000.
+    /// As how many wire edges a via edge counts in the report, from 0 to 1,000; 1 where V isn't given.
     pub via_cost: u32,
     /// The formula of the edges' costs.
     pub formula: Formula,
@@ -32,39 +32,41 @@ pub struct Options {
 /// What the words ask for, with the names of the texts that it needs.
 #[derive(Clone, Copy, Debug)]
 pub enum Order<'w> {
-    /// Routes the design. The library is that of its wires and buffers.
+    /// `route DESIGN LIBRARY ROUNDS [--workers N] [--via-cost V]` routes the design. The library is that of its wires
+    /// and buffers.
     Route {
         design: &'w str,
         library: &'w str,
         options: Options,
     },
-    /// Judges a solution of the design. A via edge counts as `via_cost` wire edges, at most 1,000.
+    /// `evaluate DESIGN SOLUTION [--via-cost V]` judges a solution of the design.
     Evaluate {
         design: &'w str,
         solution: &'w str,
+        /// As how many wire edges a via edge counts, from 0 to 1,000; 1 where V isn't given.
         via_cost: u32,
     },
-    /// Places buffers on the routes of a solution of the design, with those of the library.
+    /// `buffer DESIGN LIBRARY SOLUTION` places buffers of the library on the routes of a solution of the design.
     Buffer {
         design: &'w str,
         library: &'w str,
         solution: &'w str,
     },
-    /// Writes the text of a made design.
+    /// `make SEED X Y L NETS` writes the text of a made design.
     Make {
         made: Made,
     },
-    /// Routes a made design.
+    /// `trial SEED X Y L NETS ROUNDS [--workers N]` routes a made design.
     Trial {
         made: Made,
         /// The most rounds of rip-up and reroute, from 0 to 64.
         rounds: u32,
-        /// How many hands route, from 1 to 16.
+        /// How many hands route, from 1 to 16; 1 where N isn't given.
         workers: u32,
     },
 }
 
-/// What a command asks for.
+/// What a command asks for by as many positionals as it has, and its options.
 pub(crate) fn order_as<'w>(command: Command, sorted: &Sorted<'w>) -> Option<Order<'w>>
     requires { length (words_seen sorted.now).positionals ≡ (command_row command).positionals }
     ensures order { option_map named result ≡ order_as command (words_seen sorted.now) }

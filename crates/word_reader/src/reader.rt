@@ -11,17 +11,14 @@ use crate::form::{Command, EVERY_OPTION, OptionKind, command_of};
 use crate::order::{Order, order_as};
 use crate::sorted::{Sorted, sort_words};
 
-/// The order that the words behind the program's name give: `route DESIGN LIBRARY ROUNDS`, with
-/// the options `--workers N` and `--via-cost V`, `evaluate DESIGN SOLUTION`, with `--via-cost V`,
-/// `buffer DESIGN LIBRARY SOLUTION`, `make SEED X Y L NETS`, or `trial SEED X Y L NETS ROUNDS`, with
-/// `--workers N`.
+/// The order that the words behind the program's name give. The first is a command's, and `Order` says
+/// which words come behind it: as many positionals as the command has, and options of its own, each at
+/// most once.
 ///
 /// Each word behind the first one that is exactly `--` is a positional, and that word is dropped.
 /// Before it an option takes the next word as its value, or holds it behind `=`, and no other word
-/// begins with `-` but `-` itself. A number is one to twenty decimal digits: ROUNDS from 0 to 64, N
-/// from 1 to 16, V from 0 to 1,000, SEED from 0 to 2^64 - 1, X and Y from 2 to 2,048, L from 2 to 16,
-/// and NETS from 0 to 1,000,000; X times Y times L is at most 8,388,608. N and V are 1 where they
-/// aren't given. All other words are `Usage`.
+/// begins with `-` but `-` itself. A number is one to twenty decimal digits. All other words are
+/// `Usage`.
 pub fn read_words(words: &[String]) -> Result<Order<'_>, WordError>
     ensures order { Answers (order_of (map string_bytes words.now)) result }
     ensures range { IfOk result AsksInRange }

@@ -1,6 +1,6 @@
 //! The words behind a command's, sorted.
 ghost use Rattle.std.specs.Prelude.{◌≡◌, ◌<◌, map, length, string_bytes};
-ghost use Rattle.word_reader.specs.Kept.{kept_values, values_seen, words_seen, Adds, Sets, SetsAt, Sorts, TakesIn};
+ghost use Rattle.word_reader.specs.Kept.{kept_values, values_seen, words_seen, Adds, Sets, SetsAt, Sorts, TakesWord};
 ghost use Rattle.word_reader.specs.Orders.{positional};
 ghost use Rattle.word_reader.specs.Sorting.{nothing};
 ghost use Rattle.word_reader.specs.declared.sorted.Next.TheVariants.{Any};
@@ -62,7 +62,7 @@ impl<'w> Sorted<'w> {
 
     /// Takes a word, and says what the one behind it is taken for.
     fn take(&mut self, next: Next, word: &'w str) -> Option<Next>
-        ensures { TakesIn self.old next word.now result self.new }
+        ensures { TakesWord self.old next word.now result self.new }
     {
         match next {
             Next::Any => self.take_any(word),
@@ -79,7 +79,7 @@ impl<'w> Sorted<'w> {
 
     /// Takes a word for what it means by itself.
     fn take_any(&mut self, word: &'w str) -> Option<Next>
-        ensures { TakesIn self.old Any word.now result self.new }
+        ensures { TakesWord self.old Any word.now result self.new }
     {
         match meaning_of(word) {
             Meaning::Divides => Some(Next::Positional),

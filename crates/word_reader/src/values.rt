@@ -21,7 +21,7 @@ pub(crate) enum Value {
     Count(u64),
 }
 
-/// The number that an option has.
+/// The number that an option has as its value.
 pub(crate) fn number_of(option: OptionKind, sorted: &Sorted) -> Option<u64>
     ensures number { result ≡ number_of option (words_seen sorted.now) }
     ensures range { IfSome result (λ number. IsTaken (option_row option).takes (Count number)) }
@@ -32,7 +32,7 @@ pub(crate) fn number_of(option: OptionKind, sorted: &Sorted) -> Option<u64>
     }
 }
 
-/// The value of an option, if it is one that the option takes.
+/// The value of an option, if it is one that the option takes: what stands with it, else its default.
 pub(crate) fn value_of(option: OptionKind, sorted: &Sorted) -> Option<Value>
     ensures value { option_map value_seen result ≡ value_of option (words_seen sorted.now) }
     ensures range { IfSome result (λ value. IsTaken (option_row option).takes (value_seen value)) }
@@ -50,6 +50,7 @@ fn value_by(row: OptionRow, given: Option<&str>) -> Option<Value>
     }
 }
 
+/// The value that a word is, if it is one that is taken.
 fn value_in(takes: Takes, word: &str) -> Option<Value>
     ensures value { option_map value_seen result ≡ value_in (takes_seen takes) word.now }
     ensures range { IfSome result (λ value. IsTaken (takes_seen takes) (value_seen value)) }
