@@ -23,7 +23,8 @@ pub struct Options {
     pub rounds: u32,
     /// How many hands route, from 1 to 16; 1 where N isn't given.
     pub workers: u32,
-    /// As how many wire edges a via edge counts in the report, from 0 to 1,000; 1 where V isn't given.
+    /// As how many wire edges a via edge counts in the report, from 0 to 1,000; 1 where V isn't
+    /// given.
     pub via_cost: u32,
     /// The formula of the edges' costs.
     pub formula: Formula,
@@ -32,8 +33,8 @@ pub struct Options {
 /// What the words ask for, with the names of the texts that it needs.
 #[derive(Clone, Copy, Debug)]
 pub enum Order<'w> {
-    /// `route DESIGN LIBRARY ROUNDS [--workers N] [--via-cost V]` routes the design. The library is that of its wires
-    /// and buffers.
+    /// `route DESIGN LIBRARY ROUNDS [--workers N] [--via-cost V]` routes the design. The library is
+    /// that of its wires and buffers.
     Route {
         design: &'w str,
         library: &'w str,
@@ -46,7 +47,8 @@ pub enum Order<'w> {
         /// As how many wire edges a via edge counts, from 0 to 1,000; 1 where V isn't given.
         via_cost: u32,
     },
-    /// `buffer DESIGN LIBRARY SOLUTION` places buffers of the library on the routes of a solution of the design.
+    /// `buffer DESIGN LIBRARY SOLUTION` places buffers of the library on the routes of a solution of
+    /// the design.
     Buffer {
         design: &'w str,
         library: &'w str,

@@ -11,9 +11,9 @@ use crate::form::{Command, EVERY_OPTION, OptionKind, command_of};
 use crate::order::{Order, order_as};
 use crate::sorted::{Sorted, sort_words};
 
-/// The order that the words behind the program's name give. The first is a command's, and `Order` says
-/// which words come behind it: as many positionals as the command has, and options of its own, each at
-/// most once.
+/// The order that the words behind the program's name give. The first is a command's, and `Order`
+/// says which words come behind it: as many positionals as the command has, and options of its own,
+/// each at most once.
 ///
 /// Each word behind the first one that is exactly `--` is a positional, and that word is dropped.
 /// Before it an option takes the next word as its value, or holds it behind `=`, and no other word

@@ -32,7 +32,8 @@ pub(crate) fn number_of(option: OptionKind, sorted: &Sorted) -> Option<u64>
     }
 }
 
-/// The value of an option, if it is one that the option takes: what stands with it, else its default.
+/// The value of an option, if it is one that the option takes: what stands with it, else its
+/// default.
 pub(crate) fn value_of(option: OptionKind, sorted: &Sorted) -> Option<Value>
     ensures value { option_map value_seen result ≡ value_of option (words_seen sorted.now) }
     ensures range { IfSome result (λ value. IsTaken (option_row option).takes (value_seen value)) }
