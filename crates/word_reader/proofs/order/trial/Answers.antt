@@ -1,7 +1,7 @@
 use Rattle.std.proofs.Common.{sym, ◌∙◌}
 use Rattle.gr_base.specs.Limits.{most_rounds}
 use Rattle.word_reader.proofs.NumberLemmas.{natural-most}
-use Rattle.word_reader.proofs.reader.trial.Goals as goal
+use Rattle.word_reader.proofs.order.trial.Goals as goal
 
 pub returns-clause-range : goal.returns-clause-range
 returns-clause-range c = record {

@@ -1,6 +1,6 @@
 use Rattle.std.proofs.Common.{sym, ◌∙◌}
-use Rattle.word_reader.proofs.SeedLemmas.{too-long, no-digits, seed-value}
-use Rattle.word_reader.proofs.numbers.seed_of.Goals as goal
+use Rattle.word_reader.proofs.WordNumbers.{too-long, no-digits, word-number}
+use Rattle.word_reader.proofs.numbers.number_of_word.Goals as goal
 
 pub returns-then-word-gt-MOST_DIGITS : goal.returns-then-word-gt-MOST_DIGITS
 returns-then-word-gt-MOST_DIGITS c = too-long c.args.word.now c.if-word-gt-MOST_DIGITS.true
@@ -11,4 +11,4 @@ returns-then-not-are_digits c = no-digits c.args.word.now (sym c.are_digits.ensu
 pub returns : goal.returns
 returns c =
     c.ok.ensures.value
-    ∙ seed-value c.args.word.now c.if-word-gt-MOST_DIGITS.false (sym c.are_digits.ensures ∙ c.if-not-are_digits.false) c.parse.result c.parse.ensures.value.0
+    ∙ word-number c.args.word.now c.if-word-gt-MOST_DIGITS.false (sym c.are_digits.ensures ∙ c.if-not-are_digits.false) c.parse.result c.parse.ensures.value.0
