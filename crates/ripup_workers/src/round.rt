@@ -9,29 +9,26 @@ ghost use Rattle.ripup_workers.specs.Crews.{IsWorked, HasAttemptedOver};
 
 use crate::asked::Asked;
 use crate::gate::Gate;
+use crate::ground::Ground;
 use crate::members::{members_of, parted};
 use crate::team::Member;
-use crate::turn::attempt;
 use crate::work::work;
 use crate::worker::Worker;
 use beside_calls::for_each_beside;
 use net_plan::Planner;
-use std::alloc::{AllocError, Global};
+use std::alloc::AllocError;
 use std::sync::Wait;
 use std::thread::Threads;
-use track_book::{BookName, TrackBook};
+use track_book::BookName;
 use work_share::{Share, share};
 
 /// The workers attempt these nets, each once as often as it stands among them, side by side. The only
 /// error is want of memory.
 pub(crate) fn attempt_nets<N: BookName + Send + Sync, R: Threads + Wait + Sync, G: Gate + Sync>(
-    rt: &R,
-    alloc: Global,
-    asked: &Asked,
+    ground: &Ground<'_, N, R, G>,
+    asked: &Asked<'_>,
     round: u32,
     nets: &[u32],
-    book: &TrackBook<N>,
-    gate: &G,
     workers: Vec<Worker<N>>,
 ) -> Result<Vec<Worker<N>>, AllocError>
     requires capacity { N.capacity ≡ capacity_of asked.now.design.now }
@@ -41,33 +38,21 @@ pub(crate) fn attempt_nets<N: BookName + Send + Sync, R: Threads + Wait + Sync, 
     ensures { IfOk result (λ after. HaveAttempted (setting_of asked.now) round nets.now
         (map (λ w. w.pass) workers.items) (map (λ w. w.pass) after.items)) }
 {
-    let (shared, hands) = share(alloc, nets, asked.workers)?;
-    let mut members = members_of(alloc, workers, hands)?;
-    work_all(rt, alloc, asked, round, book, &shared, gate, &mut members);
-    let (mut workers, hands) = parted(alloc, members)?;
+    let (shared, hands) = share(ground.alloc, nets, asked.workers)?;
+    let mut members = members_of(ground.alloc, workers, hands)?;
+    work_all(ground, asked, round, &shared, &mut members);
+    let (mut workers, hands) = parted(ground.alloc, members)?;
     let end = shared.end(hands)?;
-    attempt_rest(
-        rt,
-        alloc,
-        asked,
-        round,
-        end.rest(),
-        book,
-        gate,
-        &mut workers[0],
-    )?;
+    attempt_rest(ground, asked, round, end.rest(), &mut workers[0])?;
     Ok(workers)
 }
 
 /// Each member works, in a thread of its own.
 fn work_all<N: BookName + Send + Sync, R: Threads + Wait + Sync, G: Gate + Sync>(
-    rt: &R,
-    alloc: Global,
-    asked: &Asked,
+    ground: &Ground<'_, N, R, G>,
+    asked: &Asked<'_>,
     round: u32,
-    book: &TrackBook<N>,
     share: &Share,
-    gate: &G,
     members: &mut Vec<Member<N>>,
 )
     requires capacity { N.capacity ≡ capacity_of asked.now.design.now }
@@ -82,63 +67,47 @@ fn work_all<N: BookName + Send + Sync, R: Threads + Wait + Sync, G: Gate + Sync>
         (slice_index_or members.new.items at d).worker.pass (slice_index_or members.new.items at d).done }
 {
     for_each_beside(
-        rt,
+        ground.rt,
         members.as_mut_slice(),
         asked.workers as usize,
         &|_, member: &mut Member<N>|
             requires { (N.capacity ≡ capacity_of asked.now.design.now) × (round ≤ asked.now.rounds) ×
                 All (λ net. IsTrue (is_routed asked.now.design.now net)) share.now.nets ×
                 IsHandOf share.now member.now.hand }
-            ensures { IsWorked share.entry.now asked.entry.now.design.now asked.entry.now.rule.now.formula round
+            ensures { IsWorked share.entry.now asked.entry.now.design.now
+                asked.entry.now.rule.now.formula round
                 member.entry.now.hand member.exit.now.hand member.entry.now.worker.pass member.exit.now.worker.pass
                 member.exit.now.done }
         {
-            work_one(rt, alloc, asked, round, book, share, gate, member);
+            work_one(ground, asked, round, share, member);
         },
     );
 }
 
 /// A member works.
 fn work_one<N: BookName, R: Threads + Wait + Sync, G: Gate>(
-    rt: &R,
-    alloc: Global,
-    asked: &Asked,
+    ground: &Ground<'_, N, R, G>,
+    asked: &Asked<'_>,
     round: u32,
-    book: &TrackBook<N>,
     share: &Share,
-    gate: &G,
     member: &mut Member<N>,
 )
     requires capacity { N.capacity ≡ capacity_of asked.now.design.now }
     requires round { round ≤ asked.now.rounds }
     requires nets { All (λ net. IsTrue (is_routed asked.now.design.now net)) share.now.nets }
     requires hand { IsHandOf share.now member.old.hand }
-    ensures { IsWorked share.now asked.now.design.now asked.now.rule.now.formula round member.old.hand member.new.hand
-        member.old.worker.pass member.new.worker.pass member.new.done }
+    ensures { IsWorked share.now asked.now.design.now asked.now.rule.now.formula round
+        member.old.hand member.new.hand member.old.worker.pass member.new.worker.pass member.new.done }
 {
-    member.done = work(
-        rt,
-        alloc,
-        asked.design,
-        asked.rule,
-        round,
-        book,
-        share,
-        gate,
-        &mut member.hand,
-        &mut member.worker,
-    );
+    member.done = work(ground, asked, round, share, &mut member.hand, &mut member.worker);
 }
 
 /// A worker attempts the nets that are left, of which there are none in practice.
 fn attempt_rest<N: BookName, R: Threads + Wait + Sync, G: Gate>(
-    rt: &R,
-    alloc: Global,
-    asked: &Asked,
+    ground: &Ground<'_, N, R, G>,
+    asked: &Asked<'_>,
     round: u32,
     nets: &[u32],
-    book: &TrackBook<N>,
-    gate: &G,
     worker: &mut Worker<N>,
 ) -> Result<(), AllocError>
     requires capacity { N.capacity ≡ capacity_of asked.now.design.now }
@@ -149,20 +118,9 @@ fn attempt_rest<N: BookName, R: Threads + Wait + Sync, G: Gate>(
         (HasAttemptedOver asked.now.design.now asked.now.rule.now.formula round nets.now
         worker.old.pass worker.new.pass) }
 {
-    let mut planner = Planner::new(alloc)?;
+    let mut planner = Planner::new(ground.alloc)?;
     for &net in nets {
-        attempt(
-            rt,
-            alloc,
-            asked.design,
-            asked.rule,
-            round,
-            book,
-            gate,
-            net,
-            worker,
-            &mut planner,
-        )?;
+        ground.attempt(asked, round, net, worker, &mut planner)?;
     }
     Ok(())
 }
