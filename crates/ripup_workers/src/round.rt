@@ -16,17 +16,17 @@ use crate::work::work;
 use crate::worker::Worker;
 use beside_calls::for_each_beside;
 use net_plan::Planner;
-use std::alloc::AllocError;
+use std::alloc::{AllocError, Global};
 use std::sync::Wait;
 use std::thread::Threads;
-use track_book::BookName;
+use track_book::{BookName, TrackBook};
 use work_share::{Share, share};
 
 /// The workers attempt these nets, each once as often as it stands among them, side by side. The only
 /// error is want of memory.
 pub(crate) fn attempt_nets<N: BookName + Send + Sync, R: Threads + Wait + Sync, G: Gate + Sync>(
     ground: &Ground<'_, N, R, G>,
-    asked: &Asked<'_>,
+    asked: &Asked,
     round: u32,
     nets: &[u32],
     workers: Vec<Worker<N>>,
@@ -40,19 +40,29 @@ pub(crate) fn attempt_nets<N: BookName + Send + Sync, R: Threads + Wait + Sync, 
 {
     let (shared, hands) = share(ground.alloc, nets, asked.workers)?;
     let mut members = members_of(ground.alloc, workers, hands)?;
-    work_all(ground, asked, round, &shared, &mut members);
+    let Ground {
+        rt,
+        alloc,
+        book,
+        gate,
+    } = *ground;
+    work_all(rt, alloc, asked, round, book, &shared, gate, &mut members);
     let (mut workers, hands) = parted(ground.alloc, members)?;
     let end = shared.end(hands)?;
     attempt_rest(ground, asked, round, end.rest(), &mut workers[0])?;
     Ok(workers)
 }
 
-/// Each member works, in a thread of its own.
+/// Each member works, in a thread of its own. What a ground holds comes part by part, since only so it is
+/// known that threads may share it.
 fn work_all<N: BookName + Send + Sync, R: Threads + Wait + Sync, G: Gate + Sync>(
-    ground: &Ground<'_, N, R, G>,
-    asked: &Asked<'_>,
+    rt: &R,
+    alloc: Global,
+    asked: &Asked,
     round: u32,
+    book: &TrackBook<N>,
     share: &Share,
+    gate: &G,
     members: &mut Vec<Member<N>>,
 )
     requires capacity { N.capacity ≡ capacity_of asked.now.design.now }
@@ -67,7 +77,7 @@ fn work_all<N: BookName + Send + Sync, R: Threads + Wait + Sync, G: Gate + Sync>
         (slice_index_or members.new.items at d).worker.pass (slice_index_or members.new.items at d).done }
 {
     for_each_beside(
-        ground.rt,
+        rt,
         members.as_mut_slice(),
         asked.workers as usize,
         &|_, member: &mut Member<N>|
@@ -79,17 +89,20 @@ fn work_all<N: BookName + Send + Sync, R: Threads + Wait + Sync, G: Gate + Sync>
                 member.entry.now.hand member.exit.now.hand member.entry.now.worker.pass member.exit.now.worker.pass
                 member.exit.now.done }
         {
-            work_one(ground, asked, round, share, member);
+            work_one(rt, alloc, asked, round, book, share, gate, member);
         },
     );
 }
 
 /// A member works.
 fn work_one<N: BookName, R: Threads + Wait + Sync, G: Gate>(
-    ground: &Ground<'_, N, R, G>,
-    asked: &Asked<'_>,
+    rt: &R,
+    alloc: Global,
+    asked: &Asked,
     round: u32,
+    book: &TrackBook<N>,
     share: &Share,
+    gate: &G,
     member: &mut Member<N>,
 )
     requires capacity { N.capacity ≡ capacity_of asked.now.design.now }
@@ -99,13 +112,19 @@ fn work_one<N: BookName, R: Threads + Wait + Sync, G: Gate>(
     ensures { IsWorked share.now asked.now.design.now asked.now.rule.now.formula round
         member.old.hand member.new.hand member.old.worker.pass member.new.worker.pass member.new.done }
 {
-    member.done = work(ground, asked, round, share, &mut member.hand, &mut member.worker);
+    let ground = Ground {
+        rt,
+        alloc,
+        book,
+        gate,
+    };
+    member.done = work(&ground, asked, round, share, &mut member.hand, &mut member.worker);
 }
 
 /// A worker attempts the nets that are left, of which there are none in practice.
 fn attempt_rest<N: BookName, R: Threads + Wait + Sync, G: Gate>(
     ground: &Ground<'_, N, R, G>,
-    asked: &Asked<'_>,
+    asked: &Asked,
     round: u32,
     nets: &[u32],
     worker: &mut Worker<N>,

@@ -108,7 +108,7 @@ fn worker_with<N: BookName>(
 /// The rounds, each up to and with its mark.
 fn run_rounds<N: BookName + Send + Sync, R: Threads + Wait + Sync, G: Gate + Sync>(
     ground: &Ground<'_, N, R, G>,
-    asked: &Asked<'_>,
+    asked: &Asked,
     coordinator: &mut Coordinator<N>,
     workers: Vec<Worker<N>>,
 ) -> Result<Vec<Worker<N>>, AllocError>
@@ -139,7 +139,7 @@ fn run_rounds<N: BookName + Send + Sync, R: Threads + Wait + Sync, G: Gate + Syn
 /// A round of these nets up to and with its mark. The survey tells in which order they go.
 fn run_round<N: BookName + Send + Sync, R: Threads + Wait + Sync, G: Gate + Sync>(
     ground: &Ground<'_, N, R, G>,
-    asked: &Asked<'_>,
+    asked: &Asked,
     round: u32,
     survey: &Survey<'_>,
     nets: Vec<u32>,

@@ -52,7 +52,7 @@ impl<N: BookName, R: Threads + Wait + Sync, G: Gate> Ground<'_, N, R, G> {
     /// The only error is want of memory.
     pub(crate) fn attempt(
         &self,
-        asked: &Asked<'_>,
+        asked: &Asked,
         round: u32,
         net: u32,
         worker: &mut Worker<N>,

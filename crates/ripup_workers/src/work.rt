@@ -22,7 +22,7 @@ use work_share::{Hand, Share};
 /// The only error is want of memory, and leaves the other nets in the share.
 pub(crate) fn work<N: BookName, R: Threads + Wait + Sync, G: Gate>(
     ground: &Ground<'_, N, R, G>,
-    asked: &Asked<'_>,
+    asked: &Asked,
     round: u32,
     share: &Share,
     hand: &mut Hand,
