@@ -397,10 +397,18 @@ def maze_plan(book, net, margin):
 
 # The rounds.
 
+def freedom(d, net):
+    """Columns less 1 and rows less 1 of the least box of the pins' tiles, less 2 for each tile."""
+    tiles = {(x, y) for x, y, _ in d.nets[net].pins}
+    columns, rows = zip(*tiles)
+    return max(columns) - min(columns) + max(rows) - min(rows) - 2 * len(tiles)
+
+
 def route(d, rounds):
     """The edges of each routed net at the first mark of least overflow."""
     book = Book(d)
-    for n in d.routed():
+    free = {n: freedom(d, n) for n in d.routed()}
+    for n in sorted(free, key=lambda n: (free[n], n)):
         book.claim(n, pattern_plan(book, n), None)
     best = (book.mark(), dict(book.booked))
     r = 0
@@ -409,7 +417,7 @@ def route(d, rounds):
         if not due:
             break
         r += 1
-        for n in due:
+        for n in sorted(due, key=lambda n: (-free[n], n)):
             book.release(n)
             # A refused claim changes neither demand nor marks, so the second plan is the first plan again,
             # and the third too: the tree is planned once.

@@ -11,7 +11,7 @@ use Rattle.maze_route.specs.Ends.{reached_at, is_earlier, earlier_of, IsFirst, I
 use Rattle.maze_route.specs.Search.{is_marked}
 use Rattle.maze_route.specs.declared.pane.Reached.{Reached}
 
-among-cases : (cells : List ℕ) (cell n : ℕ) → IsTrue (is_among (cells ++ cell ∷ []) n) → IsTrue (is_among cells n) ⊎ (cell ≡ n)
+pub among-cases : (cells : List ℕ) (cell n : ℕ) → IsTrue (is_among (cells ++ cell ∷ []) n) → IsTrue (is_among cells n) ⊎ (cell ≡ n)
 among-cases cells cell n among =
     let e : (is_among cells n || ((cell == n) || false)) ≡ true = sym (list_any-append (λ other. other == n) cells (cell ∷ [])) ∙ among in
     elim (cases_Bool (is_among cells n)) [

@@ -4,7 +4,7 @@ use Rattle.std.proofs.lemmas.Bool.{cases_lt, cases_eq, both_ways}
 use Rattle.std.proofs.lemmas.Bool.Decides.{nat_tests}
 use Rattle.std.proofs.lemmas.Option.{none-some}
 use Rattle.std.proofs.lemmas.List.Elements.{All-head, All-tail, All-cons, All-nil}
-use Rattle.cost_rules.specs.Prices.{ArePrices, IsBelowVias}
+use Rattle.cost_rules.specs.Prices.{ArePrices}
 use Rattle.gr_base.specs.declared.grid.Edge.{Edge}
 use Rattle.gr_base.specs.declared.grid.Shape.{Shape}
 use Rattle.gr_base.specs.declared.grid.Way.{Way}
@@ -13,7 +13,7 @@ use Rattle.gr_base.specs.declared.tree.Node.{Node}
 use Rattle.gr_base.proofs.TreeLemmas.{cell-only}
 use Rattle.maze_route.specs.Ends.{IsFirst, IsFirstOf}
 use Rattle.maze_route.specs.Search.{IsConsistent, AreGuided, is_marked, HasGoal, CanReach, Finds}
-use Rattle.maze_route.specs.Steps.{size_of, local_of, pane_source, pane_graph, rest_of}
+use Rattle.maze_route.specs.Steps.{size_of, local_of, pane_source, pane_graph, rest_of, IsGuide}
 use Rattle.maze_route.specs.Walks.{Graph, IsFirstGoal, IsLeastWalk}
 use Rattle.maze_route.specs.Whole.{whole}
 use Rattle.maze_route.specs.Windows.{in_window, LieIn, IsPassable, TreeLiesIn}
@@ -136,22 +136,16 @@ some-source p t same lies tree =
 pub lies-in : (p : Pane) (t : TreeView) → t.shape ≡ p.grid → TreeLiesIn p.window t → LiesIn p t
 lies-in p t same lies cell held = let P : Shape → Type 0 = λ g. IsTrue (in_window g p.window cell) in subst P same (lies cell held)
 
--- what the aim counts for a via edge is no more than each costs
-pub vias-below : (p : Pane) (aim : Aim) (grid : Shape) (price : Edge → Option ℕ) (via : ℕ) → grid ≡ p.grid → aim.via ≡ via → IsBelowVias grid price via →
-    IsBelowVias p.grid price aim.via
-vias-below p aim grid price via on_grid same vias =
-    subst (λ (n : ℕ). IsBelowVias p.grid price n) (sym same) (subst (λ (g : Shape). IsBelowVias g price via) on_grid vias)
-
 -- what the search and the first goal come to
 pub record Found (p : Pane) (t : TreeView) (price : Edge → Option ℕ) (aim : Aim) (label : ℕ → Option ℕ) (ends : List ℕ) (first : Reached) : Type 0 where
   pub near : IsNear p t price aim label first.cell first.cost
   pub goal : IsFirstGoal (pane_graph p t price) ends first.cell
 
-pub found-first : (p : Pane) (t : TreeView) (ways : ℕ → Way → Bool) (price : Edge → Option ℕ) (aim : Aim) (marks : List Bool) (label : ℕ → Option ℕ) (ends : List ℕ) (first : Reached) →
-    ArePrices p.grid ways price → IsBelowVias p.grid price aim.via → Finds (pane_graph p t price) (rest_of p aim) marks label → ((n : ℕ) → is_marked marks n ≡ is_among ends n) → ((end : ℕ) → IsTrue (is_among ends end) → rest_of p aim end ≡ 0) →
+pub found-first : (p : Pane) (t : TreeView) (price : Edge → Option ℕ) (aim : Aim) (marks : List Bool) (label : ℕ → Option ℕ) (ends : List ℕ) (first : Reached) →
+    IsGuide p price aim → Finds (pane_graph p t price) (rest_of p aim) marks label → ((n : ℕ) → is_marked marks n ≡ is_among ends n) → ((end : ℕ) → IsTrue (is_among ends end) → rest_of p aim end ≡ 0) →
     All (λ e. e < size_of p) ends → IsFirst label ends first → Found p t price aim label ends first
-found-first p t ways price aim marks label ends first prices vias finds marked free below is =
-    let consistent = pane-rest p t ways price aim prices vias in
+found-first p t price aim marks label ends first guide finds marked free below is =
+    let consistent = pane-rest p t price aim guide in
     let low = first-low marks ends label finds.bound first finds.goal marked is in
     let none = free first.cell is.among in
     record {
@@ -167,15 +161,15 @@ found-first p t ways price aim marks label ends first prices vias finds marked f
     }
 
 -- the same, from what is known of each list of the goals' numbers, and of the marks
-pub found-of : (p : Pane) (t : TreeView) (grid : Shape) (ways : ℕ → Way → Bool) (price : Edge → Option ℕ) (aim : Aim) (marks made : List Bool) (label : ℕ → Option ℕ)
-    (goals ends boxed marked kept : List ℕ) (o : Option Reached) (first : Reached) → grid ≡ p.grid → ArePrices grid ways price → IsBelowVias p.grid price aim.via →
+pub found-of : (p : Pane) (t : TreeView) (price : Edge → Option ℕ) (aim : Aim) (marks made : List Bool) (label : ℕ → Option ℕ)
+    (goals ends boxed marked kept : List ℕ) (o : Option Reached) (first : Reached) → IsGuide p price aim →
     Finds (pane_graph p t price) (rest_of p aim) marks label → boxed ≡ kept → marked ≡ kept → ends ≡ kept → kept ≡ map (local_of p) goals →
     marks ≡ made → ((n : ℕ) → is_marked made n ≡ is_among marked n) → ((end : ℕ) → IsTrue (is_among boxed end) → rest_of p aim end ≡ 0) →
     LieIn p.grid p.window goals → IsFirstOf label ends o → o ≡ Some first → Found p t price aim label (map (local_of p) goals) first
-found-of p t grid ways price aim marks made label goals ends boxed marked kept o first on_grid given vias finds as_boxed as_marked as_ends kept_are marks_are of_marks of_box inside is found =
+found-of p t price aim marks made label goals ends boxed marked kept o first guide finds as_boxed as_marked as_ends kept_are marks_are of_marks of_box inside is found =
     let are = as_ends ∙ kept_are in
     subst (λ (xs : List ℕ). Found p t price aim label xs first) are
-    (found-first p t ways price aim marks label ends first (subst (λ (g : Shape). ArePrices g ways price) on_grid given) vias finds
+    (found-first p t price aim marks label ends first guide finds
     (λ n. ap (λ (xs : List Bool). is_marked xs n) marks_are ∙ of_marks n ∙ ap (λ (xs : List ℕ). is_among xs n) (as_marked ∙ sym as_ends))
     (λ end among. of_box end (ap (λ (xs : List ℕ). is_among xs end) (as_boxed ∙ sym as_ends) ∙ among))
     (subst (λ (xs : List ℕ). All (λ e. e < size_of p) xs) (sym are) (locals-below p goals (size_of p) refl inside))

@@ -1,19 +1,19 @@
 -- A cell that hands its label on is relaxed.
 use Rattle.std.proofs.Common.{◌≡◌, ℕ, ◌<◌, inl, inr, Bool, length, Option, Some, None, IfSome, refl, ap, ◌∙◌}
 use Rattle.std.specs.Option.{option_map}
-use Rattle.cost_rules.specs.Prices.{ArePrices, IsBelowVias}
+use Rattle.cost_rules.specs.Prices.{ArePrices}
 use Rattle.gr_base.specs.declared.grid.Edge.{Edge}
 use Rattle.gr_base.specs.declared.grid.Way.{Way}
 use Rattle.gr_base.specs.declared.grid.Way.TheVariants.{East, North, Up}
 use Rattle.gr_base.specs.Trees.{TreeView}
 use Rattle.maze_route.specs.Search.{IsConsistent, HasCosts, IsRelaxed, IsSearching}
 use Rattle.maze_route.specs.Handing.{HandsOn}
-use Rattle.maze_route.specs.Steps.{size_of, pane_step, pane_graph, rest_of, step_to, made_step, ahead_of, behind_of, steps_from}
+use Rattle.maze_route.specs.Steps.{size_of, pane_step, pane_graph, rest_of, IsGuide, step_to, made_step, ahead_of, behind_of, steps_from}
 use Rattle.maze_route.specs.declared.front.Front.{Front}
 use Rattle.maze_route.specs.declared.pane.Pane.{Pane}
 use Rattle.maze_route.specs.declared.pane.Step.{Step}
 use Rattle.maze_route.specs.declared.pane.Aim.{Aim}
-use Rattle.maze_route.proofs.StepLemmas.{step-by, step-least, step-rest, step-to-some, ahead-is, behind-is, at-some}
+use Rattle.maze_route.proofs.StepLemmas.{step-by, step-least, step-to-some, ahead-is, behind-is, at-some}
 use Rattle.maze_route.proofs.SearchLemmas.{labels_of, Grown, IsReached, AllSteps, CanTake, reach-all}
 
 if-some : (o : Option Step) (P : Step → Type 0) → ((s : Step) → o ≡ Some s → P s) → IfSome o P
@@ -62,9 +62,8 @@ pick-step p price aim n m k P taken all =
 pub pane-costs : (p : Pane) (t : TreeView) (ways : ℕ → Way → Bool) (price : Edge → Option ℕ) → ArePrices p.grid ways price → HasCosts (pane_graph p t price)
 pane-costs p t ways price prices u v k taken = step-least p ways price prices u v k taken
 
-pub pane-rest : (p : Pane) (t : TreeView) (ways : ℕ → Way → Bool) (price : Edge → Option ℕ) (aim : Aim) → ArePrices p.grid ways price → IsBelowVias p.grid price aim.via →
-    IsConsistent (pane_graph p t price) (rest_of p aim)
-pane-rest p t ways price aim prices vias u v k taken = step-rest p ways price aim prices vias u v k taken
+pub pane-rest : (p : Pane) (t : TreeView) (price : Edge → Option ℕ) (aim : Aim) → IsGuide p price aim → IsConsistent (pane_graph p t price) (rest_of p aim)
+pane-rest p t price aim guide u v k taken = guide.falls u v k taken
 
 -- a settled cell is relaxed
 pub spread-grown : (p : Pane) (t : TreeView) (ways : ℕ → Way → Bool) (price : Edge → Option ℕ) (aim : Aim) (cell from : ℕ) (before after : Front) → ArePrices p.grid ways price →

@@ -1,6 +1,9 @@
 pub mod Distances
 pub mod PaneLemmas
 pub mod StepLemmas
+pub mod AimLemmas
+pub mod PositionLemmas
+pub mod ScaleLemmas
 pub mod SpotLemmas
 pub mod LabelLemmas
 pub mod LowLemmas
@@ -10,6 +13,7 @@ pub mod TurnLemmas
 pub mod WindowLemmas
 pub mod AttachLemmas
 pub mod EndLemmas
+pub mod SpanLemmas
 pub mod BackLemmas
 pub mod WalkLemmas
 pub mod ReachLemmas
@@ -24,3 +28,5 @@ pub mod PlaceLemmas
 pub mod KeepLemmas
 pub mod RenewLemmas
 pub mod SeedLemmas
+pub mod KeptLemmas
+pub mod DivisorLemmas

@@ -286,7 +286,7 @@ reach-all graph rest v from size (step ∷ next ∷ steps) before after costs se
 seed-if : (graph : Graph) (rest : ℕ → ℕ) (open_cell : ℕ) (step : Step) (before after : Front) (does : Bool) → does_lower (0 + step.cost) step before ≡ does →
     IsSearching graph rest (labels_of before) before.queue.pairs open_cell → IsTrue (graph.source step.cell) → step.cost ≡ 0 → step.rest ≡ rest step.cell →
     step.cell < length before.labels.costs.items → IsReachIf does (0 + step.cost) step before after →
-    (IsSearching graph rest (labels_of after) after.queue.pairs open_cell) × ((Falls (labels_of before) (labels_of after)) × (labels_of after step.cell ≡ Some 0))
+    IsSearching graph rest (labels_of after) after.queue.pairs open_cell
 seed-if graph rest open_cell step before after true does searching source free left inside lowers =
     let cost = 0 + step.cost in
     let key = cost + step.rest in
@@ -296,41 +296,53 @@ seed-if graph rest open_cell step before after true does searching source free l
     record { labels = labels; lower = lowers.lower; pushed = lowers.queue.pairs } in
     let is_key : key ≡ cost + rest step.cell = omega (arith, left) in
     let none : 0 ≡ cost = omega arith in
-    let P : ℕ → Type 0 = λ c. Reaches graph step.cell c in (
-      record {
-        walked = lowered-walked graph (labels_of before) (labels_of after) step.cell cost before.queue.pairs after.queue.pairs key low searching.walked (subst P none (Starts source));
-        small = lowered-small (labels_of before) (labels_of after) step.cell cost before.queue.pairs after.queue.pairs key low searching.small (omega arith);
-        settled = lowered-settled graph rest (labels_of before) (labels_of after) step.cell cost open_cell before.queue.pairs after.queue.pairs key low searching is_key;
-        queued = lowered-queued graph rest (labels_of before) (labels_of after) step.cell cost open_cell before.queue.pairs after.queue.pairs key low searching is_key;
-      },
-      (
-        lowered-falls (labels_of before) (labels_of after) step.cell cost before.queue.pairs after.queue.pairs key low,
-        labels step.cell ∙ relabelled-here (labels_of before) step.cell cost step.cell refl ∙ ap (λ (c : ℕ). Some c) (sym none),
-      ),
-    )
+    let P : ℕ → Type 0 = λ c. Reaches graph step.cell c in
+    record {
+      walked = lowered-walked graph (labels_of before) (labels_of after) step.cell cost before.queue.pairs after.queue.pairs key low searching.walked (subst P none (Starts source));
+      small = lowered-small (labels_of before) (labels_of after) step.cell cost before.queue.pairs after.queue.pairs key low searching.small (omega arith);
+      settled = lowered-settled graph rest (labels_of before) (labels_of after) step.cell cost open_cell before.queue.pairs after.queue.pairs key low searching is_key;
+      queued = lowered-queued graph rest (labels_of before) (labels_of after) step.cell cost open_cell before.queue.pairs after.queue.pairs key low searching is_key;
+    }
 seed-if graph rest open_cell step before after false does searching source free left inside stands =
     let P : List ℕ → QueueView → Type 0 = λ xs q. IsSearching graph rest (label_at xs) q.pairs open_cell in
     let P1 : List ℕ → Type 0 = λ xs. P xs before.queue in
     let P2 : QueueView → Type 0 = λ q. P after.labels.costs.items q in
+    subst P2 (sym stands.queue) (subst P1 (sym stands.costs) searching)
+
+-- a source is reached with cost 0
+pub seed-grown : (graph : Graph) (rest : ℕ → ℕ) (open_cell : ℕ) (step : Step) (before after : Front) →
+    IsSearching graph rest (labels_of before) before.queue.pairs open_cell → IsTrue (graph.source step.cell) → step.cost ≡ 0 → step.rest ≡ rest step.cell →
+    step.cell < length before.labels.costs.items → IsReach 0 (Some step) before after →
+    IsSearching graph rest (labels_of after) after.queue.pairs open_cell
+seed-grown graph rest open_cell step before after searching source free left inside reach =
+    seed-if graph rest open_cell step before after (does_lower (0 + step.cost) step before) refl searching source free left inside reach
+
+low-if : (step : Step) (before after : Front) (does : Bool) → does_lower (0 + step.cost) step before ≡ does → step.cost ≡ 0 → step.cell < length before.labels.costs.items →
+    IsReachIf does (0 + step.cost) step before after → (Falls (labels_of before) (labels_of after)) × (labels_of after step.cell ≡ Some 0)
+low-if step before after true does free inside lowers =
+    let cost = 0 + step.cost in
+    let less : cost < unreached = omega arith in
+    let labels = label-set before.labels.costs.items after.labels.costs.items step.cell cost inside less lowers.costs in
+    let low : IsLowered (labels_of before) (labels_of after) step.cell cost before.queue.pairs after.queue.pairs (cost + step.rest) =
+    record { labels = labels; lower = lowers.lower; pushed = lowers.queue.pairs } in
+    let none : 0 ≡ cost = omega arith in (
+      lowered-falls (labels_of before) (labels_of after) step.cell cost before.queue.pairs after.queue.pairs (cost + step.rest) low,
+      labels step.cell ∙ relabelled-here (labels_of before) step.cell cost step.cell refl ∙ ap (λ (c : ℕ). Some c) (sym none),
+    )
+low-if step before after false does free inside stands =
     let within : nat_le (0 + step.cost) most_distance ≡ true = let e : 0 + step.cost ≤ most_distance = omega arith in grind (arith, nat_tests) in
     let not_lower : is_lower (labels_of before step.cell) (0 + step.cost) ≡ false = sym (ap (λ b. b && is_lower (labels_of before step.cell) (0 + step.cost)) within) ∙ does in
     let old = not-lower (labels_of before step.cell) (0 + step.cost) not_lower in
     let at = old.1.1 in
     let none : old.0 ≡ 0 = omega arith in (
-      subst P2 (sym stands.queue) (subst P1 (sym stands.costs) searching),
-      (
-        λ n cost is. make-at-most (labels_of after n) cost cost (stands-labels before after stands n ∙ is) (omega arith),
-        stands-labels before after stands step.cell ∙ old.1.0 ∙ ap (λ (c : ℕ). Some c) none,
-      ),
+      λ n cost is. make-at-most (labels_of after n) cost cost (stands-labels before after stands n ∙ is) (omega arith),
+      stands-labels before after stands step.cell ∙ old.1.0 ∙ ap (λ (c : ℕ). Some c) none,
     )
 
--- a source gets label 0
-pub seed-grown : (graph : Graph) (rest : ℕ → ℕ) (open_cell : ℕ) (step : Step) (before after : Front) →
-    IsSearching graph rest (labels_of before) before.queue.pairs open_cell → IsTrue (graph.source step.cell) → step.cost ≡ 0 → step.rest ≡ rest step.cell →
-    step.cell < length before.labels.costs.items → IsReach 0 (Some step) before after →
-    (IsSearching graph rest (labels_of after) after.queue.pairs open_cell) × ((Falls (labels_of before) (labels_of after)) × (labels_of after step.cell ≡ Some 0))
-seed-grown graph rest open_cell step before after searching source free left inside reach =
-    seed-if graph rest open_cell step before after (does_lower (0 + step.cost) step before) refl searching source free left inside reach
+-- and has label 0 then
+pub seed-low : (step : Step) (before after : Front) → step.cost ≡ 0 → step.cell < length before.labels.costs.items → IsReach 0 (Some step) before after →
+    (Falls (labels_of before) (labels_of after)) × (labels_of after step.cell ≡ Some 0)
+seed-low step before after free inside reach = low-if step before after (does_lower (0 + step.cost) step before) refl free inside reach
 
 -- labels that fall keep sources at 0
 pub sources-fall : (before after : ℕ → Option ℕ) (n : ℕ) → Falls before after → before n ≡ Some 0 → after n ≡ Some 0

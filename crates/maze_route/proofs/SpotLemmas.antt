@@ -1,5 +1,5 @@
 -- Steps to the neighbours of a cell, as code computes them.
-use Rattle.std.proofs.Common.{◌≡◌, ℕ, ◌+◌, ◌-◌, ◌*◌, ◌<◌, ◌≤◌, Bool, false, Option, Some, None, if◌then◌else◌, IsTrue, sym, ap, subst, ◌∙◌, arith}
+use Rattle.std.proofs.Common.{◌≡◌, ℕ, ◌+◌, ◌-◌, ◌*◌, ◌<◌, ◌≤◌, Bool, false, length, Option, Some, None, if◌then◌else◌, IsTrue, sym, ap, subst, ◌∙◌, arith}
 use Rattle.std.specs.Option.{option_map}
 use Rattle.gr_base.specs.Limits.{most_cells}
 use Rattle.gr_base.specs.declared.grid.Cell.{Cell}
@@ -9,7 +9,7 @@ use Rattle.gr_base.specs.declared.grid.Way.{Way}
 use Rattle.gr_base.specs.Grid.{place_at, IsInside, beyond, stride, has_room, edge_at}
 use Rattle.gr_base.proofs.GridLemmas.{place-inside, some_columns, some_rows, few_cells}
 use Rattle.std.proofs.Math.Nat.{le-mul_of_pos_right}
-use Rattle.maze_route.specs.Steps.{size_of, cell_in, pane_step, step_to, made_step, ahead_of, behind_of, has_room_behind, before, least_to, rest_of, IsSpot}
+use Rattle.maze_route.specs.Steps.{size_of, cell_in, pane_step, step_to, made_step, ahead_of, behind_of, has_room_behind, before, least_to, rest_of, FitsIn, IsSpot}
 use Rattle.maze_route.specs.declared.pane.Pane.{Pane}
 use Rattle.maze_route.specs.declared.pane.Spot.{Spot}
 use Rattle.maze_route.specs.declared.pane.Step.{Step}
@@ -85,20 +85,32 @@ step-back p price aim spot way to low cost is next low_is costs =
     by-price p price aim spot.local to (behind_of p.shape spot.local way) cost (behind-is p spot.local to way next)
     (step-behind p price to spot.local way next ∙ sym (costs ∙ ap price_of low_is))
 
--- the rest from a neighbour, from its place
-pub rest-on : (p : Pane) (aim : Aim) (spot : Spot) (way : Way) (to rest : ℕ) (place : Cell) → IsSpot p spot → IsNext p spot.local to way →
-    place ≡ beyond spot.place way → rest ≡ least_to aim place → rest ≡ rest_of p aim to
-rest-on p aim spot way to rest place is next leads tiles =
-    let f : Cell → ℕ = λ q. least_to aim (beyond q way) in
-    let h : Cell → ℕ = λ q. least_to aim q in
-    tiles ∙ ap h leads ∙ ap f is.place ∙ ap h (sym next.place)
+-- the place of a neighbour
+pub place-on : (p : Pane) (spot : Spot) (way : Way) (to : ℕ) (place : Cell) → IsSpot p spot → IsNext p spot.local to way → place ≡ beyond spot.place way →
+    place ≡ place_at p.shape to
+place-on p spot way to place is next leads =
+    let onward : Cell → Cell = λ q. beyond q way in
+    leads ∙ ap onward is.place ∙ sym next.place
 
-pub rest-back : (p : Pane) (aim : Aim) (spot : Spot) (way : Way) (to rest : ℕ) (place : Cell) → IsSpot p spot → IsNext p to spot.local way →
-    place ≡ before spot.place way → rest ≡ least_to aim place → rest ≡ rest_of p aim to
-rest-back p aim spot way to rest place is next leads tiles =
-    let f : Cell → ℕ = λ q. least_to aim (before q way) in
+pub place-back : (p : Pane) (spot : Spot) (way : Way) (to : ℕ) (place : Cell) → IsSpot p spot → IsNext p to spot.local way → place ≡ before spot.place way →
+    place ≡ place_at p.shape to
+place-back p spot way to place is next leads =
+    let back : Cell → Cell = λ q. before q way in
+    leads ∙ ap back (is.place ∙ next.place) ∙ before-is (place_at p.shape to) way
+
+-- the rest from a cell, from its place
+pub rest-at : (p : Pane) (aim : Aim) (to rest : ℕ) (place : Cell) → place ≡ place_at p.shape to → rest ≡ least_to aim place → rest ≡ rest_of p aim to
+rest-at p aim to rest place same least =
     let h : Cell → ℕ = λ q. least_to aim q in
-    tiles ∙ ap h leads ∙ ap f (is.place ∙ next.place) ∙ ap h (before-is (place_at p.shape to) way)
+    least ∙ ap h same
+
+-- a bound has a part for the column and the row of each cell
+pub fits-at : (p : Pane) (aim : Aim) (n : ℕ) (place : Cell) → FitsIn p aim → n < size_of p → place ≡ place_at p.shape n →
+    (place.x < length aim.columns.items) × (place.y < length aim.rows.items)
+fits-at p aim n place fits below same =
+    let P : Cell → Type 0 = λ q. IsInside p.shape q in
+    let inside : IsInside p.shape place = subst P (sym same) (place-inside p.shape n below) in
+    (omega (arith, inside.column, fits.columns), omega (arith, inside.row, fits.rows))
 
 pub made : (p : Pane) (aim : Aim) (to cell cost rest : ℕ) (o : Option ℕ) → o ≡ Some cost → cell ≡ to → rest ≡ rest_of p aim to →
     (whole : Option Step) → option_map (made_step p aim to) o ≡ whole → Some (record { cell = cell; cost = cost; rest = rest }) ≡ whole

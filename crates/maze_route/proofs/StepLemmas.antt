@@ -1,10 +1,9 @@
 -- Steps between the cells of a window.
-use Rattle.std.proofs.Common.{◌≡◌, ℕ, ◌+◌, ◌-◌, ◌*◌, ◌<◌, ◌≤◌, ◌⊎◌, inl, inr, Bool, true, false, ◌&&◌, nat_lt, Option, Some, None, IfSome, if◌then◌else◌, IsTrue, refl, sym, ap, subst, ◌∙◌, arith}
+use Rattle.std.proofs.Common.{◌≡◌, ℕ, ◌+◌, ◌-◌, ◌<◌, ◌≤◌, ◌⊎◌, inl, inr, Bool, true, false, ◌&&◌, nat_lt, Option, Some, None, IfSome, if◌then◌else◌, IsTrue, refl, sym, ap, subst, ◌∙◌, arith}
 use Rattle.std.specs.Prelude.{option_and_then}
 use Rattle.std.specs.Option.{option_map}
 use Rattle.std.proofs.lemmas.Bool.Decides.{nat_tests}
 use Rattle.std.proofs.lemmas.Option.{none-some, same_Some}
-use Rattle.std.proofs.Math.Nat.{mul-le-mul_right}
 use Rattle.gr_base.proofs.TreeEdges.{edge_of-swap}
 use Rattle.gr_base.specs.declared.grid.Cell.{Cell}
 use Rattle.gr_base.specs.declared.grid.Edge.{Edge}
@@ -14,8 +13,8 @@ use Rattle.gr_base.specs.declared.grid.Way.TheVariants.{East, North, Up}
 use Rattle.gr_base.specs.Grid.{cells_of, number_of, place_at, IsInside, beyond, stride, high_of, has_room, has_edge, edge_at, edge_of, Joins}
 use Rattle.gr_base.proofs.GridLemmas.{number-place, place-inside, same_cell, place-number, number-below, high-number, edge-room, place-high, high-below, edge-beyond, edge-of-beyond, edge_of-joins}
 use Rattle.maze_route.specs.Panes.{out_of}
-use Rattle.cost_rules.specs.Prices.{ArePrices, IsBelowVias}
-use Rattle.maze_route.specs.Steps.{size_of, cell_in, pane_step, ahead_of, behind_of, has_room_behind, before, least_to, rest_of, made_step, step_to}
+use Rattle.cost_rules.specs.Prices.{ArePrices}
+use Rattle.maze_route.specs.Steps.{size_of, cell_in, pane_step, ahead_of, behind_of, has_room_behind, before, rest_of, IsGuide, made_step, step_to}
 use Rattle.maze_route.specs.Windows.{in_window, window_step}
 use Rattle.maze_route.specs.declared.pane.Pane.{Pane}
 use Rattle.maze_route.specs.declared.pane.Step.{Step}
@@ -190,74 +189,10 @@ behind-is p n m way next =
     let same : n - stride p.shape way ≡ m = omega arith in
     ap (λ b. if b then Some (n - stride p.shape way) else None) room ∙ ap (λ (c : ℕ). Some c) same
 
--- what a step along a way saves at most of the rest of a walk
-abbrev saves : Aim → Way → ℕ
-saves aim East = 1
-saves aim North = 1
-saves aim Up = aim.via
-
-shift-up : (lo hi x r : ℕ) → (lo - (x + 1)) + ((x + 1) - hi) + r ≤ 1 + ((lo - x) + (x - hi) + r)
-shift-up lo hi x r = omega arith
-
-shift-down : (lo hi x r : ℕ) → (lo - x) + (x - hi) + r ≤ 1 + ((lo - (x + 1)) + ((x + 1) - hi) + r)
-shift-down lo hi x r = omega arith
-
-layers-up : (top layer via r : ℕ) → r + (layer + 1 - top) * via ≤ via + (r + (layer - top) * via)
-layers-up top layer via r =
-    let more : layer + 1 - top ≤ 1 + (layer - top) = omega arith in
-    let whole : (layer + 1 - top) * via ≤ (1 + (layer - top)) * via = mul-le-mul_right via more in
-    omega (arith, whole)
-
-layers-down : (top layer via r : ℕ) → r + (layer - top) * via ≤ via + (r + (layer + 1 - top) * via)
-layers-down top layer via r =
-    let less : layer - top ≤ layer + 1 - top = omega arith in
-    let whole : (layer - top) * via ≤ (layer + 1 - top) * via = mul-le-mul_right via less in
-    omega (arith, whole)
-
-least-beyond : (aim : Aim) (q : Cell) (way : Way) →
-    (least_to aim (beyond q way) ≤ saves aim way + least_to aim q) × (least_to aim q ≤ saves aim way + least_to aim (beyond q way))
-least-beyond aim q East =
-    let r = (aim.tiles.y0 - q.y) + (q.y - aim.tiles.y1) + (q.layer - aim.top) * aim.via in
-    let up = shift-up aim.tiles.x0 aim.tiles.x1 q.x r in
-    let down = shift-down aim.tiles.x0 aim.tiles.x1 q.x r in
-    (grind arith, grind arith)
-least-beyond aim q North =
-    let r = (aim.tiles.x0 - q.x) + (q.x - aim.tiles.x1) + (q.layer - aim.top) * aim.via in
-    let up = shift-up aim.tiles.y0 aim.tiles.y1 q.y r in
-    let down = shift-down aim.tiles.y0 aim.tiles.y1 q.y r in
-    (grind arith, grind arith)
-least-beyond aim q Up =
-    let r = (aim.tiles.x0 - q.x) + (q.x - aim.tiles.x1) + (aim.tiles.y0 - q.y) + (q.y - aim.tiles.y1) in
-    (layers-up aim.top q.layer aim.via r, layers-down aim.top q.layer aim.via r)
-
-next-rest : (p : Pane) (aim : Aim) (n m : ℕ) (way : Way) → IsNext p n m way →
-    (rest_of p aim m ≤ saves aim way + rest_of p aim n) × (rest_of p aim n ≤ saves aim way + rest_of p aim m)
-next-rest p aim n m way next =
-    let P : Cell → Type 0 = λ q. (least_to aim q ≤ saves aim way + rest_of p aim n) × (rest_of p aim n ≤ saves aim way + least_to aim q) in
-    subst P (sym next.place) (least-beyond aim (place_at p.shape n) way)
-
 pub step-least : (p : Pane) (ways : ℕ → Way → Bool) (price : Edge → Option ℕ) → ArePrices p.grid ways price → (n m k : ℕ) → pane_step p price n m ≡ Some k → 1 ≤ k
 step-least p ways price prices n m k is =
     let by = step-by p price n m k is in
     at-some (price by.edge) k (λ cost. 1 ≤ cost) by.priced (prices.least by.edge by.has)
-
--- a step costs at least what it saves
-saves-most : (aim : Aim) (way : Way) (k : ℕ) → 1 ≤ k → (way ≡ Up → aim.via ≤ k) → saves aim way ≤ k
-saves-most aim East k some vias = some
-saves-most aim North k some vias = some
-saves-most aim Up k some vias = vias refl
-
-pub step-rest : (p : Pane) (ways : ℕ → Way → Bool) (price : Edge → Option ℕ) (aim : Aim) → ArePrices p.grid ways price → IsBelowVias p.grid price aim.via →
-    (n m k : ℕ) → pane_step p price n m ≡ Some k → rest_of p aim n ≤ k + rest_of p aim m
-step-rest p ways price aim prices vias n m k is =
-    let by = step-by p price n m k is in
-    let some = step-least p ways price prices n m k is in
-    let cost = saves-most aim by.way k some
-    (λ up. at-some (price by.edge) k (λ cost. aim.via ≤ cost) by.priced (vias by.edge by.has (by.goes ∙ up))) in
-    elim (by.next) [
-      | inl next ↦ let h = next-rest p aim n m by.way next in omega (arith, h.1)
-      | inr next ↦ let h = next-rest p aim m n by.way next in omega (arith, h.0)
-    ]
 
 pub before-is : (q : Cell) (way : Way) → before (beyond q way) way ≡ q
 before-is q East = same_cell (before (beyond q East) East) q (omega arith) refl refl
@@ -287,28 +222,27 @@ step-to-some p price aim n (Some to) s is =
     )
 
 -- what a step must be to be taken
-pub step-fits : (p : Pane) (ways : ℕ → Way → Bool) (price : Edge → Option ℕ) (aim : Aim) → ArePrices p.grid ways price → IsBelowVias p.grid price aim.via → (n from last size : ℕ) (o : Option ℕ) (step : Option Step) →
+pub step-fits : (p : Pane) (price : Edge → Option ℕ) (aim : Aim) → IsGuide p price aim → (n from last size : ℕ) (o : Option ℕ) (step : Option Step) →
     step ≡ step_to p price aim n o → size ≡ size_of p → last ≤ from + rest_of p aim n →
     (IfSome step (λ s. s.cell < size)) × (IfSome step (λ s. last ≤ from + s.cost + s.rest))
-step-fits p ways price aim prices vias n from last size o None is all low = (tt, tt)
-step-fits p ways price aim prices vias n from last size o (Some s) is all low =
+step-fits p price aim guide n from last size o None is all low = (tt, tt)
+step-fits p price aim guide n from last size o (Some s) is all low =
     let to = step-to-some p price aim n o s (sym is) in
     let by = step-by p price n s.cell s.cost to.1.0 in
-    let falls = step-rest p ways price aim prices vias n s.cell s.cost to.1.0 in
+    let falls = guide.falls n s.cell s.cost to.1.0 in
     let rest = to.1.1 in
     let inside : s.cell < size_of p = elim (by.next) [ inl next ↦ next.inside | inr next ↦ next.low_inside ] in
     (omega (arith, inside), omega (arith, falls, rest))
 
 -- the same, by the cell's number
-pub spot-fits : (p : Pane) (grid : Shape) (ways : ℕ → Way → Bool) (price : Edge → Option ℕ) (aim : Aim) → grid ≡ p.grid → ArePrices grid ways price → IsBelowVias p.grid price aim.via →
+pub spot-fits : (p : Pane) (price : Edge → Option ℕ) (aim : Aim) → IsGuide p price aim →
     (n cell from last last_now size size_now : ℕ) (o : Option ℕ) (step : Option Step) →
     n ≡ cell → step ≡ step_to p price aim n o → size ≡ size_of p → last ≤ from + rest_of p aim cell → size_now ≡ size → last_now ≡ last →
     (IfSome step (λ s. s.cell < size_now)) × (IfSome step (λ s. last_now ≤ from + s.cost + s.rest))
-spot-fits p grid ways price aim same prices vias n cell from last last_now size size_now o step local is all low size_is last_is =
-    let P : Shape → Type 0 = λ s. ArePrices s ways price in
+spot-fits p price aim guide n cell from last last_now size size_now o step local is all low size_is last_is =
     let rest = ap (λ (m : ℕ). rest_of p aim m) local in
     let near : last_now ≤ from + rest_of p aim n = omega (arith, rest) in
-    step-fits p ways price aim (subst P same prices) vias n from last_now size_now o step is (size_is ∙ all) near
+    step-fits p price aim guide n from last_now size_now o step is (size_is ∙ all) near
 
 -- a step leads to a cell of the window
 pub step-within : (p : Pane) (price : Edge → Option ℕ) (aim : Aim) (n size : ℕ) (o : Option ℕ) (step : Option Step) → step ≡ step_to p price aim n o → size ≡ size_of p →

@@ -1,5 +1,8 @@
 pub mod Walks
 pub mod Windows
+pub mod Positions
+pub mod Scales
+pub mod Spans
 pub mod Panes
 pub mod Steps
 pub mod Queues
@@ -14,3 +17,5 @@ pub mod Stored
 pub mod Spreading
 pub mod Places
 pub mod Renewed
+pub mod Kept
+pub mod Divisors

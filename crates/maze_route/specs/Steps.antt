@@ -1,5 +1,5 @@
 -- Steps between neighbours by numbers in a window, and the least rest of a walk from each.
-use Rattle.std.specs.Prelude.{◌≡◌, ℕ, ◌+◌, ◌-◌, ◌*◌, ◌<◌, Bool, ◌&&◌, nat_lt, List, [], ◌∷◌, map, Option, Some, None, if◌then◌else◌}
+use Rattle.std.specs.Prelude.{◌≡◌, ℕ, ◌+◌, ◌-◌, ◌*◌, ◌<◌, ◌≤◌, Bool, ◌&&◌, nat_lt, List, [], ◌∷◌, length, map, Option, Some, None, if◌then◌else◌}
 use Rattle.std.specs.Option.{option_map}
 use Rattle.gr_base.specs.declared.grid.Cell.{Cell}
 use Rattle.gr_base.specs.declared.grid.Edge.{Edge}
@@ -9,6 +9,7 @@ use Rattle.gr_base.specs.declared.grid.Way.TheVariants.{East, North, Up}
 use Rattle.gr_base.specs.Grid.{cells_of, number_of, place_at, stride, has_room}
 use Rattle.gr_base.specs.Trees.{TreeView, holds, cell_at}
 use Rattle.maze_route.specs.Panes.{out_of, into}
+use Rattle.maze_route.specs.Positions.{at}
 use Rattle.maze_route.specs.Walks.{Graph}
 use Rattle.maze_route.specs.Windows.{window_step}
 use Rattle.maze_route.specs.declared.pane.Aim.{Aim}
@@ -72,14 +73,22 @@ abbrev pub beside : Shape → ℕ → Side → Option ℕ
 beside s n (Behind way) = behind_of s n way
 beside s n (Ahead way) = ahead_of s n way
 
--- what a walk between a place and a box costs at least: 1 for each column and row, a via edge for each layer
+-- what a walk between a place and a box costs at least: by the place's column and row, and a via edge for each layer
 abbrev pub least_to : Aim → Cell → ℕ
-least_to aim cell =
-    (aim.tiles.x0 - cell.x) + (cell.x - aim.tiles.x1) + (aim.tiles.y0 - cell.y) + (cell.y - aim.tiles.y1)
-    + (cell.layer - aim.top) * aim.via
+least_to aim cell = at aim.columns.items cell.x + at aim.rows.items cell.y + (cell.layer - aim.top) * aim.via
 
 abbrev pub rest_of : Pane → Aim → ℕ → ℕ
 rest_of p aim n = least_to aim (place_at p.shape n)
+
+-- the bound has a part for each column and each row of the window
+pub record FitsIn (p : Pane) (aim : Aim) : Type 0 where
+  pub columns : length aim.columns.items ≡ p.shape.columns
+  pub rows : length aim.rows.items ≡ p.shape.rows
+
+-- and falls with a step by no more than the step costs
+pub record IsGuide (p : Pane) (price : Edge → Option ℕ) (aim : Aim) : Type 0 where
+  pub fits : FitsIn p aim
+  pub falls : (n m cost : ℕ) → pane_step p price n m ≡ Some cost → rest_of p aim n ≤ cost + rest_of p aim m
 
 -- the step from a cell to another, if there is one
 abbrev pub made_step : Pane → Aim → ℕ → ℕ → Step

@@ -2,7 +2,7 @@ ghost use Rattle.std.specs.Prelude.{◌≡◌, ℕ, ◌<◌, length, Option, Som
 ghost use Rattle.gr_base.specs.declared.grid.Edge.{Edge};
 ghost use Rattle.maze_route.specs.Backs.{closer_of, either_of, first_closer, IsNear, IsWalkBack};
 ghost use Rattle.maze_route.specs.Labels.{label_at};
-ghost use Rattle.maze_route.specs.Steps.{size_of, beside, step_to, IsSpot};
+ghost use Rattle.maze_route.specs.Steps.{size_of, FitsIn, beside, step_to, IsSpot};
 
 use crate::front::Labels;
 use crate::pane::{Aim, Pane, Reached, Spot, Step};
@@ -29,17 +29,18 @@ fn closer(labels: &Labels, left: u64, step: Option<Step>) -> Option<Step>
 fn closer_beside<C: Costs>(
     costs: &C,
     pane: Pane,
-    aim: Aim,
+    aim: &Aim,
     labels: &Labels,
     spot: Spot,
     left: u64,
     side: Side,
 ) -> Option<Step>
     requires grid { C.grid costs.now ≡ pane.grid }
+    requires aim { FitsIn pane aim.now }
     requires spot { IsSpot pane spot }
     requires size { length labels.now.costs.items ≡ size_of pane }
     ensures { result ≡ closer_of (label_at labels.now.costs.items) left
-        (step_to pane (C.price costs.now) aim spot.local (beside pane.shape spot.local side)) }
+        (step_to pane (C.price costs.now) aim.now spot.local (beside pane.shape spot.local side)) }
 {
     closer(labels, left, step_beside(costs, pane, aim, spot, side))
 }
@@ -59,16 +60,17 @@ fn either(first: Option<Step>, second: Option<Step>) -> Option<Step>
 fn step_back<C: Costs>(
     costs: &C,
     pane: Pane,
-    aim: Aim,
+    aim: &Aim,
     labels: &Labels,
     spot: Spot,
     left: u64,
 ) -> Option<Step>
     requires grid { C.grid costs.now ≡ pane.grid }
+    requires aim { FitsIn pane aim.now }
     requires spot { IsSpot pane spot }
     requires size { length labels.now.costs.items ≡ size_of pane }
     ensures { let label = label_at labels.now.costs.items in
-        result ≡ first_closer pane (C.price costs.now) aim label spot.local left }
+        result ≡ first_closer pane (C.price costs.now) aim.now label spot.local left }
 {
     let below = closer_beside(costs, pane, aim, labels, spot, left, Behind(Way::Up));
     let south = closer_beside(costs, pane, aim, labels, spot, left, Behind(Way::North));
@@ -87,15 +89,16 @@ pub(crate) fn walk_back<C: Costs>(
     alloc: Global,
     costs: &C,
     pane: Pane,
-    aim: Aim,
+    aim: &Aim,
     tree: &RouteTree,
     labels: &Labels,
     goal: Reached,
 ) -> Result<Cells, AllocError>
     requires grid { C.grid costs.now ≡ pane.grid }
+    requires aim { FitsIn pane aim.now }
     requires size { length labels.now.costs.items ≡ size_of pane }
     requires near { let label = label_at labels.now.costs.items in
-        IsNear pane tree.now (C.price costs.now) aim label goal.cell goal.cost }
+        IsNear pane tree.now (C.price costs.now) aim.now label goal.cell goal.cost }
     ensures { IfOk result (IsWalkBack pane tree.now (C.price costs.now) goal.cell) }
 {
     let _tree = tree;

@@ -1,16 +1,15 @@
-ghost use Rattle.std.specs.Prelude.{◌≡◌, ℕ, ◌<◌, ◌≤◌, ◌↔◌, true, All, Contains, length, map, OnOk, IsTrue};
-ghost use Rattle.cost_rules.specs.Formulas.{most_cost};
+ghost use Rattle.std.specs.Prelude.{◌≡◌, ℕ, ◌<◌, All, length, map, OnOk, IfSome};
 ghost use Rattle.gr_base.specs.Trees.{is_among};
 ghost use Rattle.maze_route.specs.Ends.{IsFirstOf, earlier_of};
+ghost use Rattle.maze_route.specs.Kept.{IsLabelOf};
 ghost use Rattle.maze_route.specs.Labels.{label_at};
 ghost use Rattle.maze_route.specs.Search.{is_marked};
-ghost use Rattle.maze_route.specs.Steps.{size_of, rest_of, local_of};
+ghost use Rattle.maze_route.specs.Steps.{size_of, local_of};
 ghost use Rattle.maze_route.specs.Windows.{LieIn};
 
 use crate::front::Labels;
 use crate::lists::refill;
-use crate::pane::{Aim, Pane, Reached};
-use crate::window::Window;
+use crate::pane::{Pane, Reached};
 use std::alloc::AllocError;
 
 /// Puts the numbers in the window of some cells in the place of what a list held.
@@ -23,28 +22,6 @@ pub(crate) fn locals(pane: Pane, cells: &[u32], ends: &mut Vec<u32>) -> Result<(
         ends.push(pane.local(cell))?;
     }
     Ok(())
-}
-
-/// A box of tiles and layers that holds these cells of a window, with what a via edge costs at least.
-pub(crate) fn box_of(pane: Pane, ends: &[u32], via: u64) -> Aim
-    requires ends { All (λ end. end < size_of pane) ends.now }
-    requires small { via ≤ most_cost }
-    ensures ends { (end : ℕ) → IsTrue (is_among ends.now end) → rest_of pane result end ≡ 0 }
-    ensures via { result.via ≡ via }
-{
-    let mut tiles = Window {
-        x0: u32::MAX,
-        y0: u32::MAX,
-        x1: 0,
-        y1: 0,
-    };
-    let mut top = 0;
-    for &end in ends {
-        let place = pane.spot(end).place;
-        tiles = tiles.with(place);
-        top = top.max(place.layer);
-    }
-    Aim { tiles, top, via }
 }
 
 /// Puts a mark for each of these cells of a window, and for no other, in the place of what a list
@@ -85,4 +62,13 @@ pub(crate) fn first_reached(labels: &Labels, ends: &[u32]) -> Option<Reached>
         first = earlier(first, labels.at(end), end);
     }
     first
+}
+
+/// The least label of these cells, if one has a label.
+pub(crate) fn nearest_of(labels: &Labels, ends: &[u32]) -> Option<u64>
+    requires { All (λ end. end < length labels.now.costs.items) ends.now }
+    ensures { IfSome result (IsLabelOf (label_at labels.now.costs.items) ends.now) }
+{
+    let first = first_reached(labels, ends)?;
+    Some(first.cost)
 }

@@ -1,8 +1,10 @@
 //! Least walks: from a tree to the nearest of some goals, inside a window of the grid.
 #![tactic(auto)]
 
+mod aim;
 mod back;
 mod bucket;
+mod divisor;
 mod ends;
 mod first;
 mod front;
@@ -10,16 +12,21 @@ mod lists;
 mod numbers;
 mod pane;
 mod places;
+mod positions;
 mod queue;
+mod resume;
 mod room;
+mod scales;
 mod search;
 mod side;
 mod slot;
+mod span;
 mod steps;
 mod walk;
 mod window;
 
 pub use queue::BucketQueue;
 pub use room::MazeRoom;
-pub use walk::{least_walk, least_walk_in};
+pub use scales::Scales;
+pub use walk::{least_walk, least_walk_by, least_walk_in};
 pub use window::Window;

@@ -1,11 +1,13 @@
 ghost use Rattle.std.specs.Prelude.{◌≡◌, ◌<◌, IsTrue};
 ghost use Rattle.gr_base.specs.declared.grid.Shape.{Shape};
+ghost use Rattle.gr_base.specs.Grid.{place_at, IsInside};
 ghost use Rattle.maze_route.specs.Windows.{IsWindow, in_window};
 ghost use Rattle.maze_route.specs.Steps.{size_of, cell_in, local_of, IsSpot};
 
+use crate::divisor::Divisor;
 use crate::pane::{Pane, Spot};
 use crate::window::Window;
-use gr_base::Shape;
+use gr_base::{Cell, Shape};
 
 impl Pane {
     pub(crate) fn new(grid: Shape, window: Window) -> Pane
@@ -13,14 +15,18 @@ impl Pane {
         ensures grid { result.grid ≡ grid }
         ensures window { result.window ≡ window }
     {
+        let columns = window.x1 - window.x0 + 1;
+        let rows = window.y1 - window.y0 + 1;
         Pane {
             grid,
             window,
             shape: Shape {
-                columns: window.x1 - window.x0 + 1,
-                rows: window.y1 - window.y0 + 1,
+                columns,
+                rows,
                 layers: grid.layers,
             },
+            columns: Divisor::new(columns),
+            rows: Divisor::new(rows),
         }
     }
 
@@ -46,13 +52,29 @@ impl Pane {
         )
     }
 
+    /// The place of a cell by its number in the window.
+    #[inline(always)]
+    fn place(self, local: u32) -> Cell
+        requires { local < size_of self }
+        ensures place { result ≡ place_at self.shape local }
+        ensures inside { IsInside self.shape result }
+    {
+        let row = self.columns.quotient(local);
+        let layer = self.rows.quotient(row);
+        Cell {
+            x: local - row * self.columns.by,
+            y: row - layer * self.rows.by,
+            layer,
+        }
+    }
+
     /// The cell with this number in the window.
     pub(crate) fn spot(self, local: u32) -> Spot
         requires { local < size_of self }
         ensures spot { IsSpot self result }
         ensures local { result.local ≡ local }
     {
-        let place = self.shape.place_of(local);
+        let place = self.place(local);
         let cell = self.grid.cell_of(
             self.window.x0 + place.x,
             self.window.y0 + place.y,

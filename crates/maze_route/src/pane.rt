@@ -1,27 +1,34 @@
-ghost use Rattle.std.specs.Prelude.{◌≤◌};
-ghost use Rattle.cost_rules.specs.Formulas.{most_cost};
+ghost use Rattle.std.specs.Prelude.{◌≡◌};
 ghost use Rattle.maze_route.specs.Panes.{IsPane};
+ghost use Rattle.maze_route.specs.Positions.{AreSmall};
 
+use crate::divisor::Divisor;
 use crate::window::Window;
 use gr_base::{Cell, Shape};
 
 /// The cells of a window, numbered from 0 in the order of their numbers in the grid.
-#[derive(Clone, Copy)]
+#[derive(Clone, Copy, Debug)]
 pub(crate) struct Pane {
     pub(crate) grid: Shape,
     pub(crate) window: Window,
     /// The window's columns and rows, and the grid's layers.
     pub(crate) shape: Shape,
+    pub(crate) columns: Divisor,
+    pub(crate) rows: Divisor,
     pub(crate) ghost fits: { IsPane grid window shape },
+    pub(crate) ghost by_columns: { columns.by ≡ shape.columns },
+    pub(crate) ghost by_rows: { rows.by ≡ shape.rows },
 }
 
-/// A box of tiles, on the layers up to one, and what each via edge costs at least.
-#[derive(Clone, Copy)]
+/// What a walk from a cell of a window to some box costs at least: a part by the cell's column, one
+/// by its row, and what each via edge costs at least for each layer above `top`.
+#[derive(Debug, Drop)]
 pub(crate) struct Aim {
-    pub(crate) tiles: Window,
-    pub(crate) top: u32,
+    pub(crate) columns: Vec<u64>,
+    pub(crate) rows: Vec<u64>,
     pub(crate) via: u64,
-    pub(crate) ghost small: { via ≤ most_cost },
+    pub(crate) top: u32,
+    pub(crate) ghost small: { AreSmall columns.items rows.items via },
 }
 
 /// A cell of a window: its number there and in the grid, and its place, counted from the window's

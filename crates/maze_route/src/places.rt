@@ -1,4 +1,5 @@
-ghost use Rattle.std.specs.Prelude.{◌≡◌, true, IfOk, OnErr};
+ghost use Rattle.std.specs.Prelude.{◌≡◌, true, IfOk, OnOk, OnErr};
+ghost use Rattle.maze_route.specs.Kept.{cells_waiting};
 ghost use Rattle.maze_route.specs.Places.{IsPut, HasFree};
 
 use crate::slot::Slot;
@@ -37,4 +38,17 @@ fn push_place(slots: &mut Vec<Slot>, slot: Slot) -> Result<u32, AllocError>
     };
     slots.push(slot)?;
     Ok(place)
+}
+
+/// Puts the cells of all pairs in the place of what a list held.
+pub(crate) fn waiting(slots: &[Slot], cells: &mut Vec<u32>) -> Result<(), AllocError>
+    ensures { OnOk result (cells.new.items ≡ cells_waiting slots.now) }
+{
+    cells.clear();
+    for slot in slots {
+        if slot.taken {
+            cells.push(slot.cell)?;
+        }
+    }
+    Ok(())
 }

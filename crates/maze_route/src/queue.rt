@@ -1,9 +1,10 @@
 ghost use Rattle.std.specs.Prelude.{◌≡◌, ◌≤◌, [], OnOk, OnErr};
+ghost use Rattle.maze_route.specs.Kept.{cells_of_pairs};
 ghost use Rattle.maze_route.specs.Queues.{IsPushed, Pops};
 
 use crate::bucket::{bucket_of, first_full};
 use crate::first::{renew, take_first};
-use crate::places::put;
+use crate::places::{put, waiting};
 use crate::slot::Slot;
 use std::alloc::{AllocError, Global};
 use std::marker::Model;
@@ -75,6 +76,13 @@ impl BucketQueue {
         let place = put(&mut self.slots, &mut self.free, slot)?;
         self.heads[bucket] = Some(place);
         Ok(())
+    }
+
+    /// Puts the cells of all pairs in the place of what a list held.
+    pub(crate) fn cells(&self, cells: &mut Vec<u32>) -> Result<(), AllocError>
+        ensures { OnOk result (cells.new.items ≡ cells_of_pairs self.now.pairs) }
+    {
+        waiting(&self.slots, cells)
     }
 
     /// Takes a pair of least key out. None exactly where the queue is empty. It takes no memory.

@@ -1,11 +1,10 @@
 ghost use Rattle.std.specs.Prelude.{◌≡◌, ℕ, ◌+◌, ◌^◌, ◌<◌, ◌≤◌, true, length, Option, Some, IfSome, OnOk, IsTrue, if◌then◌else◌};
 ghost use Rattle.cost_rules.specs.Formulas.{most_cost};
-ghost use Rattle.cost_rules.specs.Prices.{IsBelowVias};
 ghost use Rattle.gr_base.specs.declared.grid.Edge.{Edge};
 ghost use Rattle.maze_route.specs.Labels.{label_at};
-ghost use Rattle.maze_route.specs.Steps.{size_of, rest_of, IsSpot, pane_graph, beside, step_to};
-ghost use Rattle.maze_route.specs.Windows.{TreeLiesIn};
-ghost use Rattle.maze_route.specs.Search.{most_distance, is_above, HasSources, IsSearching, is_marked, CanReach, Finds};
+ghost use Rattle.maze_route.specs.Steps.{size_of, rest_of, IsGuide, IsSpot, pane_graph, beside, step_to};
+ghost use Rattle.maze_route.specs.Kept.{IsKept};
+ghost use Rattle.maze_route.specs.Search.{most_distance, is_above, HasSources, IsSearching, is_marked, HasGoal, CanReach, Finds};
 ghost use Rattle.maze_route.specs.Handing.{IsLow, IsReach, HandsOn};
 
 use crate::front::{Front, Labels};
@@ -22,7 +21,7 @@ const MOST_DISTANCE: u64 = 1_152_921_504_606_846_976;
 
 /// Gives the end of a step from a cell with this label a label of its own, if that is lower.
 #[inline(always)]
-fn reach(front: &mut Front, from: u64, step: Option<Step>) -> Result<(), AllocError>
+pub(crate) fn reach(front: &mut Front, from: u64, step: Option<Step>) -> Result<(), AllocError>
     requires from { from ≤ most_distance }
     requires small { IfSome step (λ s. s.cost ≤ most_cost) }
     requires rest { IfSome step (λ s. s.rest < 2 ^ 53) }
@@ -43,30 +42,6 @@ fn reach(front: &mut Front, from: u64, step: Option<Step>) -> Result<(), AllocEr
         return Ok(());
     }
     front.queue.push(cost + step.rest, step.cell)?;
-    Ok(())
-}
-
-/// Makes it the front at which the tree's cells alone have a label, 0, and wait.
-fn seed(pane: Pane, aim: Aim, tree: &RouteTree, front: &mut Front) -> Result<(), AllocError>
-    requires grid { tree.now.shape ≡ pane.grid }
-    requires tree { TreeLiesIn pane.window tree.now }
-    ensures size { OnOk result (length front.new.labels.costs.items ≡ size_of pane) }
-    ensures sources { (price : Edge → Option ℕ) →
-        OnOk result (HasSources (pane_graph pane tree.now price) (label_at front.new.labels.costs.items)) }
-    ensures searching { (price : Edge → Option ℕ) → OnOk result (
-        IsSearching (pane_graph pane tree.now price) (rest_of pane aim)
-        (label_at front.new.labels.costs.items) front.new.queue.pairs (size_of pane)) }
-{
-    front.clear(pane.size())?;
-    for node in 0..tree.len() {
-        let spot = pane.spot(pane.local(tree.cell(node)));
-        let start = Step {
-            cell: spot.local,
-            cost: 0,
-            rest: distance_to(aim, spot.place),
-        };
-        reach(front, 0, Some(start))?;
-    }
     Ok(())
 }
 
@@ -101,20 +76,20 @@ fn is_low_beside(labels: &Labels, pane: Pane, spot: Spot, from: u64, side: Side)
 fn hand<C: Costs>(
     costs: &C,
     pane: Pane,
-    aim: Aim,
+    aim: &Aim,
     front: &mut Front,
     spot: Spot,
     from: u64,
     side: Side,
 ) -> Result<(), AllocError>
     requires grid { C.grid costs.now ≡ pane.grid }
-    requires vias { IsBelowVias pane.grid (C.price costs.now) aim.via }
+    requires guide { IsGuide pane (C.price costs.now) aim.now }
     requires spot { IsSpot pane spot }
     requires from { from ≤ most_distance }
     requires size { length front.old.labels.costs.items ≡ size_of pane }
-    requires key { front.old.queue.last ≤ from + rest_of pane aim spot.local }
+    requires key { front.old.queue.last ≤ from + rest_of pane aim.now spot.local }
     ensures done { OnOk result (IsReach from
-        (step_to pane (C.price costs.now) aim spot.local (beside pane.shape spot.local side)) front.old front.new) }
+        (step_to pane (C.price costs.now) aim.now spot.local (beside pane.shape spot.local side)) front.old front.new) }
     ensures size { length front.new.labels.costs.items ≡ length front.old.labels.costs.items }
     ensures last { front.new.queue.last ≡ front.old.queue.last }
 {
@@ -129,18 +104,18 @@ fn hand<C: Costs>(
 fn settle<C: Costs>(
     costs: &C,
     pane: Pane,
-    aim: Aim,
+    aim: &Aim,
     front: &mut Front,
     spot: Spot,
     from: u64,
 ) -> Result<(), AllocError>
     requires grid { C.grid costs.now ≡ pane.grid }
-    requires vias { IsBelowVias pane.grid (C.price costs.now) aim.via }
+    requires guide { IsGuide pane (C.price costs.now) aim.now }
     requires spot { IsSpot pane spot }
     requires from { from ≤ most_distance }
     requires size { length front.old.labels.costs.items ≡ size_of pane }
-    requires key { front.old.queue.last ≤ from + rest_of pane aim spot.local }
-    ensures { OnOk result (HandsOn pane (C.price costs.now) aim spot.local from front.old front.new) }
+    requires key { front.old.queue.last ≤ from + rest_of pane aim.now spot.local }
+    ensures { OnOk result (HandsOn pane (C.price costs.now) aim.now spot.local from front.old front.new) }
 {
     hand(costs, pane, aim, front, spot, from, Behind(Way::Up))?;
     hand(costs, pane, aim, front, spot, from, Behind(Way::North))?;
@@ -152,7 +127,8 @@ fn settle<C: Costs>(
 }
 
 /// Labels the cells of a window with the least costs of walks to them from the tree, as far as to
-/// the nearest marked cell. What the front held before doesn't matter.
+/// the nearest marked cell. It goes on from a front at which each labelled cell waits or has handed
+/// its label on, and leaves such a front. `known` is a marked cell's label, if one has a label.
 ///
 /// Cells wait in a queue by their label and a bound on the rest of the way, as in A* of Hart,
 /// Nilsson and Raphael, "A formal basis for the heuristic determination of minimum cost paths",
@@ -160,26 +136,34 @@ fn settle<C: Costs>(
 pub(crate) fn search<C: Costs>(
     costs: &C,
     pane: Pane,
-    aim: Aim,
+    aim: &Aim,
     marks: &[bool],
+    known: Option<u64>,
     tree: &RouteTree,
     front: &mut Front,
 ) -> Result<(), AllocError>
     requires costs { C.grid costs.now ≡ pane.grid }
-    requires vias { IsBelowVias pane.grid (C.price costs.now) aim.via }
-    requires grid { tree.now.shape ≡ pane.grid }
-    requires tree { TreeLiesIn pane.window tree.now }
+    requires guide { IsGuide pane (C.price costs.now) aim.now }
+    requires size { length front.old.labels.costs.items ≡ size_of pane }
+    requires sources { HasSources (pane_graph pane tree.now (C.price costs.now))
+        (label_at front.old.labels.costs.items) }
+    requires searching { IsSearching (pane_graph pane tree.now (C.price costs.now)) (rest_of pane aim.now)
+        (label_at front.old.labels.costs.items) front.old.queue.pairs (size_of pane) }
+    requires known { IfSome known (HasGoal marks.now (label_at front.old.labels.costs.items)) }
+    requires near { IfSome known (λ distance. distance ≤ most_distance) }
     requires marks { length marks.now ≡ size_of pane }
-    requires aim { (cell : ℕ) → is_marked marks.now cell ≡ true → rest_of pane aim cell ≡ 0 }
+    requires aim { (cell : ℕ) → is_marked marks.now cell ≡ true → rest_of pane aim.now cell ≡ 0 }
     requires goal { CanReach (pane_graph pane tree.now (C.price costs.now)) marks.now }
     ensures found { OnOk result (let label = label_at front.new.labels.costs.items in
-        Finds (pane_graph pane tree.now (C.price costs.now)) (rest_of pane aim) marks.now label) }
+        Finds (pane_graph pane tree.now (C.price costs.now)) (rest_of pane aim.now) marks.now label) }
     ensures size { OnOk result (length front.new.labels.costs.items ≡ size_of pane) }
+    ensures kept { OnOk result (IsKept (pane_graph pane tree.now (C.price costs.now)) (size_of pane) front.new) }
 {
-    seed(pane, aim, tree, front)?;
-    let mut nearest: Option<u64> = None;
+    let _tree = tree;
+    let mut nearest = known;
     while let Some((key, cell)) = front.queue.pop() {
         if is_past(nearest, key) {
+            front.queue.push(key, cell)?;
             return Ok(());
         }
         let spot = pane.spot(cell);

@@ -1,8 +1,8 @@
-ghost use Rattle.std.specs.Prelude.{◌≡◌, ◌^◌, ◌<◌, ◌≤◌, IsTrue, IfSome};
+ghost use Rattle.std.specs.Prelude.{◌≡◌, ◌^◌, ◌<◌, ◌≤◌, length, IsTrue, IfSome};
 ghost use Rattle.cost_rules.specs.Formulas.{most_cost};
 ghost use Rattle.gr_base.specs.Grid.{IsInside, beyond, has_room};
 ghost use Rattle.gr_base.specs.Limits.{most_cells};
-ghost use Rattle.maze_route.specs.Steps.{IsSpot, has_room_behind, before, ahead_of, behind_of, beside, size_of, least_to, step_to};
+ghost use Rattle.maze_route.specs.Steps.{IsSpot, has_room_behind, before, ahead_of, behind_of, beside, size_of, FitsIn, least_to, step_to};
 
 use crate::pane::{Aim, Pane, Spot, Step};
 use crate::side::Side;
@@ -76,23 +76,23 @@ fn one_back(place: Cell, way: Way) -> Cell
     }
 }
 
-/// What a walk between a place and a box costs at least. Each edge costs 1 at least.
-pub(crate) fn distance_to(aim: Aim, place: Cell) -> u64
-    ensures least { result ≡ least_to aim place }
+/// What a walk between a place and the box of an aim costs at least.
+pub(crate) fn distance_to(aim: &Aim, place: Cell) -> u64
+    requires column { place.x < length aim.now.columns.items }
+    requires row { place.y < length aim.now.rows.items }
+    ensures least { result ≡ least_to aim.now place }
     ensures small { result < 2 ^ 53 }
 {
-    let columns = u64::from(aim.tiles.x0.saturating_sub(place.x))
-        + u64::from(place.x.saturating_sub(aim.tiles.x1));
-    let rows = u64::from(aim.tiles.y0.saturating_sub(place.y))
-        + u64::from(place.y.saturating_sub(aim.tiles.y1));
-    columns + rows + u64::from(place.layer.saturating_sub(aim.top)) * aim.via
+    let layers = u64::from(place.layer.saturating_sub(aim.top));
+    aim.columns[place.x as usize] + aim.rows[place.y as usize] + layers * aim.via
 }
 
 /// The step to the next cell along the way, if there is one.
-fn ahead<C: Costs>(costs: &C, pane: Pane, aim: Aim, spot: Spot, way: Way) -> Option<Step>
+fn ahead<C: Costs>(costs: &C, pane: Pane, aim: &Aim, spot: Spot, way: Way) -> Option<Step>
     requires grid { C.grid costs.now ≡ pane.grid }
+    requires aim { FitsIn pane aim.now }
     requires spot { IsSpot pane spot }
-    ensures step { result ≡ step_to pane (C.price costs.now) aim spot.local (ahead_of pane.shape spot.local way) }
+    ensures step { result ≡ step_to pane (C.price costs.now) aim.now spot.local (ahead_of pane.shape spot.local way) }
     ensures cost { IfSome result (λ s. s.cost ≤ most_cost) }
     ensures rest { IfSome result (λ s. s.rest < 2 ^ 53) }
 {
@@ -114,10 +114,11 @@ fn ahead<C: Costs>(costs: &C, pane: Pane, aim: Aim, spot: Spot, way: Way) -> Opt
 }
 
 /// The step to the next cell against the way, if there is one.
-fn behind<C: Costs>(costs: &C, pane: Pane, aim: Aim, spot: Spot, way: Way) -> Option<Step>
+fn behind<C: Costs>(costs: &C, pane: Pane, aim: &Aim, spot: Spot, way: Way) -> Option<Step>
     requires grid { C.grid costs.now ≡ pane.grid }
+    requires aim { FitsIn pane aim.now }
     requires spot { IsSpot pane spot }
-    ensures step { result ≡ step_to pane (C.price costs.now) aim spot.local (behind_of pane.shape spot.local way) }
+    ensures step { result ≡ step_to pane (C.price costs.now) aim.now spot.local (behind_of pane.shape spot.local way) }
     ensures cost { IfSome result (λ s. s.cost ≤ most_cost) }
     ensures rest { IfSome result (λ s. s.rest < 2 ^ 53) }
 {
@@ -165,13 +166,14 @@ pub(crate) fn cell_beside(pane: Pane, spot: Spot, side: Side) -> Option<u32>
 pub(crate) fn step_beside<C: Costs>(
     costs: &C,
     pane: Pane,
-    aim: Aim,
+    aim: &Aim,
     spot: Spot,
     side: Side,
 ) -> Option<Step>
     requires grid { C.grid costs.now ≡ pane.grid }
+    requires aim { FitsIn pane aim.now }
     requires spot { IsSpot pane spot }
-    ensures step { result ≡ step_to pane (C.price costs.now) aim spot.local (beside pane.shape spot.local side) }
+    ensures step { result ≡ step_to pane (C.price costs.now) aim.now spot.local (beside pane.shape spot.local side) }
     ensures cost { IfSome result (λ s. s.cost ≤ most_cost) }
     ensures rest { IfSome result (λ s. s.rest < 2 ^ 53) }
 {

@@ -1,13 +1,19 @@
-ghost use Rattle.std.specs.Prelude.{◌≡◌, ◌<◌, length, IfOk, IsTrue};
+ghost use Rattle.std.specs.Prelude.{◌≡◌, ◌<◌, length, IfOk, OnOk, IsTrue};
 ghost use Rattle.gr_base.specs.Trees.{IsTree, IsWalkTo};
+ghost use Rattle.maze_route.specs.Kept.{IsKept, Serves};
+ghost use Rattle.maze_route.specs.Scales.{AreScales};
+ghost use Rattle.maze_route.specs.Steps.{size_of, pane_graph};
 ghost use Rattle.maze_route.specs.Walks.{IsLeastWalk};
 ghost use Rattle.maze_route.specs.Windows.{IsWindow, TreeLiesIn, LieIn, IsPassable, window_graph};
 ghost use Rattle.maze_route.specs.Whole.{whole};
 
+use crate::aim::aim_at;
 use crate::back::walk_back;
-use crate::ends::{box_of, first_reached, locals, mark};
+use crate::ends::{first_reached, locals, mark, nearest_of};
 use crate::pane::Pane;
+use crate::resume::resume;
 use crate::room::MazeRoom;
+use crate::scales::Scales;
 use crate::search::search;
 use crate::window::Window;
 use cost_rules::Costs;
@@ -63,20 +69,45 @@ pub fn least_walk_in<C: Costs>(
     ensures walk { IfOk result (IsLeastWalk (window_graph tree.now window (C.price costs.now)) goals.now) }
     ensures attaches { IfOk result (IsWalkTo tree.now) }
 {
-    walk_in(
-        alloc,
-        room,
-        costs,
-        Pane::new(tree.shape(), window),
-        tree,
-        goals,
-    )
+    let scales = Scales::new(alloc, costs, tree.shape(), window)?;
+    room.begin(tree.shape(), window)?;
+    least_walk_by(alloc, room, &scales, costs, window, tree, goals)
+}
+
+/// The same walk, by scales of the window, in a room that serves the tree: `MazeRoom::begin` makes it
+/// so, and each walk leaves it so, also for the tree with the walk attached.
+pub fn least_walk_by<C: Costs>(
+    alloc: Global,
+    room: &mut MazeRoom,
+    scales: &Scales,
+    costs: &C,
+    window: Window,
+    tree: &RouteTree,
+    goals: &[u32],
+) -> Result<Cells, AllocError>
+    requires grid { C.grid costs.now ≡ tree.now.shape }
+    requires window { IsWindow tree.now.shape window }
+    requires scales { AreScales tree.now.shape window (C.price costs.now) scales.now }
+    requires room { Serves tree.now window (C.price costs.now) room.old }
+    requires tree { TreeLiesIn window tree.now }
+    requires goals { LieIn tree.now.shape window goals.now }
+    requires some { 0 < length goals.now }
+    requires passable { IsPassable tree.now.shape (C.ways costs.now) window }
+    ensures walk { IfOk result (IsLeastWalk (window_graph tree.now window (C.price costs.now)) goals.now) }
+    ensures attaches { IfOk result (IsWalkTo tree.now) }
+    ensures room { OnOk result (Serves tree.now window (C.price costs.now) room.new) }
+{
+    // The call says that it is a tree.
+    let _shape = tree.shape();
+    let pane = room.pane;
+    walk_in(alloc, room, scales, costs, pane, tree, goals)
 }
 
 /// The same walk in a pane.
 fn walk_in<C: Costs>(
     alloc: Global,
     room: &mut MazeRoom,
+    scales: &Scales,
     costs: &C,
     pane: Pane,
     tree: &RouteTree,
@@ -84,17 +115,25 @@ fn walk_in<C: Costs>(
 ) -> Result<Cells, AllocError>
     requires grid { C.grid costs.now ≡ pane.grid }
     requires shape { tree.now.shape ≡ pane.grid }
+    requires scales { AreScales pane.grid pane.window (C.price costs.now) scales.now }
     requires tree { TreeLiesIn pane.window tree.now }
     requires rooted { IsTree tree.now }
     requires goals { LieIn pane.grid pane.window goals.now }
     requires some { 0 < length goals.now }
     requires passable { IsPassable pane.grid (C.ways costs.now) pane.window }
-    ensures { IfOk result (IsLeastWalk (whole pane tree.now (C.price costs.now)) goals.now) }
+    requires size { length room.old.front.labels.costs.items ≡ size_of pane }
+    requires kept { IsKept (pane_graph pane tree.now (C.price costs.now)) (size_of pane) room.old.front }
+    ensures walk { IfOk result (IsLeastWalk (whole pane tree.now (C.price costs.now)) goals.now) }
+    ensures pane { room.new.pane ≡ room.old.pane }
+    ensures size { OnOk result (length room.new.front.labels.costs.items ≡ size_of pane) }
+    ensures kept { OnOk result (IsKept (pane_graph pane tree.now (C.price costs.now)) (size_of pane) room.new.front) }
 {
     locals(pane, goals, &mut room.ends)?;
-    let aim = box_of(pane, &room.ends, costs.least_via());
+    let aim = aim_at(alloc, scales, pane, &room.ends, costs.least_via())?;
     mark(pane, &room.ends, &mut room.marks)?;
-    search(costs, pane, aim, &room.marks, tree, &mut room.front)?;
+    resume(pane, &aim, tree, &mut room.waiting, &mut room.front)?;
+    let known = nearest_of(&room.front.labels, &room.ends);
+    search(costs, pane, &aim, &room.marks, known, tree, &mut room.front)?;
     let goal = first_reached(&room.front.labels, &room.ends).unwrap();
-    walk_back(alloc, costs, pane, aim, tree, &room.front.labels, goal)
+    walk_back(alloc, costs, pane, &aim, tree, &room.front.labels, goal)
 }

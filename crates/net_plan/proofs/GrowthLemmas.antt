@@ -201,6 +201,14 @@ growing-more g w price pins t new goals walk fewer growing least lie made adds b
         let here : is_among (goal ∷ rest) goal ≡ true = rw test refl in
         ap (λ (cells : List ℕ). is_among cells goal) is ∙ here
 
+or-left : (a b : Bool) → a ≡ true → (a || b) ≡ true
+or-left true b is = refl
+or-left false b is = absurd (differ false refl is)
+
+-- a tree keeps its cells as it grows
+pub adds-keeps : (t new : TreeView) (walk : List ℕ) → AddsCells t walk new → (cell : ℕ) → IsTrue (holds t cell) → IsTrue (holds new cell)
+adds-keeps t new walk adds cell held = adds cell ∙ or-left (holds t cell) (is_among walk cell) held
+
 -- all pins are in the tree
 pub growing-done : (g : Shape) (w : Window) (price : Edge → Option ℕ) (pins : List ℕ) (t : TreeView) (goals : List ℕ) → IsGrowing g w price pins t goals →
     goals ≡ [] → GrowsTo w price pins (driver_tree g pins) t

@@ -15,7 +15,7 @@ use crate::window::window_of;
 use cost_rules::{CostRule, Costs};
 use gr_base::{Design, RouteTree, Shape};
 use grid_demand::{Capacity, Loads};
-use maze_route::{MazeRoom, Window, least_walk_in};
+use maze_route::{MazeRoom, Scales, Window, least_walk_by};
 use std::alloc::{AllocError, Global};
 
 /// The maze plan of a routed net over the loads of a design, in which no wire edge has a demand
@@ -71,10 +71,12 @@ fn grow<C: Costs>(
     ensures driver { IfOk result (λ t. cell_at t.nodes 0 ≡ slice_get pins.now 0) }
     ensures pins { IfOk result (λ t. All (λ pin. IsTrue (holds t pin)) pins.now) }
 {
+    let scales = Scales::new(alloc, costs, shape, window)?;
+    room.begin(shape, window)?;
     let mut tree = RouteTree::start(alloc, shape, pins[0])?;
     let mut goals = missing(alloc, &tree, pins)?;
     while !goals.is_empty() {
-        let walk = least_walk_in(alloc, room, costs, window, &tree, &goals)?;
+        let walk = least_walk_by(alloc, room, &scales, costs, window, &tree, &goals)?;
         tree.attach(walk.as_slice())?;
         goals = others(alloc, &goals, walk.as_slice())?;
     }

@@ -104,7 +104,7 @@ sum-places f g (x ∷ xs) from same =
     sum_by-cons g from (range_with_len (from + 1) (length xs)) ∙ omega (arith, first, rest) ∙ sym (sum_by-cons f x xs)
 
 -- what holds of all of a list holds of its first part, and of its last
-all-first : {A : Type 0} (P : A → Type 0) (xs ys : List A) → All P (xs ++ ys) → All P xs
+pub all-first : {A : Type 0} (P : A → Type 0) (xs ys : List A) → All P (xs ++ ys) → All P xs
 all-first P [] ys all = All-nil P
 all-first P (x ∷ xs) ys all = All-cons P x xs (All-head P x (xs ++ ys) all) (all-first P xs ys (All-tail P x (xs ++ ys) all))
 

@@ -11,4 +11,7 @@ pub mod JoiningAttempts
 pub mod JoiningEnds
 pub mod CallerLists
 pub mod MeetingSteps
-pub mod SharedOrder
+pub mod FreedomLemmas
+pub mod KeyLemmas
+pub mod RegionLemmas
+pub mod DealingLemmas

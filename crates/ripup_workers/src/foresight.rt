@@ -13,7 +13,7 @@ ghost use Rattle.ripup_workers.specs.Turning.{HasCapacity, IsOver, HasFollowed, 
 ghost use Rattle.ripup_workers.specs.Working.{HasLed};
 
 use crate::gate::{Gate, Stop};
-use crate::turn::Ground;
+use crate::ground::Ground;
 use crate::wish::Wish;
 use crate::worker::Worker;
 use book_state::Sought;

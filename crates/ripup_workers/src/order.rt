@@ -1,239 +1,194 @@
 //! In which order the nets of a round are shared.
-ghost use Rattle.std.specs.Prelude.{◌≡◌, ◌<◌, ◌≤◌, ◌+◌, ◌∷◌, [], ℕ, length, map, take, slice_index_or, sum_by, All, IfOk, OnOk};
-ghost use Rattle.ripup_workers.specs.Orders.{net_in, AreSameNets};
+ghost use Rattle.std.specs.Prelude.{◌≡◌, ◌≤◌, ◌<◌, ◌/◌, ◌%◌, ◌^◌, ◌++◌, ◌∷◌, ℕ, length, map, slice_index_or, sum_by, All, IfOk, OnOk};
+ghost use Rattle.work_share.specs.Dealt.{dealt};
 ghost use Rattle.work_share.specs.Views.{times};
+ghost use Rattle.ripup_workers.specs.Orders.{net_in, AreRouted, IsKey, IsDealtInTurn, IsSortOf, size_of, AreCutOf, AreKeysOf, ArePartsOf, nets_at};
 
-use crate::survey::{Rank, Survey};
+use crate::survey::{NUMBERS, Survey};
 use beside_calls::for_each_beside;
 use std::alloc::{AllocError, Global};
 use std::thread::Threads;
 
-/// How many numbers there are for nets. A net behind another number is one number with it, so that nets are
-/// compared without a call.
-const NUMBERS: u64 = 4_294_967_296;
-
-/// So few nets are put in the order of their ranks before further threads would have begun.
+/// So few nets are put in order before further threads would have begun.
 const FEW: usize = 8_192;
 
-/// The same nets in an order in which each worker is dealt those of a region of its own: one net after the
-/// other goes to one worker after the other. The nets of a region go by their freedom.
+/// The nets of a round in the order in which they are shared: one net after the other goes to one worker
+/// after the other. Each worker is dealt the nets of a region of its own, the least free first in round 0
+/// and the most free first later.
 ///
-/// A region has as many nets as any other, whose drivers follow one another by their places. Workers in
-/// regions of their own seldom change what others plan with. The work of one worker is the nets as they
-/// stand.
+/// A region has as many nets as any other, or one more, whose drivers follow one another by their places.
+/// Workers in regions of their own seldom change what others plan with.
 pub(crate) fn by_regions<R: Threads + Sync>(
     rt: &R,
     alloc: Global,
-    survey: &Survey,
+    survey: &Survey<'_>,
     round: u32,
     nets: &[u32],
     workers: u32,
 ) -> Result<Vec<u32>, AllocError>
-    requires { 0 < workers }
-    ensures { IfOk result (λ order. (net : ℕ) → times net order.items ≡ times net nets.now) }
+    requires some { 0 < workers }
+    requires routed { AreRouted survey.now.design.now nets.now }
+    ensures { IfOk result (λ order. IsDealtInTurn survey.now.design.now round workers nets.now order.items) }
 {
-    if workers == 1 {
-        return Vec::from_slice(alloc, nets);
-    }
-    let size = nets.len().div_ceil(workers as usize);
-    let placed = nets_behind(alloc, survey, Rank::Place, nets)?;
-    let firsts = firsts_of_regions(alloc, &placed, size)?;
-    let mut regions = regions(alloc, &placed, &firsts, size)?;
-    let threads = if nets.len() < FEW { 1 } else { workers };
-    rank_each(
-        rt,
-        alloc,
-        survey,
-        Rank::in_round(round),
-        threads,
-        &mut regions,
-    );
-    let order = in_turn(alloc, &regions)?;
+    let count = workers as usize;
+    let placed = behind_places(alloc, survey, nets)?;
+    let mut regions = regions_of(alloc, survey, round, placed, count)?;
+    let threads = if nets.len() < FEW { 1 } else { count };
+    sort_each(rt, threads, &mut regions);
+    let order = dealt_out(alloc, &regions, nets.len() / count, nets.len() % count)?;
     Ok(order)
 }
 
-/// Puts the nets of each region in the order of their ranks, by at most so many threads. Where memory is
-/// wanting, they stay as they stand.
-fn rank_each<R: Threads + Sync>(
-    rt: &R,
+/// The nets, each behind the place of its driver.
+fn behind_places(alloc: Global, survey: &Survey<'_>, nets: &[u32]) -> Result<Vec<u64>, AllocError>
+    requires { AreRouted survey.now.design.now nets.now }
+    ensures { IfOk result (λ placed. map net_in placed.items ≡ nets.now) }
+{
+    let mut placed = Vec::with_capacity(alloc, nets.len())?;
+    for &net in nets {
+        placed.push(survey.behind_place(net))?;
+    }
+    Ok(placed)
+}
+
+/// The nets behind places, cut into so many regions by these, each net behind the number of its turn.
+fn regions_of(
     alloc: Global,
-    survey: &Survey,
-    rank: Rank,
-    threads: u32,
-    regions: &mut Vec<Vec<u32>>,
-)
+    survey: &Survey<'_>,
+    round: u32,
+    placed: Vec<u64>,
+    count: usize,
+) -> Result<Vec<Vec<u64>>, AllocError>
+    requires some { 0 < count }
+    requires routed { AreRouted survey.now.design.now (map net_in placed.items) }
+    ensures count { IfOk result (λ regions. length regions.items ≡ count) }
+    ensures cut { let all = length placed.items in
+        IfOk result (λ regions. AreCutOf (all / count) (all % count) regions.items) }
+    ensures keys { IfOk result (λ regions. AreKeysOf survey.now.design.now round regions.items) }
+    ensures same { (net : ℕ) → IfOk result
+        (λ regions. sum_by (λ r. times net (map net_in r.items)) regions.items ≡ times net (map net_in placed.items)) }
+{
+    let each = placed.len() / count;
+    let more = placed.len() % count;
+    let mut left = placed;
+    let mut regions = Vec::with_capacity(alloc, count)?;
+    for region in 0..count {
+        let size = size_of(each, more, region);
+        let (others, keys) = put_apart(alloc, survey, round, left, size)?;
+        regions.push(keys)?;
+        left = others;
+    }
+    Ok(regions)
+}
+
+/// How many nets a region has, where each has so many and the first ones one more.
+fn size_of(each: usize, more: usize, region: usize) -> usize
+    requires { size_of each more region < 2 ^ 64 }
+    ensures { result ≡ size_of each more region }
+{
+    if region < more { each + 1 } else { each }
+}
+
+/// The nets but so many, those behind the greatest places, and these, each behind the number of its turn.
+/// To part them takes less than to sort them.
+fn put_apart(
+    alloc: Global,
+    survey: &Survey<'_>,
+    round: u32,
+    placed: Vec<u64>,
+    size: usize,
+) -> Result<(Vec<u64>, Vec<u64>), AllocError>
+    requires enough { size ≤ length placed.items }
+    requires routed { AreRouted survey.now.design.now (map net_in placed.items) }
+    ensures parts { IfOk result (λ parts. ArePartsOf size placed.items parts.0.items parts.1.items) }
+    ensures keys { IfOk result (λ parts. All (IsKey survey.now.design.now round) parts.1.items) }
+    ensures routed { IfOk result (λ parts. AreRouted survey.now.design.now (map net_in parts.0.items)) }
+{
+    let mut placed = placed;
+    if size == 0 {
+        return Ok((placed, Vec::new(alloc)));
+    }
+    let kept = placed.len() - size;
+    let (others, first, behind) = placed.select_nth_unstable(kept);
+    let keys = behind_turns(alloc, survey, round, *first, behind)?;
+    let others = Vec::from_slice(alloc, others)?;
+    Ok((others, keys))
+}
+
+/// The nets that stand behind places, each behind the number of its turn.
+fn behind_turns(
+    alloc: Global,
+    survey: &Survey<'_>,
+    round: u32,
+    first: u64,
+    others: &[u64],
+) -> Result<Vec<u64>, AllocError>
+    requires { AreRouted survey.now.design.now (map net_in (first ∷ others.now)) }
+    ensures nets { IfOk result (λ keys. map net_in keys.items ≡ map net_in (first ∷ others.now)) }
+    ensures keys { IfOk result (λ keys. All (IsKey survey.now.design.now round) keys.items) }
+{
+    let mut keys = Vec::with_capacity(alloc, others.len() + 1)?;
+    keys.push(survey.behind_turn(round, net_in(first)))?;
+    for &both in others {
+        keys.push(survey.behind_turn(round, net_in(both)))?;
+    }
+    Ok(keys)
+}
+
+/// The net that stands behind a number.
+fn net_in(both: u64) -> u32
+    ensures { result ≡ net_in both }
+{
+    (both % NUMBERS) as u32
+}
+
+/// Puts the numbers of each region in order, by at most so many threads.
+fn sort_each<R: Threads + Sync>(rt: &R, threads: usize, regions: &mut Vec<Vec<u64>>)
     requires { 0 < threads }
     ensures count { length regions.new.items ≡ length regions.old.items }
     ensures each { (at : ℕ) (d : _) → at < length regions.old.items →
-        AreSameNets (slice_index_or regions.old.items at d).items (slice_index_or regions.new.items at d).items }
+        IsSortOf (slice_index_or regions.old.items at d).items (slice_index_or regions.new.items at d).items }
 {
     for_each_beside(
         rt,
         regions.as_mut_slice(),
-        threads as usize,
-        &|_, region: &mut Vec<u32>|
-            ensures { AreSameNets region.entry.now.items region.exit.now.items }
+        threads,
+        &|_, region: &mut Vec<u64>|
+            ensures { IsSortOf region.entry.now.items region.exit.now.items }
         {
-            rank_one(alloc, survey, rank, region);
+            region.sort_unstable();
         },
     );
 }
 
-/// The same for one region.
-fn rank_one(alloc: Global, survey: &Survey, rank: Rank, region: &mut Vec<u32>)
-    ensures { AreSameNets region.old.items region.new.items }
-{
-    match by_rank(alloc, survey, rank, region) {
-        Ok(ranked) => *region = ranked,
-        Err(AllocError) => {}
-    }
-}
-
-/// The same nets in the order of their ranks, and in that of the design where these are equal.
-fn by_rank(alloc: Global, survey: &Survey, rank: Rank, nets: &[u32]) -> Result<Vec<u32>, AllocError>
-    ensures { (net : ℕ) → IfOk result (λ ranked. times net ranked.items ≡ times net nets.now) }
-{
-    let mut ranked = nets_behind(alloc, survey, rank, nets)?;
-    ranked.sort_unstable();
-    let nets = nets_of(alloc, &ranked)?;
-    Ok(nets)
-}
-
-/// The nets, each behind its number of this rank.
-fn nets_behind(
+/// The nets behind numbers, one of each region after the other, where each region has so many and the
+/// first ones one more.
+fn dealt_out(
     alloc: Global,
-    survey: &Survey,
-    rank: Rank,
-    nets: &[u32],
-) -> Result<Vec<u64>, AllocError>
-    ensures { IfOk result (λ behind. map net_in behind.items ≡ nets.now) }
-{
-    let mut behind = Vec::with_capacity(alloc, nets.len())?;
-    for &net in nets {
-        let number = survey.number(rank, net);
-        behind.push(u64::from(number) * NUMBERS + u64::from(net))?;
-    }
-    Ok(behind)
-}
-
-/// The nets that stand behind numbers.
-fn nets_of(alloc: Global, behind: &[u64]) -> Result<Vec<u32>, AllocError>
-    ensures { IfOk result (λ nets. nets.items ≡ map net_in behind.now) }
-{
-    let mut nets = Vec::with_capacity(alloc, behind.len())?;
-    for &both in behind {
-        nets.push((both % NUMBERS) as u32)?;
-    }
-    Ok(nets)
-}
-
-/// The first net of each region but the first one, behind its place, where each region has so many nets
-/// and the last one what is left. To select them takes less than to sort all nets.
-fn firsts_of_regions(alloc: Global, placed: &[u64], size: usize) -> Result<Vec<u64>, AllocError>
-    requires { 0 < length placed.now → 0 < size }
-{
-    let mut firsts = Vec::new(alloc);
-    let mut split = Vec::from_slice(alloc, placed)?;
-    let mut from = 0;
-    while split.len() - from > size {
-        firsts.push(first_behind(&mut split, from, size))?;
-        from += size;
-    }
-    Ok(firsts)
-}
-
-/// Moves the least so many of the numbers from a place on to the front of these. The result is the next
-/// one, which comes to stand behind them.
-fn first_behind(numbers: &mut Vec<u64>, from: usize, count: usize) -> u64
-    requires { from + count < length numbers.old.items }
-    ensures { length numbers.new.items ≡ length numbers.old.items }
-{
-    let (_, first, _) = numbers[from..].select_nth_unstable(count);
-    *first
-}
-
-/// The nets behind places, by region, in the order in which they stand.
-fn regions(
-    alloc: Global,
-    placed: &[u64],
-    firsts: &[u64],
-    size: usize,
-) -> Result<Vec<Vec<u32>>, AllocError>
-    ensures { (net : ℕ) → IfOk result
-        (λ regions. sum_by (λ r. times net r.items) regions.items ≡ times net (map net_in placed.now)) }
-{
-    let mut regions = empty_regions(alloc, firsts.len() + 1, size)?;
-    for &both in placed {
-        let region = region_of(firsts, both);
-        push_net(&mut regions, region, both)?;
-    }
-    Ok(regions)
-}
-
-/// So many regions without nets, each with room for as many as are told.
-fn empty_regions(alloc: Global, count: usize, room: usize) -> Result<Vec<Vec<u32>>, AllocError>
-    ensures long { IfOk result (λ regions. length regions.items ≡ count) }
-    ensures none { (net : ℕ) → IfOk result (λ regions. sum_by (λ r. times net r.items) regions.items ≡ 0) }
-{
-    let mut regions = Vec::with_capacity(alloc, count)?;
-    for _ in 0..count {
-        regions.push(Vec::with_capacity(alloc, room)?)?;
-    }
-    Ok(regions)
-}
-
-/// The number of a net's region: how many of the first nets of regions stand at its place or before.
-fn region_of(firsts: &[u64], both: u64) -> usize
-    ensures { result ≤ length firsts.now }
-{
-    firsts.iter().filter(|first| **first <= both).count()
-}
-
-/// Adds the net behind a place to a region.
-fn push_net(regions: &mut Vec<Vec<u32>>, region: usize, both: u64) -> Result<(), AllocError>
-    requires { region < length regions.old.items }
-    ensures long { length regions.new.items ≡ length regions.old.items }
-    ensures more { (net : ℕ) → OnOk result (sum_by (λ r. times net r.items) regions.new.items
-        ≡ sum_by (λ r. times net r.items) regions.old.items + times net (net_in both ∷ [])) }
-{
-    regions[region].push((both % NUMBERS) as u32)?;
-    Ok(())
-}
-
-/// One net of each region after the other.
-fn in_turn(alloc: Global, regions: &[Vec<u32>]) -> Result<Vec<u32>, AllocError>
-    ensures { (net : ℕ) → IfOk result
-        (λ order. times net order.items ≡ sum_by (λ r. times net r.items) regions.now) }
+    regions: &[Vec<u64>],
+    each: usize,
+    more: usize,
+) -> Result<Vec<u32>, AllocError>
+    requires some { more < length regions.now }
+    requires cut { AreCutOf each more regions.now }
+    ensures { (hand : ℕ) (d : _) → hand < length regions.now → IfOk result (λ order.
+        dealt (length regions.now) order.items hand ≡ map net_in (slice_index_or regions.now hand d).items) }
 {
     let mut order = Vec::new(alloc);
-    for at in 0..longest(regions) {
+    for at in 0..each {
         push_each(&mut order, regions, at)?;
     }
+    push_each(&mut order, &regions[..more], each)?;
     Ok(order)
 }
 
-/// How many nets the region has that has the most.
-fn longest(regions: &[Vec<u32>]) -> usize
-    ensures { All (λ r. length r.items ≤ result) regions.now }
-{
-    let mut longest = 0;
-    for region in regions {
-        if longest < region.len() {
-            longest = region.len();
-        }
-    }
-    longest
-}
-
-/// Adds the net at a place of each region that has one there.
-fn push_each(order: &mut Vec<u32>, regions: &[Vec<u32>], at: usize) -> Result<(), AllocError>
-    ensures { (net : ℕ) → OnOk result (times net order.new.items + sum_by (λ r. times net (take at r.items)) regions.now
-        ≡ times net order.old.items + sum_by (λ r. times net (take (at + 1) r.items)) regions.now) }
+/// Adds the net at a place of each region.
+fn push_each(order: &mut Vec<u32>, regions: &[Vec<u64>], at: usize) -> Result<(), AllocError>
+    requires { All (λ r. at < length r.items) regions.now }
+    ensures { OnOk result (order.new.items ≡ order.old.items ++ nets_at at regions.now) }
 {
     for region in regions {
-        if at < region.len() {
-            order.push(region[at])?;
-        }
+        order.push(net_in(region[at]))?;
     }
     Ok(())
 }

@@ -9,9 +9,9 @@ ghost use Rattle.ripup_workers.specs.Crews.{IsWorked, HasAttemptedOver};
 
 use crate::asked::Asked;
 use crate::gate::Gate;
+use crate::ground::Ground;
 use crate::members::{members_of, parted};
 use crate::team::Member;
-use crate::turn::attempt;
 use crate::work::work;
 use crate::worker::Worker;
 use beside_calls::for_each_beside;
@@ -25,13 +25,10 @@ use work_share::{Share, share};
 /// The workers attempt these nets, each once as often as it stands among them, side by side. The only
 /// error is want of memory.
 pub(crate) fn attempt_nets<N: BookName + Send + Sync, R: Threads + Wait + Sync, G: Gate + Sync>(
-    rt: &R,
-    alloc: Global,
+    ground: &Ground<'_, N, R, G>,
     asked: &Asked,
     round: u32,
     nets: &[u32],
-    book: &TrackBook<N>,
-    gate: &G,
     workers: Vec<Worker<N>>,
 ) -> Result<Vec<Worker<N>>, AllocError>
     requires capacity { N.capacity ≡ capacity_of asked.now.design.now }
@@ -41,25 +38,23 @@ pub(crate) fn attempt_nets<N: BookName + Send + Sync, R: Threads + Wait + Sync, 
     ensures { IfOk result (λ after. HaveAttempted (setting_of asked.now) round nets.now
         (map (λ w. w.pass) workers.items) (map (λ w. w.pass) after.items)) }
 {
-    let (shared, hands) = share(alloc, nets, asked.workers)?;
-    let mut members = members_of(alloc, workers, hands)?;
-    work_all(rt, alloc, asked, round, book, &shared, gate, &mut members);
-    let (mut workers, hands) = parted(alloc, members)?;
-    let end = shared.end(hands)?;
-    attempt_rest(
+    let (shared, hands) = share(ground.alloc, nets, asked.workers)?;
+    let mut members = members_of(ground.alloc, workers, hands)?;
+    let Ground {
         rt,
         alloc,
-        asked,
-        round,
-        end.rest(),
         book,
         gate,
-        &mut workers[0],
-    )?;
+    } = *ground;
+    work_all(rt, alloc, asked, round, book, &shared, gate, &mut members);
+    let (mut workers, hands) = parted(ground.alloc, members)?;
+    let end = shared.end(hands)?;
+    attempt_rest(ground, asked, round, end.rest(), &mut workers[0])?;
     Ok(workers)
 }
 
-/// Each member works, in a thread of its own.
+/// Each member works, in a thread of its own. What a ground holds comes part by part, since only so it is
+/// known that threads may share it.
 fn work_all<N: BookName + Send + Sync, R: Threads + Wait + Sync, G: Gate + Sync>(
     rt: &R,
     alloc: Global,
@@ -89,7 +84,8 @@ fn work_all<N: BookName + Send + Sync, R: Threads + Wait + Sync, G: Gate + Sync>
             requires { (N.capacity ≡ capacity_of asked.now.design.now) × (round ≤ asked.now.rounds) ×
                 All (λ net. IsTrue (is_routed asked.now.design.now net)) share.now.nets ×
                 IsHandOf share.now member.now.hand }
-            ensures { IsWorked share.entry.now asked.entry.now.design.now asked.entry.now.rule.now.formula round
+            ensures { IsWorked share.entry.now asked.entry.now.design.now
+                asked.entry.now.rule.now.formula round
                 member.entry.now.hand member.exit.now.hand member.entry.now.worker.pass member.exit.now.worker.pass
                 member.exit.now.done }
         {
@@ -113,32 +109,24 @@ fn work_one<N: BookName, R: Threads + Wait + Sync, G: Gate>(
     requires round { round ≤ asked.now.rounds }
     requires nets { All (λ net. IsTrue (is_routed asked.now.design.now net)) share.now.nets }
     requires hand { IsHandOf share.now member.old.hand }
-    ensures { IsWorked share.now asked.now.design.now asked.now.rule.now.formula round member.old.hand member.new.hand
-        member.old.worker.pass member.new.worker.pass member.new.done }
+    ensures { IsWorked share.now asked.now.design.now asked.now.rule.now.formula round
+        member.old.hand member.new.hand member.old.worker.pass member.new.worker.pass member.new.done }
 {
-    member.done = work(
+    let ground = Ground {
         rt,
         alloc,
-        asked.design,
-        asked.rule,
-        round,
         book,
-        share,
         gate,
-        &mut member.hand,
-        &mut member.worker,
-    );
+    };
+    member.done = work(&ground, asked, round, share, &mut member.hand, &mut member.worker);
 }
 
 /// A worker attempts the nets that are left, of which there are none in practice.
 fn attempt_rest<N: BookName, R: Threads + Wait + Sync, G: Gate>(
-    rt: &R,
-    alloc: Global,
+    ground: &Ground<'_, N, R, G>,
     asked: &Asked,
     round: u32,
     nets: &[u32],
-    book: &TrackBook<N>,
-    gate: &G,
     worker: &mut Worker<N>,
 ) -> Result<(), AllocError>
     requires capacity { N.capacity ≡ capacity_of asked.now.design.now }
@@ -149,20 +137,9 @@ fn attempt_rest<N: BookName, R: Threads + Wait + Sync, G: Gate>(
         (HasAttemptedOver asked.now.design.now asked.now.rule.now.formula round nets.now
         worker.old.pass worker.new.pass) }
 {
-    let mut planner = Planner::new(alloc)?;
+    let mut planner = Planner::new(ground.alloc)?;
     for &net in nets {
-        attempt(
-            rt,
-            alloc,
-            asked.design,
-            asked.rule,
-            round,
-            book,
-            gate,
-            net,
-            worker,
-            &mut planner,
-        )?;
+        ground.attempt(asked, round, net, worker, &mut planner)?;
     }
     Ok(())
 }

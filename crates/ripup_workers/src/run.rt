@@ -9,6 +9,7 @@ ghost use Rattle.ripup_workers.specs.Rounding.{setting_of, is_stop_at, IsRoundOv
 
 use crate::asked::Asked;
 use crate::gate::Gate;
+use crate::ground::Ground;
 use crate::order::by_regions;
 use crate::round::attempt_nets;
 use crate::survey::Survey;
@@ -40,7 +41,13 @@ pub(crate) fn book_of_rounds<N: BookName + Send + Sync, R: Threads + Wait + Sync
 {
     let (book, passes) = blank.begin::<N>(alloc)?;
     let (mut coordinator, workers) = callers(alloc, &book, asked.design, passes)?;
-    let workers = run_rounds(rt, alloc, asked, &book, gate, &mut coordinator, workers)?;
+    let ground = Ground {
+        rt,
+        alloc,
+        book: &book,
+        gate,
+    };
+    let workers = run_rounds(&ground, asked, &mut coordinator, workers)?;
     let made = closed(alloc, book, coordinator, workers)?;
     Ok(made)
 }
@@ -100,11 +107,8 @@ fn worker_with<N: BookName>(
 
 /// The rounds, each up to and with its mark.
 fn run_rounds<N: BookName + Send + Sync, R: Threads + Wait + Sync, G: Gate + Sync>(
-    rt: &R,
-    alloc: Global,
+    ground: &Ground<'_, N, R, G>,
     asked: &Asked,
-    book: &TrackBook<N>,
-    gate: &G,
     coordinator: &mut Coordinator<N>,
     workers: Vec<Worker<N>>,
 ) -> Result<Vec<Worker<N>>, AllocError>
@@ -114,22 +118,11 @@ fn run_rounds<N: BookName + Send + Sync, R: Threads + Wait + Sync, G: Gate + Syn
         (map (λ w. w.pass) after.items)) }
 {
     let mut workers = workers;
-    let survey = Survey::of(rt, alloc, asked.design, asked.workers)?;
-    let mut nets = routed_nets(alloc, asked.design)?;
+    let survey = Survey::of(ground.rt, ground.alloc, asked.design, asked.workers)?;
+    let mut nets = routed_nets(ground.alloc, asked.design)?;
     let mut before = None;
     for round in 0..asked.rounds + 1 {
-        let end = run_round(
-            rt,
-            alloc,
-            asked,
-            round,
-            &survey,
-            nets,
-            book,
-            gate,
-            coordinator,
-            workers,
-        )?;
+        let end = run_round(ground, asked, round, &survey, nets, coordinator, workers)?;
         workers = end.workers;
         nets = end.nets;
         if nets.is_empty() {
@@ -145,14 +138,11 @@ fn run_rounds<N: BookName + Send + Sync, R: Threads + Wait + Sync, G: Gate + Syn
 
 /// A round of these nets up to and with its mark. The survey tells in which order they go.
 fn run_round<N: BookName + Send + Sync, R: Threads + Wait + Sync, G: Gate + Sync>(
-    rt: &R,
-    alloc: Global,
+    ground: &Ground<'_, N, R, G>,
     asked: &Asked,
     round: u32,
-    survey: &Survey,
+    survey: &Survey<'_>,
     nets: Vec<u32>,
-    book: &TrackBook<N>,
-    gate: &G,
     coordinator: &mut Coordinator<N>,
     workers: Vec<Worker<N>>,
 ) -> Result<RoundEnd<N>, AllocError>
@@ -160,13 +150,16 @@ fn run_round<N: BookName + Send + Sync, R: Threads + Wait + Sync, G: Gate + Sync
     requires round { round ≤ asked.now.rounds }
     requires nets { All (λ net. IsTrue (is_routed asked.now.design.now net)) nets.items }
     requires count { length workers.items ≡ asked.now.workers }
-    ensures { IfOk result (λ end. IsRoundOver (setting_of asked.now) round end.overflow nets.items end.nets.items
-        coordinator.old.pass coordinator.new.pass
+    requires survey { survey.now.design.now ≡ asked.now.design.now }
+    ensures { IfOk result (λ end. IsRoundOver (setting_of asked.now) round end.overflow nets.items
+        end.nets.items coordinator.old.pass coordinator.new.pass
         (map (λ w. w.pass) workers.items) (map (λ w. w.pass) end.workers.items)) }
 {
+    let rt = ground.rt;
+    let alloc = ground.alloc;
     let order = by_regions(rt, alloc, survey, round, &nets, asked.workers)?;
-    let mut workers = attempt_nets(rt, alloc, asked, round, &order, book, gate, workers)?;
-    let marked = coordinator.end_round(rt, book, &mut workers, asked.workers)?;
+    let mut workers = attempt_nets(ground, asked, round, &order, workers)?;
+    let marked = coordinator.end_round(rt, ground.book, &mut workers, asked.workers)?;
     let kept = routed_of(alloc, asked.design, marked.victims.as_slice())?;
     Ok(RoundEnd {
         workers,
@@ -187,7 +180,8 @@ fn is_stopped(asked: &Asked, overflow: u128, before: Option<u128>) -> bool
     asked.watcher.look(sight) == Going::Stop
 }
 
-/// Those of these nets that are routed: all of them, where each entry of the book is a caller's.
+/// Those of these nets that are routed. They are all of them, since only callers add entries, but until
+/// the book is closed nothing says that no other did.
 fn routed_of(alloc: Global, design: &Design, nets: &[u32]) -> Result<Vec<u32>, AllocError>
     requires { All (λ net. net < length design.now.nets) nets.now }
     ensures { IfOk result (λ kept. kept.items ≡ filter (is_routed design.now) nets.now) }

@@ -12,73 +12,23 @@ ghost use Rattle.ripup_workers.specs.Foresight.{IsForeseen};
 ghost use Rattle.ripup_workers.specs.Turning.{HasCapacity, IsOver, HasFollowed, HasTried, HasLedOn, IsPlanFor, WasPlanned};
 ghost use Rattle.ripup_workers.specs.Working.{HasLed, HasAttempted};
 
+use crate::asked::Asked;
 use crate::foresight::Foreseen;
 use crate::gate::{Gate, Stop};
+use crate::ground::Ground;
 use crate::ready::ready_memory;
 use crate::wish::Wish;
 use crate::worker::Worker;
 use book_state::{PlanKind, Reply, Sought};
-use cost_rules::CostRule;
-use gr_base::{Design, RouteTree};
+use gr_base::RouteTree;
 use net_plan::Planner;
-use std::alloc::{AllocError, Global};
+use std::alloc::AllocError;
 use std::sync::Wait;
 use std::thread::Threads;
-use track_book::{BookName, TrackBook, Visit};
+use track_book::{BookName, Visit};
 
 /// By how many tiles the window of a net's pins grows on each side with each round.
 const MARGIN: u32 = 4;
-
-/// What the workers share as they attempt nets.
-#[derive(Drop)]
-pub(crate) struct Ground<'a, N: BookName, R, G> {
-    pub(crate) rt: &'a R,
-    pub(crate) book: &'a TrackBook<N>,
-    pub(crate) gate: &'a G,
-}
-
-/// Attempts a net in a round, of which round 0 is the first. In round 0 it claims the net for its
-/// pattern plan at any demand. Later it releases the net, and claims it for its maze plan until a
-/// claim isn't answered `Full`: twice with room within capacity alone, and then at any demand. The
-/// first of these plans is made before the release, and release and claims stand under one hold of the
-/// lock where they can, so that others hardly ever see the book without the net.
-/// The only error is want of memory.
-pub(crate) fn attempt<N: BookName, R: Threads + Wait + Sync, G: Gate>(
-    rt: &R,
-    alloc: Global,
-    design: &Design,
-    rule: &CostRule,
-    round: u32,
-    book: &TrackBook<N>,
-    gate: &G,
-    net: u32,
-    worker: &mut Worker<N>,
-    planner: &mut Planner,
-) -> Result<(), AllocError>
-    requires capacity { N.capacity ≡ capacity_of design.now }
-    requires round { round ≤ most_rounds }
-    requires net { IsTrue (is_routed design.now net) }
-    ensures { (t : Setting) → IsOver design.now rule.now.formula t →
-        OnOk result (HasAttempted t round (net ∷ []) worker.old.pass worker.new.pass) }
-{
-    let within = net < design.nets();
-    prove!(within);
-    let wish = Wish {
-        alloc,
-        design,
-        rule,
-        net,
-        kind: kind_of(round),
-    };
-    let ground = Ground { rt, book, gate };
-    let mut visit = Visit::new(book);
-    if round == 0 {
-        return ground.claim_first(&wish, &mut visit, worker, planner);
-    }
-    let foreseen = ground.foresee(&wish, &mut visit, worker, planner)?;
-    worker.release(rt, &mut visit, net)?;
-    ground.claim_until_got(&wish, foreseen, &mut visit, worker, planner)
-}
 
 /// How plans are made in a round.
 fn kind_of(round: u32) -> PlanKind
@@ -94,6 +44,44 @@ fn kind_of(round: u32) -> PlanKind
 }
 
 impl<N: BookName, R: Threads + Wait + Sync, G: Gate> Ground<'_, N, R, G> {
+    /// Attempts a net in a round, of which round 0 is the first. In round 0 it claims the net for its
+    /// pattern plan at any demand. Later it releases the net, and claims it for its maze plan until a
+    /// claim isn't answered `Full`: twice with room within capacity alone, and then at any demand. The
+    /// first of these plans is made before the release, and release and claims stand under one hold of the
+    /// lock where they can, so that others hardly ever see the book without the net.
+    /// The only error is want of memory.
+    pub(crate) fn attempt(
+        &self,
+        asked: &Asked,
+        round: u32,
+        net: u32,
+        worker: &mut Worker<N>,
+        planner: &mut Planner,
+    ) -> Result<(), AllocError>
+        requires capacity { N.capacity ≡ capacity_of asked.now.design.now }
+        requires round { round ≤ most_rounds }
+        requires net { IsTrue (is_routed asked.now.design.now net) }
+        ensures { (t : Setting) → IsOver asked.now.design.now asked.now.rule.now.formula t →
+            OnOk result (HasAttempted t round (net ∷ []) worker.old.pass worker.new.pass) }
+    {
+        let within = net < asked.design.nets();
+        prove!(within);
+        let wish = Wish {
+            alloc: self.alloc,
+            design: asked.design,
+            rule: asked.rule,
+            net,
+            kind: kind_of(round),
+        };
+        let mut visit = Visit::new(self.book);
+        if round == 0 {
+            return self.claim_first(&wish, &mut visit, worker, planner);
+        }
+        let foreseen = self.foresee(&wish, &mut visit, worker, planner)?;
+        worker.release(self.rt, &mut visit, net)?;
+        self.claim_until_got(&wish, foreseen, &mut visit, worker, planner)
+    }
+
     /// Claims the net for its plan at any demand.
     fn claim_first(
         &self,

@@ -7,59 +7,43 @@ ghost use Rattle.round_core.specs.RunHistories.{Setting};
 ghost use Rattle.work_share.specs.Views.{IsHandOf};
 ghost use Rattle.ripup_workers.specs.Turning.{IsOver, HasWorked};
 
+use crate::asked::Asked;
 use crate::gate::Gate;
-use crate::turn::attempt;
+use crate::ground::Ground;
 use crate::worker::Worker;
-use cost_rules::CostRule;
-use gr_base::Design;
 use net_plan::Planner;
-use std::alloc::{AllocError, Global};
+use std::alloc::AllocError;
 use std::sync::Wait;
 use std::thread::Threads;
-use track_book::{BookName, TrackBook};
+use track_book::BookName;
 use work_share::{Hand, Share};
 
 /// A worker's part of a round: it takes nets from the share until it gets none, and attempts each.
 /// The only error is want of memory, and leaves the other nets in the share.
 pub(crate) fn work<N: BookName, R: Threads + Wait + Sync, G: Gate>(
-    rt: &R,
-    alloc: Global,
-    design: &Design,
-    rule: &CostRule,
+    ground: &Ground<'_, N, R, G>,
+    asked: &Asked,
     round: u32,
-    book: &TrackBook<N>,
     share: &Share,
-    gate: &G,
     hand: &mut Hand,
     worker: &mut Worker<N>,
 ) -> Result<(), AllocError>
-    requires capacity { N.capacity ≡ capacity_of design.now }
+    requires capacity { N.capacity ≡ capacity_of asked.now.design.now }
     requires round { round ≤ most_rounds }
-    requires nets { All (λ net. IsTrue (is_routed design.now net)) share.now.nets }
+    requires nets { All (λ net. IsTrue (is_routed asked.now.design.now net)) share.now.nets }
     requires hand { IsHandOf share.now hand.old }
     ensures hand { IsHandOf share.now hand.new }
     ensures number { hand.new.number ≡ hand.old.number }
-    ensures worked { (t : Setting) → IsOver design.now rule.now.formula t →
+    ensures worked { (t : Setting) → IsOver asked.now.design.now asked.now.rule.now.formula t →
         OnOk result (HasWorked t round hand.old.taken hand.new.taken worker.old.pass worker.new.pass) }
 {
     let known = worker.pass.known();
-    let mut planner = Planner::new(alloc)?;
-    for _ in rt.forever() {
+    let mut planner = Planner::new(ground.alloc)?;
+    for _ in ground.rt.forever() {
         let Some(net) = share.take(hand) else {
             break;
         };
-        attempt(
-            rt,
-            alloc,
-            design,
-            rule,
-            round,
-            book,
-            gate,
-            net,
-            worker,
-            &mut planner,
-        )?;
+        ground.attempt(asked, round, net, worker, &mut planner)?;
     }
     let grown = known <= worker.pass.known();
     prove!(grown);

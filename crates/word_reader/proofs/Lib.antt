@@ -4,4 +4,5 @@ pub mod SortingLemmas
 pub mod MeaningLemmas
 pub mod RuleLemmas
 pub mod OrderLemmas
-pub mod SeedLemmas
+pub mod WordNumbers
+pub mod TableLemmas

@@ -1,42 +1,20 @@
 -- What words mean, and the words that mean it.
-use Rattle.std.proofs.Common.{◌≡◌, ℕ, ◌+◌, ◌<◌, ◌≤◌, inl, inr, Bool, true, false, not, ◌||◌, cond, List, [], ◌∷◌, ◌++◌, length, get_or, Option, Some, None, if◌then◌else◌, codes, refl, sym, ap, subst, ◌∙◌, arith}
+use Rattle.std.proofs.Common.{◌≡◌, ℕ, ◌+◌, ◌<◌, ◌≤◌, inl, inr, Bool, true, false, not, ◌&&◌, ◌||◌, cond, nat_lt, take, drop, List, [], ◌∷◌, ◌++◌, length, get_or, Option, Some, None, if◌then◌else◌, codes, refl, sym, ap, ◌∙◌, arith}
 use Rattle.std.proofs.lemmas.Bool.{cases_Bool}
 use Rattle.std.proofs.lemmas.Bool.Decides.{nat_tests}
-use Rattle.std.proofs.lemmas.List.{take_all, append_assoc}
+use Rattle.std.proofs.lemmas.List.{take_all, take_at, drop_at, append_assoc, length-append}
+use Rattle.std.proofs.lemmas.List.Folds.{list_any-append}
 use Rattle.std.proofs.lemmas.List.Sums.{split_at_first, passes_at_first}
-use Rattle.std.proofs.lemmas.Option.{none-some, same_Some}
 use Rattle.std.proofs.lemmas.Slice.Eq.{bytes_eq-Decides}
-use Rattle.std.specs.List.{list_any, position_or_len, before_first, after_first}
+use Rattle.std.specs.List.{list_all, list_any, position_or_len, before_first, after_first}
 use Rattle.std.specs.Str.{bytes_eq}
-use Rattle.word_reader.specs.Forms.{option_of}
-use Rattle.word_reader.specs.Meanings.{Meaning, Divides, Positional, Awaits, Holds, Unknown, is_equals, option_meaning, is_positional, meaning_of}
+use Rattle.word_reader.specs.Forms.{every_option, option_of, option_row}
+use Rattle.word_reader.specs.Meanings.{Meaning, Divides, Positional, Awaits, Holds, Unknown, has_hyphen, is_equals, option_meaning, is_positional, meaning_of}
 use Rattle.word_reader.specs.declared.form.OptionKind.{OptionKind}
-use Rattle.word_reader.specs.declared.form.OptionKind.TheVariants.{Workers, ViaCost}
+use Rattle.word_reader.proofs.TableLemmas.{found}
 
 same_bytes : (xs ys : List ℕ) → bytes_eq xs ys ≡ true → xs ≡ ys
 same_bytes xs ys is = (bytes_eq-Decides xs ys).0 is
-
--- what holds of each line of the table holds of each word that names an option
-by-table : (P : List ℕ → OptionKind → Type 0) → P (codes "--workers") Workers → P (codes "--via-cost") ViaCost →
-    (word : List ℕ) (option : OptionKind) → option_of word ≡ Some option → P word option
-by-table P workers via_cost word option is = by (bytes_eq word (codes "--workers")) refl (bytes_eq word (codes "--via-cost")) refl is
-  where
-    line : (name : List ℕ) (kind : OptionKind) → P name kind → bytes_eq word name ≡ true → Some kind ≡ Some option → P word option
-    line name kind holds same h =
-        subst (P word) (same_Some kind option h) (subst (λ (w : List ℕ). P w kind) (sym (same_bytes word name same)) holds)
-
-    by : (a : Bool) → bytes_eq word (codes "--workers") ≡ a → (b : Bool) → bytes_eq word (codes "--via-cost") ≡ b →
-        (if a then Some Workers else (if b then Some ViaCost else None)) ≡ Some option → P word option
-    by true a b second h = line (codes "--workers") Workers workers a h
-    by false a true second h = line (codes "--via-cost") ViaCost via_cost second h
-    by false a false second h = absurd (none-some option h)
-
-pub awaits-value : (word : List ℕ) (option : OptionKind) → option_of word ≡ Some option → meaning_of word ≡ Awaits option
-awaits-value = by-table (λ word option. meaning_of word ≡ Awaits option) refl refl
-
-pub holds-value : (value : List ℕ) (word : List ℕ) (option : OptionKind) → option_of word ≡ Some option →
-    meaning_of (word ++ codes "=" ++ value) ≡ Holds option value
-holds-value value = by-table (λ word option. meaning_of (word ++ codes "=" ++ value) ≡ Holds option value) refl refl
 
 pub is-positional : (word : List ℕ) → is_positional word ≡ true → meaning_of word ≡ Positional
 is-positional word is =
@@ -73,6 +51,98 @@ place-past (byte ∷ rest) is = by (place-past rest) (is_equals byte) refl is
         (b || list_any is_equals rest) ≡ false → length (byte ∷ rest) ≤ position_or_len is_equals (byte ∷ rest)
     by past true h any = absurd cc
     by past false h any = let at = place-behind byte rest h in let more = past any in omega arith
+
+-- a word that isn't a positional or `--`
+abbrev IsLong : List ℕ → Type 0
+IsLong word = (has_hyphen word ≡ true) × (2 < length word)
+
+-- a word as each option has one: it begins with a hyphen, has at least three bytes, and no `=`
+abbrev is_name : List ℕ → Bool
+is_name word = has_hyphen word && (nat_lt 2 (length word) && not (list_any is_equals word))
+
+names-are : list_all (λ option. is_name (option_row option).word) every_option ≡ true
+names-are = refl
+
+-- a word that names an option is one
+name-of : (word : List ℕ) (option : OptionKind) → option_of word ≡ Some option → is_name word ≡ true
+name-of word option names =
+    let is =
+    found (λ (o : OptionKind). bytes_eq word (option_row o).word) (λ o. is_name (option_row o).word) every_option
+    option names names-are in
+    ap is_name (same_bytes word (option_row option).word is.0) ∙ is.1
+
+name-is : (word : List ℕ) → is_name word ≡ true → IsLong word × (list_any is_equals word ≡ false)
+name-is word is = by (has_hyphen word) (nat_lt 2 (length word)) (list_any is_equals word) refl refl refl is
+  where
+    by : (a b c : Bool) → has_hyphen word ≡ a → nat_lt 2 (length word) ≡ b → list_any is_equals word ≡ c →
+        (a && (b && not c)) ≡ true → IsLong word × (list_any is_equals word ≡ false)
+    by true true false first second third h = ((first, grind (arith, nat_tests)), third)
+    by true true true first second third h = absurd cc
+    by true false c first second third h = absurd cc
+    by false b c first second third h = absurd cc
+
+other-word : (word short : List ℕ) → 2 < length word → length short ≤ 2 → bytes_eq word short ≡ false
+other-word word short long few =
+    elim (cases_Bool (bytes_eq word short)) [
+      | inl same ↦ absurd (unequal (same_bytes word short same))
+      | inr other ↦ other
+    ]
+  where
+    unequal : word ≡ short → ⊥
+    unequal same = let e : length word ≡ length short = ap (λ (w : List ℕ). length w) same in omega arith
+
+-- a long word with an option's name before its first `=`
+by-name : (word : List ℕ) (option : OptionKind) → IsLong word → option_of (before_first is_equals word) ≡ Some option →
+    meaning_of word ≡ option_meaning word (Some option)
+by-name word option long names =
+    by (bytes_eq word (codes "--")) (bytes_eq word (codes "-")) (has_hyphen word) (option_of (before_first is_equals word))
+    (other-word word (codes "--") long.1 (omega arith)) (other-word word (codes "-") long.1 (omega arith)) long.0 names
+  where
+    by : (a b c : Bool) (o : Option OptionKind) → a ≡ false → b ≡ false → c ≡ true → o ≡ Some option →
+        (if a then Divides else (if b || not c then Positional else option_meaning word o)) ≡ option_meaning word (Some option)
+    by false false true o p q r names = ap (option_meaning word) names
+    by true b c o p q r names = absurd cc
+    by false true c o p q r names = absurd cc
+    by false false false o p q r names = absurd cc
+
+long-before : (word behind : List ℕ) → IsLong word → IsLong (word ++ behind)
+long-before [] behind is = absurd cc
+long-before (byte ∷ rest) behind is = (is.0, let size = length-append (byte ∷ rest) behind in let long = is.1 in omega arith)
+
+place-of-equals : (word value : List ℕ) → list_any is_equals word ≡ false →
+    position_or_len is_equals (word ++ codes "=" ++ value) ≡ length word
+place-of-equals [] value none = refl
+place-of-equals (byte ∷ rest) value none = by (place-of-equals rest value) (is_equals byte) refl none
+  where
+    by : (list_any is_equals rest ≡ false → position_or_len is_equals (rest ++ codes "=" ++ value) ≡ length rest) →
+        (b : Bool) → is_equals byte ≡ b → (b || list_any is_equals rest) ≡ false →
+        position_or_len is_equals (byte ∷ (rest ++ codes "=" ++ value)) ≡ length (byte ∷ rest)
+    by behind true first h = absurd cc
+    by behind false first h =
+        let at = place-behind byte (rest ++ codes "=" ++ value) first in let more = behind h in omega arith
+
+pub awaits-value : (word : List ℕ) (option : OptionKind) → option_of word ≡ Some option → meaning_of word ≡ Awaits option
+awaits-value word option names =
+    let is = name-is word (name-of word option names) in
+    let whole = take_all (position_or_len is_equals word) word (place-past word is.1) in
+    by-name word option is.0 (ap option_of whole ∙ names) ∙
+    ap (λ (b : Bool). if b then Holds option (after_first is_equals word) else Awaits option) is.1
+
+pub holds-value : (value : List ℕ) (word : List ℕ) (option : OptionKind) → option_of word ≡ Some option →
+    meaning_of (word ++ codes "=" ++ value) ≡ Holds option value
+holds-value value word option names =
+    let is = name-is word (name-of word option names) in
+    let whole : List ℕ = word ++ codes "=" ++ value in
+    let first = place-of-equals word value is.1 in
+    let same = append_assoc word (codes "=") value in
+    let before : before_first is_equals whole ≡ word =
+    ap (λ (n : ℕ). take n whole) first ∙ ap (λ (w : List ℕ). take (length word) w) same ∙ take_at word (codes "=" ++ value) (length word) refl in
+    let after : after_first is_equals whole ≡ value =
+    ap (λ (n : ℕ). drop (n + 1) whole) first ∙ drop_at (word ++ codes "=") value (length word + 1) (length-append word (codes "=")) in
+    let any : list_any is_equals whole ≡ true =
+    ap (λ (w : List ℕ). list_any is_equals w) same ∙ list_any-append is_equals word (codes "=" ++ value) ∙ ap (λ (b : Bool). b || true) is.1 in
+    by-name whole option (long-before (word ++ codes "=") value (long-before word (codes "=") is.0)) (ap option_of before ∙ names) ∙
+    ap (λ (b : Bool). if b then Holds option (after_first is_equals whole) else Awaits option) any ∙ ap (Holds option) after
 
 -- a word round its first `=`
 round-equals : (word : List ℕ) → list_any is_equals word ≡ true → word ≡ before_first is_equals word ++ codes "=" ++ after_first is_equals word

@@ -1,56 +1,79 @@
 -- The tables of commands and options.
-use Rattle.std.specs.Prelude.{◌≡◌, ℕ, Bool, true, false, List, [], ◌∷◌, map, Option, Some, codes}
-use Rattle.std.specs.List.{list_any}
-use Rattle.std.specs.Map.{lookup}
+use Rattle.std.specs.Prelude.{ℕ, Bool, ◌==◌, List, [], ◌∷◌, Option, Some, codes}
+use Rattle.std.specs.List.{find, list_any}
 use Rattle.std.specs.Str.{bytes_eq}
 use Rattle.word_reader.specs.declared.form.Command.{Command}
 use Rattle.word_reader.specs.declared.form.Command.TheVariants.{Route, Evaluate, Buffer, Make, Trial}
 use Rattle.word_reader.specs.declared.form.OptionKind.{OptionKind}
 use Rattle.word_reader.specs.declared.form.OptionKind.TheVariants.{Workers, ViaCost}
+use Rattle.word_reader.specs.declared.form.TheConstants.{MOST_WORKERS, MOST_VIA_COST}
 
--- what words a command takes behind its own: how many positionals, and which options
-pub record Form : Type 0 where
-  pub command : Command
-  pub positionals : ℕ
-  pub options : List OptionKind
+-- the most workers, and the most wire edges as which a via edge may count in a report
+abbrev pub most_workers : ℕ
+most_workers = MOST_WORKERS
 
--- each command's word, and its form
-abbrev pub forms : List (List ℕ × Form)
-forms =
-    (codes "route", record { command = Route; positionals = 3; options = Workers ∷ ViaCost ∷ [] }) ∷
-    (codes "evaluate", record { command = Evaluate; positionals = 2; options = ViaCost ∷ [] }) ∷
-    (codes "buffer", record { command = Buffer; positionals = 3; options = [] }) ∷
-    (codes "make", record { command = Make; positionals = 5; options = [] }) ∷
-    (codes "trial", record { command = Trial; positionals = 6; options = Workers ∷ [] }) ∷
-    []
+abbrev pub most_via_cost : ℕ
+most_via_cost = MOST_VIA_COST
 
--- the options, each by its word
-abbrev pub option_words : List (List ℕ × OptionKind)
-option_words =
-    (codes "--workers", Workers) ∷
-    (codes "--via-cost", ViaCost) ∷
-    []
+-- what an option takes as its value
+pub data Takes : Type 0 where
+  -- a number from the least to the most
+  Number : (least most : ℕ) → Takes
+  -- one of these words
+  Word : (words : List (List ℕ)) → Takes
+  -- one of these words, or a number from the least to the most
+  WordOrNumber : (words : List (List ℕ)) → (least most : ℕ) → Takes
 
+-- an option's word, what it takes as its value, and the value that it has where none is given, if it then has one
+pub record OptionRow : Type 0 where
+  pub word : List ℕ
+  pub takes : Takes
+  pub default : Option (List ℕ)
+
+-- the row of each option
+abbrev pub option_row : OptionKind → OptionRow
+option_row Workers = record { word = codes "--workers"; takes = Number 1 most_workers; default = Some (codes "1") }
+option_row ViaCost = record { word = codes "--via-cost"; takes = Number 0 most_via_cost; default = Some (codes "1") }
+
+-- the options, each once
 abbrev pub every_option : List OptionKind
-every_option = map (λ line. line.1) option_words
+every_option = Workers ∷ ViaCost ∷ []
 
--- the form of the command that a word names
-abbrev pub form_of : List ℕ → Option Form
-form_of word = lookup (bytes_eq word) forms
+-- the place of an option among them
+abbrev pub place : OptionKind → ℕ
+place Workers = 0
+place ViaCost = 1
 
--- a form of the table
-abbrev pub IsForm : Form → Type 0
-IsForm form = (word : List ℕ) × (form_of word ≡ Some form)
+-- two options are one
+abbrev pub is_option : OptionKind → OptionKind → Bool
+is_option one other = place one == place other
 
 -- the option that a word names
 abbrev pub option_of : List ℕ → Option OptionKind
-option_of word = lookup (bytes_eq word) option_words
+option_of word = find (λ option. bytes_eq word (option_row option).word) every_option
 
-abbrev pub is_option : OptionKind → OptionKind → Bool
-is_option Workers Workers = true
-is_option ViaCost ViaCost = true
-is_option one another = false
+-- a command's word, how many words behind it are no options, and which options it has
+pub record CommandRow : Type 0 where
+  pub word : List ℕ
+  pub positionals : ℕ
+  pub options : List OptionKind
+
+-- the row of each command
+abbrev pub command_row : Command → CommandRow
+command_row Route = record { word = codes "route"; positionals = 3; options = Workers ∷ ViaCost ∷ [] }
+command_row Evaluate = record { word = codes "evaluate"; positionals = 2; options = ViaCost ∷ [] }
+command_row Buffer = record { word = codes "buffer"; positionals = 3; options = [] }
+command_row Make = record { word = codes "make"; positionals = 5; options = [] }
+command_row Trial = record { word = codes "trial"; positionals = 6; options = Workers ∷ [] }
+
+-- the commands, each once
+abbrev pub every_command : List Command
+every_command = Route ∷ Evaluate ∷ Buffer ∷ Make ∷ Trial ∷ []
+
+-- the command that a word names
+abbrev pub command_of : List ℕ → Option Command
+command_of word = find (λ command. bytes_eq word (command_row command).word) every_command
 
 -- the command has the option
-abbrev pub has : Form → OptionKind → Bool
-has form option = list_any (is_option option) form.options
+abbrev pub has : Command → OptionKind → Bool
+has command option = list_any (is_option option) (command_row command).options

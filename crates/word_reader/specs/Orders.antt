@@ -8,9 +8,10 @@ use Rattle.design_maker.specs.declared.made.Made.{Made}
 use Rattle.design_maker.specs.declared.made.TheConstants.{MOST_MADE_NETS, MOST_SIDE}
 use Rattle.gr_base.specs.Limits.{most_layers, most_rounds}
 use Rattle.gr_text.specs.Numbers.{natural_in}
-use Rattle.word_reader.specs.Forms.{Form, form_of, has, every_option}
-use Rattle.word_reader.specs.Numbers.{number_of, most_digits, most_seed, most_via_cost, most_workers, via_costs, worker_numbers}
+use Rattle.word_reader.specs.Forms.{command_of, command_row, has, every_option, most_via_cost, most_workers}
+use Rattle.word_reader.specs.Numbers.{most_digits, most_number}
 use Rattle.word_reader.specs.Sorting.{Sorted, sorted}
+use Rattle.word_reader.specs.Values.{number_of}
 use Rattle.word_reader.specs.declared.error.WordError.{WordError}
 use Rattle.word_reader.specs.declared.error.WordError.TheVariants.{Usage}
 use Rattle.word_reader.specs.declared.form.Command.{Command}
@@ -38,26 +39,30 @@ abbrev pub positional : Sorted → ℕ → List ℕ
 positional sorted number = get_or sorted.positionals number []
 
 -- how often an option may stand
-abbrev pub most_times : Form → OptionKind → ℕ
-most_times form option = if has form option then 1 else 0
+abbrev pub most_times : Command → OptionKind → ℕ
+most_times command option = if has command option then 1 else 0
 
-abbrev pub suits : Form → Sorted → OptionKind → Bool
-suits form sorted option = nat_le (length (sorted.values option)) (most_times form option)
+abbrev pub suits : Command → Sorted → OptionKind → Bool
+suits command sorted option = nat_le (length (sorted.values option)) (most_times command option)
 
 -- each option that is given is one of the command's, and stands once
-abbrev pub has_all : Form → Sorted → Bool
-has_all form sorted = list_all (suits form sorted) every_option
+abbrev pub has_all : Command → Sorted → Bool
+has_all command sorted = list_all (suits command sorted) every_option
+
+-- there are as many positionals as the command has
+abbrev pub fills : Command → Sorted → Bool
+fills command sorted = length sorted.positionals == (command_row command).positionals
 
 -- the words are as many positionals as the command has, and options of its own
-abbrev pub fits : Form → Sorted → Bool
-fits form sorted = (length sorted.positionals == form.positionals) && has_all form sorted
+abbrev pub fits : Command → Sorted → Bool
+fits command sorted = fills command sorted && has_all command sorted
 
 -- how a design is routed
 unfoldable pub options_of : Sorted → Option Options
 options_of sorted = do
   rounds ← natural_in most_digits most_rounds (positional sorted 2)
-  workers ← number_of worker_numbers (sorted.values Workers)
-  via_cost ← number_of via_costs (sorted.values ViaCost)
+  workers ← number_of Workers sorted
+  via_cost ← number_of ViaCost sorted
   Some (record { rounds = rounds; workers = workers; via_cost = via_cost; formula = First })
 
 -- the numbers, if a design can be made of them
@@ -67,7 +72,7 @@ in_range made = if is_made made then Some made else None
 -- what a design is made of: SEED X Y L NETS
 unfoldable pub made_of : Sorted → Option Made
 made_of sorted = do
-  seed ← natural_in most_digits most_seed (positional sorted 0)
+  seed ← natural_in most_digits most_number (positional sorted 0)
   columns ← natural_in most_digits MOST_SIDE (positional sorted 1)
   rows ← natural_in most_digits MOST_SIDE (positional sorted 2)
   layers ← natural_in most_digits most_layers (positional sorted 3)
@@ -79,7 +84,7 @@ unfoldable pub trial_of : Sorted → Option Order
 trial_of sorted = do
   made ← made_of sorted
   rounds ← natural_in most_digits most_rounds (positional sorted 5)
-  workers ← number_of worker_numbers (sorted.values Workers)
+  workers ← number_of Workers sorted
   Some (Trial made rounds workers)
 
 -- what each command asks for: `route DESIGN LIBRARY ROUNDS`, `evaluate DESIGN SOLUTION`,
@@ -87,22 +92,22 @@ trial_of sorted = do
 abbrev pub order_as : Command → Sorted → Option Order
 order_as Routes sorted = option_map (Route (positional sorted 0) (positional sorted 1)) (options_of sorted)
 order_as Evaluates sorted =
-    option_map (Evaluate (positional sorted 0) (positional sorted 1)) (number_of via_costs (sorted.values ViaCost))
+    option_map (Evaluate (positional sorted 0) (positional sorted 1)) (number_of ViaCost sorted)
 order_as Buffers sorted = Some (Buffer (positional sorted 0) (positional sorted 1) (positional sorted 2))
 order_as Makes sorted = option_map Make (made_of sorted)
 order_as Tries sorted = trial_of sorted
 
 -- the order of a command by the words behind its own
-abbrev pub order_by : Form → Sorted → Option Order
-order_by form sorted = if fits form sorted then order_as form.command sorted else None
+abbrev pub order_by : Command → Sorted → Option Order
+order_by command sorted = if fits command sorted then order_as command sorted else None
 
 -- the order that words give: the first names a command, and the others are its own
 unfoldable pub order_of : List (List ℕ) → Option Order
 order_of [] = None
 order_of (first ∷ rest) = do
-  form ← form_of first
+  command ← command_of first
   words ← sorted Any rest
-  order_by form words
+  order_by command words
 
 -- the order that was read
 abbrev pub named : Given → Order

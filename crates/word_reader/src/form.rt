@@ -1,8 +1,13 @@
-//! The commands and their options.
-ghost use Rattle.std.specs.Prelude.{◌≡◌};
-ghost use Rattle.std.specs.Option.{option_map};
-ghost use Rattle.word_reader.specs.Forms.{form_of, has, option_of};
-ghost use Rattle.word_reader.specs.Kept.{form_seen};
+//! The tables of commands and options.
+ghost use Rattle.std.specs.Prelude.{◌≡◌, ◌<◌};
+ghost use Rattle.word_reader.specs.Forms.{command_of, command_row, every_option, has, option_of, option_row, place};
+ghost use Rattle.word_reader.specs.Kept.{command_seen, option_count, option_seen};
+
+/// The most workers that may be asked for.
+pub const MOST_WORKERS: u32 = 16;
+
+/// The most wire edges as which a via edge may count in a report.
+pub const MOST_VIA_COST: u32 = 1_000;
 
 /// The commands.
 #[derive(Clone, Copy)]
@@ -14,6 +19,16 @@ pub(crate) enum Command {
     Trial,
 }
 
+/// What words a command takes.
+#[derive(Clone, Copy)]
+pub(crate) struct CommandRow {
+    /// The command's own.
+    pub word: &'static str,
+    /// How many words behind it aren't options.
+    pub positionals: usize,
+    pub options: &'static [OptionKind],
+}
+
 /// The options.
 #[derive(Clone, Copy, PartialEq, Eq)]
 pub(crate) enum OptionKind {
@@ -21,71 +36,144 @@ pub(crate) enum OptionKind {
     ViaCost,
 }
 
-/// What words a command takes behind its own.
+/// What words an option takes.
 #[derive(Clone, Copy)]
-pub(crate) struct Form {
-    pub command: Command,
-    /// How many words that aren't options.
-    pub positionals: usize,
-    pub options: &'static [OptionKind],
+pub(crate) struct OptionRow {
+    /// The option's own.
+    pub word: &'static str,
+    pub takes: Takes,
+    /// What is taken for its value where none is given, if anything is.
+    pub default: Option<&'static str>,
+}
+
+/// What an option takes as its value.
+#[derive(Clone, Copy)]
+pub(crate) enum Takes {
+    /// A number from `least` to `most`.
+    Number {
+        least: u64,
+        most: u64,
+    },
+    /// One of the words.
+    Word(&'static [&'static str]),
+    /// One of the words, or a number from `least` to `most`.
+    WordOrNumber {
+        words: &'static [&'static str],
+        least: u64,
+        most: u64,
+    },
 }
 
 /// The most positionals that a command has.
 pub(crate) const MOST_POSITIONALS: usize = 6;
 
-/// The options, each once.
+/// The commands, each once.
+const EVERY_COMMAND: [Command; 5] = [
+    Command::Route,
+    Command::Evaluate,
+    Command::Buffer,
+    Command::Make,
+    Command::Trial,
+];
+
+/// The options, each once, in the order in which they are declared.
 pub(crate) const EVERY_OPTION: [OptionKind; 2] = [OptionKind::Workers, OptionKind::ViaCost];
 
+/// How many options there are.
+pub(crate) const OPTION_COUNT: usize = EVERY_OPTION.len();
+
 /// The command that a word names.
-pub(crate) fn form_of(word: &str) -> Option<Form>
-    ensures { option_map form_seen result ≡ form_of word.now }
+pub(crate) fn command_of(word: &str) -> Option<Command>
+    ensures { result ≡ command_of word.now }
 {
-    match word {
-        "route" => Some(Form {
-            command: Command::Route,
-            positionals: 3,
-            options: &[OptionKind::Workers, OptionKind::ViaCost],
-        }),
-        "evaluate" => Some(Form {
-            command: Command::Evaluate,
-            positionals: 2,
-            options: &[OptionKind::ViaCost],
-        }),
-        "buffer" => Some(Form {
-            command: Command::Buffer,
-            positionals: 3,
-            options: &[],
-        }),
-        "make" => Some(Form {
-            command: Command::Make,
-            positionals: 5,
-            options: &[],
-        }),
-        "trial" => Some(Form {
-            command: Command::Trial,
-            positionals: 6,
-            options: &[OptionKind::Workers],
-        }),
-        _ => None,
-    }
+    EVERY_COMMAND
+        .iter()
+        .copied()
+        .find(|command| command.row().word == word)
 }
 
 /// The option that a word names.
 pub(crate) fn option_of(word: &str) -> Option<OptionKind>
     ensures { result ≡ option_of word.now }
 {
-    match word {
-        "--workers" => Some(OptionKind::Workers),
-        "--via-cost" => Some(OptionKind::ViaCost),
-        _ => None,
+    EVERY_OPTION
+        .iter()
+        .copied()
+        .find(|option| option.row().word == word)
+}
+
+impl Command {
+    /// The command's row.
+    pub(crate) fn row(self) -> CommandRow
+        ensures { command_seen result ≡ command_row self }
+    {
+        match self {
+            Command::Route => CommandRow {
+                word: "route",
+                positionals: 3,
+                options: &[OptionKind::Workers, OptionKind::ViaCost],
+            },
+            Command::Evaluate => CommandRow {
+                word: "evaluate",
+                positionals: 2,
+                options: &[OptionKind::ViaCost],
+            },
+            Command::Buffer => CommandRow {
+                word: "buffer",
+                positionals: 3,
+                options: &[],
+            },
+            Command::Make => CommandRow {
+                word: "make",
+                positionals: 5,
+                options: &[],
+            },
+            Command::Trial => CommandRow {
+                word: "trial",
+                positionals: 6,
+                options: &[OptionKind::Workers],
+            },
+        }
+    }
+
+    /// Whether the command has the option.
+    pub(crate) fn has(self, option: OptionKind) -> bool
+        ensures { result ≡ has self option }
+    {
+        self.row().options.contains(&option)
     }
 }
 
-impl Form {
-    /// Whether the command has the option.
-    pub(crate) fn has(self, option: OptionKind) -> bool
-        ensures { result ≡ has (form_seen self) option }
+impl OptionKind {
+    /// The option's row.
+    pub(crate) fn row(self) -> OptionRow
+        ensures { option_seen result ≡ option_row self }
     {
-        self.options.contains(&option)
+        match self {
+            OptionKind::Workers => OptionRow {
+                word: "--workers",
+                takes: Takes::Number {
+                    least: 1,
+                    most: MOST_WORKERS as u64,
+                },
+                default: Some("1"),
+            },
+            OptionKind::ViaCost => OptionRow {
+                word: "--via-cost",
+                takes: Takes::Number {
+                    least: 0,
+                    most: MOST_VIA_COST as u64,
+                },
+                default: Some("1"),
+            },
+        }
+    }
+
+    /// The place of the option among all.
+    pub(crate) fn place(self) -> usize
+        ensures place { result ≡ place self }
+        ensures below { result < option_count }
+    {
+        self as usize
     }
 }

@@ -8,8 +8,9 @@ mod numbers;
 mod order;
 mod reader;
 mod sorted;
+mod values;
 
 pub use error::WordError;
-pub use numbers::{MOST_VIA_COST, MOST_WORKERS};
+pub use form::{MOST_VIA_COST, MOST_WORKERS};
 pub use order::{Options, Order};
 pub use reader::read_words;

@@ -1,15 +1,30 @@
-//! What words can ask for.
+//! What words can ask for, and what each command's ask for.
+ghost use Rattle.std.specs.Prelude.{◌≡◌, ◌≤◌, Some, length, IfSome};
+ghost use Rattle.std.specs.Option.{option_map};
+ghost use Rattle.design_maker.specs.Ranges.{IsMade};
+ghost use Rattle.word_reader.specs.Forms.{command_row};
+ghost use Rattle.word_reader.specs.Kept.{words_seen};
+ghost use Rattle.word_reader.specs.Orders.{named, options_of, in_range, made_of, order_as, trial_of, AreInRange, AsksInRange};
+ghost use Rattle.word_reader.specs.declared.form.Command.TheVariants.{Route as Routes, Evaluate as Evaluates, Buffer as Buffers, Make as Makes, Trial as Tries};
+
+use crate::form::{Command, OptionKind};
+use crate::numbers::{MOST_DIGITS, number_of_word};
+use crate::sorted::Sorted;
+use crate::values::number_of;
 use cost_rules::Formula;
-use design_maker::Made;
+use design_maker::{MOST_MADE_NETS, MOST_SIDE, Made};
+use gr_base::{MOST_LAYERS, MOST_ROUNDS};
+use gr_text::natural_of;
 
 /// How a design is routed.
 #[derive(Clone, Copy, Debug)]
 pub struct Options {
     /// The most rounds of rip-up and reroute, from 0 to 64.
     pub rounds: u32,
-    /// How many hands route, from 1 to 16.
+    /// How many hands route, from 1 to 16; 1 where N isn't given.
     pub workers: u32,
-    /// As how many wire edges a via edge counts in the report, at most 1,000.
+    /// As how many wire edges a via edge counts in the report, from 0 to 1,000; 1 where V isn't
+    /// given.
     pub via_cost: u32,
     /// The formula of the edges' costs.
     pub formula: Formula,
@@ -18,34 +33,161 @@ pub struct Options {
 /// What the words ask for, with the names of the texts that it needs.
 #[derive(Clone, Copy, Debug)]
 pub enum Order<'w> {
-    /// Routes the design. The library is that of its wires and buffers.
+    /// `route DESIGN LIBRARY ROUNDS [--workers N] [--via-cost V]` routes the design. The library is
+    /// that of its wires and buffers.
     Route {
         design: &'w str,
         library: &'w str,
         options: Options,
     },
-    /// Judges a solution of the design. A via edge counts as `via_cost` wire edges, at most 1,000.
+    /// `evaluate DESIGN SOLUTION [--via-cost V]` judges a solution of the design.
     Evaluate {
         design: &'w str,
         solution: &'w str,
+        /// As how many wire edges a via edge counts, from 0 to 1,000; 1 where V isn't given.
         via_cost: u32,
     },
-    /// Places buffers on the routes of a solution of the design, with those of the library.
+    /// `buffer DESIGN LIBRARY SOLUTION` places buffers of the library on the routes of a solution of
+    /// the design.
     Buffer {
         design: &'w str,
         library: &'w str,
         solution: &'w str,
     },
-    /// Writes the text of a made design.
+    /// `make SEED X Y L NETS` writes the text of a made design.
     Make {
         made: Made,
     },
-    /// Routes a made design.
+    /// `trial SEED X Y L NETS ROUNDS [--workers N]` routes a made design.
     Trial {
         made: Made,
         /// The most rounds of rip-up and reroute, from 0 to 64.
         rounds: u32,
-        /// How many hands route, from 1 to 16.
+        /// How many hands route, from 1 to 16; 1 where N isn't given.
         workers: u32,
     },
+}
+
+/// What a command asks for by as many positionals as it has, and its options.
+pub(crate) fn order_as<'w>(command: Command, sorted: &Sorted<'w>) -> Option<Order<'w>>
+    requires { length (words_seen sorted.now).positionals ≡ (command_row command).positionals }
+    ensures order { option_map named result ≡ order_as command (words_seen sorted.now) }
+    ensures range { IfSome result AsksInRange }
+{
+    match command {
+        Command::Route => route(sorted),
+        Command::Evaluate => evaluate(sorted),
+        Command::Buffer => Some(buffer(sorted)),
+        Command::Make => make(sorted),
+        Command::Trial => trial(sorted),
+    }
+}
+
+fn route<'w>(sorted: &Sorted<'w>) -> Option<Order<'w>>
+    requires { 3 ≤ length (words_seen sorted.now).positionals }
+    ensures order { option_map named result ≡ order_as Routes (words_seen sorted.now) }
+    ensures range { IfSome result AsksInRange }
+{
+    let options = options_of(sorted)?;
+    Some(Order::Route {
+        design: sorted.positional(0),
+        library: sorted.positional(1),
+        options,
+    })
+}
+
+/// How a design is routed.
+#[tactic(auto, unfolding(crate::specs::Orders::options_of))]
+fn options_of(sorted: &Sorted) -> Option<Options>
+    requires { 3 ≤ length (words_seen sorted.now).positionals }
+    ensures options { result ≡ options_of (words_seen sorted.now) }
+    ensures range { IfSome result AreInRange }
+{
+    let rounds = natural_of(sorted.positional(2).as_bytes(), MOST_DIGITS, MOST_ROUNDS)?;
+    let workers = number_of(OptionKind::Workers, sorted)?;
+    let via_cost = number_of(OptionKind::ViaCost, sorted)?;
+    Some(Options {
+        rounds,
+        workers: workers as u32,
+        via_cost: via_cost as u32,
+        formula: Formula::First,
+    })
+}
+
+fn evaluate<'w>(sorted: &Sorted<'w>) -> Option<Order<'w>>
+    requires { 2 ≤ length (words_seen sorted.now).positionals }
+    ensures order { option_map named result ≡ order_as Evaluates (words_seen sorted.now) }
+    ensures range { IfSome result AsksInRange }
+{
+    let via_cost = number_of(OptionKind::ViaCost, sorted)?;
+    Some(Order::Evaluate {
+        design: sorted.positional(0),
+        solution: sorted.positional(1),
+        via_cost: via_cost as u32,
+    })
+}
+
+fn buffer<'w>(sorted: &Sorted<'w>) -> Order<'w>
+    requires { 3 ≤ length (words_seen sorted.now).positionals }
+    ensures order { Some (named result) ≡ order_as Buffers (words_seen sorted.now) }
+    ensures range { AsksInRange result }
+{
+    Order::Buffer {
+        design: sorted.positional(0),
+        library: sorted.positional(1),
+        solution: sorted.positional(2),
+    }
+}
+
+fn make<'w>(sorted: &Sorted<'w>) -> Option<Order<'w>>
+    requires { 5 ≤ length (words_seen sorted.now).positionals }
+    ensures order { option_map named result ≡ order_as Makes (words_seen sorted.now) }
+    ensures range { IfSome result AsksInRange }
+{
+    let made = made_of(sorted)?;
+    Some(Order::Make { made })
+}
+
+#[tactic(auto, unfolding(crate::specs::Orders::trial_of))]
+fn trial<'w>(sorted: &Sorted<'w>) -> Option<Order<'w>>
+    requires { 6 ≤ length (words_seen sorted.now).positionals }
+    ensures order { option_map named result ≡ order_as Tries (words_seen sorted.now) }
+    ensures range { IfSome result AsksInRange }
+{
+    let made = made_of(sorted)?;
+    let rounds = natural_of(sorted.positional(5).as_bytes(), MOST_DIGITS, MOST_ROUNDS)?;
+    let workers = number_of(OptionKind::Workers, sorted)?;
+    Some(Order::Trial {
+        made,
+        rounds,
+        workers: workers as u32,
+    })
+}
+
+/// What a design is made of.
+#[tactic(auto, unfolding(crate::specs::Orders::made_of))]
+fn made_of(sorted: &Sorted) -> Option<Made>
+    requires { 5 ≤ length (words_seen sorted.now).positionals }
+    ensures made { result ≡ made_of (words_seen sorted.now) }
+    ensures range { IfSome result IsMade }
+{
+    let seed = number_of_word(sorted.positional(0))?;
+    let columns = natural_of(sorted.positional(1).as_bytes(), MOST_DIGITS, MOST_SIDE)?;
+    let rows = natural_of(sorted.positional(2).as_bytes(), MOST_DIGITS, MOST_SIDE)?;
+    let layers = natural_of(sorted.positional(3).as_bytes(), MOST_DIGITS, MOST_LAYERS)?;
+    let nets = natural_of(sorted.positional(4).as_bytes(), MOST_DIGITS, MOST_MADE_NETS)?;
+    in_range(Made {
+        seed,
+        columns,
+        rows,
+        layers,
+        nets,
+    })
+}
+
+fn in_range(made: Made) -> Option<Made>
+    ensures made { result ≡ in_range made }
+    ensures range { IfSome result IsMade }
+{
+    if made.is_in_range() { Some(made) } else { None }
 }

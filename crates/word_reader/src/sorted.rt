@@ -1,11 +1,11 @@
 //! The words behind a command's, sorted.
 ghost use Rattle.std.specs.Prelude.{◌≡◌, ◌<◌, map, length, string_bytes};
-ghost use Rattle.word_reader.specs.Kept.{kept_values, values_seen, words_seen, Adds, Sets, Sorts, Takes};
+ghost use Rattle.word_reader.specs.Kept.{kept_values, values_seen, words_seen, Adds, Sets, SetsAt, Sorts, TakesWord};
 ghost use Rattle.word_reader.specs.Orders.{positional};
 ghost use Rattle.word_reader.specs.Sorting.{nothing};
 ghost use Rattle.word_reader.specs.declared.sorted.Next.TheVariants.{Any};
 
-use crate::form::{MOST_POSITIONALS, OptionKind};
+use crate::form::{MOST_POSITIONALS, OPTION_COUNT, OptionKind};
 use crate::meaning::{Meaning, meaning_of};
 use arrayvec::ArrayVec;
 
@@ -13,8 +13,13 @@ use arrayvec::ArrayVec;
 #[derive(Drop)]
 pub(crate) struct Sorted<'w> {
     pub positionals: ArrayVec<&'w str, MOST_POSITIONALS>,
-    pub workers: Option<&'w str>,
-    pub via_cost: Option<&'w str>,
+    values: Values<'w>,
+}
+
+/// The value that stands with each option, if one does.
+#[derive(Clone, Copy)]
+struct Values<'w> {
+    by_place: [Option<&'w str>; OPTION_COUNT],
 }
 
 /// What the next word is taken for.
@@ -49,14 +54,15 @@ impl<'w> Sorted<'w> {
     {
         Sorted {
             positionals: ArrayVec::new(),
-            workers: None,
-            via_cost: None,
+            values: Values {
+                by_place: [None; OPTION_COUNT],
+            },
         }
     }
 
     /// Takes a word, and says what the one behind it is taken for.
     fn take(&mut self, next: Next, word: &'w str) -> Option<Next>
-        ensures { Takes self.old next word.now result self.new }
+        ensures { TakesWord self.old next word.now result self.new }
     {
         match next {
             Next::Any => self.take_any(word),
@@ -73,7 +79,7 @@ impl<'w> Sorted<'w> {
 
     /// Takes a word for what it means by itself.
     fn take_any(&mut self, word: &'w str) -> Option<Next>
-        ensures { Takes self.old Any word.now result self.new }
+        ensures { TakesWord self.old Any word.now result self.new }
     {
         match meaning_of(word) {
             Meaning::Divides => Some(Next::Positional),
@@ -101,24 +107,18 @@ impl<'w> Sorted<'w> {
     fn set(&mut self, option: OptionKind, value: &'w str) -> Option<()>
         ensures { Sets self.old option value.now result self.new }
     {
-        if self.value(option).is_some() {
+        if self.given(option).is_some() {
             return None;
         }
-        match option {
-            OptionKind::Workers => self.workers = Some(value),
-            OptionKind::ViaCost => self.via_cost = Some(value),
-        }
+        set_at(&mut self.values.by_place, option, value);
         Some(())
     }
 
-    /// The value of an option, if it is given.
-    pub(crate) fn value(&self, option: OptionKind) -> Option<&'w str>
+    /// The value that stands with an option, if one does.
+    pub(crate) fn given(&self, option: OptionKind) -> Option<&'w str>
         ensures { values_seen result ≡ kept_values self.now option }
     {
-        match option {
-            OptionKind::Workers => self.workers,
-            OptionKind::ViaCost => self.via_cost,
-        }
+        self.values.by_place[option.place()]
     }
 
     /// A positional, counted from 0.
@@ -128,4 +128,10 @@ impl<'w> Sorted<'w> {
     {
         self.positionals[number]
     }
+}
+
+fn set_at<'w>(by_place: &mut [Option<&'w str>; OPTION_COUNT], option: OptionKind, value: &'w str)
+    ensures { SetsAt by_place.old option value.now by_place.new }
+{
+    by_place[option.place()] = Some(value);
 }

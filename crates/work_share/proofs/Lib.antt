@@ -5,7 +5,7 @@ mod HandLemmas
 mod PassLemmas
 mod OrderLemmas
 mod TakeLemmas
-mod DealtLemmas
+pub mod DealtLemmas
 mod DealLemmas
 mod RowLemmas
 mod NewHands

@@ -10,16 +10,14 @@ pub returns-then-is_low_beside-clause-done : goal.returns-then-is_low_beside-cla
 returns-then-is_low_beside-clause-done g c =
     let ways = g.C.Costs.ways c.args.costs.now in
     let price = g.C.Costs.price c.args.costs.now in
-    low-stands c.args.pane ways price c.args.aim c.args.from c.args.spot.local (beside c.args.pane.shape c.args.spot.local c.args.side) c.args.front.now
+    low-stands c.args.pane ways price c.args.aim.now c.args.from c.args.spot.local (beside c.args.pane.shape c.args.spot.local c.args.side) c.args.front.now
     (subst (λ (s : Shape). ArePrices s ways price) c.requires.grid (g.met.C.Costs.prices c.args.costs.now))
     (c.is_low_beside.ensures c.if-is_low_beside.true)
 
 pub reach-requires-clause-inside : goal.reach-requires-clause-inside
 reach-requires-clause-inside g c =
-    (spot-fits c.args.pane (g.C.Costs.grid c.args.costs.now) (g.C.Costs.ways c.args.costs.now) (g.C.Costs.price c.args.costs.now) c.args.aim c.requires.grid (g.met.C.Costs.prices c.args.costs.now)
-    c.requires.vias c.args.spot.local c.args.spot.local c.args.from _ _ _ _ (beside c.args.pane.shape c.args.spot.local c.args.side) c.step_beside.result refl c.step_beside.ensures.step c.requires.size c.requires.key refl refl).0
+    (spot-fits c.args.pane (g.C.Costs.price c.args.costs.now) c.args.aim.now c.requires.guide c.args.spot.local c.args.spot.local c.args.from _ _ _ _ (beside c.args.pane.shape c.args.spot.local c.args.side) c.step_beside.result refl c.step_beside.ensures.step c.requires.size c.requires.key refl refl).0
 
 pub reach-requires-clause-keys : goal.reach-requires-clause-keys
 reach-requires-clause-keys g c =
-    (spot-fits c.args.pane (g.C.Costs.grid c.args.costs.now) (g.C.Costs.ways c.args.costs.now) (g.C.Costs.price c.args.costs.now) c.args.aim c.requires.grid (g.met.C.Costs.prices c.args.costs.now)
-    c.requires.vias c.args.spot.local c.args.spot.local c.args.from _ _ _ _ (beside c.args.pane.shape c.args.spot.local c.args.side) c.step_beside.result refl c.step_beside.ensures.step c.requires.size c.requires.key refl refl).1
+    (spot-fits c.args.pane (g.C.Costs.price c.args.costs.now) c.args.aim.now c.requires.guide c.args.spot.local c.args.spot.local c.args.from _ _ _ _ (beside c.args.pane.shape c.args.spot.local c.args.side) c.step_beside.result refl c.step_beside.ensures.step c.requires.size c.requires.key refl refl).1

@@ -1,15 +1,5 @@
-use Rattle.std.proofs.Common.{Option, ℕ, subst, ◌∙◌}
-use Rattle.cost_rules.specs.Prices.{ArePrices}
-use Rattle.gr_base.specs.declared.grid.Edge.{Edge}
-use Rattle.gr_base.specs.declared.grid.Shape.{Shape}
-use Rattle.maze_route.proofs.AttachLemmas.{least-attaches-in}
-use Rattle.maze_route.proofs.GoalLemmas.{result-then}
+use Rattle.std.proofs.Common.{sym}
 use Rattle.maze_route.proofs.walk.least_walk_in.Goals as goal
 
-pub returns-clause-attaches : goal.returns-clause-attaches
-returns-clause-attaches g c =
-    let price : Edge → Option ℕ = g.C.Costs.price c.args.costs.now in
-    let P : Shape → Type 0 = λ s. ArePrices s (g.C.Costs.ways c.args.costs.now) price in
-    let prices = subst P c.requires.grid (g.met.C.Costs.prices c.args.costs.now) in
-    result-then c.walk_in.result _ _ c.walk_in.ensures (λ cells least.
-    least-attaches-in c.new.result c.args.tree.now (g.C.Costs.ways c.args.costs.now) price c.args.goals.now cells (c.new.ensures.grid ∙ c.shape.ensures.shape) prices least)
+pub least_walk_by-requires-clause-room : goal.least_walk_by-requires-clause-room
+least_walk_by-requires-clause-room g c = c.in_ok-begin.ensures c.args.tree.now (g.C.Costs.price c.args.costs.now) (sym c.shape-2.ensures.shape)

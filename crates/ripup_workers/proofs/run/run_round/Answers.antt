@@ -16,7 +16,7 @@ same shared order read nets first turned last net = sym (ap (times net) first �
 pub attempt_nets-requires-clause-nets : goal.attempt_nets-requires-clause-nets
 attempt_nets-requires-clause-nets g c κs within =
     rest-all (λ net. IsTrue (is_routed c.args.asked.now.design.now net)) c.args.nets.items c.deref-2.result.now (λ net. 0) c.requires.nets
-    (λ net. let e = same _ _ _ c.args.nets.items c.deref-2.ensures.value c.in_ok-order.ensures c.deref.ensures.value net in omega (arith, e))
+    (λ net. let e = same _ _ _ c.args.nets.items c.deref-2.ensures.value c.in_ok-order.ensures.same c.deref.ensures.value net in omega (arith, e))
 
 pub routed_of-requires : goal.routed_of-requires
 routed_of-requires g c =
@@ -29,6 +29,6 @@ returns g c = record {
   kept_are = c.in_ok-kept.ensures ∙ ap (λ (ns : List ℕ). filter (is_routed c.args.asked.now.design.now) ns) c.as_slice.ensures;
   behind = λ before at.
       round-over (setting_of c.args.asked.now) g.N.BookName.capacity c.args.round c.args.nets.items c.args.nets.items before _ _ _ _ _ c.in_ok-marked.marked c.requires.capacity refl at
-      (attempted-as _ _ _ _ _ _ (same _ _ _ c.args.nets.items c.deref-2.ensures.value c.in_ok-order.ensures c.deref.ensures.value) c.in_ok-workers.ensures)
+      (attempted-as _ _ _ _ _ _ (same _ _ _ c.args.nets.items c.deref-2.ensures.value c.in_ok-order.ensures.same c.deref.ensures.value) c.in_ok-workers.ensures)
       c.in_ok-marked.ensures;
 }
