@@ -1,6 +1,6 @@
 """Names of layers, and microns: what a design text doesn't say of the chip that it was made of.
 
-A names text has a statement a line, in any order; all but `layer` and `lower` stand once:
+A names text has these statements, one a line, in any order; all but `layer` and `lower` stand once:
 
     units N              database units a micron
     origin X Y           the lower left corner of the grid, in database units
@@ -12,12 +12,12 @@ A names text has a statement a line, in any order; all but `layer` and `lower` s
 `names 1` may stand before these lines, and `end` behind them. Without such a text the tools speak of layers by number
 and of the design's own units.
 """
-import re
 from fractions import Fraction
 
-from texts import Fault
+from texts import Fault, Tokens
 
-COUNTS = {"names": 1, "units": 1, "origin": 2, "tile": 2, "layer": 2, "die": 4, "lower": 2, "end": 0}   # words behind
+# How many tokens stand behind each word.
+COUNTS = {"names": 1, "units": 1, "origin": 2, "tile": 2, "layer": 2, "die": 4, "lower": 2, "end": 0}
 
 
 class Names:
@@ -46,14 +46,11 @@ def write_names(names, path):
 
 def read_names(path):
     """The names of a text."""
-    found, layers, lower = {}, {}, []
-    with open(path, encoding="utf-8", errors="surrogateescape") as file:
-        for number, line in enumerate(file, 1):
-            words = line.split()
-            if words and not took(words, found, layers, lower):
-                raise Fault(f"{path}:{number}: `{line.strip()}` is no statement of a names text, or said twice")
+    tokens = Tokens(path)
+    with tokens.file:
+        found, layers, lower = statements(tokens)
     if not {"units", "origin", "tile"} <= set(found) or found.get("names", [1]) != [1]:
-        raise Fault(f"{path}: units, origin and tile are due, each once")
+        raise Fault(f"{path}: units, origin and tile are due")
     if not layers or sorted(layers) != list(range(1, len(layers) + 1)):
         raise Fault(f"{path}: the layers are due, from 1")
     if found["units"][0] < 1 or min(found["tile"]) < 1:
@@ -62,21 +59,25 @@ def read_names(path):
     return Names(found["units"][0], found["origin"], found["tile"], named, found.get("die"), lower)
 
 
-def took(words, found, layers, lower):
-    """Whether these words are a statement that may stand here; it is then put where it belongs."""
-    word, *rest = words
-    has_name = word in ("layer", "lower")
-    numbers = rest[:1] if has_name else rest
-    if len(rest) != COUNTS.get(word, -1) or not all(re.fullmatch("-?[0-9]+", number) for number in numbers):
-        return False
-    if word == "lower":
-        lower.append(rest[1])
-        return True
-    into, key, value = (layers, int(rest[0]), rest[1]) if has_name else (found, word, list(map(int, rest)))
-    if key in into:
-        return False
-    into[key] = value
-    return True
+def statements(tokens):
+    """The numbers behind each word, the layers' names by their numbers, and the names of those below."""
+    found, layers, lower = {}, {}, []
+    while not tokens.is_ended():
+        word = tokens.take(1)[0].decode(errors="replace")
+        if word not in COUNTS or word in found:
+            raise tokens.fault(f"{word} begins no statement of a names text, or stands twice")
+        if word not in ("layer", "lower"):
+            found[word] = tokens.numbers(COUNTS[word])
+            continue
+        number = tokens.numbers(1)[0]
+        if word == "layer" and number in layers:
+            raise tokens.fault(f"layer {number} has a name already")
+        name = tokens.take(1)[0].decode(errors="surrogateescape")
+        if word == "layer":
+            layers[number] = name
+        else:
+            lower.append(name)
+    return found, layers, lower
 
 
 class Terms:

@@ -56,12 +56,13 @@ class Names(InFolder):
             ("units 100\n", "", "units, origin and tile are due"),
             ("units 100", "units 0", "at least 1"),
             ("units 100", "names 2\nunits 100", "are due"),
-            ("units 100", "units 100\nunits 100", ":2: `units 100` is no .* or said twice"),
-            ("tile 15 20", "tile 15 wide", ":3: `tile 15 wide` is no"),
-            ("tile 15 20", "tile 15", ":3: `tile 15` is no statement"),
-            ("tile 15 20", "tile 15 20\npitch 3", ":4: `pitch 3` is no statement"),
+            ("units 100", "units 100\nunits 100", "token 3: units begins no .* or stands twice"),
+            ("tile 15 20", "tile 15 wide", "token 8: a whole number"),
+            ("tile 15 20", "tile 15", "token 8: a whole number"),
+            ("tile 15 20", "tile 15 20\npitch 3", "token 9: pitch begins no statement"),
+            ("layer 1 metal1", "layer 1", "ends after token 13"),
             ("layer 1", "layer 3", "layers are due, from 1"),
-            ("layer 1", "layer 2", ":6: .* said twice"),
+            ("layer 1", "layer 2", "token 13: layer 2 has a name already"),
         ):
             self.assertIn(old, NAMES)
             with self.assertRaisesRegex(texts.Fault, says):
