@@ -350,9 +350,9 @@ class FirstPicture(InFolder):
         path = os.path.join(self.folder.name, "page.html")
         self.assertEqual(tool("report.py", design, self.routed(design, 6), "-o", path)[0], 0)
         times = []
-        for _ in range(3):      # the machine may have other work
+        while len(times) < 10 and min(times, default=1000) >= 1000:     # the machine may have other work
             with browser.Browser() as page:
                 page.open(f"file://{path}")
                 page.wait("document.documentElement?.dataset.picture !== undefined")
                 times.append(int(page.value("document.documentElement.dataset.picture")))
-        self.assertLess(min(times), 1000)
+        self.assertLess(min(times), 1000, times)
