@@ -2,7 +2,7 @@
 import matplotlib
 import numpy
 
-from figures import DOTS, LARGE, LARGE_DOTS, SMALL, SMALL_DOTS, maps, said
+from figures import DOTS, LARGE, LARGE_DOTS, SMALL, SMALL_DOTS, layer_words, maps, said
 from loads import GRADES, WAYS, Loads
 from matplotlib.collections import LineCollection
 from matplotlib.lines import Line2D
@@ -81,10 +81,9 @@ class TileMap:
                 vias.append(self.middle(low))
                 continue
             used.add(low[2])
-            axes.plot(*zip(self.middle(low), self.middle(high)), color=LAYERS[low[2] % len(LAYERS)], linewidth=2.5)
+            axes.plot(*zip(self.middle(low), self.middle(high)), **wire(low[2]))
         pins = [self.middle(self.design.cell(*pin)) for pin in self.design.pins(id_)]
-        marks = [Line2D([], [], color=LAYERS[at % len(LAYERS)], linewidth=2.5, label=self.terms.layers[at])
-                 for at in sorted(used)]
+        marks = [Line2D([], [], label=layer_words(self.terms, at + 1), **wire(at)) for at in sorted(used)]
         for points, label, mark in ((vias, "via", "o"), (pins[1:], "sink", "s"), (pins[:1], "driver", "D")):
             if points:
                 marks += axes.plot(*zip(*points), mark, color="black", markersize=3 if label == "via" else 6,
@@ -131,6 +130,11 @@ def write_picture(edges, path, asked, name, terms, buffers):
         (picture.columns.start, picture.rows.start), (picture.columns.stop, picture.rows.stop)))
     maps(picture.loads, path, asked.layer, terms, (top - low) / (right - left), draw_map,
          lambda axes, side: picture.legend(axes, name, side, marks))
+
+
+def wire(layer):
+    """How wires of a layer (from 0) are drawn."""
+    return {"color": LAYERS[layer % len(LAYERS)], "linestyle": "-" if layer < len(LAYERS) else "--", "linewidth": 2.5}
 
 
 def mean(values, side):
