@@ -8,7 +8,8 @@ its driver's layer. Coordinates are the design's, and layers are the LEF's routi
 import argparse
 import sys
 
-import lefdef
+from lef_text import Lef
+from statements import Notes
 from texts import Design, Fault, Tokens, records
 
 
@@ -69,13 +70,13 @@ def main():
         parser.add_argument(name.lower(), metavar=name, help=says)
     asked = parser.parse_args()
     try:
-        layers = [layer.name for layer in lefdef.Lef(asked.lef).layers]
+        layers = [layer.name for layer in Lef([asked.lef], 1000, Notes("guides", False)).routing]
         design = Named(Tokens(asked.design))
         if len(layers) != design.layers:
             raise Fault(f"the LEF has {len(layers)} routing layers, and the design {design.layers}")
         with open(asked.guides, "w", encoding="utf-8", errors="surrogateescape") as file:
             file.writelines(f"{line}\n" for line in guides(design, asked.solution, layers))
-    except (Fault, lefdef.Fault, OSError) as fault:
+    except (Fault, OSError) as fault:
         print(f"guides: {fault}", file=sys.stderr)
         return 1
     return 0
