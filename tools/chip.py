@@ -78,7 +78,7 @@ class Chip:
         self.layers = layers_of(lef, layers)
         self.level = {layer.name: at for at, layer in enumerate(self.layers)}
         first = lef.routing.index(self.layers[0])
-        self.lower = {layer.name for layer in lef.routing[:first]}  # hold pins alone, which are lifted
+        self.lower = [layer.name for layer in lef.routing[:first]]  # hold pins alone, which are lifted
         if self.grid.columns * self.grid.rows * len(self.layers) > MOST_CELLS or len(self.layers) > MOST_LAYERS:
             raise Fault(f"{placed.path}: a grid of {self.grid.columns} by {self.grid.rows} tiles and "
                         f"{len(self.layers)} layers is more than groute takes: give --tile or --layers")

@@ -75,6 +75,7 @@ def names_text(chip):
     yield f"die {' '.join(map(str, chip.placed.area))}"
     yield f"origin {grid.left} {grid.low}"
     yield f"tile {grid.tile[0]} {grid.tile[1]}"
+    yield from (f"lower 0 {name}" for name in chip.lower)
     yield from (f"layer {at} {layer.name}" for at, layer in enumerate(chip.layers, 1))
     yield "end"
 

@@ -18,6 +18,7 @@ import tempfile
 import unittest
 
 from test_placed import Mutated, Placed, Shapes, Technologies
+from test_routes import Back, Guides
 from testing import HERE, PICTURES, ROOT, InFolder, run, tool
 
 DOCUMENTS = ["README.md", *(f"docs/{name}" for name in sorted(os.listdir(f"{ROOT}/docs")) if name.endswith(".md"))]

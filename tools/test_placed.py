@@ -248,7 +248,7 @@ class Technologies(InFolder):
         self.assertEqual(design[0], "grid 8 7 5")
         self.assertEqual(design[6], "0 0 6900 6900")
         self.assertEqual(names, ["names 1", "units 1000", "die 0 0 55200 54400", "origin 0 0", "tile 6900 6900",
-                                 *(f"layer {at} met{at}" for at in range(1, 6)), "end"])
+                                 "lower 0 li1", *(f"layer {at} met{at}" for at in range(1, 6)), "end"])
         nets = design[8:]
         # By its rule a wire and its spacing take 0.84 micrometres of met1, whose pitch is 0.34: 4.94 of a track's 2.
         self.assertEqual(nets[:3], ["clk 0 2 4", "27830 480 2", "30845 45045 1"])
