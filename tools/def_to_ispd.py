@@ -18,8 +18,11 @@ the units, which other tools read.
 
 The library has the wires' resistance and capacitance for a step from tile to tile, and of all vias the greatest
 resistance, by the LEF. The LEF says nothing of drivers, sinks and buffers: they are given here, in ohms, femtofarads
-and femtoseconds. A library's numbers are whole, and those of short wires round badly: --scale N makes resistances and
-capacitances N times as great, and delays, with the required times that groute tells, N * N times.
+and femtoseconds, or read from --liberty, by the linear model of tools/liberty.py. Then the library has a line for each
+net's driver and for each sink whose cell is known, --kinds are cells that buffer or invert (else all that buffer), and
+--driver is the cell for all others: its resistance for drivers, its input's load for sinks. A library's numbers are
+whole, and those of short wires round badly: --scale N makes resistances and capacitances N times as great, and delays,
+with the required times that groute tells, N * N times.
 """
 import argparse
 import sys
@@ -28,9 +31,8 @@ from fractions import Fraction
 from chip import Chip
 from def_text import Def
 from lef_text import Lef
+from library import library_text
 from statements import Fault, Notes, number
-
-MOST = 1000000      # ohms and femtofarads of a library
 
 
 def design_text(chip):
@@ -80,40 +82,6 @@ def names_text(chip):
     yield "end"
 
 
-def whole_up_to(most, value, says):
-    """The nearest whole number, which a library takes."""
-    if not 0 <= round(value) <= most:
-        raise Fault(f"{says} is {round(value)}, and a library takes 0 to {most}")
-    return round(value)
-
-
-def wires(chip, scale):
-    """The lines of the wires and of the via, by the LEF."""
-    for at, layer in enumerate(chip.layers, 1):
-        if layer.resistance is None:
-            raise Fault(f"the LEF says no RESISTANCE of LAYER {layer.name}")
-        step = Fraction(chip.grid.tile[not layer.is_horizontal()], chip.placed.units)
-        ohms = Fraction(layer.resistance) * step / Fraction(layer.width)
-        farads = Fraction(layer.capacitance * layer.width + 2 * layer.edge_capacitance) * step * 1000
-        says = f"of a step on LAYER {layer.name}, by --scale {scale}, the"
-        yield (f"wire {at} {whole_up_to(MOST, scale * ohms, f'{says} resistance')} "
-               f"{whole_up_to(MOST, scale * farads, f'{says} capacitance')}")
-
-
-def library_text(chip, asked):
-    """The lines of the library."""
-    scale = asked.scale
-    yield "library 1"
-    yield from wires(chip, scale)
-    via = asked.via or (chip.via_resistance(), 0)
-    yield f"via {' '.join(str(whole_up_to(MOST, scale * value, 'of a via a number')) for value in via)}"
-    yield f"driver {scale * asked.driver}"
-    yield f"sink {scale * asked.sink} 0"
-    for name, capacitance, resistance, delay in asked.kind:
-        yield f"kind {name} {scale * int(capacitance)} {scale * int(resistance)} {scale ** 2 * int(delay)}"
-    yield "end"
-
-
 def write(path, lines):
     """A file of these lines."""
     with open(path, "w", encoding="utf-8", errors="surrogateescape") as file:
@@ -144,12 +112,19 @@ def words():
                         help="takes this share of a layer's capacity away, as met1=0.8")
     parser.add_argument("--via", nargs=2, type=int, metavar=("R", "C"),
                         help="of a via; else the LEF's greatest R, and 0")
-    parser.add_argument("--driver", type=int, default=1000, metavar="R", help="of each net's driver; else 1000")
-    parser.add_argument("--sink", type=int, default=20, metavar="C", help="of each sink; else 20")
+    parser.add_argument("--driver", default="1000", metavar="R", help="of each net's driver, or a cell of --liberty; "
+                        "else 1000")
+    parser.add_argument("--sink", type=int, metavar="C", help="of each sink; else 20, or the load of --driver's cell")
+    parser.add_argument("--liberty", action="append", default=[], metavar="FILE",
+                        help="a liberty file of the cells; as often as there are")
+    parser.add_argument("--kinds", metavar="A,B,..", help="the cells of --liberty that may be placed as buffers")
     parser.add_argument("--kind", nargs=4, action="append", default=[], metavar=("NAME", "C", "R", "D"),
                         help="a kind of buffer; as often as there are kinds")
     parser.add_argument("--scale", type=int, default=1, metavar="N", help="of the library's numbers; else 1")
-    return parser.parse_args()
+    asked = parser.parse_args()
+    if not asked.liberty and (asked.kinds or not asked.driver.isdecimal()):
+        parser.error("--kinds, and a cell for --driver, want --liberty")
+    return asked
 
 
 def main():
