@@ -17,6 +17,7 @@ import sys
 import tempfile
 import unittest
 
+from test_flow import Flow
 from test_liberty import Cells
 from test_placed import Mutated, Placed, Shapes, Technologies
 from test_routes import Back, Guides
