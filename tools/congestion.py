@@ -67,8 +67,8 @@ def main():
             from heat_map import write_picture      # wants numpy and matplotlib
             write_picture(edges, asked.output, asked.layer, os.path.basename(asked.design))
     except ImportError as fault:
-        print(f"congestion: {fault.name} is missing: pictures want Debian's python3-numpy and python3-matplotlib",
-              file=sys.stderr)
+        print(f"congestion: {sys.executable} has no {fault.name}: pictures want Debian's python3-numpy and "
+              "python3-matplotlib, which /usr/bin/python3 finds", file=sys.stderr)
         return 1
     except (Fault, OSError) as fault:
         print(f"congestion: {fault}", file=sys.stderr)
