@@ -134,7 +134,7 @@ table {{ border-collapse: collapse }} td, th {{ padding: 0.1em 0.8em; text-align
 def groute(asked):
     """The program: as asked, or beside the tools, or on PATH."""
     beside = os.path.join(os.path.dirname(HERE), "groute")
-    found = asked.program or (beside if os.access(beside, os.X_OK) else shutil.which("groute"))
+    found = asked.program or (beside if os.path.isfile(beside) else shutil.which("groute"))
     if found is None:
         raise Fault("groute is neither beside the tools nor on PATH: give --program")
     return found
