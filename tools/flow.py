@@ -23,7 +23,7 @@ import sys
 from congestion import Edges
 from texts import EAST, Design, Fault, Tokens, names_of
 
-HERE = os.path.dirname(os.path.abspath(__file__))
+HERE = os.path.dirname(os.path.realpath(__file__))
 WORST = 20      # hot spots, and slow nets
 PASSED = ("--tile", "--layers", "--adjust", "--kinds", "--driver", "--sink", "--kind", "--via")     # to def_to_ispd.py
 LENGTHS = {"--tile": 2, "--via": 2, "--kind": 4}

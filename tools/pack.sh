@@ -42,7 +42,7 @@ gzip -9n "$doc/changelog"
 gzip -9nc >"$doc/changelog.Debian.gz" <<END
 groute ($version-1) unstable; urgency=medium
 
-  * Packed from $(git describe --always --dirty --abbrev=40); changelog.gz has what users see.
+  * Packed from $(git describe --always --dirty); changelog.gz says more.
 
  -- $maintainer  $(date -R -u -d "@$SOURCE_DATE_EPOCH")
 END
