@@ -12,7 +12,6 @@ MOST_CELLS = 8388608    # these are groute's limits
 MOST_LAYERS = 16
 MOST_WIDTH = 1000
 MOST_TILE = MOST_CAPACITY = 1000000
-DRIVERS = {"OUTPUT": 0, "CHIP": 1}  # of a net's pins, which is the driver
 
 
 class Grid:
@@ -117,22 +116,21 @@ class Chip:
         return self.lef.macros[component.macro]
 
     def pin(self, net, component, name):
-        """Direction and shapes in place of a net's pin."""
+        """A net's pin, and the component that it is of, None of the chip's pins."""
         if component == "PIN":
             if name not in self.placed.pins:
                 raise Fault(f"{net.place}: PINS has no {name}")
-            pin = self.placed.pins[name]
-            return pin.direction if pin.direction == "OUTPUT" else "INPUT", pin.shapes
+            return self.placed.pins[name], None
         if component not in self.placed.components:
             raise Fault(f"{net.place}: COMPONENTS has no {component}")
         cell = self.placed.components[component]
-        macro = self.macro(cell)
-        pin = macro.pins.get(name) or macro.pins.get(name.replace("\\", ""))
+        pins = self.macro(cell).pins
+        pin = pins.get(name) or pins.get(name.replace("\\", ""))
         if pin is None:
             raise Fault(f"{net.place}: there is no pin {name} of component {component}")
         if cell.x is None:
             raise Fault(f"{net.place}: the net {net.name} needs the component {component}, which isn't placed")
-        return pin.direction, [moved(macro.in_place(shape, cell.orientation), cell.x, cell.y) for shape in pin.shapes]
+        return pin, cell
 
     def ordered(self, net):
         """A net's connections, its driver first: the output of a component, else a pin of the chip that is no output,
@@ -143,29 +141,38 @@ class Chip:
 
     def rank(self, net, component, name):
         """By which the driver is chosen: the least is it."""
-        direction, _ = self.pin(net, component, name)
-        if component == "PIN":
-            return 2 if direction == "OUTPUT" else 1
-        return 0 if direction == "OUTPUT" else 2
+        pin, cell = self.pin(net, component, name)
+        if cell is None:
+            return 2 if pin.direction == "OUTPUT" else 1
+        return 0 if pin.direction == "OUTPUT" else 2
 
     def points(self, net):
-        """x, y and layer of a net's pins, the driver first, and how many of them were lifted."""
-        for connection in self.ordered(net):
-            _, shapes = self.pin(net, *connection)
-            on_grid = [shape for shape in shapes if shape[0] in self.level]
-            shapes = on_grid or [shape for shape in shapes if shape[0] in self.lower] or shapes
-            says = f"{net.place}: the pin {connection[1]} of {connection[0]}"
-            if not shapes:
+        """x, y and layer of a net's pins, the driver first; pins below the grid's layers are lifted to the first."""
+        grid = self.grid
+        for component, name in self.ordered(net):
+            pin, cell = self.pin(net, component, name)
+            shape = self.first_shape(pin.shapes)
+            says = f"{net.place}: the pin {name} of {component}"
+            if shape is None:
                 raise Fault(f"{says} has no metal in a place")
-            layer, x1, y1, x2, y2, _ = shapes[0]
-            if layer not in self.level and layer not in self.lower:
-                raise Fault(f"{says} lies on {layer}, which is no routing layer of the grid")
+            if shape[0] not in self.level and shape[0] not in self.lower:
+                raise Fault(f"{says} lies on {shape[0]}, which is no routing layer of the grid")
+            if cell is not None:
+                shape = moved(self.macro(cell).in_place(shape, cell.orientation), cell.x, cell.y)
+            layer, x1, y1, x2, y2, _ = shape
             x, y = (x1 + x2) // 2, (y1 + y2) // 2
-            grid = self.grid
             if not (grid.left <= x <= grid.end(0) and grid.low <= y <= grid.end(1)):
                 raise Fault(f"{says} at ( {x} {y} ) lies outside the chip")
             yield (min(x, grid.left + grid.columns * grid.tile[0]), min(y, grid.low + grid.rows * grid.tile[1]),
                    self.level.get(layer, 0) + 1)
+
+    def first_shape(self, shapes):
+        """The first of a pin's shapes on a layer of the grid; else on a lower one; else the first; else None."""
+        for layers in (self.level, self.lower):
+            for shape in shapes:
+                if shape[0] in layers:
+                    return shape
+        return shapes[0] if shapes else None
 
     def width(self, net):
         """The net's width in the design: 1, or by its rule as much as on the layer where that takes most."""

@@ -8,6 +8,7 @@ SILENT = {"VERSION", "NAMESCASESENSITIVE", "DIVIDERCHAR", "BUSBITCHARS", "DESIGN
           "COMPONENTMASKSHIFT", "ARRAY", "FLOORPLAN"}
 # These sections say nothing to a global router.
 SECTIONS = {"PROPERTYDEFINITIONS", "STYLES", "REGIONS", "GROUPS", "SCANCHAINS", "PINPROPERTIES", "SLOTS", "FILLS"}
+METAL = {"SLOTS", "FILLS"}      # but these are of metal
 PLACED = {"PLACED", "FIXED", "COVER"}
 # What items may say behind a `+`, beside what is read.
 OF_COMPONENT = {"EEQMASTER", "SOURCE", "MASKSHIFT", "HALO", "WEIGHT", "REGION", "PROPERTY", "GENERATE", "FOREIGN",
@@ -74,6 +75,8 @@ class Def:
             for item in words.items(word):
                 words.read_by(sections[word], item, words)
         elif word in SECTIONS:
+            if word in METAL:
+                words.skip(word)
             words.until("END", word)
         elif word == "BEGINEXT":
             words.skip(word)

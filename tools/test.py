@@ -21,7 +21,7 @@ from test_flow import Flow
 from test_liberty import Cells
 from test_placed import Mutated, Placed, Shapes, Technologies
 from test_routes import Back, Guides
-from test_words import Tables, Terminal
+from test_words import Scripts, Tables, Terminal
 from testing import HERE, PICTURES, ROOT, InFolder, run, tool
 
 DOCUMENTS = ["README.md", *(f"docs/{name}" for name in sorted(os.listdir(f"{ROOT}/docs")) if name.endswith(".md"))]

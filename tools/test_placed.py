@@ -220,6 +220,26 @@ out
             self.assertEqual(status, 1)
             self.assertIn(says, err)
 
+    def test_blockages(self):
+        # On m1 above the first tile: tracks 110 and 130 lie nearer than 15 to it, and 110 alone nearer than 5; both
+        # count for the first border of row 1, which held 8.
+        for words, capacity in (("", 4), ("+ SPACING 0", 6), ("+ EXCEPTPGNET + SPACING 10 + PUSHDOWN", 4),
+                                ("+ FILLS", 8)):
+            item = f"BLOCKAGES 1 ; - LAYER m1 {words} RECT ( 120 100 ) ( 130 120 ) ; END BLOCKAGES\nNETS 3"
+            design = self.made(DEF.replace("NETS 3", item), LEF)[1][0]
+            self.assertEqual(design, TINY.replace("0 1 1 1 1 1 8", f"0 1 1 1 1 1 {capacity}"))
+        item = "BLOCKAGES 1 ; - PLACEMENT + SOFT RECT ( 0 0 ) ( 300 200 ) ; END BLOCKAGES\nNETS 3"
+        self.assertEqual(self.made(DEF.replace("NETS 3", item), LEF)[1][0], TINY)
+
+    def test_rules_for_wide_nets(self):
+        # Of a pitch of 2 micrometres: 3 + 2 of them take 5 of a track's 2, and 1.5 + 1 take 3.
+        for rule, width in (("+ LAYER m1 WIDTH 30 SPACING 20", 4), ("+ LAYER m2 WIDTH 15", 2),
+                            ("+ LAYER m3 WIDTH 90", 1),
+                            ("+ LAYER m1 WIDTH 15 + LAYER m2 WIDTH 30 SPACING 30 + VIA post", 5)):
+            item = f"NONDEFAULTRULES 1 ; - wide {rule} ; END NONDEFAULTRULES\nNETS 3"
+            placed = DEF.replace("NETS 3", item).replace("( two Y )", "( two Y ) + NONDEFAULTRULE wide")
+            self.assertEqual(self.made(placed, LEF)[1][0], TINY.replace("out 2 1 1", f"out 2 1 {width}"))
+
     def test_rows_of_qflow_and_fifteen_pitches(self):
         sized = self.made(DEF.replace("DESIGN tiny ;", "DESIGN tiny ; ROW r core 0 0 N ;"), LEF)[1][0]
         self.assertEqual(sized.splitlines()[0], "grid 1 1 2")   # 15 pitches of 2 micrometres are 300 units
@@ -265,7 +285,8 @@ class Technologies(InFolder):
         self.assertEqual(library[6:], ["via 45 0", "driver 10000", "sink 200 0", "end"])
         told = re.findall(r"^def_to_ispd: .*/(\w+\.\w+):([0-9]+): (.*)$", err, re.MULTILINE)
         self.assertEqual([text for *_, text in told], [
-            "ROUTEHALO of COMPONENTS is skipped", "the component spare isn't placed", "ROUTED of NETS is skipped",
+            "ROUTEHALO of COMPONENTS is skipped", "the component spare isn't placed", "FILLS is skipped",
+            "ROUTED of NETS is skipped",
             "BEGINEXT is skipped", "LAYER of TYPE MASTERSLICE is skipped", "PROPERTY LEF58_.. is skipped",
             "LAYER of TYPE OVERLAP is skipped", "ANTENNA.. is skipped", "LAYER of TYPE CUT is skipped",
             "ACCURRENTDENSITY is skipped", "DCCURRENTDENSITY is skipped", "PROPERTY is skipped",

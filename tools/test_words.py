@@ -65,6 +65,19 @@ class Tables(unittest.TestCase):
             self.assertIn(wanted, out.splitlines())
 
 
+class Scripts(InFolder):
+    """What the man page says of scripts."""
+
+    def test_overflow(self):
+        with open(f"{ROOT}/man/groute.1", encoding="utf-8") as file:
+            line = re.search(r"^groute route DESIGN .*$", file.read(), re.MULTILINE).group()
+        line = line.replace("\\-", "-").replace("\\(aq", "'")
+        for rounds, status in ((0, 1), (1, 0)):
+            crowd = f"{ROOT}/examples/crowd.ispd {ROOT}/examples/crowd.library {rounds}"
+            line_of_it = line.replace("groute ", f"{program()} ", 1).replace("DESIGN LIBRARY 8", crowd)
+            self.assertEqual(run("sh", "-c", line_of_it, folder=self.folder.name)[0], status)
+
+
 class Terminal(InFolder):
     """./groute where standard error is a terminal, and where it is none."""
 
