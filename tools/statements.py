@@ -14,6 +14,7 @@ NUMBER = re.compile(r"[+-]?([0-9]{1,18}(\.[0-9]{0,18})?|\.[0-9]{1,18})([eE][+-]?
 WORD = re.compile(r'"[^"]*(?:"|$)|#.*|[^\s]+', re.DOTALL)
 ORIENTATIONS = ("N", "S", "E", "W", "FN", "FS", "FE", "FW")
 MOST = 1 << 40      # the greatest coordinate
+MOST_NUMBER = 10 ** 9
 MOST_REPEATS = 1 << 16
 
 Shape = namedtuple("Shape", "layer x1 y1 x2 y2 spacing", defaults=[None])
@@ -133,9 +134,9 @@ class Words:
 
 def number(word):
     """A decimal number, exactly."""
-    if not NUMBER.fullmatch(word):
+    if not NUMBER.fullmatch(word) or abs(value := Decimal(word)) > MOST_NUMBER:
         raise ValueError(word)
-    return Decimal(word)
+    return value
 
 
 def positive(word):
@@ -148,8 +149,6 @@ def positive(word):
 
 def nearest(value):
     """The nearest whole number."""
-    if abs(value) > MOST:
-        raise ValueError(value)
     return int(value.to_integral_value(ROUND_HALF_UP))
 
 
