@@ -11,6 +11,7 @@ PITCHES = 15            # of a tile, where the DEF says nothing
 MOST_CELLS = 8388608    # these are groute's limits
 MOST_LAYERS = 16
 MOST_WIDTH = 1000
+MOST_PLACES = 1 << 29   # where tracks cross tiles, each a byte
 MOST_TILE = MOST_CAPACITY = 1000000
 
 
@@ -248,6 +249,9 @@ class Chip:
         size = self.grid.columns, self.grid.rows
         (start, _), (across, _) = self.bounds(along), self.bounds(1 - along)
         tracks = self.tracks(layer, along)
+        if len(tracks) * size[along] > MOST_PLACES:
+            raise Fault(f"{self.placed.path}: {len(tracks)} tracks of {size[along]} tiles on LAYER {layer.name} are more "
+                        "than is read here")
         middles = [start + self.grid.tile[along] * at + self.grid.tile[along] // 2 for at in range(size[along])]
         free = [bytearray(b"\1") * (size[along] - 1) for _ in tracks]
         half = layer.width / 2

@@ -3,8 +3,8 @@
 usage="tools/test_pack.sh
 
 Packs the program into an empty folder, unpacks the archive, installs the Debian package with dpkg in a scratch root,
-and routes README's chip with each, with nothing of the toolchain on PATH; lintian, where it is there, finds no error.
-The last line is 'packed program: passed'."
+and routes README's chip with each, with nothing of the toolchain on PATH; make install puts the same files; lintian,
+where it is there, finds no error. The last line is 'packed program: passed'."
 
 case ${1-} in
 -*)
@@ -30,6 +30,13 @@ dpkg --root="$work/scratch" --force-script-chrootless --log=/dev/null -i groute_
     cat dpkg.log >&2
     exit 1
 }
+if command -v make >/dev/null; then
+    make -s -C "$here" install DESTDIR="$work/made" PREFIX=/usr/local
+    (cd archive && find . | sort) >archive.list
+    (cd made/usr/local && find . | sort) | cmp - archive.list
+else
+    echo "make is not there: left out" >&2
+fi
 if command -v lintian >/dev/null; then
     lintian --allow-root --fail-on error groute_*.deb >lintian.log 2>&1 || {
         cat lintian.log >&2
