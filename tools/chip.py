@@ -250,8 +250,8 @@ class Chip:
         (start, _), (across, _) = self.bounds(along), self.bounds(1 - along)
         tracks = self.tracks(layer, along)
         if len(tracks) * size[along] > MOST_PLACES:
-            raise Fault(f"{self.placed.path}: {len(tracks)} tracks of {size[along]} tiles on LAYER {layer.name} are more "
-                        "than is read here")
+            raise Fault(f"{self.placed.path}: {len(tracks)} tracks of {size[along]} tiles on LAYER {layer.name} are "
+                        "more than is read here")
         middles = [start + self.grid.tile[along] * at + self.grid.tile[along] // 2 for at in range(size[along])]
         free = [bytearray(b"\1") * (size[along] - 1) for _ in tracks]
         half = layer.width / 2

@@ -3,8 +3,9 @@
 usage="tools/install.sh FOLDER
 
 Puts the proved program with its tools, man pages, completion and documents into FOLDER/bin, lib/groute, share/groute,
-share/man, share/doc/groute and so on. Where the program isn't built yet, ./groute proves and builds it first. PROVED_WITH
-among the documents has the sums of the toolchain, of the sources and of the program. It wants git, gzip and python3."
+share/man, share/doc/groute and so on. Where the program isn't built yet, ./groute proves and builds it first.
+PROVED_WITH among the documents has the sums of the toolchain, of the sources and of the program. It wants git, gzip and
+python3."
 
 case ${1:--} in
 -*)

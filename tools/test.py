@@ -19,7 +19,7 @@ import unittest
 
 from test_flow import Flow
 from test_liberty import Cells
-from test_placed import Mutated, Placed, Shapes, Technologies
+from test_placed import Geometry, Mutated, Placed, Shapes, Technologies
 from test_routes import Back, Guides
 from test_words import Scripts, Tables, Terminal
 from testing import HERE, PICTURES, ROOT, InFolder, run, tool

@@ -12,7 +12,7 @@ import library
 from chip import Chip
 from def_text import Def
 from lef_text import Lef
-from statements import Notes, moved, turned
+from statements import Notes, moved, polygon, turned
 from testing import HERE, ROOT, InFolder, program, run, tool
 from texts import Fault
 
@@ -245,6 +245,29 @@ out
         self.assertEqual(sized.splitlines()[0], "grid 1 1 2")   # 15 pitches of 2 micrometres are 300 units
         sized = self.made(DEF, LEF, "--tile", "150", "100")[1][0]
         self.assertEqual(sized.splitlines()[0], "grid 2 2 2")
+
+
+class Geometry(unittest.TestCase):
+    """Rectangles of polygons, and shapes that are turned."""
+
+    def test_polygons(self):
+        corner = polygon("m", [0, 0, 6, 0, 6, 2, 2, 2, 2, 5, 0, 5])
+        self.assertEqual(corner, [("m", 0, 0, 6, 2, None), ("m", 0, 2, 2, 5, None)])
+        ring = polygon("m", [0, 0, 6, 0, 6, 6, 0, 6, 0, 4, 4, 4, 4, 2, 0, 2])
+        self.assertEqual(ring, [("m", 0, 0, 6, 2, None), ("m", 4, 2, 6, 4, None), ("m", 0, 4, 6, 6, None)])
+        # Slanted sides are covered whole, between the heights of corners.
+        self.assertEqual(polygon("m", [0, 0, 9, 0, 5, 3]), [("m", 0, 0, 9, 3, None)])
+        self.assertEqual(polygon("m", [0, 0, 5, 3, 0, 6]), [("m", 0, 0, 5, 3, None), ("m", 0, 3, 5, 6, None)])
+        for values in ([0, 0, 5, 0, 9, 0], [0, 0, 5], []):
+            self.assertRaises(ValueError, polygon, "m", values)
+
+    def test_orientations(self):
+        # Of a cell 10 wide and 4 high, a shape near its lower left corner.
+        shape = ("m", 1, 2, 4, 3, None)
+        places = {"N": (1, 2, 4, 3), "S": (6, 1, 9, 2), "E": (2, 6, 3, 9), "W": (1, 1, 2, 4), "FN": (6, 2, 9, 3),
+                  "FS": (1, 1, 4, 2), "FE": (1, 6, 2, 9), "FW": (2, 1, 3, 4)}
+        for orientation, place in places.items():
+            self.assertEqual(turned(shape, orientation, 10, 4)[1:5], place, orientation)
 
 
 class Technologies(InFolder):
