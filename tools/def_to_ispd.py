@@ -31,7 +31,7 @@ from fractions import Fraction
 from chip import Chip
 from def_text import Def
 from lef_text import Lef
-from library import library_text
+from library_text import library_text
 from statements import Fault, Notes, number
 
 

@@ -8,7 +8,7 @@ import shutil
 import unittest
 
 import def_to_ispd
-import library
+import library_text
 from chip import Chip
 from def_text import Def
 from lef_text import Lef
@@ -451,7 +451,7 @@ class Mutated(InFolder):
             try:
                 chip = chip_of([*texts[:at], mutated, *texts[at + 1:]])
                 lines = list(def_to_ispd.design_text(chip))
-                list(library.wires(chip, 1))
+                list(library_text.wires(chip, 1))
             except Fault as fault:
                 self.assertRegex(str(fault), r"[a-z]")
                 continue
