@@ -39,7 +39,7 @@ proved_with() {
 }
 
 # Tools that are commands of their own; others are what these are made of.
-tools="congestion def_to_ispd flow guides liberty solution where"
+tools="congestion def_to_ispd flow guides liberty to_solution where"
 
 put_tools() {
     mkdir -p "$share/groute" "$share/man/man1"

@@ -1,4 +1,4 @@
-"""Tests of guides.py and solution.py: routes to guides and back."""
+"""Tests of guides.py and to_solution.py: routes to guides and back."""
 import importlib
 import os
 import random
@@ -74,7 +74,7 @@ class Guides(InFolder):
             self.assertEqual(max(int(box[3]) for boxes in found.values() for box in boxes),
                              54400 if texts is SKY else 50400)
             back = os.path.join(self.folder.name, "back")
-            status, _, err = tool("solution.py", design, guides, back)
+            status, _, err = tool("to_solution.py", design, guides, back)
             self.assertEqual((status, err[:5]), (0, "nets "))
             self.assertEqual(run(program(), "evaluate", design, back)[0], 0)
             self.assertEqual(run(program(), "buffer", design, library, back)[0], 0)
@@ -107,13 +107,13 @@ class Guides(InFolder):
 
 
 class Back(InFolder):
-    """solution.py: OpenROAD's routes as a solution text."""
+    """to_solution.py: OpenROAD's routes as a solution text."""
 
     def made(self, routes):
         """Status, the solution and what was told."""
         design, _ = self.put("design", SQUARE), self.put("design.names", NAMES)
         out = os.path.join(self.folder.name, "out")
-        status, _, err = tool("solution.py", design, self.put("routes", routes), out)
+        status, _, err = tool("to_solution.py", design, self.put("routes", routes), out)
         if status:
             return status, None, err
         with open(out, encoding="utf-8") as file:

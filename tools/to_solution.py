@@ -197,7 +197,7 @@ def main():
         with open(asked.solution, "w", encoding="utf-8", errors="surrogateescape") as file:
             file.writelines(f"{line}\n" for line in text_of(design, found))
     except (Fault, OSError) as fault:
-        print(f"solution: {fault}", file=sys.stderr)
+        print(f"to_solution: {fault}", file=sys.stderr)
         return 1
     print(f"nets {len(found)}\ndropped edges {dropped}", file=sys.stderr)
     return 0
