@@ -87,6 +87,9 @@ class Chip:
         for shape in self.metal():
             if shape[0] in self.level:
                 self.shapes[self.level[shape[0]]].append(shape)
+            elif shape[0] not in lef.layers:
+                lef.notes.once(("layer", shape[0]), placed.path, f"the LEF has no LAYER {shape[0]}: shapes on it are "
+                               "skipped")
 
     def metal(self):
         """All shapes on the chip that take room for wires."""
@@ -125,13 +128,19 @@ class Chip:
         if component not in self.placed.components:
             raise Fault(f"{net.place}: COMPONENTS has no {component}")
         cell = self.placed.components[component]
-        pins = self.macro(cell).pins
-        pin = pins.get(name) or pins.get(name.replace("\\", ""))
+        pin = self.pin_of(self.macro(cell), name)
         if pin is None:
             raise Fault(f"{net.place}: there is no pin {name} of component {component}")
         if cell.x is None:
             raise Fault(f"{net.place}: the net {net.name} needs the component {component}, which isn't placed")
         return pin, cell
+
+    def pin_of(self, macro, name):
+        """A cell's pin, by the name that the DEF has; the two texts may write bits of buses in two ways."""
+        ways = dict(zip(self.placed.bus_bits, self.lef.bus_bits))
+        plain = name.replace("\\", "")
+        return macro.pins.get(name) or macro.pins.get(plain) or \
+            macro.pins.get("".join(ways.get(letter, letter) for letter in plain))
 
     def ordered(self, net):
         """A net's connections, its driver first: the output of a component, else a pin of the chip that is no output,
@@ -210,6 +219,9 @@ class Chip:
     def tracks(self, layer, along):
         """Where the wires of a layer may go, of all its TRACKS: none nearer to the one before than wires may be."""
         runs = self.placed.tracks.get((layer.name, "YX"[along]), [])
+        if not runs:
+            self.lef.notes.once(("tracks", layer.name), self.placed.path, f"LAYER {layer.name} has no TRACKS "
+                                f"{'YX'[along]}, and so no room for wires")
         across, size = self.bounds(1 - along)
         places = set()
         for first, count, step in runs:

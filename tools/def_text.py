@@ -4,7 +4,7 @@ from dataclasses import dataclass, field
 from statements import (Fault, MOST_REPEATS, ORIENTATIONS, Shape, Words, generated_via, moved, pairs, polygon, positive,
                         rectangle, split_at, turned, whole, without_brackets)
 
-SILENT = {"VERSION", "NAMESCASESENSITIVE", "DIVIDERCHAR", "BUSBITCHARS", "DESIGN", "TECHNOLOGY", "HISTORY",
+SILENT = {"VERSION", "NAMESCASESENSITIVE", "DIVIDERCHAR", "DESIGN", "TECHNOLOGY", "HISTORY",
           "COMPONENTMASKSHIFT", "ARRAY", "FLOORPLAN"}
 # These sections say nothing to a global router.
 SECTIONS = {"PROPERTYDEFINITIONS", "STYLES", "REGIONS", "GROUPS", "SCANCHAINS", "PINPROPERTIES", "SLOTS", "FILLS"}
@@ -57,6 +57,7 @@ class Def:
         self.tracks = {}        # (layer, "X" or "Y") -> [(first, count, step)]; X are the places of vertical tracks
         self.gcells = {"X": [], "Y": []}    # (first, count, step) of lines
         self.has_rows = False
+        self.bus_bits = "[]"    # the letters around the number of a bus's bit
         self.components, self.pins, self.vias, self.rules, self.nets = {}, {}, {}, {}, {}
         self.special, self.blockages = [], []   # shapes
         self.special_vias = []  # (via, x, y, orientation, place)
@@ -91,6 +92,8 @@ class Def:
         values = words.until(";")
         if word == "ROW":
             self.has_rows = True
+        elif word == "BUSBITCHARS":
+            self.bus_bits = values[0].strip('"')
         elif word == "UNITS":
             self.once("units", whole(values[2]), words)
             if values[:2] != ["DISTANCE", "MICRONS"] or not 0 < self.units <= 100000:

@@ -9,7 +9,7 @@ from statements import (Fault, MOST_REPEATS, Words, generated_via, moved, neares
                         rectangle, split_at, turned, without_brackets)
 
 # Statements of the library that say nothing to a router.
-SILENT = {"VERSION", "NAMESCASESENSITIVE", "BUSBITCHARS", "DIVIDERCHAR", "USEMINSPACING", "CLEARANCEMEASURE",
+SILENT = {"VERSION", "NAMESCASESENSITIVE", "DIVIDERCHAR", "USEMINSPACING", "CLEARANCEMEASURE",
           "MANUFACTURINGGRID", "NOWIREEXTENSIONATPIN", "MINFEATURE", "DIELECTRIC", "FIXEDMASK", "MAXVIASTACK",
           "SYMMETRIC", "UNIVERSALNOISEMARGIN", "EDGERATETHRESHOLD1", "EDGERATETHRESHOLD2", "EDGERATESCALEFACTOR"}
 # Of these blocks the form is skipped to END with their own word, or with the name that follows it.
@@ -104,6 +104,7 @@ class Lef:
         self.units, self.notes = units, notes
         self.layers, self.macros, self.vias, self.rules = {}, {}, {}, {}
         self.sites = {}         # name -> (class, height)
+        self.bus_bits = "[]"    # the letters around the number of a bus's bit
         for path in paths:
             self.read_text(Words(path, notes))
         self.routing = [layer for layer in self.layers.values() if layer.kind == "ROUTING"]
@@ -123,6 +124,8 @@ class Lef:
                    "SITE": (self.sites, read_site)}
         if word in SILENT or word[:7] == "ANTENNA" or word[-7:] == "ANTENNASIZE":
             words.until(";")
+        elif word == "BUSBITCHARS":
+            self.bus_bits = words.until(";")[0].strip('"')
         elif word in BLOCKS:
             words.until("END", word)
         elif word in NAMED_BLOCKS:
@@ -200,6 +203,8 @@ class Lef:
             else:
                 raise words.refuse(f"{word} of MACRO {name}")
         due(words, name)
+        if not macro.width:
+            raise words.fault(f"MACRO {name} has no SIZE before")
         macro.moved(*origin)
         return macro
 
@@ -255,6 +260,8 @@ class Lef:
     def shapes_of(self, word, values, of, words):
         """The rectangles of one statement of shapes."""
         layer, spacing, width = of
+        if layer is None and word != "VIA":
+            raise words.fault("LAYER is due before")
         if word == "RECT":
             return [self.shape(layer, values, spacing)]
         if word == "POLYGON":

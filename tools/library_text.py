@@ -78,8 +78,13 @@ def of_nets(chip, liberty, scale):
     """Lines for the drivers and sinks whose cells are known."""
     for id_, net in enumerate(chip.nets()):
         for number, (component, pin) in enumerate(chip.ordered(net)):
-            cell = None if component == "PIN" else liberty.cells.get(chip.placed.components[component].macro)
+            if component == "PIN":
+                continue
+            placed = chip.placed.components[component]
+            cell = liberty.cells.get(placed.macro)
             if cell is None:
+                chip.lef.notes.once(("cell", placed.macro), placed.place, f"no liberty file has the cell "
+                                    f"{placed.macro}: its pins are as --driver and --sink say")
                 continue
             says = f"of the cell {cell.name}, by --scale {scale}, the"
             line, load = cell.of_pin(cell.lines, pin), cell.of_pin(cell.loads, pin)

@@ -182,6 +182,28 @@ out
             self.assertIn(old, DEF)
             self.assertEqual(self.made(DEF.replace(old, new, 1), LEF)[1][0], TINY, new)
 
+    def test_what_is_told(self):
+        for text, old, new, says in (
+            (DEF, "TRACKS X 10 DO 15 STEP 20 LAYER m2 ;", "TRACKS X 10 DO 15 STEP 20 LAYER m3 ;", None),
+            (DEF, "TRACKS Y 10 DO 10", "TRACKS Y 10 DO 10 STEP 20 LAYER m3 ;\nTRACKS Y 10 DO 10", ""),
+            (DEF, "COMPONENTS 2", "COMPONENTS 3", ":11: COMPONENTS says 3, and has 2\n"),
+            (DEF, "NETS 3", "BLOCKAGES 1 ; - LAYER m9 RECT ( 0 0 ) ( 9 9 ) ; END BLOCKAGES NETS 3",
+             ": the LEF has no LAYER m9: shapes on it are skipped\n"),
+            (LEF, "OBS LAYER m2", "OBS LAYER m9 ; RECT 0 0 1 1 ; LAYER m2", ": the LEF has no LAYER m9: shapes on it"),
+        ):
+            self.assertIn(old, text)
+            changed = text.replace(old, new, 1)
+            (status, _, err), made = self.made(changed if text is DEF else DEF, changed if text is LEF else LEF)
+            self.assertEqual(status, 1 if says is None else 0)
+            self.assertIn("LAYER m2 has no TRACKS X, and so no room for wires" if says is None else says, err)
+            self.assertEqual(made[:1], [] if says is None else [TINY])
+
+    def test_bits_of_buses(self):
+        lef = LEF.replace("PIN A ", "PIN A[0] ").replace("END A\n", "END A[0]\n")
+        for bits, name in (("", "A[0]"), ("", "A\\[0\\]"), ('BUSBITCHARS "<>" ;', "A<0>")):
+            placed = DEF.replace("one A", f"one {name}").replace("two A", f"two {name}")
+            self.assertEqual(self.made(placed.replace("DESIGN tiny ;", f"DESIGN tiny ; {bits}"), lef)[1][0], TINY)
+
     def test_what_is_refused(self):
         for old, new, says in (
             ("PLACED ( 0 0 ) N", "UNPLACED", ":22: the net in needs the component one, which isn't placed"),
@@ -214,6 +236,8 @@ out
             ("WIDTH 1 ;", "WIDTH 1 ; WIDTH 2 ;", "width of m1 is said again, and otherwise"),
             ("VERSION 5.4 ;", "ALIAS a b ;", ":2: ALIAS is not read here: ALIAS"),
             ("RECT 4 6 6 8", "RECT 4 6 6", "form of the statement is not read here: RECT 4 6 6 ;"),
+            ("LAYER m1 ; RECT 0 0 2 2", "RECT 0 0 2 2", ":14: LAYER is due before: RECT 0 0 2 2"),
+            ("SIZE 8 BY 10 ; SYMMETRY", "SYMMETRY", ":17: MACRO BUF has no SIZE before: END BUF"),
         ):
             self.assertIn(old, LEF)
             (status, _, err), _ = self.made(DEF, LEF.replace(old, new, 1))
