@@ -46,7 +46,10 @@ class Routed(Named):
         """The cells of a net's pins."""
         pins = self.pins[id_]
         ways = self.column_of, self.row_of, self.layer_of
-        return zip(*(map(way.__getitem__, pins[at::3]) for at, way in enumerate(ways)))
+        try:
+            return list(zip(*(map(way.__getitem__, pins[at::3]) for at, way in enumerate(ways))))
+        except ValueError:
+            raise Fault(f"a pin of the net {self.names[id_]} has no whole numbers") from None
 
     def ends_of(self, segments):
         """Column, row and layer of both ends of each segment."""

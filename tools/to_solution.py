@@ -169,7 +169,7 @@ def solution(design, path):
             tree = list(tree_of(near, design.driver(id_)))
             dropped += sum(map(len, near.values())) // 2 - len(tree)
             found[id_] = [(design.middle(low), design.middle(high)) for low, high in runs_of(tree)]
-        except (Fault, ValueError, KeyError) as fault:
+        except (Fault, ValueError, KeyError, TypeError) as fault:
             raise Fault(f"{place}: a line has not the form that is due, or lies outside: {fault}") from None
     return found, dropped
 
