@@ -21,7 +21,7 @@ import subprocess
 import sys
 
 from congestion import Edges
-from texts import EAST, Design, Fault, Tokens, names_of
+from texts import EAST, Fault, Named, names_of
 
 HERE = os.path.dirname(os.path.realpath(__file__))
 WORST = 20      # hot spots, and slow nets
@@ -58,7 +58,7 @@ class Outcome:
                       if words[0] == "net" and words[3] == "required")
         self.slowest = [(name, -required / picosecond, buffers) for required, name, buffers in slow[:WORST]]
         self.names = names_of(paths["design.ispd"], None)
-        self.design = Design(Tokens(paths["design.ispd"]))
+        self.design = Named(paths["design.ispd"], self.names)
         used = list(Edges(self.design, paths["routes.solution"]).used())
         used.sort(key=lambda edge: (edge[2] - edge[3], -edge[3] / (edge[2] or 1), edge[:2]))
         self.full = [(way, number, capacity, demand) for way, number, capacity, demand in used
@@ -83,8 +83,7 @@ class Outcome:
         for way, number, capacity, demand in self.full[:WORST]:
             column, row, layer = design.place(way, number)
             wide, high = (2, 1) if way == EAST else (1, 2)
-            left, low = design.left + column * design.tile_width, design.low + row * design.tile_height
-            box = left, low, left + wide * design.tile_width, low + high * design.tile_height
+            box = design.xs[column], design.ys[row], design.xs[column + wide], design.ys[row + high]
             yield (self.names.layers[layer], *(f"{value / units:.2f}" for value in box), capacity, demand,
                    max(0, demand - capacity))
 
