@@ -418,6 +418,34 @@ class Shapes(InFolder):
                 for kind, shape in kinds + [("OBS", shape) for shape in macro.obstructions]:
                     yield kind, moved(macro.in_place(shape, component.orientation), component.x, component.y)
 
+    def test_capacities(self):
+        """Track by track and shape by shape, the capacities are those of the design."""
+        for texts in (SKY, GF):
+            chip = chip_of(texts)
+            grid, metal = chip.grid, [shape for _, shape in self.shapes(chip)]
+            for number, layer in enumerate(chip.layers):
+                along = 0 if layer.is_horizontal() else 1
+                mine = [shape for shape in metal if shape[0] == layer.name]
+                found = chip.capacities(number)
+                starts, counts = (grid.left, grid.low), (grid.columns, grid.rows)
+                for line in range(counts[1 - along]):
+                    edge = starts[1 - along] + line * grid.tile[1 - along]
+                    end = edge + grid.tile[1 - along] if line + 1 < counts[1 - along] else grid.end(1 - along)
+                    tracks = [track for track in chip.tracks(layer, along) if edge <= track < end]
+                    for at in range(counts[along] - 1):
+                        middle = starts[along] + grid.tile[along] * at + grid.tile[along] // 2
+                        free = sum(not any(self.takes(chip, layer, shape, along, track, middle, grid.tile[along])
+                                           for shape in mine) for track in tracks)
+                        self.assertEqual(found[line][at], 2 * free, (layer.name, line, at))
+
+    def takes(self, chip, layer, shape, along, track, middle, side):
+        """Whether a shape keeps a wire from a track between this middle of a tile and the next."""
+        spacing = layer.apart() * chip.placed.units if shape.spacing is None else shape.spacing
+        room = round(layer.width * chip.placed.units / 2 + spacing)
+        across, far = (shape[2], shape[4]) if along == 0 else (shape[1], shape[3])
+        low, high = (shape[1], shape[3]) if along == 0 else (shape[2], shape[4])
+        return across - room < track < far + room and low - room < middle + side and high + room > middle
+
     @unittest.skipUnless(shutil.which("klayout"), "klayout is not there")
     def test_klayout(self):
         for texts, edits, kinds in ((SKY, self.SKY_EDITS, 25), (GF, self.GF_EDITS, 11)):
