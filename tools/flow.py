@@ -175,7 +175,8 @@ def draw(asked, paths):
         import numpy                # noqa: F401
         import matplotlib           # noqa: F401
         kind = "png"
-    except ImportError:
+    except ImportError as fault:
+        print(f"flow: {sys.executable} has no {fault.name}: a table takes the picture's place", file=sys.stderr)
         kind = "csv"
     path = os.path.join(asked.output, f"congestion.{kind}")
     tool("congestion.py", paths["design.ispd"], paths["routes.solution"], "-o", path)

@@ -240,10 +240,10 @@ class Cell:
 
 
 class Liberty:
-    """The cells of liberty files, by name."""
+    """The cells of liberty files, by name; and what cells have that isn't read here."""
 
     def __init__(self, paths):
-        self.cells = {}
+        self.cells, self.faults = {}, {}
         for path in paths:
             for library in read_groups(Words(path)).all("library"):
                 self.read_library(library, path)
@@ -257,19 +257,19 @@ class Liberty:
         except (KeyError, ValueError):
             raise Fault(f"{path}: time_unit and capacitive_load_unit are due") from None
         for group in library.all("cell"):
+            cell = Cell(" ".join(group.arguments))
             try:
-                cell = Cell(group.arguments[0])
                 for pin in pins_of(group):
                     read_pin(cell, pin, templates, scales)
+                self.cells[cell.name] = cell
             except (KeyError, ValueError, IndexError) as fault:
-                raise Fault(f"{path}: a table or a number of the cell {' '.join(group.arguments)} has a form that is "
-                            f"not read here: {fault}") from None
-            self.cells[cell.name] = cell
+                self.faults[cell.name] = f"{path}: a table or a number of the cell {cell.name} has a form that is " \
+                                         f"not read here: {fault}"
 
     def cell(self, name):
         """The cell of a name that was asked for."""
         if name not in self.cells:
-            raise Fault(f"no liberty file has the cell {name}")
+            raise Fault(self.faults.get(name, f"no liberty file has the cell {name}"))
         return self.cells[name]
 
     def buffers(self):
@@ -339,6 +339,8 @@ def main():
         liberty = Liberty([asked.liberty])
         cells = [liberty.cell(name) for name in asked.cells] or list(liberty.cells.values())
         print("\n".join(report(cells)))
+        if liberty.faults and not asked.cells:
+            raise Fault("\n".join(liberty.faults.values()))
     except (Fault, OSError) as fault:
         print(f"liberty: {fault}", file=sys.stderr)
         return 1

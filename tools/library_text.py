@@ -83,8 +83,9 @@ def of_nets(chip, liberty, scale):
             placed = chip.placed.components[component]
             cell = liberty.cells.get(placed.macro)
             if cell is None:
-                chip.lef.notes.once(("cell", placed.macro), placed.place, f"no liberty file has the cell "
-                                    f"{placed.macro}: its pins are as --driver and --sink say")
+                says = liberty.faults.get(placed.macro, f"no liberty file has the cell {placed.macro}")
+                chip.lef.notes.once(("cell", placed.macro), placed.place, f"{says}: its pins are as --driver and "
+                                    "--sink say")
                 continue
             says = f"of the cell {cell.name}, by --scale {scale}, the"
             line, load = cell.of_pin(cell.lines, pin), cell.of_pin(cell.loads, pin)

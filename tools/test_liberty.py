@@ -87,6 +87,15 @@ class Cells(InFolder):
             self.assertEqual((status, err[:9]), (1, "liberty: "), new)
             self.assertIn(says, err)
 
+    def test_a_cell_at_fault(self):
+        with open(SKY[3], encoding="ascii") as file:
+            path = self.put("lib", file.read().replace("0.09, 0.24", "0.09"))
+        self.assertEqual(tool("liberty.py", path, "sk_inv")[0], 0)
+        status, _, err = self.library("--liberty", path, "--scale", "10", "--kinds", "sk_inv")
+        self.assertEqual(status, 0)
+        self.assertIn("of the cell sk_buf has a form that is not read here", err)
+        self.assertEqual(self.library("--liberty", path, "--kinds", "sk_buf")[0], 1)
+
     def test_mutated(self):
         with open(SKY[3], encoding="ascii") as file:
             text = file.read()
