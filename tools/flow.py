@@ -205,6 +205,7 @@ def words():
 def main():
     """Goes through the steps and prints the verdict. The answer is the status."""
     asked = words()
+    sys.stdout.reconfigure(errors="replace")    # a net's name may be any bytes
     try:
         print(steps(asked))
     except Stopped as stopped:

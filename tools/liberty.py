@@ -335,6 +335,7 @@ def main():
     parser.add_argument("liberty", metavar="LIBERTY", help="a liberty file")
     parser.add_argument("cells", metavar="CELL", nargs="*", help="cells; else all")
     asked = parser.parse_args()
+    sys.stdout.reconfigure(errors="replace")
     try:
         liberty = Liberty([asked.liberty])
         cells = [liberty.cell(name) for name in asked.cells] or list(liberty.cells.values())

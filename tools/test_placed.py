@@ -472,7 +472,8 @@ class Shapes(InFolder):
             self.assert_pins(chip, out)
 
     def assert_pins(self, chip, out):
-        """Each pin of a net lies in the middle of a shape of its name, on its layer, as KLayout has it."""
+        """Each pin of a net lies in the middle of a shape of its name, on its layer, as KLayout has it; of a polygon
+        with corners to the inside, within its box."""
         boxes = {}
         for line in out.splitlines():
             if line.startswith("pin "):
@@ -484,7 +485,9 @@ class Shapes(InFolder):
                 if component != "PIN":
                     layer = chip.layers[level - 1].name
                     mine = boxes.get((name.replace("\\", ""), layer), [])
-                    self.assertTrue(any(x1 <= x <= x2 and y1 <= y <= y2 for x1, y1, x2, y2 in mine), (net.name, name))
+                    is_bent = chip.placed.components[component].macro == "sk_inv" and name == "Y"
+                    self.assertTrue(any((x, y) == ((x1 + x2) // 2, (y1 + y2) // 2) or
+                                        is_bent and x1 <= x <= x2 and y1 <= y <= y2 for x1, y1, x2, y2 in mine))
                     count += 1
         self.assertGreater(count, 20)
 
