@@ -25,6 +25,7 @@ whole, and those of short wires round badly: --scale N makes resistances and cap
 with the required times that groute tells, N * N times.
 """
 import argparse
+import os
 import sys
 from fractions import Fraction
 
@@ -135,7 +136,8 @@ def main():
         lef = Lef([asked.lef, *asked.lefs], placed.units, notes)
         chip = Chip(placed, lef, asked.tile, asked.layers, asked.adjust)
         write(asked.design, list(design_text(chip)))
-        write(f"{asked.design}.names", names_text(chip))
+        if os.path.isfile(asked.design):    # and no pipe or terminal
+            write(f"{asked.design}.names", names_text(chip))
         if asked.library:
             write(asked.library, list(library_text(chip, asked)))
     except (Fault, OSError) as fault:

@@ -198,6 +198,10 @@ out
             self.assertIn("LAYER m2 has no TRACKS X, and so no room for wires" if says is None else says, err)
             self.assertEqual(made[:1], [] if says is None else [TINY])
 
+    def test_a_pipe(self):
+        status, out, _ = tool("def_to_ispd.py", self.put("def", DEF), self.put("lef", LEF), "/dev/stdout")
+        self.assertEqual((status, out), (0, TINY))
+
     def test_bits_of_buses(self):
         lef = LEF.replace("PIN A ", "PIN A[0] ").replace("END A\n", "END A[0]\n")
         for bits, name in (("", "A[0]"), ("", "A\\[0\\]"), ('BUSBITCHARS "<>" ;', "A<0>")):
