@@ -21,7 +21,8 @@ import subprocess
 import sys
 
 from congestion import Edges
-from texts import EAST, Fault, Named, names_of
+from named import Named, names_of
+from texts import EAST, Fault
 
 HERE = os.path.dirname(os.path.realpath(__file__))
 WORST = 20      # hot spots, and slow nets

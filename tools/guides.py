@@ -11,8 +11,9 @@ import sys
 from itertools import repeat
 
 from lef_text import Lef
+from named import Named, names_of
 from statements import Notes
-from texts import Fault, Named, names_of, records
+from texts import Fault, records
 
 DIGITS = b"0123456789"
 FORM = b"(,,)-(,,)"

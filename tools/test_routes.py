@@ -5,8 +5,9 @@ import random
 import re
 import sys
 
+from named import Named, names_of
 from testing import ROOT, InFolder, program, run, tool
-from texts import Named, Tokens, ends, names_of
+from texts import Tokens, ends
 
 SKY = [f"{ROOT}/examples/sky/{name}" for name in ("adder.def", "tech.lef", "cells.lef")]
 GF = [f"{ROOT}/examples/gf/{name}" for name in ("ring.def", "all.lef")]

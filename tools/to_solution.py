@@ -14,7 +14,8 @@ import argparse
 import sys
 from collections import deque
 
-from texts import EAST, NORTH, Fault, Named, names_of
+from named import Named, names_of
+from texts import EAST, NORTH, Fault
 
 
 class Known(Named):
