@@ -2,8 +2,8 @@
 """Tests of the tools, and of the samples in the documents: tools/test.py --program PATH [NAME ..]
 
 PATH is a built groute. The samples of README.md and of docs/*.md, lines that begin with `$`, are run as they are
-written, with that program as ./groute. NAMEs pick tests, as in unittest. Pictures are tested only where numpy and
-matplotlib are there, and docs/FLOW.md only where Debian's qflow-tech-osu035 is.
+written, with that program as ./groute. NAMEs pick tests, as in unittest. What wants numpy and matplotlib, klayout,
+chromium, or for docs/FLOW.md Debian's qflow-tech-osu035, is left out by name where that isn't there.
 """
 import argparse
 import glob
@@ -17,9 +17,11 @@ import sys
 import tempfile
 import unittest
 
+from test_answers import Adjusted, Hotspots, Names, Pictures, Slowest   # for unittest to find them
 from test_flow import Flow
 from test_liberty import Cells
 from test_placed import Geometry, Mutated, Placed, Shapes, Technologies
+from test_report import FirstPicture, Page, Report
 from test_routes import Back, Guides
 from test_words import Scripts, Tables, Terminal
 from testing import HERE, PICTURES, ROOT, InFolder, run, tool
@@ -28,6 +30,8 @@ DOCUMENTS = ["README.md", *(f"docs/{name}" for name in sorted(os.listdir(f"{ROOT
 if not os.path.exists("/usr/share/qflow/tech/osu035/osu035_stdcells.lef"):
     DOCUMENTS.remove("docs/FLOW.md")    # its samples want this file of qflow-tech-osu035
 NAME = 32   # the token of examples/small.ispd that may be any: its net's name
+# Samples that want numpy, and what stands on a text of theirs.
+WANTS_NUMPY = re.compile(r"\.png\b|tools/(hotspots|slowest|report|adjust)\.py|/less\.ispd")
 program = None      # the path of groute
 
 
@@ -44,7 +48,7 @@ class Samples(unittest.TestCase):
                 os.symlink(f"{ROOT}/{name}", f"{folder}/{name}")
             for document in DOCUMENTS:
                 for command, wanted in samples(document):
-                    if command.endswith(".png") and not PICTURES:
+                    if WANTS_NUMPY.search(command) and not PICTURES:
                         continue
                     with self.subTest(document=document, command=command):
                         done = subprocess.run(["sh", "-c", command], cwd=folder, check=False, text=True, env=path,
