@@ -11,7 +11,7 @@ import signal
 import subprocess
 import sys
 
-from commands import FAULTS, USAGE, rows
+from usage import FAULTS, USAGE, rows
 from where import bytes_of, line_and_column, place_of
 
 PASSED = (signal.SIGINT, signal.SIGTERM, signal.SIGHUP, signal.SIGQUIT, signal.SIGUSR1, signal.SIGUSR2)
@@ -69,7 +69,7 @@ def positionals(words):
     return dict(zip(names.get(words[0], []), found)) if words else {}
 
 
-def usage():
+def all_commands():
     """The lines of the commands."""
     yield "The commands:"
     for line, does in USAGE.items():
@@ -95,7 +95,7 @@ def of_fault(words, kind, number, token):
 def explained(words, status, told):
     """The lines that say what is wrong."""
     if status == 2:
-        return usage()
+        return all_commands()
     if fault := FAULT.match(told):
         kind, number, token = (part.decode() for part in fault.groups())
         return of_fault(words, kind, int(number), int(token))

@@ -8,7 +8,7 @@ import subprocess
 import time
 import unittest
 
-import commands
+import usage
 from testing import HERE, ROOT, InFolder, program, run
 
 
@@ -25,17 +25,17 @@ class Tables(unittest.TestCase):
         found = [(word, int(count), [options[name] for name in re.findall(r"OptionKind::(\w+)", names)])
                  for word, count, names in found]
         self.assertEqual([(word, len(names), [option for option, _ in taken])
-                          for word, names, taken, _ in commands.rows()], found)
+                          for word, names, taken, _ in usage.rows()], found)
 
     def test_faults(self):
         with open(f"{ROOT}/docs/FORMATS.md", encoding="utf-8") as file:
             text = file.read()
-        for kind, faults in commands.FAULTS.items():
+        for kind, faults in usage.FAULTS.items():
             table = text.split(f"| of a {kind} |\n")[1].split("\n\n")[0]
             self.assertEqual(re.findall(r"^\| [0-9]+ \| (.+) \|$", table, re.MULTILINE), faults)
 
     def test_completions(self):
-        for name, made in (("groute.bash", commands.bash), ("_groute", commands.zsh)):
+        for name, made in (("groute.bash", usage.bash), ("_groute", usage.zsh)):
             with open(f"{ROOT}/completion/{name}", encoding="utf-8") as file:
                 self.assertEqual(file.read(), made())
 

@@ -1,7 +1,7 @@
 #!/usr/bin/env python3
 """The commands of groute with their words, and its faults in words: what shells complete and terminals are told.
 
-Prints the completion for a shell: tools/commands.py bash, or tools/commands.py zsh. tools/test.py compares the words
+Prints the completion for a shell: tools/usage.py bash, or tools/usage.py zsh. tools/test.py compares the words
 with the tables of word_reader, the faults with docs/FORMATS.md, and the files of completion/ with what is printed here.
 """
 import sys
@@ -55,7 +55,7 @@ FAULTS = {
         "the text is too long"],
 }
 
-BASH = """# Completion of groute for bash, as tools/commands.py writes it.
+BASH = """# Completion of groute for bash, as tools/usage.py writes it.
 _groute() {
     local word=${COMP_WORDS[COMP_CWORD]} options
     if [ "$COMP_CWORD" -eq 1 ]; then
@@ -75,7 +75,7 @@ _groute() {
 complete -o filenames -F _groute groute
 """
 ZSH = """#compdef groute
-# Completion of groute for zsh, as tools/commands.py writes it.
+# Completion of groute for zsh, as tools/usage.py writes it.
 local -a commands
 commands=(
 %s
