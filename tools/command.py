@@ -36,8 +36,8 @@ def done(name, work):
         print(f"{name}: {fault}", file=sys.stderr)
         closed()
     except ImportError as fault:
-        print(f"{name}: {fault.name} is missing: Debian's python3-numpy and python3-matplotlib are wanted",
-              file=sys.stderr)
+        print(f"{name}: {sys.executable} has no {fault.name}: Debian's python3-numpy and python3-matplotlib are wanted, "
+              "which /usr/bin/python3 finds", file=sys.stderr)
     return 1
 
 

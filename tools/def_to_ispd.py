@@ -33,6 +33,7 @@ from chip import Chip
 from def_text import Def
 from lef_text import Lef
 from library_text import library_text
+from names import Names, write_names
 from statements import Fault, Notes, number
 
 
@@ -70,17 +71,11 @@ def adjustments(layers, found, most):
                     yield f"{ends[0]} {ends[1]} {at_layer} {ends[2]} {ends[3]} {at_layer} {capacity}"
 
 
-def names_text(chip):
-    """The lines of the text beside the design: what the design's numbers are called outside."""
+def names_of(chip):
+    """What the design's numbers are called outside: the text beside the design."""
     grid = chip.grid
-    yield "names 1"
-    yield f"units {chip.placed.units}"
-    yield f"die {' '.join(map(str, chip.placed.area))}"
-    yield f"origin {grid.left} {grid.low}"
-    yield f"tile {grid.tile[0]} {grid.tile[1]}"
-    yield from (f"lower 0 {name}" for name in chip.lower)
-    yield from (f"layer {at} {layer.name}" for at, layer in enumerate(chip.layers, 1))
-    yield "end"
+    return Names(chip.placed.units, (grid.left, grid.low), grid.tile, [layer.name for layer in chip.layers],
+                 chip.placed.area, chip.lower)
 
 
 def write(path, lines):
@@ -137,7 +132,7 @@ def main():
         chip = Chip(placed, lef, asked.tile, asked.layers, asked.adjust)
         write(asked.design, list(design_text(chip)))
         if os.path.isfile(asked.design):    # and no pipe or terminal
-            write(f"{asked.design}.names", names_text(chip))
+            write_names(names_of(chip), f"{asked.design}.names")
         if asked.library:
             write(asked.library, list(library_text(chip, asked)))
     except (Fault, OSError) as fault:

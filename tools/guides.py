@@ -11,9 +11,9 @@ import sys
 from itertools import repeat
 
 from lef_text import Lef
-from named import Named, names_of
 from statements import Notes
 from texts import Fault, records
+from tiled import Tiled, names_of
 
 DIGITS = b"0123456789"
 FORM = b"(,,)-(,,)"
@@ -33,24 +33,15 @@ class Tiles(dict):
         return self.setdefault(text, min((value - self.start) // self.side, self.count - 1))
 
 
-class Routed(Named):
+class Routed(Tiled):
     """A design with the tiles of the coordinates that its routes have."""
 
     def __init__(self, path, names):
-        Named.__init__(self, path, names)
+        Tiled.__init__(self, path, names)
         right, top = self.left + self.columns * self.tile_width, self.low + self.rows * self.tile_height
         self.column_of = Tiles(self.left, self.tile_width, self.columns, right)
         self.row_of = Tiles(self.low, self.tile_height, self.rows, top)
         self.layer_of = Tiles(1, 1, self.layers, self.layers)
-
-    def pin_cells(self, id_):
-        """The cells of a net's pins."""
-        pins = self.pins[id_]
-        ways = self.column_of, self.row_of, self.layer_of
-        try:
-            return list(zip(*(map(way.__getitem__, pins[at::3]) for at, way in enumerate(ways))))
-        except ValueError:
-            raise Fault(f"a pin of the net {self.names[id_]} has no whole numbers") from None
 
     def ends_of(self, segments):
         """Column, row and layer of both ends of each segment."""
@@ -71,7 +62,7 @@ class Routed(Named):
 def boxes(design, id_, segments):
     """The rectangles of a net in their order, each its lower and its upper cell."""
     rows, columns = {}, {}      # (layer, line) -> [(first, last)]
-    spots = set(design.pin_cells(id_))
+    spots = {design.cell(*pin) for pin in design.pins(id_)}
     for column, row, layer, column2, row2, layer2 in design.ends_of(segments) if segments else ():
         if (column != column2) + (row != row2) + (layer != layer2) > 1:
             raise Fault(f"a segment of the net {design.names[id_]} is not straight")

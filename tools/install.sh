@@ -39,13 +39,13 @@ proved_with() {
 }
 
 # Tools that are commands of their own; others are what these are made of.
-tools="congestion def_to_ispd flow guides liberty to_solution where"
+tools="adjust congestion def_to_ispd flow guides hotspots liberty report slowest to_solution where"
 
 put_tools() {
     mkdir -p "$share/groute" "$share/man/man1"
-    for file in $(git ls-files 'tools/*.py'); do
+    for file in $(git ls-files 'tools/*.py' 'tools/page*'); do
         case $file in
-        tools/test*.py | tools/klayout_shapes.py | tools/definitions.py | tools/man_page.py) continue ;;
+        tools/test*.py | tools/klayout_shapes.py | tools/browser.py | tools/definitions.py | tools/man_page.py) continue ;;
         esac
         # Debian's own python finds Debian's numpy and matplotlib, whatever stands first on PATH.
         sed '1s|^#!/usr/bin/env python3$|#!/usr/bin/python3|' "$file" >"$share/groute/${file#tools/}"

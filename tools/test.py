@@ -31,7 +31,7 @@ if not os.path.exists("/usr/share/qflow/tech/osu035/osu035_stdcells.lef"):
     DOCUMENTS.remove("docs/FLOW.md")    # its samples want this file of qflow-tech-osu035
 NAME = 32   # the token of examples/small.ispd that may be any: its net's name
 # Samples that want numpy, and what stands on a text of theirs.
-WANTS_NUMPY = re.compile(r"\.png\b|tools/(hotspots|slowest|report|adjust)\.py|/less\.ispd")
+WANTS_NUMPY = re.compile(r"\.png\b|tools/(hotspots|slowest|report|adjust|flow)\.py|/less\.ispd|/flow/adder")
 program = None      # the path of groute
 
 

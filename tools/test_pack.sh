@@ -76,7 +76,7 @@ overflow 0" ]
     # a placement of today, by all tools
     alone groute-flow examples/sky/adder.def --lef examples/sky/tech.lef --lef examples/sky/cells.lef \
         --liberty examples/sky/cells.lib --layers met1-met5 -o "$work/flow" 2>/dev/null >"$work/verdict"
-    grep -q '44 nets routed, overflow 0' "$work/verdict"
+    grep -q 'overflow 0' "$work/verdict"
     for page in "$work/$1"/share/man/man1/groute*.1.gz; do
         [ -z "$(alone LC_ALL=C.UTF-8 MANWIDTH=80 man --warnings -l "$page" 2>&1 >/dev/null)" ]
     done

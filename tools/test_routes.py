@@ -5,9 +5,9 @@ import random
 import re
 import sys
 
-from named import Named, names_of
 from testing import ROOT, InFolder, program, run, tool
 from texts import Tokens, ends
+from tiled import Tiled, names_of
 
 SKY = [f"{ROOT}/examples/sky/{name}" for name in ("adder.def", "tech.lef", "cells.lef")]
 GF = [f"{ROOT}/examples/gf/{name}" for name in ("ring.def", "all.lef")]
@@ -23,7 +23,7 @@ a 0 2 1
 5 5 1
 25 15 1
 """
-NAMES = "names 1\nunits 100\ndie 0 0 32 20\norigin 0 0\ntile 10 10\nlower 0 li\nlayer 1 m1\nlayer 2 m2\nend\n"
+NAMES = "units 100\norigin 0 0\ntile 10 10\ndie 0 0 32 20\nlower 0 li\nlayer 1 m1\nlayer 2 m2\n"
 
 
 def read_guides(path):
@@ -41,13 +41,12 @@ class Guides(InFolder):
         guides = os.path.join(self.folder.name, "guides")
         self.assertEqual(tool("guides.py", design, solution, guides, *names or ())[1:], ("", ""))
         known = names_of(design, names and names[1])
-        chip, found = Named(design, known), read_guides(guides)
+        chip, found = Tiled(design, known), read_guides(guides)
         self.assertEqual(set(found), {chip.names[id_] for id_, width in chip.widths.items() if width is not None})
         tokens = Tokens(solution)
         while not tokens.is_ended():
             name, id_ = tokens.take(2)
-            pins = list(map(int, chip.pins[int(id_)]))
-            points = [pins[at:at + 3] for at in range(0, len(pins), 3)]
+            points = chip.pins(int(id_))
             points += [end for segment in tokens.until(b"!") for end in ends(segment)]
             boxes = [(*map(int, box[:4]), known.layers.index(box[4])) for box in found[name.decode()]]
             for x1, y1, x2, y2, _ in boxes:
@@ -86,10 +85,9 @@ class Guides(InFolder):
         for seed in range(1, 11):
             text = compare.design(random.Random(seed)).decode()
             design, layers = self.put("design", text), int(text.split()[3])
-            chip = Named(design, None)
-            names = self.put("names", f"names 1 units 1 die {chip.xs[0]} {chip.ys[0]} {chip.xs[-1]} {chip.ys[-1]} "
-                                      "origin 0 0 tile 1 1 " + "".join(f"layer {at} m{at} "
-                                                                       for at in range(1, layers + 1)) + "end")
+            chip = Tiled(design, None)
+            names = self.put("names", f"units 1\ndie {chip.xs[0]} {chip.ys[0]} {chip.xs[-1]} {chip.ys[-1]}\n"
+                                      "origin 0 0\ntile 1 1\n" + "".join(f"layer {at} m{at}\n" for at in range(1, layers + 1)))
             solution = self.routed(design, layers)
             self.assert_guides(design, solution, ("--names", names))
 

@@ -14,17 +14,17 @@ import argparse
 import sys
 from collections import deque
 
-from named import Named, names_of
 from texts import EAST, NORTH, Fault
+from tiled import Tiled, names_of
 
 
-class Known(Named):
+class Known(Tiled):
     """A design whose nets are found by name, and its layers too."""
 
     def __init__(self, path, names):
         if names is None:
             raise Fault(f"{path}.names isn't there: give --names")
-        Named.__init__(self, path, names)
+        Tiled.__init__(self, path, names)
         self.ids = {name: id_ for id_, name in self.names.items()}
         self.level = {**{name: 0 for name in names.lower}, **{name: at for at, name in enumerate(names.layers)}}
         if len(self.ids) != len(self.names):
@@ -32,7 +32,7 @@ class Known(Named):
 
     def driver(self, id_):
         """The cell of a net's driver."""
-        return self.cell(*map(int, self.pins[id_][:3]))
+        return self.cell(*self.pins(id_)[0])
 
     def inside(self, x, y):
         """A point of the chip, in the text's last tiles where it lies behind them."""
@@ -170,7 +170,7 @@ def solution(design, path):
             tree = list(tree_of(near, design.driver(id_)))
             dropped += sum(map(len, near.values())) // 2 - len(tree)
             found[id_] = [(design.middle(low), design.middle(high)) for low, high in runs_of(tree)]
-        except (Fault, ValueError, KeyError, TypeError) as fault:
+        except (Fault, ValueError, KeyError, IndexError) as fault:
             raise Fault(f"{place}: a line has not the form that is due, or lies outside: {fault}") from None
     return found, dropped
 
