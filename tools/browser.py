@@ -42,13 +42,21 @@ class Browser:
         self.timer = threading.Timer(MOST_SECONDS, self.kill)
         self.timer.start()
         self.number, self.session, self.rest, self.events = 0, None, b"", []
+        try:
+            self.attach()
+        except BaseException:
+            self.__exit__()
+            raise
+        return self
+
+    def attach(self):
+        """To the one page of the browser, so that its events come."""
         page = next(target for target in self.call("Target.getTargets")["targetInfos"] if target["type"] == "page")
         self.session = self.call("Target.attachToTarget", targetId=page["targetId"], flatten=True)["sessionId"]
         for domain in ("Page", "Runtime", "Log", "Accessibility", "Network"):
             self.call(f"{domain}.enable")
         self.call("Emulation.setDeviceMetricsOverride", width=self.size[0], height=self.size[1], deviceScaleFactor=1,
                   mobile=False)
-        return self
 
     def __exit__(self, *_):
         self.timer.cancel()

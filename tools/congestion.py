@@ -91,7 +91,7 @@ def main():
     if asked.output and asked.output.endswith(".csv"):
         write_table(edges, asked.output, asked.layer, terms)
     elif asked.output and asked.edges:
-        from heat_map import write_picture      # wants numpy and matplotlib
+        from edge_map import write_picture      # wants numpy and matplotlib
         write_picture(edges, asked.output, asked.layer, name, terms)
     elif asked.output:
         from tile_map import write_picture      # as above

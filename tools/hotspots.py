@@ -87,12 +87,12 @@ def main():
     if asked.csv:
         write_table(regions, design, terms, asked.csv)
     if asked.openroad or asked.klayout:
-        import reports
-        found = reports.overfull(loads, design, terms)
+        import viewers
+        found = viewers.overfull(loads, design, terms)
         if asked.openroad:
-            reports.write_openroad(found, asked.openroad)
+            viewers.write_openroad(found, asked.openroad)
         if asked.klayout:
-            reports.write_klayout(found, regions, design, terms, os.path.basename(asked.design), asked.klayout)
+            viewers.write_klayout(found, regions, design, terms, os.path.basename(asked.design), asked.klayout)
     sys.stdout.writelines(f"{line}\n" for line in printed(loads, regions, design, terms))
 
 

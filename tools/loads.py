@@ -15,6 +15,7 @@ from texts import EAST, NORTH
 WAYS = {EAST: "horizontal", NORTH: "vertical"}
 SHARES = (0.5, 1, 2, 5)     # percent of the edges, the fullest first
 SIDE = 8                    # tiles that a region is wide and high
+GRADES = ((1, "1 to 2"), (3, "3 to 5"), (6, "6 or more"))   # of overflow: from what on, and its words
 
 
 @dataclass

@@ -3,7 +3,6 @@
 const MARGIN = 2;           // tiles around what is zoomed to
 const FEWEST = 3;           // tiles across the map at the closest
 const SEEN = 3;             // pixels a tile from which patterns are drawn
-const GRADES = [[1, "1 to 2"], [3, "3 to 5"], [6, "6 or more"]];
 // Colours: from no use to all of the capacity, then the grades of overflow.
 const LIGHT = { full: [[247, 251, 255], [171, 208, 230], [55, 135, 192], [27, 83, 151]], none: [217, 217, 217],
   over: [[253, 184, 99], [230, 97, 1], [127, 29, 11]], ink: "#000000", paper: "#ffffff" };
@@ -157,7 +156,7 @@ class Picture {
 
   paintPatterns() {
     const [x0, y1] = this.toTiles(0, 0), [x1, y0] = this.toTiles(this.wide, this.high);
-    const paths = GRADES.map(() => new Path2D()), shut = new Path2D();
+    const paths = data.grades.map(() => new Path2D()), shut = new Path2D();
     for (let row = Math.max(0, Math.floor(y0)); row < Math.min(data.rows, y1); row++) {
       for (let column = Math.max(0, Math.floor(x0)); column < Math.min(data.columns, x1); column++) {
         const at = row * data.columns + column;
@@ -253,7 +252,8 @@ class Picture {
 const wireOf = (layer) => [WIRES[layer % WIRES.length],
   DASHES[(layer + Math.floor(layer / WIRES.length)) % DASHES.length]];
 
-const gradeOf = (over) => over >= GRADES[2][0] ? 2 : over >= GRADES[1][0] ? 1 : over >= GRADES[0][0] ? 0 : -1;
+// The grade of an overflow, or -1.
+const gradeOf = (over) => data.grades.findLastIndex(([least]) => over >= least);
 
 function blend(ramp, share) {
   const place = Math.min(1, share) * (ramp.length - 1), at = Math.min(ramp.length - 2, Math.floor(place));
@@ -323,7 +323,7 @@ function* runsOf(net) {
 function paintLegend(colours) {
   const items = [["0 %", (pen) => fillAll(pen, `rgb(${colours.full[0]})`)],
     ["100 % of capacity", (pen) => fillAll(pen, `rgb(${colours.full.at(-1)})`)],
-    ...GRADES.map(([, words], grade) => [`overflow ${words}`, (pen) => {
+    ...data.grades.map(([, words], grade) => [`overflow ${words}`, (pen) => {
       fillAll(pen, `rgb(${colours.over[grade]})`);
       fillAll(pen, patternOf(pen, grade, LIGHT.ink));
     }]),

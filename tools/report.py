@@ -107,7 +107,7 @@ class Routes:
 
 def head(routes, ids, asked):
     """What isn't an array."""
-    from loads import SHARES, WAYS
+    from loads import GRADES, SHARES, WAYS
     design, terms = routes.design, routes.terms
     place = {id_: at for at, id_ in enumerate(ids)}
     shares = ", ".join(f"{use:.1f} of {share} %" for share, use in zip(SHARES, routes.loads.fullest()))
@@ -120,7 +120,7 @@ def head(routes, ids, asked):
         "corner": [float(value) for value in terms.corner], "step": [float(value) for value in terms.step],
         "hasTimes": bool(routes.required), "allNets": len(design.ids), "kinds": routes.kinds,
         "table": [vars(line) | {"use": line.use()} for line in routes.loads.table(terms.layers)],
-        "ways": [WAYS[EAST], WAYS[NORTH]],
+        "ways": [WAYS[EAST], WAYS[NORTH]], "grades": GRADES,
         "regions": [{"low": region.low, "high": region.high, "overflow": region.overflow, "over": region.over,
                      "closed": region.closed, "nets": [place[id_] for id_, _ in region.nets],
                      "counts": [count for _, count in region.nets]} for region in routes.regions],

@@ -120,8 +120,8 @@ class Hotspots(InFolder):
 
     def test_edge_by_edge(self):
         """Random designs, beside plain Python: regions, their nets, and the nets of each overfull edge."""
-        texts, plain, loads, edges_numpy, reports, names = map(importlib.import_module, (
-            "texts", "edges_plain", "loads", "edges_numpy", "reports", "names"))
+        texts, plain, loads, edges_numpy, viewers, names = map(importlib.import_module, (
+            "texts", "edges_plain", "loads", "edges_numpy", "viewers", "names"))
         regions = 0
         for seed, text in random_designs(40):
             path = self.put("design", text)
@@ -145,7 +145,7 @@ class Hotspots(InFolder):
                     needs = {id_: len(here & some) for id_, some in covered.items() if here & some}
                     self.assertEqual(region.nets, sorted(needs.items(), key=lambda net: -net[1]))
                 self.assertEqual(left, set())
-                found = reports.overfull(mine, design, names.Terms(design))
+                found = viewers.overfull(mine, design, names.Terms(design))
                 self.assertEqual(sorted(sorted(edge.nets) for edge in found), sorted(
                     sorted(design.names[id_] for id_, some in covered.items() if edge in some) for edge in over))
                 self.assertEqual(sum(edge.demand - edge.capacity for edge in found), sum(over.values()))
@@ -263,7 +263,7 @@ from, ps  to, ps  nets
 """
 
 
-@unittest.skipUnless(PICTURES, "numpy is not there")
+@unittest.skipUnless(PICTURES, "numpy and matplotlib are not there")
 class Slowest(InFolder):
     """slowest.py on a report that was worked out by hand."""
 
@@ -387,7 +387,7 @@ class Pictures(InFolder):
             self.assertIn(says, err)
 
 
-@unittest.skipUnless(PICTURES, "numpy is not there")
+@unittest.skipUnless(PICTURES, "numpy and matplotlib are not there")
 class Adjusted(InFolder):
     """adjust.py: what is cut, to what sum, and what stays."""
 

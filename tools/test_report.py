@@ -1,18 +1,25 @@
 """Tests of report.py's page, in a browser; test.py runs them."""
+import base64
 import importlib
+import json
 import os
 import re
+import struct
+import sys
 import unittest
+import zlib
+from unittest import mock
 
 import browser
 import testing
+from test_answers import random_designs
 from testing import PICTURES, ROOT, InFolder, run, tool
 
 GROM = "grom_osu035"
 HARD = "</script><script>alert(1)</script>"    # a net may be called so
 
 
-@unittest.skipUnless(PICTURES, "numpy is not there")
+@unittest.skipUnless(PICTURES, "numpy and matplotlib are not there")
 class Report(InFolder):
     """What report.py writes and prints."""
 
@@ -46,25 +53,63 @@ class Report(InFolder):
         self.assertEqual((len(re.findall("<script", page)), len(re.findall("<style", page))), (1, 1))
         self.assertEqual(re.findall(r"https?:|\bsrc=|\bhref=|@import|url\(|\bfetch\(|innerHTML", page), [])
 
+    def data(self, page):
+        """What is packed in a page: its head, and the arrays by their names."""
+        data = zlib.decompress(base64.b64decode(re.search('<template id="data">(.*)</template>', page).group(1)))
+        numpy, (length,) = importlib.import_module("numpy"), struct.unpack("<I", data[:4])
+        head = json.loads(data[4:4 + length])
+        return head, {name: numpy.frombuffer(data, f"<{kind}", count, 4 + length + at)
+                      for name, (kind, at, count) in head["arrays"].items()}
+
+    def test_what_is_packed(self):
+        """Overflow, wires, vias, pins, buffers and required times are those of the texts."""
+        for seed, text in random_designs(10):
+            design = self.put("design", text)
+            library = self.put("library", testing.LIBRARY.replace("end", "kind b 1 10 10\nend") % "".join(
+                f"wire {layer + 1} 100 100\n" for layer in range(int(text.split()[3]))))
+            _, solution, report = run(testing.program(), "route", design, library, "0")
+            _, page = self.page(design, self.put("solution", solution), library, self.put("report", report))
+            head, arrays = self.data(page)
+            totals = report.split()
+            with self.subTest(seed=seed):
+                over = sum(int((arrays[f"demand{at}"].astype(int) - arrays[f"capacity{at}"]).clip(0).sum())
+                           for at in range(len(head["planes"])))
+                wires, vias = (int(arrays[name].sum()) for name in ("wires", "vias"))
+                self.assertEqual([over, wires + vias, vias], [int(totals[at]) for at in (3, 7, 9)])
+                lengths = arrays["runLength"].astype(int)
+                is_via = arrays["runWay"] == 2
+                self.assertEqual([lengths[~is_via].sum(), lengths[is_via].sum()], [wires, vias])
+                nets = [line.split() for line in report.splitlines() if line.startswith("net ")]
+                names = bytes(arrays["names"]).decode().split("\n")
+                required = dict(zip(names, arrays["required"]))
+                self.assertTrue(all(required[net[1]] == int(net[4]) / 2000 for net in nets))
+                self.assertEqual(int(arrays["buffers"].sum()), int(totals[11]))
+                self.assertEqual(int(arrays["pins"].sum()), len(arrays["pinValues"]))
+                self.assertEqual(head["allNets"], len(names))
+
     def test_most_nets(self):
-        """Of a larger design only the nets of regions and the slowest are there."""
+        """Of a larger design, and where the page is too large, the nets of regions and the slowest alone are there."""
         report = importlib.import_module("report")
-        most = report.MOST_NETS, report.SLOWEST
-        self.addCleanup(lambda: (setattr(report, "MOST_NETS", most[0]), setattr(report, "SLOWEST", most[1])))
-        report.MOST_NETS, report.SLOWEST = 10, 2
-        design = self.put("design", run(testing.program(), "make", "11", "24", "20", "4", "600")[1])
-        path = os.path.join(self.folder.name, "page")
-        asked = type("Asked", (), {"design": design, "names": None, "solution": self.routed(design, 4), "scale": 1,
-                                   "library": None, "report": None})
-        routes = report.Routes(asked)
-        self.assertEqual(len(routes.nets(True)), 600)
-        some = {id_ for region in routes.regions for id_, _ in region.nets}
-        self.assertEqual(set(routes.nets(False)), some)
-        self.assertLess(len(some), 600)
-        self.assertFalse(os.path.exists(path))
+        design = self.put("design", run(testing.program(), "make", "11", "24", "20", "4", "2000")[1])
+        solution, path = self.routed(design, 4), os.path.join(self.folder.name, "page")
+        _, page = self.page(design, solution)
+        head, arrays = self.data(page)
+        some = {net for region in head["regions"] for net in region["nets"]}
+        self.assertTrue(0 < len(some) < len(arrays["pins"]) == 2000)
+        for name, most in (("MOST_NETS", 1999), ("MOST_BYTES", len(page) - 1)):
+            with mock.patch.object(report, name, most), mock.patch.object(
+                    sys, "argv", ["report.py", design, solution, "-o", path]), mock.patch("builtins.print"):
+                report.main()
+            with open(path, encoding="utf-8") as file:
+                head, arrays = self.data(file.read())
+            self.assertEqual((len(arrays["pins"]), head["allNets"]), (len(some), 2000))
+        texts = importlib.import_module("texts")
+        with mock.patch.object(report, "MOST_BYTES", 1000), mock.patch.object(
+                sys, "argv", ["report.py", design, solution, "-o", path]):
+            self.assertRaisesRegex(texts.Fault, "1,000 are", report.main)
 
 
-@unittest.skipUnless(PICTURES and browser.is_there(), "chromium is not there")
+@unittest.skipUnless(PICTURES and browser.is_there(), "numpy, matplotlib or chromium is not there")
 class Page(InFolder):
     """The page in a browser. Each test ends within a minute, as the browser is ended then."""
 
@@ -160,9 +205,11 @@ class Page(InFolder):
             self.assertRegex(said, r"^Edge of tiles 13 12 and 14 12, .*\nmetal1 horizontal: capacity 0, .*; metal3 hor")
             page.press("PageUp")
             self.assertEqual(page.text("#live"), "metal1")
+            page.press("PageDown")
+            self.assertEqual(page.text("#live"), "all layers")
             page.call("Input.dispatchMouseEvent", type="mouseMoved", x=200, y=400)
             page.settle()
-            self.assertRegex(page.text("#told"), r"^(Tile|Edge) .* microns\n.*metal1")
+            self.assertRegex(page.text("#told"), r"^(Tile|Edge) .* microns\n.*metal\d")
             self.assertEqual(page.complaints(), [])
 
     def test_sort_and_search(self):
@@ -182,6 +229,31 @@ class Page(InFolder):
             names = page.value("[...document.querySelectorAll('#nets tbody button')].map((cell) => cell.textContent)")
             self.assertGreater(len(names), 5)
             self.assertTrue(all(name.startswith("clk_bF") for name in names))
+            self.assertEqual(page.complaints(), [])
+
+    def test_tiles_and_runs(self):
+        """What the page paints is what the other tools count: each tile, and the runs of each net."""
+        address, _ = self.grom()
+        texts, loads, edges_numpy = map(importlib.import_module, ("texts", "loads", "edges_numpy"))
+        folder = self.folder.name
+        design = texts.Netlist(texts.Tokens(f"{folder}/grom.ispd"))
+        edges = edges_numpy.Edges(design, f"{folder}/solution")
+        with browser.Browser() as page:
+            for words, layers, ways in (("", slice(None), (0, 1)), ("#layer=3", slice(2, 3), (0, 1)),
+                                        ("#way=v", slice(None), (1,))):
+                page.open("about:blank")
+                self.opened(page, address + words)
+                found = page.value("[[...picture.full].map((use) => use < 0 ? -1 : Math.round(1000 * use)), "
+                                   "[...picture.over], [...picture.closed]]")
+                full, over, closed = loads.Loads(edges).by_tile(layers, ways)
+                full[full != full] = -0.001
+                self.assertEqual(found, [(1000 * full).round().ravel().tolist(), over.ravel().tolist(),
+                                         closed.ravel().tolist()])
+            runs = page.value("data.names.map((name, net) => [...runsOf(net)].map((run) => run.slice(0, 2)))")
+            for id_, mine in zip(design.ids, runs):
+                wanted = [[(cell[2] * design.rows + cell[1]) * design.columns + cell[0] for cell in run]
+                          for run in edges.runs_of(id_)]
+                self.assertEqual(sorted(mine), sorted(wanted))
             self.assertEqual(page.complaints(), [])
 
     def test_zoom_and_pan(self):
@@ -266,7 +338,7 @@ class Page(InFolder):
                 page.value("(() => { for (;;) {} })()")
 
 
-@unittest.skipUnless(PICTURES and browser.is_there(), "chromium is not there")
+@unittest.skipUnless(PICTURES and browser.is_there(), "numpy, matplotlib or chromium is not there")
 class FirstPicture(InFolder):
     """How long a page of 14,000 nets takes to its first picture."""
 

@@ -3,13 +3,13 @@ import matplotlib
 import numpy
 
 from figures import DOTS, LARGE, LARGE_DOTS, SMALL, SMALL_DOTS, maps, said
-from loads import WAYS
+from loads import GRADES, WAYS, Loads
 from matplotlib.collections import LineCollection
 from matplotlib.lines import Line2D
 from matplotlib.patches import Patch, Rectangle
 
 FULL = matplotlib.colors.LinearSegmentedColormap.from_list("full", ["#f7fbff", "#abd0e6", "#3787c0", "#1b5397"])
-GRADES = ((1, "#fdb863", "1 to 2"), (3, "#e66101", "3 to 5"), (6, "#7f1d0b", "6 or more"))  # from, colour, words
+OVER = ("#fdb863", "#e66101", "#7f1d0b")    # by the grade of overflow
 NO_WIRES = "#d9d9d9"
 APART = 7       # pixels between the strokes of a hatching, at least
 LAYERS = matplotlib.colormaps["tab10"].colors
@@ -104,7 +104,7 @@ class TileMap:
         bar = axes.figure.colorbar(scale, cax=axes.inset_axes([0, 0.40, 0.92, 0.04]), orientation="horizontal")
         bar.ax.tick_params(labelsize=8)
         bar.set_label("fullest wire edge of the tile, demand in % of capacity", fontsize=8)
-        keys = [Patch(facecolor=colour, label=f"overflow {words}") for _, colour, words in GRADES]
+        keys = [Patch(facecolor=colour, label=f"overflow {words}") for (_, words), colour in zip(GRADES, OVER)]
         keys += [Patch(facecolor="white", edgecolor="black", hatch="////", label="at capacity 0"),
                  Patch(facecolor=NO_WIRES, label="no wires"), *marks]
         axes.legend(handles=keys, loc="upper left", bbox_to_anchor=(-0.02, 0.29), fontsize=8, frameon=False,
@@ -113,7 +113,6 @@ class TileMap:
 
 def write_picture(edges, path, asked, name, terms, buffers):
     """All layers together and layer by layer, or one layer alone; `buffers` are cells or None."""
-    from loads import Loads
     picture = TileMap(Loads(edges), terms, asked)
     marks = []
 
@@ -151,7 +150,7 @@ def colours(full, over):
     """The colour of each tile."""
     found = FULL(numpy.nan_to_num(numpy.minimum(full, 1)))
     found[numpy.isnan(full)] = matplotlib.colors.to_rgba(NO_WIRES)
-    for least, colour, _ in GRADES:
+    for (least, _), colour in zip(GRADES, OVER):
         found[numpy.rint(over) >= least] = matplotlib.colors.to_rgba(colour)
     return found
 
