@@ -1,19 +1,21 @@
 #!/usr/bin/env python3
-"""Shows where the routes of a design are congested: demand over capacity by wire edge, as a picture or as a table.
+"""Shows where the routes of a design are congested, as a picture or as a table; prints the totals of `groute evaluate`.
 
-A picture has all layers together and layer by layer, and in it the totals, which are those of `groute evaluate`. Each
-place between two tiles is coloured by how full it is; wire edges over their capacity have a colour of their own, also
-where other layers at that place have room. Of large designs a dot stands for several edges and shows the fullest. A
-table (.csv) has a line for each wire edge that is used; columns and rows count from 0, layers from 1.
+A picture has all layers together and layer by layer. Each tile has the colour of the fullest of its wire edges, by
+demand over capacity; where one is over its capacity, a colour by the greatest overflow; overflow on edges of capacity 0
+is hatched and doesn't count for the colour. Of large designs a dot is the mean of several tiles. With --edges each wire
+edge has its own place, between its two tiles, and a dot of large designs is the fullest of several. A table (.csv) has
+a line for each wire edge that is used; columns and rows count from 0, layers from 1.
 
 Pictures want Debian's python3-numpy and python3-matplotlib. Tables and totals do without, but are slower then.
 """
-import argparse
 import csv
 import os
 import sys
 
-from texts import EAST, Design, Fault, Tokens
+import command
+from names import Terms
+from texts import EAST, Design, Fault, Netlist, Tokens, buffer_of, buffered
 
 try:
     from edges_numpy import Edges
@@ -21,14 +23,7 @@ except ImportError:
     from edges_plain import Edges
 
 
-def totals(edges):
-    """The lines of the report, as `groute evaluate` prints them."""
-    overflow, maximum = edges.overflow()
-    return (f"routed {edges.design.routed}\noverflow {overflow}\nmaximum {maximum}\n"
-            f"wirelength {edges.wires + edges.vias}\nvias {edges.vias}\n")
-
-
-def write_table(edges, path, layer):
+def write_table(edges, path, layer, terms):
     """A line for each wire edge that is used, of one layer or of all."""
     with open(path, "w", newline="", encoding="ascii") as file:
         table = csv.writer(file, lineterminator="\n")
@@ -37,45 +32,72 @@ def write_table(edges, path, layer):
             column, row, at = edges.design.place(way, number)
             if layer in (None, at + 1):
                 to = (column + 1, row) if way == EAST else (column, row + 1)
-                table.writerow([at + 1, column, row, *to, capacity, demand, max(0, demand - capacity)])
+                table.writerow([terms.layers[at], column, row, *to, capacity, demand, max(0, demand - capacity)])
 
 
 def words():
     """What is asked for."""
-    parser = argparse.ArgumentParser(description=__doc__, formatter_class=argparse.RawDescriptionHelpFormatter)
+    parser = command.parser(__doc__)
     parser.add_argument("design", metavar="DESIGN", help="a design text")
     parser.add_argument("solution", metavar="SOLUTION", help="a solution text of it")
-    parser.add_argument("--layer", type=int, metavar="N", help="show this layer alone, from 1")
     parser.add_argument("-o", "--output", metavar="FILE", help="a file .png, .svg or .csv; without it, only the totals")
+    parser.add_argument("--layer", metavar="N", help="show this layer alone, from 1 or by its name")
+    parser.add_argument("--edges", action="store_true", help="a picture of wire edges and not of tiles")
+    parser.add_argument("--direction", choices=("h", "v"), help="show horizontal or vertical wire edges alone")
+    parser.add_argument("--region", nargs=4, type=int, metavar=("X0", "Y0", "X1", "Y1"),
+                        help="show the tiles from one to another alone")
+    parser.add_argument("--worst", type=int, default=0, metavar="N", help="frame the N worst regions of hotspots.py")
+    parser.add_argument("--net", metavar="NAME", help="draw this net")
+    parser.add_argument("--buffers", metavar="REPORT", help="draw the buffers that a report tells of")
+    command.add_names(parser)
     asked = parser.parse_args()
     if asked.output and os.path.splitext(asked.output)[1] not in (".png", ".svg", ".csv"):
         parser.error("the output ends in .png, .svg or .csv")
+    of_tiles = [asked.direction, asked.region, asked.worst, asked.net, asked.buffers]
+    if any(of_tiles) and (asked.edges or not asked.output or asked.output.endswith(".csv")):
+        parser.error("--direction, --region, --worst, --net and --buffers are of pictures of tiles")
     return asked
 
 
+def checked(asked, design, terms):
+    """Refuses what the design doesn't have; the layer becomes its number, and the net its id."""
+    if asked.layer is not None:
+        asked.layer = terms.layer(asked.layer)
+    if asked.region:
+        x0, y0, x1, y1 = asked.region
+        if not (0 <= x0 <= x1 < design.columns and 0 <= y0 <= y1 < design.rows):
+            raise Fault(f"the design has the tiles 0 0 to {design.columns - 1} {design.rows - 1}")
+    if asked.net is not None:
+        found = [id_ for id_, name in design.names.items() if name == asked.net]
+        if not found:
+            raise Fault(f"the design has no net {asked.net}")
+        asked.net = found[0]
+
+
+def buffers(asked, design):
+    """The cells of the buffers that are asked for."""
+    tokens = (some for id_, _, some in buffered(design, asked.buffers) if asked.net in (None, id_))
+    return [buffer_of(design, *pair)[0] for some in tokens for pair in zip(some[::2], some[1::2])]
+
+
 def main():
-    """Prints the totals and writes the file. The answer is the status."""
+    """Prints the totals and writes the file."""
     asked = words()
-    try:
-        design = Design(Tokens(asked.design))
-        if asked.layer is not None and not 1 <= asked.layer <= design.layers:
-            raise Fault(f"the design has layers 1 to {design.layers}")
-        edges = Edges(design, asked.solution)
-        if asked.output and asked.output.endswith(".csv"):
-            write_table(edges, asked.output, asked.layer)
-        elif asked.output:
-            from heat_map import write_picture      # wants numpy and matplotlib
-            write_picture(edges, asked.output, asked.layer, os.path.basename(asked.design))
-    except ImportError as fault:
-        print(f"congestion: {fault.name} is missing: pictures want Debian's python3-numpy and python3-matplotlib",
-              file=sys.stderr)
-        return 1
-    except (Fault, OSError) as fault:
-        print(f"congestion: {fault}", file=sys.stderr)
-        return 1
-    sys.stdout.write(totals(edges))
-    return 0
+    design = (Design if asked.net is None else Netlist)(Tokens(asked.design))
+    terms = Terms(design, asked.names)
+    checked(asked, design, terms)
+    edges = Edges(design, asked.solution)
+    name = os.path.basename(asked.design)
+    if asked.output and asked.output.endswith(".csv"):
+        write_table(edges, asked.output, asked.layer, terms)
+    elif asked.output and asked.edges:
+        from edge_map import write_picture      # wants numpy and matplotlib
+        write_picture(edges, asked.output, asked.layer, name, terms)
+    elif asked.output:
+        from tile_map import write_picture      # as above
+        write_picture(edges, asked.output, asked, name, terms, asked.buffers and buffers(asked, design))
+    sys.stdout.write(command.totals(edges))
 
 
 if __name__ == "__main__":
-    sys.exit(main())
+    sys.exit(command.done("congestion", main))

@@ -7,20 +7,29 @@ BATCH = 1 << 19     # segments that are gone through at once
 
 
 class Edges:
-    """demand[way] and capacity[way] by the numbers of wire edges, and how many wire edges and vias all nets have."""
+    """demand[way] and capacity[way] by the numbers of wire edges, and how many wire edges and vias all nets have.
+
+    `ids` are the nets with a record. Their runs are five arrays side by side: whose run it is (by its place in ids),
+    its way, the number of its first edge, how many edges it has, and what the net takes of each. A net's runs share no
+    edge. Those of way UP are numbered as `numbers` says.
+    """
 
     def __init__(self, design, solution):
         self.design = design
         self.cells = design.columns * design.rows * design.layers
-        self.wires = self.vias = 0
-        runs = [[], []]     # by way: first and last number and need of each run of a net
-        for widths, counts, segments in batches(design, solution):
-            self.gather(runs, numpy.array(widths), numpy.array(counts), ends(segments))
-        self.demand = [self.summed(some) for some in runs]
-        self.capacity = [self.capacities(way) for way in (EAST, NORTH)]
+        self.ids = []
+        parts = [[numpy.zeros(0, numpy.int32)] * 5]
+        for ids, counts, segments in batches(design, solution):
+            parts.append(self.gather(ids, numpy.array(counts), ends(segments)))
+            self.ids += ids
+        self.net, self.way, self.number, self.length, self.need = map(numpy.concatenate, zip(*parts))
+        self.vias = int(self.length[self.way == UP].sum(dtype=numpy.int64))
+        self.wires = int(self.length.sum(dtype=numpy.int64)) - self.vias
+        self.demand = [self.summed(way) for way in (EAST, NORTH)]
+        self.capacity = [capacities(design, way) for way in (EAST, NORTH)]
 
-    def gather(self, runs, widths, counts, points):
-        """Adds the runs of a batch of nets, each edge of a net once."""
+    def gather(self, ids, counts, points):
+        """The runs of a batch of nets, each edge of a net once."""
         low, high = self.cells_of(points[:, :3]), self.cells_of(points[:, 3:])
         differ = low != high
         if (differ.sum(axis=1) > 1).any():
@@ -31,16 +40,17 @@ class Edges:
         one, other = self.numbers(way, low[straight]), self.numbers(way, high[straight])
         base = (net * 3 + way) * self.cells
         first, last = merged(base + numpy.minimum(one, other), base + numpy.maximum(one, other))
-        length, way = last - first, first // self.cells % 3
-        self.vias += int(length[way == UP].sum())
-        self.wires += int(length[way != UP].sum())
-        for at in (EAST, NORTH):
-            mine = first[way == at]
-            number = mine % self.cells
-            layer = number // (self.design.columns * self.design.rows)
-            width = widths[mine // (3 * self.cells)]
-            need = numpy.maximum(width, numpy.array(self.design.width)[layer]) + numpy.array(self.design.spacing)[layer]
-            runs[at].append((number, number + length[way == at], need))
+        net, way, number = first // (3 * self.cells), first // self.cells % 3, first % self.cells
+        # Of a via this is no layer, and what is needed of it isn't asked for.
+        layer = number // (self.design.columns * self.design.rows)
+        width = numpy.array([self.design.widths[id_] for id_ in ids], numpy.int64)[net]
+        need = numpy.maximum(width, numpy.array(self.design.width)[layer]) + numpy.array(self.design.spacing)[layer]
+        return [some.astype(numpy.int32) for some in (net + len(self.ids), way, number, last - first, need)]
+
+    def cell_numbers(self, points):
+        """Of points of the text, by column, then row, then layer."""
+        column, row, layer = self.cells_of(points).T
+        return (layer * self.design.rows + row) * self.design.columns + column
 
     def cells_of(self, points):
         """Column, row and layer of points of the text."""
@@ -50,7 +60,7 @@ class Edges:
         away = points - numpy.array([design.left, design.low, 1])
         border = size * tile - numpy.array([0, 0, 1])
         if ((away < 0) | (away > border)).any():
-            raise Fault("a segment of the solution ends outside the chip")
+            raise Fault("a point lies outside the chip")
         return numpy.minimum(away // tile, size - 1)
 
     def numbers(self, way, cells):
@@ -62,21 +72,43 @@ class Edges:
         up = (row * design.columns + column) * design.layers + layer
         return numpy.choose(way, [east, north, up])
 
-    def summed(self, runs):
+    def summed(self, way):
         """Demand by number: each run adds its need from its first number to before its last."""
-        first, last, need = map(numpy.concatenate, zip(*runs)) if runs else [numpy.zeros(0, int)] * 3
-        change = numpy.bincount(first, need, self.cells) - numpy.bincount(last, need, self.cells)
+        mine = self.way == way
+        first, need = self.number[mine], self.need[mine]
+        change = numpy.bincount(first, need, self.cells)
+        change -= numpy.bincount(first + self.length[mine], need, self.cells)
         return numpy.rint(change.cumsum()).astype(numpy.int64)
 
-    def capacities(self, way):
-        """Capacity by number; numbers at the border, where there is no edge, have none."""
+    def through(self, marked):
+        """Of each net of `ids`, through how many of the marked wire edges it goes: marked[way] is true or false by
+        number."""
+        found = numpy.zeros(len(self.ids), numpy.int64)
+        for way in (EAST, NORTH):
+            before = numpy.concatenate(([0], marked[way].cumsum(dtype=numpy.int64)))
+            mine = self.way == way
+            first = self.number[mine]
+            count = before[first + self.length[mine]] - before[first]
+            found += numpy.rint(numpy.bincount(self.net[mine], count, len(self.ids))).astype(numpy.int64)
+        return found
+
+    def runs_of(self, id_):
+        """The first and the last cell of each run of a net: column, row and layer, from 0."""
         design = self.design
-        line = design.columns if way == EAST else design.rows
-        stated = numpy.repeat(numpy.array(design.capacity[way]), design.columns * design.rows)
-        stated[line - 1::line] = 0
-        mine = {number: capacity for (at, number), capacity in design.adjusted.items() if at == way}
-        stated[list(mine)] = list(mine.values())
-        return stated
+        mine = (self.net == self.ids.index(id_)).nonzero()[0] if id_ in self.ids else []
+        for way, number, length in zip(*(some[mine].tolist() for some in (self.way, self.number, self.length))):
+            if way == UP:
+                tile = number // design.layers
+                low = tile % design.columns, tile // design.columns, number % design.layers
+            else:
+                low = design.place(way, number)
+            yield low, (*low[:way], low[way] + length, *low[way + 1:])
+
+    def sizes(self):
+        """Of each net of `ids`, how many wire edges and how many vias it has."""
+        wires, vias = (numpy.bincount(self.net[mine], self.length[mine], len(self.ids)).astype(numpy.int64)
+                       for mine in (self.way != UP, self.way == UP))
+        return wires, vias
 
     def used(self):
         """Way, number, capacity and demand of each wire edge that is used."""
@@ -92,33 +124,65 @@ class Edges:
         return sum(int(some.sum()) for some in over), max(int(some.max()) for some in over)
 
 
+def capacities(design, way):
+    """Capacity by number; numbers at the border, where there is no edge, have none."""
+    line = design.columns if way == EAST else design.rows
+    stated = numpy.repeat(numpy.array(design.capacity[way]), design.columns * design.rows)
+    stated[line - 1::line] = 0
+    mine = {number: capacity for (at, number), capacity in design.adjusted.items() if at == way}
+    stated[list(mine)] = list(mine.values())
+    return stated
+
+
+def by_layer(design, way, values):
+    """Values by number as an array by layer, row and column, which shares their place."""
+    if way == EAST:
+        return values.reshape(design.layers, design.rows, design.columns)
+    return values.reshape(design.layers, design.columns, design.rows).transpose(0, 2, 1)
+
+
+def by_number(way, array):
+    """The values of such an array by number."""
+    return (array if way == EAST else array.transpose(0, 2, 1)).ravel()
+
+
 def batches(design, solution):
-    """Widths, counts of segments, and the segments, of many nets at once."""
-    widths, counts, segments = [], [], []
+    """Ids, counts of segments, and the segments, of many nets at once."""
+    ids, counts, segments = [], [], []
     for id_, some in records(design, solution):
-        widths.append(design.widths[id_])
+        ids.append(id_)
         counts.append(len(some))
         segments += some
         if len(segments) >= BATCH:
-            yield widths, counts, segments
-            widths, counts, segments = [], [], []
+            yield ids, counts, segments
+            ids, counts, segments = [], [], []
     if segments:
-        yield widths, counts, segments
+        yield ids, counts, segments
 
 
 def ends(segments):
     """The six numbers of each segment's token."""
-    count = len(segments)
-    text = b"\n" + b"\n".join(segments) + b"\n"
+    return parsed(segments, b"(,,)-(,,)", (b"\n(", b")-(", b")\n"), "a segment of the solution has not the form "
+                  "(x,y,layer)-(x,y,layer)")
+
+
+def points(tokens):
+    """The three numbers of each point's token."""
+    return parsed(tokens, b"(,,)", (b"\n(", b")\n"), "the place of a buffer has not the form (x,y,layer)")
+
+
+def parsed(tokens, form, marks, fault):
+    """The numbers of tokens, a row for each. `form` is one without its numbers, and marks are where none stand."""
+    each, count = form.count(b",") + form.count(b"("), len(tokens)
+    text = b"\n" + b"\n".join(tokens) + b"\n" * (count > 0)
     signs = text.translate(None, b"0123456789").replace(b"(-", b"(").replace(b",-", b",")
-    has_form = signs == b"\n" + b"(,,)-(,,)\n" * count and all(
-        text.count(mark) == count for mark in (b"\n(", b")-(", b")\n"))
+    has_form = signs == b"\n" + (form + b"\n") * count and all(text.count(mark) == count for mark in marks)
     # A number that is left out would make too few.
     blanks = text.replace(b")-(", b" ").translate(bytes.maketrans(b"(),", b"   "))
-    numbers = numpy.fromstring(blanks, numpy.int64, sep=" ") if has_form else numpy.zeros(0, int)
-    if len(numbers) != 6 * count:
-        raise Fault("a segment of the solution has not the form (x,y,layer)-(x,y,layer)")
-    return numbers.reshape(count, 6)
+    numbers = numpy.fromstring(blanks, numpy.int64, sep=" ") if has_form and count else numpy.zeros(0, int)
+    if len(numbers) != each * count:
+        raise Fault(fault)
+    return numbers.reshape(count, each)
 
 
 def merged(first, last):

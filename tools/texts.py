@@ -8,11 +8,12 @@ A wire edge is (way, number): EAST is along a row, NORTH along a column. The num
 way first: (layer * rows + row) * columns + column for EAST, (layer * columns + column) * rows + row for NORTH. Layers,
 columns and rows count from 0.
 """
+import array
 import io
 import re
 
 EAST, NORTH, UP = range(3)
-PIECE = 1 << 24         # bytes that are read at once
+PIECE, SMALL_PIECE = 1 << 24, 1 << 10     # bytes that are read at once, and where only the first tokens are wanted
 MOST_ROUTED = 1000      # a net of more pins is not routed
 TOKEN = re.compile(rb"[^ \t\r\n]+")
 POINT = rb"\((-?[0-9]+),(-?[0-9]+),(-?[0-9]+)\)"
@@ -32,15 +33,15 @@ def split(data):
 class Tokens:
     """The tokens of a file, which is read in pieces."""
 
-    def __init__(self, path):
-        self.path, self.file = path, open(path, "rb")
+    def __init__(self, path, piece=PIECE):
+        self.path, self.file, self.piece = path, open(path, "rb"), piece
         self.tokens, self.at = [], 0    # those in hand, and how many of them were taken
         self.before = 0                 # how many tokens there were before these
         self.rest = b""                 # the bytes behind the last blank that was read
 
     def fill(self):
         """Reads one more piece; false at the end of the file."""
-        piece = self.file.read(PIECE)
+        piece = self.file.read(self.piece)
         if not piece:
             self.file.close()
             self.file = io.BytesIO()    # so that there is no more
@@ -118,7 +119,7 @@ class Design:
     """A grid of tiles, its capacities, and what is known of its nets.
 
     capacity[way][layer], width[layer] and spacing[layer] are those of the header; `widths` has for each net's id its
-    width, or None where the net is not routed; `adjusted` has capacities of single wire edges.
+    width, or None where the net is not routed and `unrouted` has it; `adjusted` has capacities of single wire edges.
     """
 
     def __init__(self, tokens):
@@ -129,16 +130,17 @@ class Design:
         self.capacity = horizontal, vertical
         self.width = self.by_layer(tokens, b"minimum", b"width")
         self.spacing = self.by_layer(tokens, b"minimum", b"spacing")
-        self.by_layer(tokens, b"via", b"spacing")
+        self.via_spacing = self.by_layer(tokens, b"via", b"spacing")
         self.left, self.low, self.tile_width, self.tile_height = tokens.numbers(4)
         if min(self.columns, self.rows, self.layers, self.tile_width, self.tile_height) < 1:
             raise tokens.fault("the grid and its tiles are at least 1 wide and high")
-        self.widths = {}
+        self.widths, self.unrouted = {}, {}
         tokens.words(b"num", b"net")
         for _ in range(tokens.numbers(1)[0]):
             self.read_net(tokens)
         self.routed = sum(width is not None for width in self.widths.values())
         self.adjusted = {} if tokens.is_ended() else dict(self.adjustments(tokens))
+        tokens.file.close()
 
     def by_layer(self, tokens, *words):
         """A line of the header: two words and a number for each layer."""
@@ -152,6 +154,8 @@ class Design:
             raise tokens.fault("a net's id, number of pins and width are due")
         id_, count = int(id_), int(pins)
         self.widths[id_] = int(width) if count <= MOST_ROUTED else None
+        if count > MOST_ROUTED:
+            self.unrouted[id_] = int(width)
         return name, id_, tokens.take(3 * count)
 
     def adjustments(self, tokens):
@@ -208,3 +212,103 @@ def records(design, path):
             del segments[0]     # a number that says nothing
         if design.widths[id_] is not None:
             yield id_, segments
+
+
+class Netlist(Design):
+    """A design with its nets, in the order of the text: ids, and by id the name and the place among them. `points` has
+    x, y and layer of all pins, net by net, the driver first; those of the net at a place begin with pin first[place].
+    """
+
+    def __init__(self, tokens):
+        self.ids, self.names, self.places = [], {}, {}
+        self.first, self.points = [0], array.array("q")
+        Design.__init__(self, tokens)
+
+    def read_net(self, tokens):
+        """A net."""
+        name, id_, pins = Design.read_net(self, tokens)
+        id_ = int(id_)
+        self.places[id_] = len(self.ids)
+        self.ids.append(id_)
+        self.names[id_] = name.decode(errors="surrogateescape")
+        try:
+            self.points.extend(map(int, pins))
+        except ValueError:
+            raise tokens.fault("x, y and layer of a pin are due") from None
+        self.first.append(len(self.points) // 3)
+        return name, id_, pins
+
+    def pins(self, id_):
+        """x, y and layer of each pin of a net."""
+        place = self.places[id_]
+        return [tuple(self.points[3 * at:3 * at + 3]) for at in range(self.first[place], self.first[place + 1])]
+
+
+class Library:
+    """What is known of a library: its kinds of buffers, and the times at which sinks want their signals.
+
+    `time` is that of all sinks, `times` has by net's id those of single sinks by their number; all in femtoseconds.
+    """
+    SIZES = {b"wire": 3, b"via": 2, b"driver": 1, b"sink": 2, b"kind": 4, b"inverter": 4, b"block": 2, b"drive": 2,
+             b"pin": 4, b"flip": 2}     # how many tokens stand behind an item's word
+
+    def __init__(self, tokens):
+        tokens.words(b"library")
+        tokens.numbers(1)
+        self.kinds, self.time, self.times = [], 0, {}
+        while (word := tokens.take(1)[0]) != b"end":
+            if word not in self.SIZES:
+                raise tokens.fault("an item of a library is due")
+            if word in (b"kind", b"inverter"):
+                self.kinds.append(tokens.take(4)[0].decode(errors="surrogateescape"))
+            elif word == b"sink":
+                self.time = tokens.numbers(2)[1]
+            elif word == b"pin":
+                net, pin, _, time = tokens.numbers(4)
+                self.times.setdefault(net, {})[pin] = time
+            else:
+                tokens.take(self.SIZES[word])
+
+    def shared_time(self, id_, sinks):
+        """The time that all sinks of a net share, or None."""
+        own = self.times.get(id_, {})
+        times = set(own.values()) | ({self.time} if len(own) < sinks else set())
+        return times.pop() if len(times) == 1 else None
+
+    def has_times(self):
+        """Whether a time isn't 0."""
+        return self.time != 0 or any(time for own in self.times.values() for time in own.values())
+
+
+def overflow_of(path):
+    """The overflow that a report tells, or None of a text of `groute buffer`, which has no totals."""
+    tokens = Tokens(path, SMALL_PIECE)
+    with tokens.file:
+        if tokens.take(2)[0] == b"buffers":
+            return None
+        tokens.words(b"overflow")
+        return tokens.numbers(1)[0]
+
+
+def buffered(design, path):
+    """Of each net in a report's or a buffers' text: its id, its required time in half femtoseconds, and two tokens for
+    each of its buffers, which `buffer_of` reads."""
+    tokens = Tokens(path)
+    while tokens.take(1)[0] != b"buffers":
+        tokens.numbers(1)
+    tokens.numbers(1)
+    while not tokens.is_ended():
+        net, _, id_, word, required, word2, count = tokens.take(7)
+        if (net, word, word2) != (b"net", b"required", b"buffers") or not (id_.isdigit() and count.isdigit()):
+            raise tokens.fault("a line `net NAME ID required TIME buffers NUMBER` ends here or before")
+        if int(id_) not in design.widths:
+            raise tokens.fault(f"the design has no net {id_.decode()}")
+        yield int(id_), int(required), tokens.take(2 * int(count))
+
+
+def buffer_of(design, point, kind):
+    """The cell and the kind of a buffer."""
+    form = re.fullmatch(POINT, point)
+    if form is None:
+        raise Fault(f"{point.decode(errors='replace')} is no place of a buffer")
+    return design.cell(*map(int, form.groups())), kind.decode(errors="surrogateescape")
