@@ -1,137 +1,61 @@
 #!/usr/bin/env python3
 """Makes a design text, and a library text, of a placed DEF and its LEF.
 
-What Debian's flow (yosys, qflow, graywolf) writes is read; what is outside of that is refused by name. Tiles are
-squares as high as a row of cells, or as --tile says. Layers are the LEF's routing layers, each in its one direction. A
-wire has width 1 and spacing 1, so that each track has capacity 2. A track counts for the border of two tiles where no
-metal of cells, of pins or of special wires lies nearer to it than a wire may, anywhere between the middles of the two.
-A pin lies in the middle of its first rectangle; a net's first pin, its driver, is the output of a component, else a pin
-of the chip, else the first that is named. Nets without pins are left out.
+LEF and DEF are read as the public language 5.8 has them. What says nothing to a global router is skipped, each kind
+told once on standard error; what matters and isn't understood is refused with its file and line.
 
-The library has the wires' resistance and capacitance for a step from tile to tile, by the LEF. The LEF says nothing of
-drivers, sinks and buffers: they are given here, in ohms, femtofarads and femtoseconds. A library's numbers are whole,
-and those of short wires round badly: --scale N makes resistances and capacitances N times as great, and delays, with
-the required times that groute tells, N * N times.
+Tiles are as --tile says; else those of GCELLGRID, where it is regular; else squares of 15 pitches of the third routing
+layer, or, of a DEF without ROW, as qflow writes it, as high as a row of cells. The last tile of a row or of a column
+runs to the edge of the die. Layers are the LEF's routing layers, each in its one direction, or those of --layers: pins
+on lower ones are lifted to the first. A wire has width 1 and spacing 1, so that each track has capacity 2. A track
+counts for the border of two tiles where no metal of cells, of pins or of special wires and no blockage lies nearer to
+it than a wire may, anywhere between the middles of the two. A net with a rule for wide nets has, of width W and spacing
+S, the width 2 * (W + S) / pitch, rounded up, less 1, of the layer where that is most.
+
+A pin lies in the middle of its first rectangle; a net's first pin, its driver, is the output of a component, else a pin
+of the chip, else the first that is named. Nets without pins are left out. DESIGN.names has the names of the layers and
+the units, which other tools read.
+
+The library has the wires' resistance and capacitance for a step from tile to tile, and of all vias the greatest
+resistance, by the LEF. The LEF says nothing of drivers, sinks and buffers: they are given here, in ohms, femtofarads
+and femtoseconds, or read from --liberty, by the linear model of tools/liberty.py. Then the library has a line for each
+net's driver and for each sink whose cell is known, --kinds are cells that buffer or invert (else all that buffer), and
+--driver is the cell for all others: its resistance for drivers, its input's load for sinks. A library's numbers are
+whole, and those of short wires round badly: --scale N makes resistances and capacitances N times as great, and delays,
+with the required times that groute tells, N * N times.
 """
 import argparse
+import os
 import sys
-from bisect import bisect_left, bisect_right
+from fractions import Fraction
 
-from lefdef import Def, Fault, Lef, moved
-
-UNITS = 2   # what a wire with its spacing takes
-
-
-class Chip:
-    """A placed design over a grid of tiles."""
-
-    def __init__(self, placed, lef, tile):
-        self.placed, self.lef = placed, lef
-        self.left, self.low, right, top = placed.area
-        self.tile = tile    # (width, height)
-        self.columns = -(-(right - self.left) // tile[0])
-        self.rows = -(-(top - self.low) // tile[1])
-        self.layers = {layer.name: at for at, layer in enumerate(lef.layers)}
-        self.shapes = {name: [] for name in self.layers}
-        for shape in [*placed.special, *placed.pins.values(), *self.cell_shapes()]:
-            if shape[0] in self.shapes:
-                self.shapes[shape[0]].append(shape[1:])
-
-    def cell_shapes(self):
-        """The metal of all components."""
-        for name in self.placed.components:
-            for shape in self.macro(name).shapes():
-                yield self.in_place(name, shape)
-
-    def macro(self, component):
-        """The cell that a component is of."""
-        name = self.placed.components[component][0]
-        if name not in self.lef.macros:
-            raise Fault(f"{self.placed.path}: the LEF has no cell {name}")
-        return self.lef.macros[name]
-
-    def in_place(self, component, shape):
-        """Where a shape of a component's cell lies on the chip."""
-        _, x, y, orientation = self.placed.components[component]
-        macro = self.macro(component)
-        layer, x1, y1, x2, y2 = moved(shape, macro.left, macro.low)
-        if orientation in ("S", "FN"):
-            x1, x2 = macro.width - x2, macro.width - x1
-        if orientation in ("S", "FS"):
-            y1, y2 = macro.height - y2, macro.height - y1
-        units = self.placed.units
-        return moved((layer, *(round(value * units) for value in (x1, y1, x2, y2))), x, y)
-
-    def pin(self, component, pin):
-        """Direction and first shape on a routing layer of a net's pin."""
-        if component == "PIN":
-            if pin not in self.placed.pins:
-                raise Fault(f"{self.placed.path}: PINS has no {pin}")
-            return "CHIP", self.placed.pins[pin]
-        if component not in self.placed.components or pin not in self.macro(component).pins:
-            raise Fault(f"{self.placed.path}: there is no pin {pin} of component {component}")
-        direction, shapes = self.macro(component).pins[pin]
-        for shape in shapes:
-            if shape[0] in self.layers:
-                return direction, self.in_place(component, shape)
-        raise Fault(f"{self.placed.path}: the pin {pin} of component {component} has no metal")
-
-    def pins_of(self, connections):
-        """x, y and layer of a net's pins, the driver first."""
-        pins = [self.pin(*connection) for connection in connections]
-        order = {"OUTPUT": 0, "CHIP": 1}
-        driver = min(range(len(pins)), key=lambda at: order.get(pins[at][0], 2))
-        for _, (layer, x1, y1, x2, y2) in [pins[driver], *pins[:driver], *pins[driver + 1:]]:
-            x, y = (x1 + x2) // 2, (y1 + y2) // 2
-            if not (self.left <= x <= self.left + self.columns * self.tile[0]
-                    and self.low <= y <= self.low + self.rows * self.tile[1]):
-                raise Fault(f"{self.placed.path}: a pin at ( {x} {y} ) lies outside the chip")
-            if layer not in self.layers:
-                raise Fault(f"{self.placed.path}: a pin lies on {layer}, which is no routing layer of the LEF")
-            yield x, y, self.layers[layer] + 1
-
-    def capacities(self, layer):
-        """Of the borders of tiles that a layer's tracks cross: by the number of the tiles' line (a row, or of a
-        vertical layer a column), and by the lower tile's number in it."""
-        along = 0 if layer.direction == "HORIZONTAL" else 1
-        size = self.columns, self.rows
-        start, across = (self.left, self.low)[along], (self.left, self.low)[1 - along]
-        tracks = sorted(self.placed.tracks.get((layer.name, "YX"[along]), []))
-        tracks = [track for track in tracks if 0 <= (track - across) // self.tile[1 - along] < size[1 - along]]
-        middles = [start + self.tile[along] * at + self.tile[along] // 2 for at in range(size[along])]
-        room = round((layer.width / 2 + layer.spacing) * self.placed.units)
-        free = [[True] * (size[along] - 1) for _ in tracks]
-        for shape in self.shapes[layer.name]:
-            low, high = shape[along] - room, shape[along + 2] + room
-            borders = slice(max(0, bisect_right(middles, low) - 1), bisect_left(middles, high))
-            for at in range(bisect_right(tracks, shape[1 - along] - room),
-                            bisect_left(tracks, shape[3 - along] + room)):
-                free[at][borders] = [False] * len(free[at][borders])
-        found = [[0] * (size[along] - 1) for _ in range(size[1 - along])]
-        for track, borders in zip(tracks, free):
-            line = found[(track - across) // self.tile[1 - along]]
-            for at, is_free in enumerate(borders):
-                line[at] += UNITS * is_free
-        return found
+from chip import Chip
+from def_text import Def
+from lef_text import Lef
+from library_text import library_text
+from names import Names, write_names
+from statements import Fault, Notes, number
 
 
 def design_text(chip):
     """The lines of the design."""
-    layers = chip.lef.layers
-    found = [chip.capacities(layer) for layer in layers]
+    grid, layers = chip.grid, chip.layers
+    found = [chip.capacities(at) for at in range(len(layers))]
     most = [max((value for line in lines for value in line), default=0) for lines in found]
     ones = " 1" * len(layers)
-    yield f"grid {chip.columns} {chip.rows} {len(layers)}"
-    for word, direction in (("vertical", "VERTICAL"), ("horizontal", "HORIZONTAL")):
-        values = (value if layer.direction == direction else 0 for layer, value in zip(layers, most))
+    yield f"grid {grid.columns} {grid.rows} {len(layers)}"
+    for word, direction, tiles in (("vertical", "VERTICAL", grid.rows), ("horizontal", "HORIZONTAL", grid.columns)):
+        values = [value if layer.direction == direction else 0 for layer, value in zip(layers, most)]
+        if tiles > 1 and not any(values):
+            raise Fault(f"{chip.placed.path}: no {direction} layer has a free track between two tiles")
         yield f"{word} capacity {' '.join(map(str, values))}"
     yield from (f"minimum width{ones}", f"minimum spacing{ones}", f"via spacing{ones}")
-    yield f"{chip.left} {chip.low} {chip.tile[0]} {chip.tile[1]}"
-    nets = [(name, connections) for name, connections in chip.placed.nets if connections]
+    yield f"{grid.left} {grid.low} {grid.tile[0]} {grid.tile[1]}"
+    nets = chip.nets()
     yield f"num net {len(nets)}"
-    for number, (name, connections) in enumerate(nets):
-        yield f"{name} {number} {len(connections)} 1"
-        yield from (f"{x} {y} {layer}" for x, y, layer in chip.pins_of(connections))
+    for at, net in enumerate(nets):
+        yield f"{net.name} {at} {len(net.connections)} {chip.width(net)}"
+        yield from (f"{x} {y} {layer}" for x, y, layer in chip.points(net))
     adjusted = list(adjustments(layers, found, most))
     yield str(len(adjusted))
     yield from adjusted
@@ -139,31 +63,19 @@ def design_text(chip):
 
 def adjustments(layers, found, most):
     """Lines for the borders that hold less than the most of their layer."""
-    for number, (layer, lines) in enumerate(zip(layers, found), 1):
+    for at_layer, (layer, lines) in enumerate(zip(layers, found), 1):
         for line, borders in enumerate(lines):
             for at, capacity in enumerate(borders):
-                if capacity != most[number - 1]:
-                    ends = (at, line, at + 1, line) if layer.direction == "HORIZONTAL" else (line, at, line, at + 1)
-                    yield f"{ends[0]} {ends[1]} {number} {ends[2]} {ends[3]} {number} {capacity}"
+                if capacity != most[at_layer - 1]:
+                    ends = (at, line, at + 1, line) if layer.is_horizontal() else (line, at, line, at + 1)
+                    yield f"{ends[0]} {ends[1]} {at_layer} {ends[2]} {ends[3]} {at_layer} {capacity}"
 
 
-def library_text(chip, asked):
-    """The lines of the library."""
-    scale = asked.scale
-    yield "library 1"
-    for number, layer in enumerate(chip.lef.layers, 1):
-        if layer.resistance is None:
-            raise Fault(f"the LEF says no RESISTANCE of LAYER {layer.name}")
-        step = chip.tile[layer.direction == "VERTICAL"] / chip.placed.units
-        ohms = layer.resistance * step / layer.width
-        femtofarads = (layer.capacitance * layer.width + 2 * layer.edge_capacitance) * step * 1000
-        yield f"wire {number} {round(scale * ohms)} {round(scale * femtofarads)}"
-    yield f"via {scale * asked.via[0]} {scale * asked.via[1]}"
-    yield f"driver {scale * asked.driver}"
-    yield f"sink {scale * asked.sink} 0"
-    for name, capacitance, resistance, delay in asked.kind:
-        yield f"kind {name} {scale * int(capacitance)} {scale * int(resistance)} {scale ** 2 * int(delay)}"
-    yield "end"
+def names_of(chip):
+    """What the design's numbers are called outside: the text beside the design."""
+    grid = chip.grid
+    return Names(chip.placed.units, (grid.left, grid.low), grid.tile, [layer.name for layer in chip.layers],
+                 chip.placed.area, chip.lower)
 
 
 def write(path, lines):
@@ -172,35 +84,57 @@ def write(path, lines):
         file.writelines(f"{line}\n" for line in lines)
 
 
+def adjustment(word):
+    """Layer and share of `LAYER=SHARE`."""
+    layer, _, share = word.rpartition("=")
+    share = Fraction(number(share))
+    if not layer or not 0 <= share <= 1:
+        raise ValueError(word)
+    return layer, share
+
+
 def words():
     """What is asked for."""
     parser = argparse.ArgumentParser(description=__doc__, formatter_class=argparse.RawDescriptionHelpFormatter)
     parser.add_argument("placed", metavar="DEF", help="a placed design")
-    parser.add_argument("lef", metavar="LEF", help="its layers and cells")
+    parser.add_argument("lef", metavar="LEF", help="its layers, and cells")
     parser.add_argument("design", metavar="DESIGN", help="the design text that is written")
     parser.add_argument("library", metavar="LIBRARY", nargs="?", help="the library text that is written")
+    parser.add_argument("--lef", dest="lefs", action="append", default=[], metavar="FILE",
+                        help="a further LEF, as of cells; as often as there are")
     parser.add_argument("--tile", nargs=2, type=int, metavar=("WIDTH", "HEIGHT"), help="in units of the DEF")
-    parser.add_argument("--via", nargs=2, type=int, default=(0, 0), metavar=("R", "C"), help="of a via; else 0 0")
-    parser.add_argument("--driver", type=int, default=1000, metavar="R", help="of each net's driver; else 1000")
-    parser.add_argument("--sink", type=int, default=20, metavar="C", help="of each sink; else 20")
+    parser.add_argument("--layers", metavar="FIRST-LAST", help="the grid's routing layers, as met1-met5; else all")
+    parser.add_argument("--adjust", action="append", type=adjustment, default=[], metavar="LAYER=SHARE",
+                        help="takes this share of a layer's capacity away, as met1=0.8")
+    parser.add_argument("--via", nargs=2, type=int, metavar=("R", "C"),
+                        help="of a via; else the LEF's greatest R, and 0")
+    parser.add_argument("--driver", default="1000", metavar="R", help="of each net's driver, or a cell of --liberty; "
+                        "else 1000")
+    parser.add_argument("--sink", type=int, metavar="C", help="of each sink; else 20, or the load of --driver's cell")
+    parser.add_argument("--liberty", action="append", default=[], metavar="FILE",
+                        help="a liberty file of the cells; as often as there are")
+    parser.add_argument("--kinds", metavar="A,B,..", help="the cells of --liberty that may be placed as buffers")
     parser.add_argument("--kind", nargs=4, action="append", default=[], metavar=("NAME", "C", "R", "D"),
                         help="a kind of buffer; as often as there are kinds")
     parser.add_argument("--scale", type=int, default=1, metavar="N", help="of the library's numbers; else 1")
-    return parser.parse_args()
+    asked = parser.parse_args()
+    if not asked.liberty and (asked.kinds or not asked.driver.isdecimal()):
+        parser.error("--kinds, and a cell for --driver, want --liberty")
+    return asked
 
 
 def main():
     """Reads the DEF and writes the texts. The answer is the status."""
-    asked = words()
+    asked, notes = words(), Notes("def_to_ispd")
     try:
-        placed, lef = Def(asked.placed), Lef(asked.lef)
-        if asked.tile is None and lef.row is None:
-            raise Fault(f"{asked.lef}: no SITE of CLASS CORE says how high a row is: give --tile")
-        tile = asked.tile or 2 * (round(lef.row * placed.units),)
-        chip = Chip(placed, lef, tile)
-        write(asked.design, design_text(chip))
+        placed = Def(asked.placed, notes)
+        lef = Lef([asked.lef, *asked.lefs], placed.units, notes)
+        chip = Chip(placed, lef, asked.tile, asked.layers, asked.adjust)
+        write(asked.design, list(design_text(chip)))
+        if os.path.isfile(asked.design):    # and no pipe or terminal
+            write_names(names_of(chip), f"{asked.design}.names")
         if asked.library:
-            write(asked.library, library_text(chip, asked))
+            write(asked.library, list(library_text(chip, asked)))
     except (Fault, OSError) as fault:
         print(f"def_to_ispd: {fault}", file=sys.stderr)
         return 1

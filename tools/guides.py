@@ -2,80 +2,140 @@
 """Writes the routes of a design as route guides, the text from which detailed routers such as OpenROAD's start.
 
 For each routed net: its name, `(`, a line `x1 y1 x2 y2 LAYER` for each rectangle of tiles on a layer, and `)`. A run of
-tiles is one rectangle; where a net changes layers its tile is one on each of them; a net in one tile has this tile on
-its driver's layer. Coordinates are the design's, and layers are the LEF's routing layers in their order.
+tiles is one rectangle; where a net changes layers its tile is one on each of them, and so is each tile of a pin, unless
+a run covers it. Coordinates are the design's, where the chip is known up to its edge; the layers' names are those of
+DESIGN.names, or of --names, or the LEF's routing layers in their order.
 """
 import argparse
 import sys
+from itertools import repeat
 
-import lefdef
-from texts import Design, Fault, Tokens, records
+from lef_text import Lef
+from statements import Notes
+from texts import Fault, records
+from tiled import Tiled, names_of
 
-
-class Named(Design):
-    """A design of which the names of nets are kept, and the cells of their drivers."""
-
-    def __init__(self, tokens):
-        self.names, self.drivers = {}, {}
-        Design.__init__(self, tokens)
-
-    def read_net(self, tokens):
-        """A net."""
-        name, id_, pins = Design.read_net(self, tokens)
-        self.names[id_] = name.decode(errors="surrogateescape")
-        self.drivers[id_] = self.cell(*map(int, pins[:3]))
-        return name, id_, pins
-
-    def boxes(self, id_, segments):
-        """The cells at the lower and the upper corner of each rectangle of a net, in their order."""
-        found = set()
-        for low, high in map(self.run, segments):
-            if low[2] == high[2]:
-                found.add((low, high))
-            else:
-                found.update(((*low[:2], layer), (*low[:2], layer)) for layer in range(low[2], high[2] + 1))
-        # A tile that lies in a run is no rectangle of its own.
-        runs = [box for box in found if box[0] != box[1]]
-        alone = [box for box in found if box[0] == box[1] and not any(covers(run, box[0]) for run in runs)]
-        return sorted(runs + alone) or [(self.drivers[id_],) * 2]
-
-    def rectangle(self, box):
-        """The corners of a box on the chip."""
-        (column, row, _), (last_column, last_row, _) = box
-        return (self.left + column * self.tile_width, self.low + row * self.tile_height,
-                self.left + (last_column + 1) * self.tile_width, self.low + (last_row + 1) * self.tile_height)
+DIGITS = b"0123456789"
+FORM = b"(,,)-(,,)"
 
 
-def covers(run, cell):
-    """Whether a cell lies in a run."""
-    return all(low <= at <= high for low, at, high in zip(run[0], cell, run[1]))
+class Tiles(dict):
+    """The tile's number of a coordinate along one way, by its bytes; of a layer, its number from 0."""
+
+    def __init__(self, start, side, count, last):
+        dict.__init__(self)
+        self.start, self.side, self.count, self.last = start, side, count, last
+
+    def __missing__(self, text):
+        value = int(text)
+        if not self.start <= value <= self.last:
+            raise Fault(f"{text.decode()} lies outside the chip")
+        return self.setdefault(text, min((value - self.start) // self.side, self.count - 1))
+
+
+class Routed(Tiled):
+    """A design with the tiles of the coordinates that its routes have."""
+
+    def __init__(self, path, names):
+        Tiled.__init__(self, path, names)
+        right, top = self.left + self.columns * self.tile_width, self.low + self.rows * self.tile_height
+        self.column_of = Tiles(self.left, self.tile_width, self.columns, right)
+        self.row_of = Tiles(self.low, self.tile_height, self.rows, top)
+        self.layer_of = Tiles(1, 1, self.layers, self.layers)
+
+    def ends_of(self, segments):
+        """Column, row and layer of both ends of each segment."""
+        text = b"".join(segments)
+        signs = text.translate(None, DIGITS).replace(b"(-", b"(").replace(b",-", b",")
+        try:
+            if signs != FORM * len(segments):
+                raise ValueError(text)
+            numbers = text.replace(b")-(", b",").replace(b")(", b",")[1:-1].split(b",")
+            ways = (self.column_of, self.row_of, self.layer_of) * 2
+            return list(zip(*(map(way.__getitem__, numbers[at::6]) for at, way in enumerate(ways))))
+        except (Fault, ValueError):
+            for segment in segments:
+                self.run(segment)       # finds the one that is wrong
+            raise
+
+
+def boxes(design, id_, segments):
+    """The rectangles of a net in their order, each its lower and its upper cell."""
+    rows, columns = {}, {}      # (layer, line) -> [(first, last)]
+    spots = {design.cell(*pin) for pin in design.pins(id_)}
+    for column, row, layer, column2, row2, layer2 in design.ends_of(segments) if segments else ():
+        if (column != column2) + (row != row2) + (layer != layer2) > 1:
+            raise Fault(f"a segment of the net {design.names[id_]} is not straight")
+        if column != column2:
+            rows.setdefault((layer, row), []).append((column, column2) if column < column2 else (column2, column))
+        elif row != row2:
+            columns.setdefault((layer, column), []).append((row, row2) if row < row2 else (row2, row))
+        else:
+            spots.update((column, row, at) for at in range(min(layer, layer2), max(layer, layer2) + 1))
+    found, covered = [], set()
+    for (layer, row), runs in rows.items():
+        for first, last in joined(runs):
+            found.append(((first, row, layer), (last, row, layer)))
+            covered.update(zip(range(first, last + 1), repeat(row), repeat(layer)))
+    for (layer, column), runs in columns.items():
+        for first, last in joined(runs):
+            found.append(((column, first, layer), (column, last, layer)))
+            covered.update(zip(repeat(column), range(first, last + 1), repeat(layer)))
+    found += [(spot, spot) for spot in spots - covered]
+    found.sort()
+    return found
+
+
+def joined(runs):
+    """Runs of a line, of which those that share a tile are one."""
+    if len(runs) == 1:
+        return runs
+    found = []
+    for first, last in sorted(runs):
+        if found and first <= found[-1][1]:
+            found[-1] = found[-1][0], max(last, found[-1][1])
+        else:
+            found.append((first, last))
+    return found
 
 
 def guides(design, solution, layers):
     """The lines of the guides, net by net."""
+    xs, ys = design.xs, design.ys
     for id_, segments in records(design, solution):
         yield design.names[id_]
         yield "("
-        for box in design.boxes(id_, segments):
-            yield " ".join([*map(str, design.rectangle(box)), layers[box[0][2]]])
+        for (column, row, layer), (last_column, last_row, _) in boxes(design, id_, segments):
+            yield f"{xs[column]} {ys[row]} {xs[last_column + 1]} {ys[last_row + 1]} {layers[layer]}"
         yield ")"
+
+
+def words():
+    """What is asked for."""
+    parser = argparse.ArgumentParser(description=__doc__, formatter_class=argparse.RawDescriptionHelpFormatter)
+    parser.add_argument("design", metavar="DESIGN", help="a design text, as def_to_ispd.py makes it")
+    parser.add_argument("solution", metavar="SOLUTION", help="its routes")
+    parser.add_argument("lef", metavar="LEF", nargs="?", help="the LEF that names the layers, where nothing else does")
+    parser.add_argument("guides", metavar="GUIDES", help="the text that is written")
+    parser.add_argument("--names", metavar="FILE", help="the text beside the design; else DESIGN.names")
+    return parser.parse_args()
 
 
 def main():
     """Reads the texts and writes the guides. The answer is the status."""
-    parser = argparse.ArgumentParser(description=__doc__, formatter_class=argparse.RawDescriptionHelpFormatter)
-    for name, says in (("DESIGN", "a design text, as def_to_ispd.py makes it"), ("SOLUTION", "its routes"),
-                       ("LEF", "the LEF that the design was made with"), ("GUIDES", "the text that is written")):
-        parser.add_argument(name.lower(), metavar=name, help=says)
-    asked = parser.parse_args()
+    asked = words()
     try:
-        layers = [layer.name for layer in lefdef.Lef(asked.lef).layers]
-        design = Named(Tokens(asked.design))
+        names = names_of(asked.design, asked.names)
+        if names is None and asked.lef is None:
+            raise Fault(f"{asked.design}.names isn't there, so that a LEF is wanted")
+        design = Routed(asked.design, names)
+        layers = names.layers if names else \
+            [layer.name for layer in Lef([asked.lef], 1000, Notes("guides", False)).routing]
         if len(layers) != design.layers:
             raise Fault(f"the LEF has {len(layers)} routing layers, and the design {design.layers}")
         with open(asked.guides, "w", encoding="utf-8", errors="surrogateescape") as file:
             file.writelines(f"{line}\n" for line in guides(design, asked.solution, layers))
-    except (Fault, lefdef.Fault, OSError) as fault:
+    except (Fault, OSError) as fault:
         print(f"guides: {fault}", file=sys.stderr)
         return 1
     return 0

@@ -18,7 +18,12 @@ import tempfile
 import unittest
 
 from test_answers import Adjusted, Hotspots, Names, Pictures, Slowest   # for unittest to find them
+from test_flow import Flow
+from test_liberty import Cells
+from test_placed import Geometry, Mutated, Placed, Shapes, Technologies
 from test_report import FirstPicture, Page, Report
+from test_routes import Back, Guides
+from test_words import Scripts, Tables, Terminal
 from testing import HERE, PICTURES, ROOT, InFolder, run, tool
 
 DOCUMENTS = ["README.md", *(f"docs/{name}" for name in sorted(os.listdir(f"{ROOT}/docs")) if name.endswith(".md"))]
@@ -26,7 +31,7 @@ if not os.path.exists("/usr/share/qflow/tech/osu035/osu035_stdcells.lef"):
     DOCUMENTS.remove("docs/FLOW.md")    # its samples want this file of qflow-tech-osu035
 NAME = 32   # the token of examples/small.ispd that may be any: its net's name
 # Samples that want numpy, and what stands on a text of theirs.
-WANTS_NUMPY = re.compile(r"\.png\b|tools/(hotspots|slowest|report|adjust)\.py|/less\.ispd")
+WANTS_NUMPY = re.compile(r"\.png\b|tools/(hotspots|slowest|report|adjust|flow)\.py|/less\.ispd|/flow/adder")
 program = None      # the path of groute
 
 
@@ -149,163 +154,6 @@ class Where(InFolder):
         empty = self.put("empty", "")
         self.assertEqual(tool("where.py", empty, "1"), (0, f"{empty}:1:1: the text ends here\n", ""))
         self.assertEqual(tool("where.py", text + ".none", "1")[0], 1)
-
-
-LEF = """
-VERSION 5.4 ; # layers of two ways, and one cell with an input, an output and an obstruction
-UNITS DATABASE MICRONS 100 ; END UNITS
-LAYER poly TYPE MASTERSLICE ; END poly
-LAYER m1 TYPE ROUTING ; DIRECTION HORIZONTAL ; PITCH 2 ; WIDTH 1 ; SPACING 1 ; RESISTANCE RPERSQ 5 ;
-  CAPACITANCE CPERSQDIST 0.0001 ; EDGECAPACITANCE 0.00005 ; END m1
-LAYER v1 TYPE CUT ; SPACING 1 ; END v1
-LAYER m2 TYPE ROUTING ; DIRECTION VERTICAL ; PITCH 2 ; WIDTH 1 ; SPACING 1 ; RESISTANCE RPERSQ 2 ;
-  CAPACITANCE CPERSQDIST 0.0002 ; END m2
-VIA M2_M1 DEFAULT LAYER m1 ; RECT -1 -1 1 1 ; END M2_M1
-SITE core CLASS CORE ; SYMMETRY Y ; SIZE 2 BY 10 ; END core
-MACRO BUF
-  CLASS CORE ; FOREIGN BUF 0 0 ; ORIGIN 0 0 ; SIZE 8 BY 10 ; SYMMETRY X Y ; SITE core ;
-  PIN A DIRECTION INPUT ; PORT LAYER m1 ; RECT 0 0 2 2 ; END END A
-  PIN Y DIRECTION OUTPUT ; PORT LAYER m1 ; RECT 4 6 6 8 ; END END Y
-  OBS LAYER m2 ; RECT 2 0 3 10 ; END
-END BUF
-END LIBRARY
-"""
-DEF = """
-VERSION 5.6 ;
-DESIGN tiny ;
-UNITS DISTANCE MICRONS 10 ;
-DIEAREA ( 0 0 ) ( 300 200 ) ;
-TRACKS Y 10 DO 10 STEP 20 LAYER m1 ;
-TRACKS X 10 DO 15 STEP 20 LAYER m2 ;
-VIAS 1 ;
-- post + RECT m1 ( -5 -5 ) ( 5 5 ) + RECT m2 ( -5 -5 ) ( 5 5 ) ;
-END VIAS
-COMPONENTS 2 ;
-- one BUF + PLACED ( 0 0 ) N ;
-- two BUF + PLACED ( 200 100 ) S ;
-END COMPONENTS
-PINS 1 ;
-- in + NET in + LAYER m2 ( -5 -5 ) ( 5 5 ) + PLACED ( 50 200 ) N ;
-END PINS
-SPECIALNETS 1 ;
-- vdd + FIXED m1 10 ( 150 150 ) ( * * ) post NEW m2 20 ( 290 0 ) ( * 200 ) ;
-END SPECIALNETS
-NETS 3 ;
-- in ( one A ) ( PIN in ) ;
-- mid ( two A ) ( one Y ) ;
-- out ( two Y ) ;
-END NETS
-END DESIGN
-"""
-# Worked out by hand. Tiles are 100 by 100, with 5 tracks each way, of 2 each; a wire's middle keeps 15 from metal, and
-# what counts lies between the tiles' middles at 50, 150 and 250. On m1, Y of `one` (x 40 to 60, y 60 to 80) keeps
-# tracks 50, 70 and 90 from the first border of row 0. `two` is turned around: its A (x 260 to 280, y 180 to 200) and
-# its Y (x 220 to 240, y 120 to 140) leave the second border of row 1 no track; the via at (150, 150) takes track 150 of
-# both borders. On m2, the obstruction of `one` (x 20 to 30) takes tracks 10 and 30, the via 150, the obstruction of
-# `two` (x 250 to 260) 250 and 270, and the special wire (x 280 to 300) 270 and 290.
-TINY = """grid 3 2 2
-vertical capacity 0 8
-horizontal capacity 10 0
-minimum width 1 1
-minimum spacing 1 1
-via spacing 1 1
-0 0 100 100
-num net 3
-in 0 2 1
-50 200 2
-10 10 1
-mid 1 2 1
-50 70 1
-270 190 1
-out 2 1 1
-230 130 1
-5
-0 0 1 1 0 1 4
-0 1 1 1 1 1 8
-1 1 1 2 1 1 0
-0 0 2 0 1 2 6
-2 0 2 2 1 2 4
-"""
-
-
-class Placed(InFolder):
-    """def_to_ispd.py on a small placed design."""
-
-    def made(self, placed, lef, *words):
-        """What the tool did, and the design and the library that it wrote."""
-        design, library = (os.path.join(self.folder.name, name) for name in ("design", "library"))
-        done = tool("def_to_ispd.py", self.put("def", placed), self.put("lef", lef), design, library, *words)
-        texts = []
-        for path in (design, library):
-            if os.path.exists(path):
-                with open(path, encoding="ascii") as file:
-                    texts.append(file.read())
-        return done, texts
-
-    def test_design_and_library(self):
-        done, (design, library) = self.made(DEF, LEF, "--scale", "10", "--kind", "BUF", "1", "2", "3")
-        self.assertEqual(done, (0, "", ""))
-        self.assertEqual(design, TINY)
-        self.assertEqual(library, "library 1\nwire 1 500 20\nwire 2 200 20\nvia 0 0\ndriver 10000\nsink 200 0\n"
-                                  "kind BUF 10 20 300\nend\n")
-        paths = (os.path.join(self.folder.name, name) for name in ("design", "library"))
-        self.assertEqual(run(program, "route", *paths, "3")[0], 0)
-
-    def test_guides(self):
-        solution = self.put("solution", "in 0 (50,150,1)-(50,150,2) (50,150,2)-(50,50,2) (50,50,1)-(50,50,2) !\n"
-                                        "mid 1 (50,50,1)-(250,50,1) (250,50,1)-(250,50,2) (250,50,2)-(250,150,2)\n"
-                                        "(250,150,1)-(250,150,2) ! out 2 !")
-        guides = os.path.join(self.folder.name, "guides")
-        self.assertEqual(tool("guides.py", self.put("design", TINY), solution, self.put("lef", LEF), guides),
-                         (0, "", ""))
-        with open(guides, encoding="ascii") as file:
-            self.assertEqual(file.read(), """in
-(
-0 0 100 100 m1
-0 0 100 200 m2
-0 100 100 200 m1
-)
-mid
-(
-0 0 300 100 m1
-200 0 300 200 m2
-200 100 300 200 m1
-)
-out
-(
-200 100 300 200 m1
-)
-""")
-
-    def test_what_is_refused(self):
-        for old, new, says in (
-            ("PLACED ( 0 0 ) N", "UNPLACED", "component one"),
-            ("( 200 100 ) S", "( 200 100 ) E", "orientation E"),
-            ("( two Y )", "( two Y ) + ROUTED m1 ( 0 0 ) ( 5 0 )", "+ ROUTED of net out"),
-            ("( two Y )", "( two Z )", "pin Z of component two"),
-            ("DESIGN tiny ;", "DESIGN tiny ; ROW r core 0 0 N ;", "ROW"),
-            ("( 150 150 ) ( * * )", "( 150 150 ) ( 160 160 )", "special wire"),
-            ("+ RECT m1 ( -5", "+ POLYGON m1 ( -5", "RECTs"),
-            ("END NETS\nEND DESIGN", "", "ends early"),
-            ("TRACKS Y 10 DO 10", "TRACKS Y ten DO 10", "form of a statement of TRACKS"),
-            ("DIEAREA ( 0 0 ) ( 300 200 ) ;", "", "DIEAREA are due"),
-            ("PLACED ( 50 200 ) N", "PLACED ( 50 300 ) N", "outside the chip"),
-            ("+ LAYER m2 ( -5 -5 ) ( 5 5 ) + PLACED", "+ LAYER poly ( -5 -5 ) ( 5 5 ) + PLACED", "poly"),
-        ):
-            self.assertIn(old, DEF)
-            (status, _, err), _ = self.made(DEF.replace(old, new, 1), LEF)
-            self.assertEqual(status, 1)
-            self.assertIn(says, err)
-        for old, new, says in (
-            ("RECT 4 6 6 8", "POLYGON 4 6 6 8 9 9", "POLYGON among shapes"),
-            ("PITCH 2 ;", "THICKNESS 2 ;", "THICKNESS of LAYER m1"),
-            ("MACRO BUF", "MACRO OTHER", "no cell BUF"),
-            ("VERSION 5.4 ;", "PROPERTYDEFINITIONS", "PROPERTYDEFINITIONS"),
-        ):
-            self.assertIn(old, LEF)
-            (status, _, err), _ = self.made(DEF, LEF.replace(old, new, 1))
-            self.assertEqual(status, 1)
-            self.assertIn(says, err)
 
 
 class Congestion(InFolder):

@@ -2,8 +2,9 @@
 # Tests tools/pack.sh: see --help.
 usage="tools/test_pack.sh
 
-Packs the program into an empty folder, unpacks the archive and the Debian package there, and routes the example with
-each, with nothing of the toolchain on PATH. The last line is 'packed program: passed'."
+Packs the program into an empty folder, unpacks the archive, installs the Debian package with dpkg in a scratch root,
+and routes README's chip with each, with nothing of the toolchain on PATH; make install puts the same files; lintian,
+where it is there, finds no error. The last line is 'packed program: passed'."
 
 case ${1-} in
 -*)
@@ -15,37 +16,74 @@ here=$(cd "$(dirname "$0")/.." && pwd) || exit 1
 work=$(mktemp -d) || exit 1
 trap 'rm -rf "$work"' EXIT
 set -e
-"$here/tools/pack.sh" "$work" >/dev/null 2>&1
+"$here/tools/pack.sh" "$work" >/dev/null 2>"$work/pack.log" || {
+    cat "$work/pack.log" >&2
+    exit 1
+}
 cd "$work"
-mkdir archive package
+mkdir archive
 tar -xf groute-*.tar.xz --strip-components=1 -C archive
-dpkg-deb -x groute_*.deb package
+# A root with a list of packages that are installed: those of this system, which the package depends on.
+mkdir -p scratch/var/lib/dpkg/info scratch/var/lib/dpkg/updates scratch/var/lib/dpkg/triggers
+cp /var/lib/dpkg/status scratch/var/lib/dpkg/status
+dpkg --root="$work/scratch" --force-script-chrootless --log=/dev/null -i groute_*.deb >dpkg.log 2>&1 || {
+    cat dpkg.log >&2
+    exit 1
+}
+if command -v make >/dev/null; then
+    make -s -C "$here" install DESTDIR="$work/made" PREFIX=/usr/local
+    (cd archive && find . | sort) >archive.list
+    (cd made/usr/local && find . | sort) | cmp - archive.list
+else
+    echo "make is not there: left out" >&2
+fi
+if command -v lintian >/dev/null; then
+    lintian --allow-root --fail-on error groute_*.deb >lintian.log 2>&1 || {
+        cat lintian.log >&2
+        exit 1
+    }
+else
+    echo "lintian is not there: left out" >&2
+fi
 
 # Runs words in an empty environment, where there is no rt.
 alone() {
-    env -i PATH=/usr/bin:/bin "$@"
+    env -i PATH="$bin:/usr/bin:/bin" "$@"
 }
+bin=
 if alone sh -c 'command -v rt' >/dev/null; then
     echo "rt stands in /usr/bin or /bin, so that this test would show nothing" >&2
     exit 1
 fi
 
-# In the folder $1, by the program $2, as README shows it.
+# The program and its tools under the folder $1, as README shows them.
 try() {
-    cd "$work/$1"
-    alone "$2" route examples/small.ispd examples/small.library 3 >out 2>err
-    cmp out examples/small.solution
-    cmp LICENSE "$here/LICENSE"
-    [ "$(head -n 2 err)" = "routed 1
+    bin=$work/$1/bin
+    cd "$work/$1/share/doc/groute"
+    alone groute route examples/small.ispd examples/small.library 3 >"$work/out" 2>"$work/err"
+    cmp "$work/out" examples/small.solution
+    [ "$(head -n 2 "$work/err")" = "routed 1
 overflow 0" ]
-    alone tools/where.py examples/small.ispd 2 >/dev/null
+    alone groute-where examples/small.ispd 2 >/dev/null
     grep -q '^rattle-kit' PROVED_WITH
-    grep -q "^$(sha256sum "$2" | cut -d ' ' -f 1) " PROVED_WITH
+    grep -q "^$(sha256sum "$work/$1/lib/groute/groute" | cut -d ' ' -f 1) " PROVED_WITH
+    # README's chip
+    xz -dc examples/grom_osu035.ispd.xz >"$work/grom.ispd"
+    alone groute route "$work/grom.ispd" examples/osu035.library 5 >"$work/grom.solution" 2>"$work/grom.report"
+    [ "$(sed -n 2p "$work/grom.report")" = "overflow 0" ]
+    alone groute-congestion "$work/grom.ispd" "$work/grom.solution" >"$work/grom.totals"
+    head -n 5 "$work/grom.report" | cmp - "$work/grom.totals"
+    # a placement of today, by all tools
+    alone groute-flow examples/sky/adder.def --lef examples/sky/tech.lef --lef examples/sky/cells.lef \
+        --liberty examples/sky/cells.lib --layers met1-met5 -o "$work/flow" 2>/dev/null >"$work/verdict"
+    grep -q 'overflow 0' "$work/verdict"
+    for page in "$work/$1"/share/man/man1/groute*.1.gz; do
+        [ -z "$(alone LC_ALL=C.UTF-8 MANWIDTH=80 man --warnings -l "$page" 2>&1 >/dev/null)" ]
+    done
+    alone bash -c '. ../../bash-completion/completions/groute && complete -p groute' >/dev/null
 }
-try archive ./groute
-try package/usr/share/doc/groute "$work/package/usr/bin/groute"
+try archive
+try scratch/usr
 cd "$work"
-for page in archive/man/groute.1 package/usr/share/man/man1/groute.1.gz; do
-    [ -z "$(alone LC_ALL=C.UTF-8 MANWIDTH=80 man --warnings -l "$page" 2>&1 >/dev/null)" ]
-done
+alone "$work/scratch/usr/bin/groute" >/dev/null 2>&1 || [ $? -eq 2 ]
 echo "packed program: passed"

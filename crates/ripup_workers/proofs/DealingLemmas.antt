@@ -1,10 +1,9 @@
 -- Nets that are put one of each region after the other, and what each hand is then dealt.
 use Rattle.std.proofs.Common.{◌≡◌, ℕ, zero, suc, ◌+◌, ◌-◌, ◌*◌, ◌%◌, ◌<◌, ◌≤◌, inl, inr, Bool, true, false, ◌==◌, eq-eqb, ne_eqb, if◌then◌else◌, nat_lt, List, [], ◌∷◌, ◌++◌, All, length, map, take, drop, get_or, slice_index_or, sum_by, Vec, Global, refl, sym, ap, subst, ◌∙◌, append-nil, arith}
-use Rattle.std.specs.List.{range_with_len}
 use Rattle.std.proofs.lemmas.Bool.{cases_eq, cases_lt}
 use Rattle.std.proofs.lemmas.Bool.Decides.{nat_tests}
 use Rattle.std.proofs.lemmas.List.{take_more, take_all, length-map, length-append}
-use Rattle.std.proofs.lemmas.List.FromFn.{length-map-range_with_len, get_or-map-range_with_len}
+use Rattle.std.proofs.lemmas.List.FromFn.{get_or-map-range_with_len}
 use Rattle.std.proofs.lemmas.List.Sorted.{All-permutation}
 use Rattle.std.proofs.lemmas.List.Sums.{sum_by-cons}
 use Rattle.std.proofs.lemmas.Nat.{mod-mul-add}
@@ -273,6 +272,7 @@ dealt-in-turn d round workers nets placed order cut (r ∷ rest) shown some cut_
   where
     sorted : List (Vec ℕ Global)
     sorted = r ∷ rest
+
     of_sorted : (hand : ℕ) (e : Vec ℕ Global) → hand < length sorted → dealt (length sorted) order hand ≡ map net_in (slice_index_or sorted hand e).items
     of_sorted = subst (λ (l : List (Vec ℕ Global)). (hand : ℕ) (e : Vec ℕ Global) → hand < length l → dealt (length l) order hand ≡ map net_in (slice_index_or l hand e).items)
         shown_is each

@@ -1,5 +1,5 @@
 -- The tiles of a net's pins.
-use Rattle.std.proofs.Common.{◌≡◌, ℕ, zero, suc, ◌+◌, ◌*◌, ◌%◌, ◌/◌, ◌<◌, ◌≤◌, inl, inr, Bool, true, false, ◌||◌, ◌&&◌, ◌==◌, eq-eqb, ne_eqb, if◌then◌else◌, List, [], ◌∷◌, ◌++◌, length, map, fold, take, get_or, slice_get, Some, IsTrue, refl, sym, ap, subst, ◌∙◌, arith}
+use Rattle.std.proofs.Common.{◌≡◌, ℕ, ◌+◌, ◌*◌, ◌%◌, ◌/◌, ◌<◌, ◌≤◌, inl, inr, Bool, true, false, ◌||◌, ◌&&◌, ◌==◌, eq-eqb, ne_eqb, List, [], ◌∷◌, ◌++◌, length, map, fold, take, get_or, slice_get, Some, IsTrue, refl, sym, ap, subst, ◌∙◌, arith}
 use Rattle.std.specs.List.{list_any}
 use Rattle.std.proofs.lemmas.Bool.{cases_Bool, cases_eq}
 use Rattle.std.proofs.lemmas.Bool.Decides.{nat_tests}
@@ -31,9 +31,10 @@ same-number g a b e =
     let c = g.columns in
     let below = mod_below a c (some_columns g) in
     let other_below = mod_below b c (some_columns g) in
-    let same : (b / c % g.rows) * c + b % c ≡ (a / c % g.rows) * c + a % c = sym (tile-number g b) ∙ e ∙ tile-number g a in
-    (sym (mod-mul-add (a / c % g.rows) c (a % c) below) ∙ ap (λ (n : ℕ). n % c) (sym same) ∙ mod-mul-add (b / c % g.rows) c (b % c) other_below
-    , sym (div-mul-add (a / c % g.rows) c (a % c) below) ∙ ap (λ (n : ℕ). n / c) (sym same) ∙ div-mul-add (b / c % g.rows) c (b % c) other_below)
+    let same : (b / c % g.rows) * c + b % c ≡ (a / c % g.rows) * c + a % c = sym (tile-number g b) ∙ e ∙ tile-number g a in (
+      sym (mod-mul-add (a / c % g.rows) c (a % c) below) ∙ ap (λ (n : ℕ). n % c) (sym same) ∙ mod-mul-add (b / c % g.rows) c (b % c) other_below,
+      sym (div-mul-add (a / c % g.rows) c (a % c) below) ∙ ap (λ (n : ℕ). n / c) (sym same) ∙ div-mul-add (b / c % g.rows) c (b % c) other_below,
+    )
 
 both-true : (s t : Bool) → s ≡ true → t ≡ true → (s && t) ≡ true
 both-true s t p q = rw (p, q) refl
@@ -73,9 +74,11 @@ tile-is t u same = same-pair t.0 t.1 u.0 u.1 (first (t.0 == u.0) (t.1 == u.1) sa
   where
     same-pair : (a b c d : ℕ) → a ≡ c → b ≡ d → ◌≡◌ {A = Tile} (a, b) (c, d)
     same-pair a b c d x y = cc
+
     first : (s v : Bool) → (s && v) ≡ true → (t.0 == u.0) ≡ s → t.0 ≡ u.0
     first true v p q = grind (arith, nat_tests)
     first false v p q = absurd (cc)
+
     second : (s v : Bool) → (s && v) ≡ true → (t.1 == u.1) ≡ v → t.1 ≡ u.1
     second true true p q = grind (arith, nat_tests)
     second true false p q = absurd (cc)

@@ -1,10 +1,9 @@
 -- Nets behind the numbers of their turns.
-use Rattle.std.proofs.Common.{◌≡◌, ℕ, zero, suc, ◌+◌, ◌*◌, ◌/◌, ◌%◌, ◌<◌, ◌≤◌, inl, inr, Bool, true, false, not, ◌&&◌, ◌||◌, nat_lt, int_lt, ℤ, pos, ◌+ℤ◌, ◌<ℤ◌, ◌≤ℤ◌, List, [], ◌∷◌, All, length, map, get_or, slice_index_or, IsSorted, IsSortedBy, refl, sym, ap, subst, ◌∙◌, arith}
+use Rattle.std.proofs.Common.{◌≡◌, ℕ, zero, suc, ◌+◌, ◌*◌, ◌<◌, ◌≤◌, Bool, true, false, nat_lt, int_lt, ℤ, pos, ◌+ℤ◌, List, [], ◌∷◌, All, length, map, get_or, slice_index_or, IsSorted, refl, sym, ap, subst, ◌∙◌, arith}
 use Rattle.std.specs.Ordering.{nat_cmp}
 use Rattle.std.proofs.lemmas.List.{length-map}
 use Rattle.std.proofs.lemmas.List.Sorted.{IsNonDecreasingBy-from_sort}
 use Rattle.std.proofs.lemmas.Int.{ints}
-use Rattle.std.proofs.lemmas.Bool.{cases_lt}
 use Rattle.std.proofs.lemmas.Bool.Decides.{nat_tests}
 use Rattle.std.proofs.lemmas.Nat.{div-add-mod', div-mul-add, mod-mul-add, mod_below}
 use Rattle.gr_base.specs.Designs.{DesignView}
@@ -26,8 +25,10 @@ key-order d round a b of_a of_b less = tests (int_lt high low) (int_lt low high)
   where
     low : ℤ
     low = turn_of d round (net_in a)
+
     high : ℤ
     high = turn_of d round (net_in b)
+
     tests : (s t u : Bool) → int_lt high low ≡ s → int_lt low high ≡ t → nat_lt (net_in b) (net_in a) ≡ u → goes_before d round (net_in b) (net_in a) ≡ false
     tests true t u p q r =
         let one = div-add-mod' a 4294967296 in

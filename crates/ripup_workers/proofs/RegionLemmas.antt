@@ -1,5 +1,5 @@
 -- Nets that are cut into regions.
-use Rattle.std.proofs.Common.{◌≡◌, ℕ, zero, suc, ◌+◌, ◌-◌, ◌*◌, ◌/◌, ◌%◌, ◌<◌, ◌≤◌, inl, inr, Bool, true, false, ◌==◌, cond, if◌then◌else◌, nat_lt, List, [], ◌∷◌, ◌++◌, All, length, map, take, drop, get_or, slice_index_or, sum_by, IsPermutation, IsTrue, Vec, Global, refl, sym, ap, subst, ◌∙◌, append-nil, arith}
+use Rattle.std.proofs.Common.{◌≡◌, ℕ, zero, suc, ◌+◌, ◌-◌, ◌*◌, ◌/◌, ◌%◌, ◌<◌, ◌≤◌, inl, inr, Bool, true, false, ◌==◌, cond, if◌then◌else◌, nat_lt, List, [], ◌∷◌, ◌++◌, All, length, map, take, get_or, slice_index_or, sum_by, IsPermutation, IsTrue, Vec, Global, refl, sym, ap, subst, ◌∙◌, arith}
 use Rattle.std.proofs.lemmas.Bool.{cases_eq, cases_lt}
 use Rattle.std.proofs.lemmas.Bool.Decides.{nat_tests}
 use Rattle.std.proofs.lemmas.List.{length-append, length-map, nil_from_length, map-append, take_more, get_or-append-add}
@@ -160,13 +160,14 @@ pub cutting-all : (count each more region : ℕ) (placed left : List ℕ) (regio
     (length regions ≡ count) × ((net : ℕ) → sum_by (λ r. times net (map net_in r.items)) regions ≡ times net (map net_in placed))
 cutting-all count each more region placed left regions so_far end =
     let before = so_far.left_long in
-    let none : length left ≡ 0 = before ∙ left-end each more region (count - region) (omega (arith, end)) in
-    (so_far.long ∙ end
-    , λ net.
-    let old = so_far.same net in
-    let gone = ap (λ (l : List ℕ). times net (map net_in l)) (nil_from_length left none) in
-    let zero_times : times net (map net_in []) ≡ 0 = refl in
-    omega (arith, old, gone, zero_times))
+    let none : length left ≡ 0 = before ∙ left-end each more region (count - region) (omega (arith, end)) in (
+      so_far.long ∙ end,
+      λ net.
+          let old = so_far.same net in
+          let gone = ap (λ (l : List ℕ). times net (map net_in l)) (nil_from_length left none) in
+          let zero_times : times net (map net_in []) ≡ 0 = refl in
+          omega (arith, old, gone, zero_times),
+    )
 
 -- how often a net stands in two lists, one behind the other
 times-both : (net : ℕ) (xs ys : List ℕ) → times net (map net_in (xs ++ ys)) ≡ times net (map net_in xs) + times net (map net_in ys)

@@ -118,7 +118,14 @@ fn work_one<N: BookName, R: Threads + Wait + Sync, G: Gate>(
         book,
         gate,
     };
-    member.done = work(&ground, asked, round, share, &mut member.hand, &mut member.worker);
+    member.done = work(
+        &ground,
+        asked,
+        round,
+        share,
+        &mut member.hand,
+        &mut member.worker,
+    );
 }
 
 /// A worker attempts the nets that are left, of which there are none in practice.

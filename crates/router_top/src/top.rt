@@ -69,8 +69,9 @@ impl Ended {
 /// buffers. It gives each routed net a pattern plan over the loads of the nets before it, by the
 /// rule of the first formula. Then, in up to ROUNDS rounds (0 to 64), each net on an edge over its
 /// capacity is released and rerouted by a maze plan. As many threads as `--workers` says (1 to 16)
-/// do it, each over what it has seen of the others' routes; one alone goes in the design's order.
-/// Each passes the gate before it searches a plan, and before it claims a net.
+/// do it, each over what it has seen of the others' routes. In the first pass each takes the nets
+/// that can least go another way first, and in the rounds those that most can. Each passes the gate
+/// before it searches a plan, and before it claims a net.
 /// It writes the routes of the first round of least overflow on out, and on err their report of
 /// demand, overflow, wirelength and vias, and each routed net's buffers and required time.
 ///

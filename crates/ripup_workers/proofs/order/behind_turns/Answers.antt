@@ -1,4 +1,4 @@
-use Rattle.std.proofs.Common.{◌≡◌, IsTrue, ℕ, sym, ◌∙◌, subst}
+use Rattle.std.proofs.Common.{IsTrue, ℕ, sym, ◌∙◌, subst}
 use Rattle.gr_base.specs.Designs.{is_routed}
 use Rattle.ripup_workers.proofs.RegionLemmas.{routed-behind, behind-more, keys-more}
 use Rattle.ripup_workers.proofs.order.behind_turns.Goals as goal

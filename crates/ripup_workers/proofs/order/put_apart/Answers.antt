@@ -1,4 +1,4 @@
-use Rattle.std.proofs.Common.{List, ℕ, map, refl, sym, subst, ◌∙◌, arith}
+use Rattle.std.proofs.Common.{List, ℕ, map, refl, sym, subst, arith}
 use Rattle.ripup_workers.specs.Orders.{net_in, AreRouted}
 use Rattle.ripup_workers.proofs.RegionLemmas.{parts-taken, parts-none, routed-parts}
 use Rattle.ripup_workers.proofs.order.put_apart.Goals as goal

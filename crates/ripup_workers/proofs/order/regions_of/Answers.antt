@@ -27,7 +27,7 @@ put_apart-requires c =
 pub loop-region-preserved : goal.loop-region-preserved
 loop-region-preserved c = record {
   cutting = cutting-more c.args.count _ _ c.loop-region.region _ _ c.in_ok-others.others.items _ _ c.in_ok-others.keys c.loop-region.invariant.cutting c.loop-region-test.true
-    (subst (λ (n : ℕ). ArePartsOf n c.loop-region.left.items c.in_ok-others.others.items c.in_ok-others.keys.items) c.size_of-size.ensures c.in_ok-others.ensures.parts) c.in_ok-push.ensures.items;
+      (subst (λ (n : ℕ). ArePartsOf n c.loop-region.left.items c.in_ok-others.others.items c.in_ok-others.keys.items) c.size_of-size.ensures c.in_ok-others.ensures.parts) c.in_ok-push.ensures.items;
   keys = more-keys c.args.survey.now.design.now c.args.round c.loop-region.regions.items _ c.in_ok-others.keys c.loop-region.invariant.keys c.in_ok-others.ensures.keys c.in_ok-push.ensures.items;
   routed = c.in_ok-others.ensures.routed;
 }

@@ -1,4 +1,4 @@
-use Rattle.std.proofs.Common.{◌≡◌, List, ℕ, length, take, refl, ap, sym, ◌∙◌, arith}
+use Rattle.std.proofs.Common.{List, ℕ, length, refl, ap, sym, ◌∙◌, arith}
 use Rattle.std.proofs.lemmas.List.{take_all}
 use Rattle.net_plan.specs.FlatTrees.{distinct_tiles}
 use Rattle.ripup_workers.proofs.FreedomLemmas.{tiles-more, tiles-same}

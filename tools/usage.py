@@ -1,0 +1,129 @@
+#!/usr/bin/env python3
+"""The commands of groute with their words, and its faults in words: what shells complete and terminals are told.
+
+Prints the completion for a shell: tools/usage.py bash, or tools/usage.py zsh. tools/test.py compares the words
+with the tables of word_reader, the faults with docs/FORMATS.md, and the files of completion/ with what is printed here.
+"""
+import sys
+
+# The words of each command, and what it does.
+USAGE = {
+    "route DESIGN LIBRARY ROUNDS [--workers N] [--via-cost V]": "routes a design",
+    "evaluate DESIGN SOLUTION [--via-cost V]": "judges the routes of any router",
+    "buffer DESIGN LIBRARY SOLUTION": "places buffers on the routes of any router",
+    "make SEED X Y L NETS": "makes a design",
+    "trial SEED X Y L NETS ROUNDS [--workers N]": "makes a design and routes it",
+}
+TEXTS = ("DESIGN", "LIBRARY", "SOLUTION")   # words that are files
+FAULTS = {
+    "design": [
+        "the text ends where a token is due",
+        "another word is due",
+        "a whole number in its range is due",
+        "the grid has more than 8,388,608 cells",
+        "a tile has no width or no height",
+        "no layer has capacity along a way in which the grid is wider than one tile",
+        "the net has no pin, or the nets have too many pins together",
+        "the pin lies outside the chip",
+        "the pin lies on a layer that the grid doesn't have",
+        "an earlier net has this id",
+        "the adjustment names no border of two neighbouring tiles",
+        "a token stands behind the end",
+        "the text is too long"],
+    "library": [
+        "the text ends where a token is due",
+        "the word is no item of this version, or the second `via`, `driver` or `sink`",
+        "a whole number in its range is due",
+        "the design has no such layer, or the layer has its wire already",
+        "an earlier kind has this name",
+        "at `end`, a layer has no wire, or via, driver or sink are not given",
+        "a token stands behind `end`",
+        "the text is too long",
+        "32 kinds stand before this one",
+        "the design has no such tile",
+        "no net of the design has this id",
+        "the net has no such sink"],
+    "solution": [
+        "the text ends within a record",
+        "a token has not the form that is due",
+        "a whole number in its range is due",
+        "no net of the design has this id",
+        "the net of this id has another name",
+        "an earlier record has this id",
+        "an end lies outside the chip or its layers",
+        "the ends differ in more than one of column, row and layer",
+        "the text is too long"],
+}
+
+BASH = """# Completion of groute for bash, as tools/usage.py writes it.
+_groute() {
+    local word=${COMP_WORDS[COMP_CWORD]} options
+    if [ "$COMP_CWORD" -eq 1 ]; then
+        COMPREPLY=($(compgen -W "%s" -- "$word"))
+        return
+    fi
+    case ${COMP_WORDS[1]} in
+%s
+    *) options= ;;
+    esac
+    if [[ $word == -* ]]; then
+        COMPREPLY=($(compgen -W "$options" -- "$word"))
+    else
+        mapfile -t COMPREPLY < <(compgen -f -- "$word")
+    fi
+}
+complete -o filenames -F _groute groute
+"""
+ZSH = """#compdef groute
+# Completion of groute for zsh, as tools/usage.py writes it.
+local -a commands
+commands=(
+%s
+)
+if (( CURRENT == 2 )); then
+    _describe command commands
+    return
+fi
+case $words[2] in
+%s
+esac
+"""
+
+
+def rows():
+    """Of each command: its word, its positionals, its options with their values, and what it does."""
+    for line, does in USAGE.items():
+        word, *rest = line.replace("[", "").replace("]", "").split()
+        first = next((at for at, part in enumerate(rest) if part.startswith("-")), len(rest))
+        yield word, rest[:first], list(zip(rest[first::2], rest[first + 1::2])), does
+
+
+def bash():
+    """The completion for bash."""
+    cases = "\n".join(f'    {word}) options="{" ".join(option for option, _ in options)}" ;;'
+                      for word, _, options, _ in rows())
+    return BASH % (" ".join(word for word, *_ in rows()), cases)
+
+
+def zsh():
+    """The completion for zsh."""
+    cases = []
+    for word, positionals, options, _ in rows():
+        parts = [f"'{option}[{value}]:{value}:'" for option, value in options]
+        parts += [f"'{at}:{name}:{'_files' if name in TEXTS else ''}'" for at, name in enumerate(positionals, 2)]
+        cases.append(f"{word}) _arguments {' '.join(parts)} ;;")
+    return ZSH % ("\n".join(f"    '{word}:{does}'" for word, _, _, does in rows()), "\n".join(cases))
+
+
+def main():
+    """Prints a completion. The answer is the status."""
+    made = {"bash": bash, "zsh": zsh}
+    if len(sys.argv) != 2 or sys.argv[1] not in made:
+        print(__doc__.strip())
+        return 0 if sys.argv[1:] in (["-h"], ["--help"]) else 2
+    sys.stdout.write(made[sys.argv[1]]())
+    return 0
+
+
+if __name__ == "__main__":
+    sys.exit(main())
