@@ -23,6 +23,7 @@ from test_liberty import Cells
 from test_placed import Geometry, Mutated, Placed, Shapes, Technologies
 from test_report import FirstPicture, Page, Report
 from test_routes import Back, Guides
+from test_tables import Words
 from test_words import Scripts, Tables, Terminal
 from testing import HERE, PICTURES, ROOT, InFolder, run, tool
 

@@ -1,0 +1,201 @@
+#!/usr/bin/env python3
+"""Proves and builds the program: tools/build.py [--note]
+
+What crates/groute stands on is proved, and nothing else: lowest crates first, as many side by side as there are
+processors and memory for, those first that the longest chain of crates waits for. What is proved stays, so that a
+build that was stopped goes on where it was. A second build waits for the first. On a terminal it tells how far it is.
+The prover's words go to build.log. The status is 0 where the program is there.
+
+--note says that the program that lies in crates/groute/out was proved and built from the sources as they stand, as
+after `rt ci`; then ./groute takes it as it is.
+"""
+import argparse
+import fcntl
+import hashlib
+import os
+import re
+import subprocess
+import sys
+import threading
+import time
+
+ROOT = os.path.dirname(os.path.dirname(os.path.abspath(__file__)))
+LOG = os.path.join(ROOT, "build.log")
+PROGRAM = os.path.join(ROOT, "crates", "groute", "out", "groute")
+NOTE = PROGRAM + ".sources"
+TOP = "groute"
+GIGABYTES = 3       # what a proof takes of memory, but for few
+
+
+def crates():
+    """By name the crates of this repository that the program stands on, and itself: what each one uses of these."""
+    uses = {}
+    with open(os.path.join(ROOT, "crates.txt"), encoding="utf-8") as file:
+        for line in file:
+            name, _, rest = line.partition("#")[0].partition(":")
+            if name.split():
+                uses[name.split()[0]] = rest.split()
+    found, new = set(), [TOP]
+    while new:
+        name = new.pop()
+        if name in uses and name not in found:
+            found.add(name)
+            new += uses[name]
+    return {name: [low for low in uses[name] if low in found] for name in uses if name in found}
+
+
+def sources(name):
+    """The paths of a crate's files that a proof reads."""
+    for part in ("src", "specs", "proofs"):
+        for folder, folders, files in os.walk(os.path.join(ROOT, "crates", name, part)):
+            folders.sort()
+            for file in sorted(files):
+                if file.endswith((".rt", ".antt")):
+                    yield os.path.join(folder, file)
+
+
+def sum_of(paths):
+    """A sum of files, with their places."""
+    made = hashlib.sha256()
+    for path in paths:
+        with open(path, "rb") as file:
+            made.update(repr((os.path.relpath(path, ROOT), file.read())).encode())
+    return made.hexdigest()
+
+
+def note_of(uses):
+    """What a note says of the sources and of the program."""
+    paths = [os.path.join(ROOT, "crates.txt"), os.path.join(ROOT, "HANDLES")]
+    paths += [path for name in sorted(uses) for path in sources(name)]
+    return f"{sum_of(paths)}\n{sum_of([PROGRAM])}\n"
+
+
+def is_current(uses):
+    """Whether the program is noted as that of the sources."""
+    if not os.path.exists(PROGRAM) or not os.path.exists(NOTE):
+        return False
+    with open(NOTE, encoding="utf-8") as file:
+        return file.read() == note_of(uses)
+
+
+def note(uses):
+    """Notes that the program is that of the sources."""
+    with open(NOTE, "w", encoding="utf-8") as file:
+        file.write(note_of(uses))
+    os.utime(PROGRAM)
+
+
+def heights(uses):
+    """By crate, how much is to prove from it up to the program, in bytes along the longest chain."""
+    sizes = {name: sum(os.path.getsize(path) for path in sources(name)) for name in uses}
+    above = {name: [high for high in uses if name in uses[high]] for name in uses}
+    known = {}
+
+    def height(name):
+        if name not in known:
+            known[name] = sizes[name] + max(map(height, above[name]), default=0)
+        return known[name]
+
+    return {name: height(name) for name in uses}
+
+
+def most_at_once():
+    """How many proofs at once there are processors and memory for."""
+    with open("/proc/meminfo", encoding="ascii") as file:
+        free = int(re.search(r"MemAvailable: +([0-9]+) kB", file.read()).group(1)) / 2**20
+    return max(1, min(len(os.sched_getaffinity(0)), int(free / GIGABYTES)))
+
+
+class Build:
+    """The proofs of crates, side by side."""
+
+    def __init__(self, uses, log):
+        self.uses, self.log, self.begun = uses, log, time.time()
+        self.heights = heights(uses)
+        self.proved, self.running, self.waiting, self.failed = set(), set(), set(uses), []
+        self.changed = threading.Condition()
+
+    def say(self, text):
+        """Tells how far it is, on a terminal."""
+        if sys.stderr.isatty():
+            minutes, seconds = divmod(int(time.time() - self.begun), 60)
+            print(f"groute: {minutes}:{seconds:02} {text}", file=sys.stderr, flush=True)
+
+    def ready(self):
+        """The crates that can be proved now, those first that most waits for."""
+        ready = [name for name in self.waiting if all(low in self.proved for low in self.uses[name])]
+        return sorted(ready, key=lambda name: -self.heights[name])
+
+    def prove(self, name, jobs):
+        """Proves a crate by so many jobs, and tells it. Without words the program ends at once."""
+        words = ["run", "--jobs", str(jobs), "--", "usage"] if name == TOP else ["lib", "--jobs", str(jobs)]
+        done = subprocess.run(["rt", *words], cwd=os.path.join(ROOT, "crates", name), check=False, text=True,
+                              stdin=subprocess.DEVNULL, stdout=subprocess.PIPE, stderr=subprocess.STDOUT)
+        with self.changed:
+            self.log.write(f"==== {name}\n{done.stdout}")
+            self.log.flush()
+            self.running.remove(name)
+            is_there = os.path.exists(PROGRAM) if name == TOP else done.returncode == 0
+            if is_there:
+                self.proved.add(name)
+                self.say(f"{name} is proved, {len(self.proved)} of {len(self.uses)}")
+            else:
+                self.failed.append((name, re.search(r"^.*\berror\b.*$", done.stdout, re.MULTILINE)))
+            self.changed.notify_all()
+
+    def run(self):
+        """Whether all crates are proved."""
+        threads, most = [], most_at_once()
+        self.say(f"{len(self.uses)} crates are to be proved, {most} at once")
+        with self.changed:
+            while self.waiting and not self.failed:
+                ready = self.ready()
+                if not ready or len(self.running) >= most:
+                    self.changed.wait()
+                    continue
+                name = ready[0]
+                jobs = max(1, most // (len(self.running) + len(ready)))
+                self.waiting.remove(name)
+                self.running.add(name)
+                threads.append(threading.Thread(target=self.prove, args=(name, jobs)))
+                threads[-1].start()
+        for thread in threads:
+            thread.join()
+        return not self.failed
+
+
+def build(uses):
+    """Whether the program was built."""
+    with open(LOG, "a+", encoding="utf-8") as log:
+        try:
+            fcntl.flock(log, fcntl.LOCK_EX | fcntl.LOCK_NB)
+        except BlockingIOError:
+            print("groute: another build goes on here; this one waits for it", file=sys.stderr)
+            fcntl.flock(log, fcntl.LOCK_EX)
+            if is_current(uses):
+                return True
+        log.truncate(0)
+        made = Build(uses, log)
+        if made.run():
+            note(uses)
+            return True
+        for name, line in made.failed:
+            print(f"groute: {name} isn't proved: {line.group() if line else 'see build.log'}", file=sys.stderr)
+        return False
+
+
+def main():
+    words = argparse.ArgumentParser(description=__doc__, formatter_class=argparse.RawDescriptionHelpFormatter)
+    words.add_argument("--note", action="store_true", help="note that the program that is there is that of the sources")
+    asked, uses = words.parse_args(), crates()
+    if asked.note:
+        note(uses)
+    elif is_current(uses):
+        os.utime(PROGRAM)
+    elif not build(uses):
+        return 1
+    return 0
+
+
+if __name__ == "__main__":
+    sys.exit(main())

@@ -1,0 +1,82 @@
+"""Tests that the documents say the words, ranges and defaults of word_reader's tables."""
+import re
+import unittest
+
+from testing import ROOT
+
+
+def formats():
+    """The text of docs/FORMATS.md."""
+    with open(f"{ROOT}/docs/FORMATS.md", encoding="utf-8") as file:
+        return file.read()
+
+
+def manual():
+    """The text of the man page, without fonts and escapes."""
+    with open(f"{ROOT}/man/groute.1", encoding="utf-8") as file:
+        return re.sub(r"\\f[BIR]", "", file.read()).replace("\\-", "-")
+
+
+class Words(unittest.TestCase):
+    """The documents say the words of the tables of commands and options, which stand in word_reader."""
+
+    def setUp(self):
+        with open(f"{ROOT}/crates/word_reader/src/form.rt", encoding="utf-8") as file:
+            self.form = file.read()
+        self.options = {name: (word, takes, default) for name, word, takes, default in re.findall(
+            r'OptionKind::(\w+) => OptionRow \{\s*word: "([^"]+)",\s*takes: (.*?),\s*'
+            r'default: (?:None|Some\("([^"]+)"\)),\s*\}', self.form, re.DOTALL)}
+        self.commands = [(word, int(count), re.findall(r"OptionKind::(\w+)", options)) for word, count, options in
+                         re.findall(r'word: "([^"]+)",\s*positionals: ([0-9]+),\s*options: &\[([^\]]*)\]', self.form)]
+
+    def number(self, text):
+        """A number of a row, as documents write it."""
+        text = text.removesuffix(" as u64")
+        if text == "u64::MAX":
+            return "2^64 - 1"
+        constant = re.search(rf"const {re.escape(text)}: u32 = ([0-9_]+);", self.form)
+        return (constant.group(1) if constant else text).replace("_", "")
+
+    def values(self, takes):
+        """The words that an option takes, and the range of its numbers."""
+        numbers = re.search(r"least: ([^,]+),\s*most: ([^,]+),", takes)
+        return re.findall(r'"([^"]+)"', takes), numbers and [self.number(text) for text in numbers.groups()]
+
+    def test_rows(self):
+        for kind, rows in (("Command", self.commands), ("OptionKind", self.options)):
+            variants = re.search(rf"enum {kind} \{{(.*?)\}}", self.form, re.DOTALL).group(1)
+            self.assertEqual(len(rows), variants.count(","))
+
+    def test_usage(self):
+        lines = re.findall(r"^    groute ([a-z]+)((?: [A-Z]+)+)((?: \[[^\]]+\])*)$", formats(), re.MULTILINE)
+        self.assertEqual([line[0] for line in lines], [command[0] for command in self.commands])
+        for line, (word, count, options) in zip(lines, self.commands):
+            with self.subTest(command=word):
+                self.assertEqual(len(line[1].split()), count)
+                given = re.findall(r"\[(--[a-z-]+) ([^\]]+)\]", line[2])
+                self.assertEqual([option for option, _ in given], [self.options[name][0] for name in options])
+                for (_, value), name in zip(given, options):
+                    words, numbers = self.values(self.options[name][1])
+                    self.assertRegex(value, "^" + "[|]".join([*words, *(["[A-Z]+"] if numbers else [])]) + "$")
+                self.assertIn(f"groute {''.join(line)}\n", manual())
+
+    def patterns(self, word, takes, default):
+        """What a document says of an option in one place."""
+        words, numbers = self.values(takes)
+        yield rf"{word}(?![a-z-])"
+        yield from (rf"\b{value}\b" for value in words)
+        if numbers:
+            yield rf"\b{re.escape(' to '.join(numbers))}\b"
+        if default:
+            yield rf"(?:else|default:?|default is) `?{default}\b|\| *`?{default}`? *\|"
+
+    def test_options(self):
+        for document, places in (
+                ("docs/FORMATS.md", re.split(r"\n\s*\n|\n(?=\|)", formats())),    # paragraphs, and rows of tables
+                ("man/groute.1", re.split(r"^\.(?:TP|PP|SH|SS).*\n", manual(), flags=re.MULTILINE))):
+            places = [re.sub(r"(?<=[0-9]),(?=[0-9])", "", place) for place in places]
+            for option in self.options.values():
+                patterns = list(self.patterns(*option))
+                with self.subTest(document=document, option=option[0]):
+                    self.assertTrue(any(all(re.search(pattern, place) for pattern in patterns) for place in places),
+                                    f"no one place has all of {patterns}")
