@@ -287,6 +287,24 @@ class Page(InFolder):
             self.assertEqual(page.text("#found"), "1,999 of 1,999")
             self.assertEqual(page.complaints(), [])
 
+    def test_a_part_of_the_nets(self):
+        """Where not all nets are there, the page says how many are not, and the others are shown."""
+        report = importlib.import_module("report")
+        design = self.put("design", run(testing.program(), "make", "11", "24", "20", "4", "2000")[1])
+        path = os.path.join(self.folder.name, "part.html")
+        with mock.patch.object(report, "MOST_NETS", 1999), mock.patch("builtins.print"), mock.patch.object(
+                sys, "argv", ["report.py", design, self.routed(design, 4), "-o", path]):
+            report.main()
+        with browser.Browser() as page:
+            self.opened(page, f"file://{path}")
+            count = page.value("data.names.length")
+            self.assertEqual(page.text("#found"), f"{count:,} of {count:,}; {2000 - count:,} nets that are in no "
+                                                  "region and not slow are not on this page")
+            page.click(*page.middle("#regions tbody tr:nth-child(1) button"))
+            page.click(*page.middle("#nets tbody tr:nth-child(1) button"))
+            self.assertTrue(page.text("#shown").startswith("net n"))
+            self.assertEqual(page.complaints(), [])
+
     def test_a_hard_name(self):
         """A net's name is text, whatever it looks like."""
         with open(f"{ROOT}/examples/small.ispd", encoding="ascii") as file:
