@@ -1,9 +1,9 @@
 #!/usr/bin/env python3
-"""Writes docs/DEFINITIONS.md, the table of what public contracts are made of: tools/definitions.py
+"""Writes docs/DEFINITIONS.md, the table of what the program's contract is made of: tools/definitions.py
 
-Each file of definitions, crates/CRATE/specs/NAME.antt, that the contract of a public call or trait cites, or another
-such file, is listed with the first sentence of the comment that it begins with, lowest crates first. Files ..Store.antt,
-of what fields keep, are left out.
+Each file of definitions, crates/CRATE/specs/NAME.antt, that the contract of `run` cites, or another such file, or that
+defines a name of docs/PROVED.md, is listed with the first sentence of the comment that it begins with, lowest crates
+first. Files ..Store.antt, of what fields keep, are left out.
 """
 import argparse
 import glob
@@ -15,12 +15,13 @@ ROOT = os.path.dirname(os.path.dirname(os.path.abspath(__file__)))
 DOCUMENT = os.path.join(ROOT, "docs", "DEFINITIONS.md")
 HEAD = """# Where each word is defined
 
-The files of definitions that the contracts of public calls cite, themselves or by one another. `gr_base/Grid` stands for `crates/gr_base/specs/Grid.antt`, and the words are that file's first sentence. A name is found by `grep -rnw NAME crates/*/specs`. Files that inner functions alone need aren't listed, nor what the fields of a type keep (`..Store.antt`). `tools/definitions.py` writes this page.
+What the contract of `run` is made of: the files of definitions that it cites, or that these cite; and those of the other names in `docs/PROVED.md`. `gr_base/Grid` stands for `crates/gr_base/specs/Grid.antt`, and the words are its first sentence. `grep -rnw NAME crates/*/specs` finds any name. `tools/definitions.py` writes this page.
 
 | file | defines |
 |---|---|
 """
 USE = re.compile(r"use Rattle\.(\w+)\.specs\.(\w+)\.\{([^}]*)\}")
+DEFINED = re.compile(r"^(?:abbrev|unfoldable|pub) (?:pub |record |data )?(\w+)", re.MULTILINE)
 PUBLIC = re.compile(r"^( *)pub (?:const )?fn .*?(?=^\1\{)|^pub (?:trait|struct|enum) .*?^\}", re.MULTILINE | re.DOTALL)
 
 
@@ -43,20 +44,23 @@ def specs():
     return {(path.split(os.sep)[-3], os.path.basename(path)[:-len(".antt")]): read(path) for path in paths}
 
 
-def of_contracts(texts):
-    """The files that public contracts cite, and those that these cite."""
-    found = set()
-    for path in glob.glob(os.path.join(ROOT, "crates", "*", "src", "**", "*.rt"), recursive=True):
-        code = read(path)
-        names = dict(cited(code))
-        words = {word for public in PUBLIC.finditer(code) for word in re.findall(r"\w+", public.group())}
-        found |= {file for name, file in names.items() if name in words}
+def of_run(texts):
+    """The files that the contract of `run` cites, and those that these cite."""
+    code = read(os.path.join(ROOT, "crates", "router_top", "src", "top.rt"))
+    words = {word for public in PUBLIC.finditer(code) for word in re.findall(r"\w+", public.group())}
+    found = {file for name, file in cited(code) if name in words}
     waiting = list(found)
     while waiting:
         new = {file for _, file in cited(texts.get(waiting.pop(), ""))} - found
         found |= new
         waiting += new
     return found & set(texts)
+
+
+def of_proved(texts):
+    """The files that define the names in brackets of docs/PROVED.md."""
+    names = set(re.findall(r"`([A-Z]\w+)`", read(os.path.join(ROOT, "docs", "PROVED.md"))))
+    return {file for file, text in texts.items() if names & set(DEFINED.findall(text))}
 
 
 def first_sentence(text):
@@ -68,7 +72,7 @@ def first_sentence(text):
 def rows():
     """The file of each row, and its first sentence, lowest crates first."""
     texts = specs()
-    files = of_contracts(texts)
+    files = of_run(texts) | of_proved(texts)
     crates = [line.split()[0].rstrip(":") for line in read(os.path.join(ROOT, "crates.txt")).splitlines() if line]
     for crate, name in sorted(files, key=lambda file: (crates.index(file[0]), file[1])):
         if name != "Lib" and not name.endswith("Store"):
