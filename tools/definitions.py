@@ -15,7 +15,7 @@ ROOT = os.path.dirname(os.path.dirname(os.path.abspath(__file__)))
 DOCUMENT = os.path.join(ROOT, "docs", "DEFINITIONS.md")
 HEAD = """# Where each word is defined
 
-What the contract of `run` is made of: the files of definitions that it cites, or that these cite; and those of the other names in `docs/PROVED.md`. `gr_base/Grid` stands for `crates/gr_base/specs/Grid.antt`, and the words are its first sentence. `grep -rnw NAME crates/*/specs` finds any name. `tools/definitions.py` writes this page.
+The definitions that the contract of `run` cites, themselves or by one another, and those of the other names in `docs/PROVED.md`. `gr_base/Grid` is `crates/gr_base/specs/Grid.antt`; the words are its first sentence. `grep -rnw NAME crates/*/specs` finds any name. `tools/definitions.py` writes this page.
 
 | file | defines |
 |---|---|
@@ -57,9 +57,10 @@ def of_run(texts):
     return found & set(texts)
 
 
-def of_proved(texts):
-    """The files that define the names in brackets of docs/PROVED.md."""
+def of_proved(texts, found):
+    """The files that define those names in brackets of docs/PROVED.md that the files found don't."""
     names = set(re.findall(r"`([A-Z]\w+)`", read(os.path.join(ROOT, "docs", "PROVED.md"))))
+    names -= {name for file in found for name in DEFINED.findall(texts[file])}
     return {file for file, text in texts.items() if names & set(DEFINED.findall(text))}
 
 
@@ -72,7 +73,8 @@ def first_sentence(text):
 def rows():
     """The file of each row, and its first sentence, lowest crates first."""
     texts = specs()
-    files = of_run(texts) | of_proved(texts)
+    files = of_run(texts)
+    files |= of_proved(texts, files)
     crates = [line.split()[0].rstrip(":") for line in read(os.path.join(ROOT, "crates.txt")).splitlines() if line]
     for crate, name in sorted(files, key=lambda file: (crates.index(file[0]), file[1])):
         if name != "Lib" and not name.endswith("Store"):
