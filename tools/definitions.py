@@ -2,8 +2,8 @@
 """Writes docs/DEFINITIONS.md, the table of what the program's contract is made of: tools/definitions.py
 
 Each file of definitions, crates/CRATE/specs/NAME.antt, that the contract of `run` cites, or another such file, or that
-defines a name of docs/PROVED.md, is listed with the first sentence of the comment that it begins with, lowest crates
-first. Files ..Store.antt, of what fields keep, are left out.
+defines a name of docs/PROVED.md, is listed with the first sentence of the comment that it begins with, up to its colon,
+lowest crates first. Files ..Store.antt, of what fields keep, are left out.
 """
 import argparse
 import glob
@@ -15,12 +15,13 @@ ROOT = os.path.dirname(os.path.dirname(os.path.abspath(__file__)))
 DOCUMENT = os.path.join(ROOT, "docs", "DEFINITIONS.md")
 HEAD = """# Where each word is defined
 
-The definitions that the contract of `run` cites, themselves or by one another, and those of the other names in `docs/PROVED.md`. `gr_base/Grid` is `crates/gr_base/specs/Grid.antt`; the words are its first sentence. `grep -rnw NAME crates/*/specs` finds any name. `tools/definitions.py` writes this page.
+The definitions that the contract of `run` cites, themselves or by one another, and those of the other names in `docs/PROVED.md`. `gr_base/Grid` is `crates/gr_base/specs/Grid.antt`; the words are from its first sentence. `grep -rnw NAME crates/*/specs` finds any name. `tools/definitions.py` writes this page.
 
 | file | defines |
 |---|---|
 """
 USE = re.compile(r"use Rattle\.(\w+)\.specs\.(\w+)\.\{([^}]*)\}")
+LEAST_WORDS = 3     # of what stands before a colon that ends a row
 DEFINED = re.compile(r"^(?:abbrev|unfoldable|pub) (?:pub |record |data )?(\w+)", re.MULTILINE)
 PUBLIC = re.compile(r"^( *)pub (?:const )?fn .*?(?=^\1\{)|^pub (?:trait|struct|enum) .*?^\}", re.MULTILINE | re.DOTALL)
 
@@ -64,21 +65,24 @@ def of_proved(texts, found):
     return {file for file, text in texts.items() if names & set(DEFINED.findall(text))}
 
 
-def first_sentence(text):
-    """The first sentence of the comment that a text begins with, or nothing."""
+def subject_of(text):
+    """The first sentence of the comment that a text begins with, up to a colon behind enough words; or nothing."""
     comment = re.match(r"(?:-- .*\n)*", text).group()
-    return re.match(r"(?:[^.]|\.(?! |$))*\.?", " ".join(comment.replace("-- ", " ").split())).group()
+    sentence = re.match(r"(?:[^.]|\.(?! |$))*\.?", " ".join(comment.replace("-- ", " ").split())).group()
+    subject = sentence.partition(":")[0]
+    words = sentence if len(subject.split()) < LEAST_WORDS else subject
+    return words.removesuffix(".")
 
 
 def rows():
-    """The file of each row, and its first sentence, lowest crates first."""
+    """The file of each row, and what it defines, lowest crates first."""
     texts = specs()
     files = of_run(texts)
     files |= of_proved(texts, files)
     crates = [line.split()[0].rstrip(":") for line in read(os.path.join(ROOT, "crates.txt")).splitlines() if line]
     for crate, name in sorted(files, key=lambda file: (crates.index(file[0]), file[1])):
         if name != "Lib" and not name.endswith("Store"):
-            yield f"{crate}/{name}", first_sentence(texts[crate, name])
+            yield f"{crate}/{name}", subject_of(texts[crate, name])
 
 
 def document():
