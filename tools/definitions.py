@@ -70,8 +70,8 @@ def subject_of(text):
     comment = re.match(r"(?:-- .*\n)*", text).group()
     sentence = re.match(r"(?:[^.]|\.(?! |$))*\.?", " ".join(comment.replace("-- ", " ").split())).group()
     subject = sentence.partition(":")[0]
-    words = sentence if len(subject.split()) < LEAST_WORDS else subject
-    return words.removesuffix(".")
+    words = (sentence if len(subject.split()) < LEAST_WORDS else subject).removeprefix("The ").removesuffix(".")
+    return words[:1].upper() + words[1:]
 
 
 def rows():
