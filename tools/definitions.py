@@ -58,11 +58,22 @@ def of_run(texts):
     return found & set(texts)
 
 
-def of_proved(texts, found):
-    """The files that define those names in brackets of docs/PROVED.md that the files found don't."""
-    names = set(re.findall(r"`([A-Z]\w+)`", read(os.path.join(ROOT, "docs", "PROVED.md"))))
+def of_rows(texts, proved):
+    """The files of a crate that define a name in its row of docs/PROVED.md."""
+    for crates, says in re.findall(r"^\| ([a-z_, ]+) \| (.*) \|$", proved, re.MULTILINE):
+        names = set(re.findall(r"`(\w+)`", says))
+        for file, text in texts.items():
+            if file[0] in crates.split(", ") and names & set(DEFINED.findall(text)):
+                yield file
+
+
+def of_contracts(texts):
+    """The files that the contract of `run` is made of, and those that define the names in docs/PROVED.md."""
+    proved = read(os.path.join(ROOT, "docs", "PROVED.md"))
+    found = of_run(texts).union(of_rows(texts, proved))
+    names = set(re.findall(r"`([A-Z]\w+)`", proved))
     names -= {name for file in found for name in DEFINED.findall(texts[file])}
-    return {file for file, text in texts.items() if names & set(DEFINED.findall(text))}
+    return found | {file for file, text in texts.items() if names & set(DEFINED.findall(text))}
 
 
 def subject_of(text):
@@ -77,8 +88,7 @@ def subject_of(text):
 def rows():
     """The file of each row, and what it defines, lowest crates first."""
     texts = specs()
-    files = of_run(texts)
-    files |= of_proved(texts, files)
+    files = of_contracts(texts)
     crates = [line.split()[0].rstrip(":") for line in read(os.path.join(ROOT, "crates.txt")).splitlines() if line]
     for crate, name in sorted(files, key=lambda file: (crates.index(file[0]), file[1])):
         if name != "Lib" and not name.endswith("Store"):
