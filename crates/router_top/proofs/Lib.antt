@@ -1,11 +1,4 @@
-pub mod StopLemmas
-pub mod PlannedLemmas
-pub mod BufferingLemmas
 pub mod DemandLemmas
 pub mod RouteLemmas
 pub mod RoutingLemmas
-pub mod JudgingLemmas
-pub mod LeavingLemmas
-pub mod MakingLemmas
 pub mod CommandLaws
-pub mod EndLemmas

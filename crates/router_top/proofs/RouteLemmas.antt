@@ -23,8 +23,8 @@ use Rattle.straight_runs.specs.Routed.{AreRouted}
 use Rattle.round_core.proofs.TurnLemmas.{routed-net}
 use Rattle.round_core.specs.Rounds.{IsRouteOfNet}
 use Rattle.router_top.proofs.DemandLemmas.{booked-demand}
-use Rattle.router_top.specs.Routing.{AllJoined, AreTrees, AreBookedRoutes, AreChosenRoutes}
-use Rattle.router_top.specs.declared.routing.BookedRoutes.{BookedRoutes}
+use Rattle.router_top.specs.Booking.{AllJoined, AreTrees, AreBookedRoutes, AreChosenRoutes}
+use Rattle.router_top.specs.declared.booking.BookedRoutes.{BookedRoutes}
 use Rattle.word_reader.specs.declared.order.Options.{Options}
 use Rattle.round_core.specs.Standing.{Stands}
 

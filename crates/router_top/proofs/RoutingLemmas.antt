@@ -1,5 +1,5 @@
 -- A routing, by the text of its trees.
-use Rattle.std.proofs.Common.{◌≡◌, ℕ, ◌&&◌, Bool, false, List, take, Option, Some, None, Result, Ok, Err, IsTrue, inl, inr, refl, sym, ap, subst, ◌∙◌}
+use Rattle.std.proofs.Common.{◌≡◌, ℕ, ◌&&◌, Bool, false, List, take, Option, Some, None, Ok, IsTrue, inl, inr, refl, sym, ap, subst, ◌∙◌}
 use Rattle.std.proofs.Math.Path.{fun_ext}
 use Rattle.std.proofs.lemmas.Bool.{cases_Bool}
 use Rattle.gr_base.specs.Designs.{DesignView, IsDesign, is_routed}
@@ -19,16 +19,11 @@ use Rattle.solution_text.specs.Cover.{cover}
 use Rattle.solution_text.specs.Runs.{LieIn}
 use Rattle.solution_text.specs.WrittenText.{written_text}
 use Rattle.solution_text.proofs.LawLemmas.{written-text-covers}
-use Rattle.gr_io.specs.Devices.{Device, Reading, IsUntouched}
-use Rattle.ripup_workers.specs.declared.rounds.Rounds.{Rounds}
-use Rattle.router_top.specs.Commands.{Command, rounds_back}
-use Rattle.router_top.specs.Leaving.{Leaves}
-use Rattle.router_top.specs.declared.stop.Outcome.{Outcome}
-use Rattle.router_top.specs.declared.stop.Stop.{Stop}
-use Rattle.router_top.specs.declared.stop.Stop.TheVariants.{NoMemory}
-use Rattle.router_top.specs.Routing.{booked_edges, AllJoined, AreTrees, IsRoutedDesign, IsRouting}
+use Rattle.gr_io.specs.Devices.{Reading}
+use Rattle.router_top.specs.Booking.{booked_edges, AllJoined, AreTrees}
+use Rattle.router_top.specs.Routing.{IsRoutedDesign, IsRouting}
 use Rattle.rc_library.specs.Libraries.{LibraryView}
-use Rattle.router_top.specs.Said.{design_said, library_said}
+use Rattle.command_form.specs.Said.{design_said, library_said}
 use Rattle.word_reader.specs.declared.order.Options.{Options}
 use Rattle.router_top.specs.declared.routing.RoutedDesign.{RoutedDesign}
 use Rattle.router_top.proofs.DemandLemmas.{booked-demand}
@@ -107,10 +102,3 @@ is-routing shelf design_name library_name d lib options r said read design is = 
 
     same : (net : ℕ) (e : Edge) → route_edges r.routes net e ≡ cover d (written_text d (route_edges r.routes)) net e
     same = text-same d r.routes design is.trees is.routes.free
-
--- memory was wanting before anything was written
-pub wants-memory : (command : Command) (shelf : Reading) (out err : Device) (rounds : Option Rounds) (end : Result Outcome Stop) → end ≡ Err NoMemory →
-    rounds ≡ None → IsUntouched out → IsUntouched err → Leaves command shelf out err (rounds_back rounds) end
-wants-memory command shelf out err rounds end is none unwritten silent =
-    subst (Leaves command shelf out err (rounds_back rounds)) (sym is)
-    (subst (λ (r : Option Rounds). Leaves command shelf out err (rounds_back r) (Err NoMemory)) (sym none) (inl (unwritten, refl), silent))

@@ -1,13 +1,4 @@
-pub mod Orders
-pub mod Said
-pub mod Opening
-pub mod Stops
-pub mod Commands
-pub mod Leaving
-pub mod Buffering
+pub mod Booking
 pub mod Routing
-pub mod Opened
-pub mod Judging
-pub mod Making
-pub mod Ends
-pub mod Statuses
+pub mod Trying
+pub mod Orders

@@ -1,16 +1,12 @@
 //! The router's commands, over any shelf and sinks.
 #![tactic(auto)]
 
-mod buffering;
-mod judging;
-mod left;
-mod making;
-mod opening;
+mod booking;
+mod means;
 mod routing;
 mod rules;
-mod stop;
 mod top;
-mod trial;
+mod trying;
 
-pub use left::Spent;
+pub use command_form::Spent;
 pub use top::{Ended, run};

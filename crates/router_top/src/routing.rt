@@ -1,53 +1,37 @@
-//! The command that routes a design.
-ghost use Rattle.std.specs.Prelude.{◌≡◌, ◌<◌, ◌≤◌, ◌++◌, IfOk, OnOk};
+//! The command `route`.
+ghost use Rattle.std.specs.Prelude.{◌≡◌, ◌<◌, ◌++◌, IfOk, OnOk};
 ghost use Rattle.gr_base.specs.Designs.{IsDesign};
 ghost use Rattle.gr_base.specs.Trees.{TreeView, route_edges};
 ghost use Rattle.rc_library.specs.Libraries.{IsLibraryOf};
 ghost use Rattle.gr_io.specs.Devices.{device_of, reading_of};
 ghost use Rattle.straight_runs.specs.Routed.{AreRouted};
 ghost use Rattle.solution_text.specs.WrittenText.{written_text};
-ghost use Rattle.router_top.specs.Commands.{rounds_back};
-ghost use Rattle.router_top.specs.Leaving.{IsWritten, Leaves};
+ghost use Rattle.command_form.specs.Commands.{kept_back};
+ghost use Rattle.command_form.specs.Leaving.{IsWritten, Leaves};
 ghost use Rattle.word_reader.specs.Orders.{AreInRange};
 ghost use Rattle.buffer_plan.specs.Plans.{AreRoutesOf};
 ghost use Rattle.route_evaluator.specs.NetTrees.{AreTrees};
-ghost use Rattle.router_top.specs.Buffering.{IsBuffersText};
-ghost use Rattle.router_top.specs.Opened.{LeavesRouted};
-ghost use Rattle.router_top.specs.Routing.{AreBookedRoutes, AreJudgedRoutes, GivesVerdict, IsRoutedDesign, IsVerdictOn, routing};
-ghost use Rattle.router_top.specs.Said.{report_of};
+ghost use Rattle.text_commands.specs.Buffering.{IsBuffersText};
+ghost use Rattle.text_commands.specs.Judging.{report_of};
+ghost use Rattle.router_top.specs.Booking.{AreBookedRoutes, GivesVerdict, IsVerdictOn};
+ghost use Rattle.router_top.specs.Routing.{IsRoutedDesign, LeavesRouted, routing};
 
-use crate::buffering::buffers_on;
-use crate::left::{Left, Spent};
-use crate::opening::{open_design, open_library};
-use crate::stop::{Outcome, Stop};
-use cost_rules::Rules;
+use crate::booking::{BookedRoutes, booked_routes, verdict_on};
+use crate::means::Means;
+use command_form::{Kept, Left, Outcome, Spent, Stop, open_design, open_library};
 use gr_base::{Design, Routes};
 use gr_io::{Shelf, Sink, write_whole};
 use gr_text::Text;
 use rc_library::Library;
 use report_text::report;
-use ripup_workers::{Gate, Rounds, parts_for, route_rounds};
-use route_evaluator::{Verdict, evaluate_routes};
+use ripup_workers::{Gate, Rounds, parts_for};
+use route_evaluator::Verdict;
 use route_writer::{WriteError, write_solution_by};
 use std::alloc::{AllocError, Global};
 use std::sync::Wait;
 use std::thread::{Threads, join};
+use text_commands::buffers_on;
 use word_reader::Options;
-
-/// The routes of a design, with the rounds that they are from.
-#[derive(Drop)]
-pub(crate) struct BookedRoutes {
-    pub rounds: Rounds,
-    pub routes: Routes,
-}
-
-/// The same, and the verdict on the routes.
-#[derive(Drop)]
-pub(crate) struct JudgedRoutes {
-    pub rounds: Rounds,
-    pub routes: Routes,
-    pub verdict: Verdict,
-}
 
 /// The routes of a design, and the report of them and of their buffers, with the rounds that they
 /// are from.
@@ -58,49 +42,43 @@ struct RoutedDesign {
     report: Text,
 }
 
-/// Reads the design and the library of these names, routes the design, and writes the routes on out,
-/// and the report of them and of their buffers on err.
+/// Carries out `route`: reads the design and the library of these names, routes the design, and writes
+/// the routes on out, and the report of them and of their buffers on err.
 pub(crate) fn route<R: Threads + Wait + Sync, S: Shelf, O: Sink, E: Sink, G: Gate + Sync>(
-    rt: &R,
-    alloc: Global,
+    means: &Means<R, G>,
     shelf: &mut S,
     out: &mut O,
     err: &mut E,
     design: &str,
     library: &str,
     options: Options,
-    gate: &G,
-    rules: &Rules,
 ) -> Left
     requires { AreInRange options }
     ensures { Leaves (routing design.now library.now options)
         (reading_of S.tells S.held S.faults S.misses shelf.old shelf.new)
         (device_of O.tells O.faults O.written out.old out.new)
         (device_of E.tells E.faults E.written err.old err.new)
-        (rounds_back result.rounds) result.end }
+        (kept_back result.kept) result.end }
 {
-    let design = match open_design(alloc, shelf, design) {
+    let design = match open_design(means.alloc, shelf, design) {
         Ok(design) => design,
-        Err(stop) => return Left::without_rounds(Err(stop)),
+        Err(stop) => return Left::without_book(Err(stop)),
     };
-    let library = match open_library(alloc, shelf, &design, library) {
+    let library = match open_library(means.alloc, shelf, &design, library) {
         Ok(library) => library,
-        Err(stop) => return Left::without_rounds(Err(stop)),
+        Err(stop) => return Left::without_book(Err(stop)),
     };
-    route_opened(rt, alloc, out, err, design, library, options, gate, rules)
+    route_opened(means, out, err, design, library, options)
 }
 
 /// Routes a design, and writes the routes on out, and the report of them and of their buffers on err.
 fn route_opened<R: Threads + Wait + Sync, O: Sink, E: Sink, G: Gate + Sync>(
-    rt: &R,
-    alloc: Global,
+    means: &Means<R, G>,
     out: &mut O,
     err: &mut E,
     design: Design,
     library: Library,
     options: Options,
-    gate: &G,
-    rules: &Rules,
 ) -> Left
     requires design { IsDesign design }
     requires library { IsLibraryOf design library }
@@ -108,15 +86,26 @@ fn route_opened<R: Threads + Wait + Sync, O: Sink, E: Sink, G: Gate + Sync>(
     ensures { LeavesRouted design library options
         (device_of O.tells O.faults O.written out.old out.new)
         (device_of E.tells E.faults E.written err.old err.new)
-        (rounds_back result.rounds) result.end }
+        (kept_back result.kept) result.end }
 {
-    let Ok(routed) = route_design(rt, alloc, &design, &library, options, gate, rules) else {
-        return Left::without_rounds(Err(Stop::NoMemory));
+    let Ok(routed) = route_design(means, &design, &library, options) else {
+        return Left::without_book(Err(Stop::NoMemory));
     };
-    let end = write_routes(rt, alloc, out, err, &design, &routed, options.workers);
+    let end = write_routes(
+        means.rt,
+        means.alloc,
+        out,
+        err,
+        &design,
+        &routed,
+        options.workers,
+    );
     Left {
         end,
-        rounds: Some(routed.rounds),
+        kept: Some(Kept {
+            book: routed.rounds.book,
+            hands: routed.rounds.hands,
+        }),
         spent: Some(Spent {
             design,
             library,
@@ -128,108 +117,24 @@ fn route_opened<R: Threads + Wait + Sync, O: Sink, E: Sink, G: Gate + Sync>(
 /// Routes a design, and makes the report of the trees that are booked at the first mark of least
 /// overflow, and of their buffers. The only error is want of memory.
 fn route_design<R: Threads + Wait + Sync, G: Gate + Sync>(
-    rt: &R,
-    alloc: Global,
+    means: &Means<R, G>,
     design: &Design,
     library: &Library,
     options: Options,
-    gate: &G,
-    rules: &Rules,
 ) -> Result<RoutedDesign, AllocError>
     requires design { IsDesign design.now }
     requires library { IsLibraryOf design.now library.now }
     requires options { AreInRange options }
     ensures { IfOk result (IsRoutedDesign design.now library.now options) }
 {
-    let booked = booked_routes(rt, alloc, design, options, gate, rules)?;
-    let told = verdict_and_buffers(rt, alloc, design, library, &booked, options)?;
-    let report = report_with(alloc, &told.0, &told.1)?;
+    let booked = booked_routes(means, design, options)?;
+    let told = verdict_and_buffers(means.rt, means.alloc, design, library, &booked, options)?;
+    let report = report_with(means.alloc, &told.0, &told.1)?;
     Ok(RoutedDesign {
         rounds: booked.rounds,
         routes: booked.routes,
         report,
     })
-}
-
-/// Judges booked routes. The only error is want of memory.
-pub(crate) fn judged_routes(
-    alloc: Global,
-    design: &Design,
-    booked: BookedRoutes,
-    options: Options,
-) -> Result<JudgedRoutes, AllocError>
-    requires booked { AreBookedRoutes design.now options booked }
-    requires options { AreInRange options }
-    ensures { IfOk result (AreJudgedRoutes design.now options) }
-{
-    let verdict = verdict_on(alloc, design, &booked, options)?;
-    Ok(JudgedRoutes {
-        rounds: booked.rounds,
-        routes: booked.routes,
-        verdict,
-    })
-}
-
-/// Routes a design, and copies the trees that are booked at the first mark of least overflow. The
-/// only error is want of memory.
-pub(crate) fn booked_routes<R: Threads + Wait + Sync, G: Gate + Sync>(
-    rt: &R,
-    alloc: Global,
-    design: &Design,
-    options: Options,
-    gate: &G,
-    rules: &Rules,
-) -> Result<BookedRoutes, AllocError>
-    requires design { IsDesign design.now }
-    requires options { AreInRange options }
-    ensures { IfOk result (AreBookedRoutes design.now options) }
-{
-    let rounds = route_rounds(
-        rt,
-        alloc,
-        design,
-        rules.of(options.formula),
-        options.workers,
-        options.rounds,
-        rules.never(),
-        0,
-        gate,
-    )?;
-    let book = rounds.book.state();
-    let parts = parts_for(options.workers);
-    let routes = book.routes_at(rt, rounds.chosen, parts)?;
-    Ok(BookedRoutes { rounds, routes })
-}
-
-/// The verdict on booked routes, by the loads that the book had at their mark. The only error is want
-/// of memory.
-fn verdict_on(
-    alloc: Global,
-    design: &Design,
-    booked: &BookedRoutes,
-    options: Options,
-) -> Result<Verdict, AllocError>
-    requires booked { AreBookedRoutes design.now options booked.now }
-    requires options { AreInRange options }
-    ensures verdict { IfOk result (IsVerdictOn design.now options booked.now.routes) }
-    ensures trees { OnOk result (AreTrees design.now booked.now.routes) }
-{
-    let book = booked.rounds.book.state();
-    let capacity = book.capacity();
-    let front = booked.rounds.chosen;
-    let via_cost = options.via_cost;
-    if front == book.history().len() {
-        return evaluate_routes(
-            alloc,
-            design,
-            capacity,
-            book.loads(),
-            &booked.routes,
-            via_cost,
-        );
-    }
-    let loads = book.loads_at(capacity, front)?;
-    evaluate_routes(alloc, design, capacity, &loads, &booked.routes, via_cost)
 }
 
 /// The verdict on booked routes, and the text of their buffers, which are made side by side where there

@@ -1,26 +1,25 @@
 //! The public call.
-ghost use Rattle.std.specs.Prelude.{◌≡◌, [], None, map, string_bytes, IsTrue};
+ghost use Rattle.std.specs.Prelude.{◌≡◌, [], None, map, string_bytes, IsTrue, IsFalse};
 ghost use Rattle.gr_io.specs.Devices.{device_of, reading_of};
-ghost use Rattle.router_top.specs.Commands.{handed_back, rounds_back};
-ghost use Rattle.router_top.specs.Ends.{LeavesFor, Ends};
-ghost use Rattle.router_top.specs.Making.{makes_design, IsApart, IsApartBy};
-ghost use Rattle.router_top.specs.Statuses.{IsByStatus};
-ghost use Rattle.word_reader.specs.Orders.{order_of};
+ghost use Rattle.command_form.specs.Commands.{handed_back, kept_back, reads_some};
+ghost use Rattle.command_form.specs.Ends.{LeavesFor, Ends};
+ghost use Rattle.command_form.specs.Leaving.{Leaves};
+ghost use Rattle.command_form.specs.Statuses.{is_apart, IsApart, IsByStatus};
+ghost use Rattle.router_top.specs.Orders.{asked_by, command_of};
+ghost use Rattle.word_reader.specs.Orders.{named, order_of, AsksInRange};
 
-use crate::buffering::buffer;
-use crate::judging::judge;
-use crate::left::{Left, Spent};
-use crate::making::make_design;
+use crate::means::Means;
 use crate::routing::route;
-use crate::stop::{Stop, finish};
-use crate::trial::trial;
+use crate::trying::trial;
+use command_form::{Kept, Left, Spent, Stop, finish};
 use cost_rules::Rules;
 use gr_io::{Shelf, Sink};
-use ripup_workers::{Gate, Rounds};
+use ripup_workers::Gate;
 use round_core::HandLog;
 use std::alloc::Global;
 use std::sync::Wait;
 use std::thread::Threads;
+use text_commands::{buffer, judge, make_design};
 use track_book::ClosedBook;
 use word_reader::{Order, read_words};
 
@@ -40,17 +39,17 @@ pub struct Ended {
 }
 
 impl Ended {
-    /// Ended with a status, and with the book and the logs of these rounds.
-    fn of(alloc: Global, status: u8, rounds: Option<Rounds>, spent: Option<Spent>) -> Ended
+    /// Ended with a status, and with what a command left.
+    fn of(alloc: Global, status: u8, kept: Option<Kept>, spent: Option<Spent>) -> Ended
         ensures status { result.status ≡ status }
-        ensures kept { handed_back result.book result.hands.items ≡ rounds_back rounds }
+        ensures kept { handed_back result.book result.hands.items ≡ kept_back kept }
         ensures hands { result.book ≡ None → result.hands.items ≡ [] }
     {
-        match rounds {
-            Some(rounds) => Ended {
+        match kept {
+            Some(kept) => Ended {
                 status,
-                book: Some(rounds.book),
-                hands: rounds.hands,
+                book: Some(kept.book),
+                hands: kept.hands,
                 spent,
             },
             None => Ended {
@@ -101,76 +100,86 @@ pub fn run<R: Threads + Wait + Sync, S: Shelf, O: Sink, E: Sink, G: Gate + Sync>
     gate: &G,
     rules: &Rules,
 ) -> Ended
-    ensures ends { Ends (order_of (map string_bytes words.now))
+    ensures ends { Ends (asked_by (order_of (map string_bytes words.now)))
         (reading_of S.tells S.held S.faults S.misses shelf.old shelf.new)
         (device_of O.tells O.faults O.written out.old out.new)
         (device_of E.tells E.faults E.written err.old err.new)
         (handed_back result.book result.hands.items) result.status }
-    ensures by_status { IsByStatus (order_of (map string_bytes words.now))
+    ensures by_status { IsByStatus (asked_by (order_of (map string_bytes words.now)))
         (reading_of S.tells S.held S.faults S.misses shelf.old shelf.new)
         (device_of O.tells O.faults O.written out.old out.new)
         (device_of E.tells E.faults E.written err.old err.new)
         (handed_back result.book result.hands.items) result.status }
-    ensures makes { IsTrue (makes_design (order_of (map string_bytes words.now)))
-        → IsApartBy shelf.old shelf.new result.status }
+    ensures apart { IsTrue (is_apart (asked_by (order_of (map string_bytes words.now))))
+        → IsApart shelf.old shelf.new result.status }
     ensures hands { result.book ≡ None → result.hands.items ≡ [] }
 {
-    let left = carry_out(rt, alloc, words, shelf, out, err, gate, rules);
+    let means = Means {
+        rt,
+        alloc,
+        gate,
+        rules,
+    };
+    let left = carry_out_words(&means, words, shelf, out, err);
     let status = finish(alloc, err, left.end);
-    Ended::of(alloc, status, left.rounds, left.spent)
+    Ended::of(alloc, status, left.kept, left.spent)
 }
 
 /// Carries out the command that the words give, and tells no stop.
-fn carry_out<R: Threads + Wait + Sync, S: Shelf, O: Sink, E: Sink, G: Gate + Sync>(
-    rt: &R,
-    alloc: Global,
+fn carry_out_words<R: Threads + Wait + Sync, S: Shelf, O: Sink, E: Sink, G: Gate + Sync>(
+    means: &Means<R, G>,
     words: &[String],
     shelf: &mut S,
     out: &mut O,
     err: &mut E,
-    gate: &G,
-    rules: &Rules,
 ) -> Left
-    ensures leaves { LeavesFor (order_of (map string_bytes words.now))
+    ensures leaves { LeavesFor (asked_by (order_of (map string_bytes words.now)))
         (reading_of S.tells S.held S.faults S.misses shelf.old shelf.new)
         (device_of O.tells O.faults O.written out.old out.new)
         (device_of E.tells E.faults E.written err.old err.new)
-        (rounds_back result.rounds) result.end }
-    ensures makes { IsTrue (makes_design (order_of (map string_bytes words.now)))
-        → IsApart shelf.old shelf.new result.end }
+        (kept_back result.kept) result.end }
+    ensures apart { IsTrue (is_apart (asked_by (order_of (map string_bytes words.now)))) → shelf.new ≡ shelf.old }
 {
     match read_words(words) {
-        Ok(
-            Order::Route {
-                design,
-                library,
-                options,
-            },
-        ) => route(
-            rt, alloc, shelf, out, err, design, library, options, gate, rules,
-        ),
-        Ok(
-            Order::Evaluate {
-                design,
-                solution,
-                via_cost,
-            },
-        ) => Left::without_rounds(judge(alloc, shelf, out, design, solution, via_cost)),
-        Ok(
-            Order::Buffer {
-                design,
-                library,
-                solution,
-            },
-        ) => Left::without_rounds(buffer(rt, alloc, shelf, out, design, library, solution)),
-        Ok(Order::Make { made }) => Left::without_rounds(make_design(alloc, out, err, made)),
-        Ok(
-            Order::Trial {
-                made,
-                rounds,
-                workers,
-            },
-        ) => trial(rt, alloc, out, made, rounds, workers, gate, rules),
-        Err(_) => Left::without_rounds(Err(Stop::Usage)),
+        Ok(order) => carry_out(means, order, shelf, out, err),
+        Err(_) => Left::without_book(Err(Stop::Usage)),
+    }
+}
+
+/// Carries out an order.
+fn carry_out<R: Threads + Wait + Sync, S: Shelf, O: Sink, E: Sink, G: Gate + Sync>(
+    means: &Means<R, G>,
+    order: Order,
+    shelf: &mut S,
+    out: &mut O,
+    err: &mut E,
+) -> Left
+    requires { AsksInRange order }
+    ensures leaves { Leaves (command_of (named order.entry))
+        (reading_of S.tells S.held S.faults S.misses shelf.old shelf.new)
+        (device_of O.tells O.faults O.written out.old out.new)
+        (device_of E.tells E.faults E.written err.old err.new)
+        (kept_back result.kept) result.end }
+    ensures apart { IsFalse (reads_some (command_of (named order.entry))) → shelf.new ≡ shelf.old }
+{
+    let alloc = means.alloc;
+    match order {
+        Order::Route {
+            design,
+            library,
+            options,
+        } => route(means, shelf, out, err, design, library, options),
+        Order::Evaluate {
+            design,
+            solution,
+            via_cost,
+        } => judge(alloc, shelf, out, design, solution, via_cost),
+        Order::Buffer {
+            design,
+            library,
+            solution,
+        } => buffer(means.rt, alloc, shelf, out, design, library, solution),
+        Order::Make { made } => make_design(alloc, out, err, made),
+        Order::Trial { made, options } => trial(means, out, made, options),
     }
 }

@@ -28,7 +28,7 @@ pub data Order : Type 0 where
   Evaluate : (design solution : List ℕ) → (via_cost : ℕ) → Order
   Buffer : (design library solution : List ℕ) → Order
   Make : Made → Order
-  Trial : Made → (rounds workers : ℕ) → Order
+  Trial : Made → Options → Order
 
 infixl 10 ◌>>=◌
 abbrev ◌>>=◌ : {A B : Type 0} → Option A → (A → Option B) → Option B
@@ -57,10 +57,10 @@ fills command sorted = length sorted.positionals == (command_row command).positi
 abbrev pub fits : Command → Sorted → Bool
 fits command sorted = fills command sorted && has_all command sorted
 
--- how a design is routed
-unfoldable pub options_of : Sorted → Option Options
-options_of sorted = do
-  rounds ← natural_in most_digits most_rounds (positional sorted 2)
+-- how a design is routed, where ROUNDS is the positional at a place
+unfoldable pub options_of : Sorted → ℕ → Option Options
+options_of sorted place = do
+  rounds ← natural_in most_digits most_rounds (positional sorted place)
   workers ← number_of Workers sorted
   via_cost ← number_of ViaCost sorted
   Some (record { rounds = rounds; workers = workers; via_cost = via_cost; formula = First })
@@ -83,14 +83,13 @@ made_of sorted = do
 unfoldable pub trial_of : Sorted → Option Order
 trial_of sorted = do
   made ← made_of sorted
-  rounds ← natural_in most_digits most_rounds (positional sorted 5)
-  workers ← number_of Workers sorted
-  Some (Trial made rounds workers)
+  options ← options_of sorted 5
+  Some (Trial made options)
 
 -- what each command asks for: `route DESIGN LIBRARY ROUNDS`, `evaluate DESIGN SOLUTION`,
 -- `buffer DESIGN LIBRARY SOLUTION`, `make SEED X Y L NETS` and `trial SEED X Y L NETS ROUNDS`
 abbrev pub order_as : Command → Sorted → Option Order
-order_as Routes sorted = option_map (Route (positional sorted 0) (positional sorted 1)) (options_of sorted)
+order_as Routes sorted = option_map (Route (positional sorted 0) (positional sorted 1)) (options_of sorted 2)
 order_as Evaluates sorted =
     option_map (Evaluate (positional sorted 0) (positional sorted 1)) (number_of ViaCost sorted)
 order_as Buffers sorted = Some (Buffer (positional sorted 0) (positional sorted 1) (positional sorted 2))
@@ -115,7 +114,7 @@ named (Given.Route design library options) = Route design.now library.now option
 named (Given.Evaluate design solution via_cost) = Evaluate design.now solution.now via_cost
 named (Given.Buffer design library solution) = Buffer design.now library.now solution.now
 named (Given.Make made) = Make made
-named (Given.Trial made rounds workers) = Trial made rounds workers
+named (Given.Trial made options) = Trial made options
 
 -- the order of the words, or that they give none
 abbrev pub Answers : Option Order → Result Given WordError → Type 0
@@ -129,17 +128,10 @@ pub record AreInRange (options : Options) : Type 0 where
   pub workers : options.workers ≤ most_workers
   pub via_cost : options.via_cost ≤ most_via_cost
 
--- the numbers of a trial are in range
-pub record IsTrial (made : Made) (rounds workers : ℕ) : Type 0 where
-  pub range : IsMade made
-  pub rounded : rounds ≤ most_rounds
-  pub worker : 1 ≤ workers
-  pub few_workers : workers ≤ most_workers
-
--- and so are those of an order
+-- the numbers of an order are in range
 abbrev pub AsksInRange : Given → Type 0
 AsksInRange (Given.Route design library options) = AreInRange options
 AsksInRange (Given.Evaluate design solution via_cost) = via_cost ≤ most_via_cost
 AsksInRange (Given.Buffer design library solution) = Unit {0}
 AsksInRange (Given.Make made) = IsMade made
-AsksInRange (Given.Trial made rounds workers) = IsTrial made rounds workers
+AsksInRange (Given.Trial made options) = IsMade made × AreInRange options

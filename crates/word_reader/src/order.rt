@@ -1,5 +1,5 @@
 //! What words can ask for, and what each command's ask for.
-ghost use Rattle.std.specs.Prelude.{◌≡◌, ◌≤◌, Some, length, IfSome};
+ghost use Rattle.std.specs.Prelude.{◌≡◌, ◌<◌, ◌≤◌, Some, length, IfSome};
 ghost use Rattle.std.specs.Option.{option_map};
 ghost use Rattle.design_maker.specs.Ranges.{IsMade};
 ghost use Rattle.word_reader.specs.Forms.{command_row};
@@ -33,8 +33,8 @@ pub struct Options {
 /// What the words ask for, with the names of the texts that it needs.
 #[derive(Clone, Copy, Debug)]
 pub enum Order<'w> {
-    /// `route DESIGN LIBRARY ROUNDS [--workers N] [--via-cost V]` routes the design. The library is
-    /// that of its wires and buffers.
+    /// `route DESIGN LIBRARY ROUNDS [--workers N] [--via-cost V]` routes the design. The library is that of its
+    /// wires and buffers.
     Route {
         design: &'w str,
         library: &'w str,
@@ -61,10 +61,7 @@ pub enum Order<'w> {
     /// `trial SEED X Y L NETS ROUNDS [--workers N]` routes a made design.
     Trial {
         made: Made,
-        /// The most rounds of rip-up and reroute, from 0 to 64.
-        rounds: u32,
-        /// How many hands route, from 1 to 16; 1 where N isn't given.
-        workers: u32,
+        options: Options,
     },
 }
 
@@ -88,7 +85,7 @@ fn route<'w>(sorted: &Sorted<'w>) -> Option<Order<'w>>
     ensures order { option_map named result ≡ order_as Routes (words_seen sorted.now) }
     ensures range { IfSome result AsksInRange }
 {
-    let options = options_of(sorted)?;
+    let options = options_of(sorted, 2)?;
     Some(Order::Route {
         design: sorted.positional(0),
         library: sorted.positional(1),
@@ -96,14 +93,18 @@ fn route<'w>(sorted: &Sorted<'w>) -> Option<Order<'w>>
     })
 }
 
-/// How a design is routed.
+/// How a design is routed: ROUNDS is the positional at this place, counted from 0.
 #[tactic(auto, unfolding(crate::specs::Orders::options_of))]
-fn options_of(sorted: &Sorted) -> Option<Options>
-    requires { 3 ≤ length (words_seen sorted.now).positionals }
-    ensures options { result ≡ options_of (words_seen sorted.now) }
+fn options_of(sorted: &Sorted, place: usize) -> Option<Options>
+    requires { place < length (words_seen sorted.now).positionals }
+    ensures options { result ≡ options_of (words_seen sorted.now) place }
     ensures range { IfSome result AreInRange }
 {
-    let rounds = natural_of(sorted.positional(2).as_bytes(), MOST_DIGITS, MOST_ROUNDS)?;
+    let rounds = natural_of(
+        sorted.positional(place).as_bytes(),
+        MOST_DIGITS,
+        MOST_ROUNDS,
+    )?;
     let workers = number_of(OptionKind::Workers, sorted)?;
     let via_cost = number_of(OptionKind::ViaCost, sorted)?;
     Some(Options {
@@ -155,13 +156,8 @@ fn trial<'w>(sorted: &Sorted<'w>) -> Option<Order<'w>>
     ensures range { IfSome result AsksInRange }
 {
     let made = made_of(sorted)?;
-    let rounds = natural_of(sorted.positional(5).as_bytes(), MOST_DIGITS, MOST_ROUNDS)?;
-    let workers = number_of(OptionKind::Workers, sorted)?;
-    Some(Order::Trial {
-        made,
-        rounds,
-        workers: workers as u32,
-    })
+    let options = options_of(sorted, 5)?;
+    Some(Order::Trial { made, options })
 }
 
 /// What a design is made of.

@@ -1,5 +1,5 @@
 use Rattle.std.proofs.Common.{List, ◌++◌, take, ap, ◌∙◌}
-use Rattle.router_top.specs.Said.{report_of}
+use Rattle.text_commands.specs.Judging.{report_of}
 use Rattle.router_top.proofs.RouteLemmas.{routes-trees, chosen-routes}
 use Rattle.router_top.proofs.routing.route_design.Goals as goal
 

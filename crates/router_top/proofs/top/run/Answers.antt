@@ -1,22 +1,23 @@
-use Rattle.std.proofs.Common.{ℕ, [], ◌∷◌, nat_eq, IsTrue, sym, subst}
+use Rattle.std.proofs.Common.{ℕ, [], ◌∷◌, map, nat_eq, string_bytes, IsTrue, sym, subst}
 use Rattle.std.specs.List.{list_any}
-use Rattle.router_top.proofs.EndLemmas.{by-status, ends-with}
-use Rattle.router_top.proofs.MakingLemmas.{own-status}
+use Rattle.command_form.proofs.EndLemmas.{apart-status, by-status, ends-with}
+use Rattle.router_top.proofs.CommandLaws.{asked-lawful}
 use Rattle.router_top.proofs.top.run.Goals as goal
+use Rattle.word_reader.specs.Orders.{order_of}
 
 pub returns-clause-by_status : goal.returns-clause-by_status
 returns-clause-by_status g c =
     let sinks = g.E.Sink in
-    let left = c.carry_out-left.result in
-    by-status _ _ _ _ _ _
-    (ends-with _ _ _ _ (sinks.faults c.carry_out-left.new.err) (sinks.written c.carry_out-left.new.err) _ _ left.end
-    c.of.result.status c.finish-status.result c.of.ensures.kept c.of.ensures.status c.carry_out-left.ensures.leaves c.finish-status.ensures)
+    let left = c.carry_out_words-left.result in
+    by-status _ (asked-lawful (order_of (map string_bytes c.args.words.now))) _ _ _ _ _
+    (ends-with _ _ _ _ (sinks.faults c.carry_out_words-left.new.err) (sinks.written c.carry_out_words-left.new.err) _ _ left.end
+    c.of.result.status c.finish-status.result c.of.ensures.kept c.of.ensures.status c.carry_out_words-left.ensures.leaves c.finish-status.ensures)
 
-pub returns-clause-makes : goal.returns-clause-makes
-returns-clause-makes g c = λ makes.
-    let apart = c.carry_out-left.ensures.makes makes in
-    record {
-      shelf = apart.shelf;
-      known = subst (λ (status : ℕ). IsTrue (list_any (nat_eq status) (0 ∷ 7 ∷ 8 ∷ []))) (sym c.of.ensures.status)
-          (own-status _ c.carry_out-left.result.end c.finish-status.result apart.ends c.finish-status.ensures);
-    }
+pub returns-clause-apart : goal.returns-clause-apart
+returns-clause-apart g c = λ apart. record {
+  shelf = c.carry_out_words-left.ensures.apart apart;
+  known =
+      subst (λ (status : ℕ). IsTrue (list_any (nat_eq status) (0 ∷ 7 ∷ 8 ∷ []))) (sym c.of.ensures.status)
+      (apart-status _ (asked-lawful (order_of (map string_bytes c.args.words.now))) apart _ _ _ _ c.carry_out_words-left.result.end _ c.finish-status.result
+      c.carry_out_words-left.ensures.leaves c.finish-status.ensures);
+}

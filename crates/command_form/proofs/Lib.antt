@@ -1,0 +1,3 @@
+pub mod StopLemmas
+pub mod LeavingLemmas
+pub mod EndLemmas

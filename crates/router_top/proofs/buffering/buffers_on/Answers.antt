@@ -1,6 +1,0 @@
-use Rattle.router_top.proofs.PlannedLemmas.{planned-for}
-use Rattle.router_top.proofs.buffering.buffers_on.Goals as goal
-
-pub buffers_by-requires-clause-plans : goal.buffers_by-requires-clause-plans
-buffers_by-requires-clause-plans g c κs within =
-    planned-for c.args.design.now c.args.library.now c.args.trees.now c.in_ok-plans.plans c.requires.trees c.in_ok-plans.ensures

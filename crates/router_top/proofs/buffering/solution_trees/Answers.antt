@@ -1,9 +1,0 @@
-use Rattle.std.proofs.Common.{sym, subst}
-use Rattle.route_reader.specs.Solutions.{edges_by}
-use Rattle.router_top.specs.Buffering.{GiveTrees}
-use Rattle.router_top.proofs.StopLemmas.{handed-on}
-use Rattle.router_top.proofs.buffering.solution_trees.Goals as goal
-
-pub returns-in_err-set_trees : goal.returns-in_err-set_trees
-returns-in_err-set_trees c =
-    subst (GiveTrees c.args.design.now (edges_by c.args.solution.now)) (sym (handed-on c.from_residual.result _ c.from_residual.ensures)) c.in_err-set_trees.ensures.stops

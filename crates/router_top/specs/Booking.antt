@@ -1,0 +1,86 @@
+-- The book of a design's rounds, the routes that it chooses, and the verdict on them.
+use Rattle.std.specs.Prelude.{◌≡◌, ℕ, ◌≤◌, false, List, Option, Some, None, Result, length, slice_get, take, IsTrue, IfOk, OnOk}
+use Rattle.cost_rules.specs.declared.sight.Watch.TheVariants.{Never}
+use Rattle.gr_base.specs.Designs.{DesignView, is_routed, is_routed_net}
+use Rattle.gr_base.specs.EdgeSets.{Edges, IsJoined}
+use Rattle.gr_base.specs.Trees.{TreeView, IsTree, edges_or_none, route_edges, tree_at}
+use Rattle.gr_base.specs.declared.frame.Net.{Net}
+use Rattle.gr_base.specs.declared.grid.Shape.{Shape}
+use Rattle.grid_demand.specs.Tables.{capacity_of}
+use Rattle.book_state.specs.Books.{booked, IsLegal}
+use Rattle.book_state.specs.Marks.{least_mark}
+use Rattle.book_state.specs.Views.{BookView}
+use Rattle.book_state.specs.declared.entry.Entry.{Entry}
+use Rattle.buffer_plan.specs.Plans.{AreRoutesOf}
+use Rattle.route_evaluator.specs.NetTrees.{AreTrees as AreNetTrees}
+use Rattle.route_evaluator.specs.Verdicts.{IsVerdict}
+use Rattle.route_evaluator.specs.declared.verdict.Verdict.{Verdict}
+use Rattle.straight_runs.specs.Routed.{AreRouted}
+use Rattle.round_core.specs.Hands.{ArePartedTo}
+use Rattle.round_core.specs.RunHistories.{Setting, asked_for, IsRunHistory}
+use Rattle.round_core.specs.Standing.{Stands}
+use Rattle.round_core.specs.declared.hands.HandLog.{HandLog}
+use Rattle.router_top.specs.declared.booking.BookedRoutes.{BookedRoutes}
+use Rattle.router_top.specs.declared.booking.JudgedRoutes.{JudgedRoutes}
+use Rattle.word_reader.specs.declared.order.Options.{Options}
+
+-- the edges of each net's booked tree
+abbrev pub booked_edges : List Entry → ℕ → Edges
+booked_edges h net = edges_or_none (booked h net)
+
+-- each routed net is joined in its set of edges
+abbrev pub AllJoined : DesignView → (ℕ → Edges) → Type 0
+AllJoined d sets =
+    (number : ℕ) → (net : Net) → slice_get d.nets number ≡ Some net → IsTrue (is_routed_net (Some net)) →
+    IsJoined d.frame.shape (sets number) net.pins
+
+-- the rounds that the options ask for, which no watch ends early
+abbrev pub setting_of : DesignView → Options → Setting
+setting_of d options = asked_for d options.formula options.workers options.rounds Never 0
+
+-- the book of a design's rounds: each entry of its history has the reply that the rules give, the history is a run
+-- history of the workers asked for, and the callers' logs part it
+pub record IsBookOf (d : DesignView) (options : Options) (book : BookView) (hands : List HandLog) : Type 0 where
+  pub capacity : book.capacity ≡ capacity_of d
+  pub legal : IsLegal book.capacity book.history
+  pub run : IsRunHistory (setting_of d options) book.history
+  pub parted : ArePartedTo options.workers book.history hands
+
+-- a design's routes: the trees booked at the first mark of least overflow; exactly the routed nets have one, and it
+-- joins their pins
+pub record AreChosenRoutes (d : DesignView) (book : BookView) (front : ℕ) (trees : List
+    (Option TreeView)) : Type 0 where
+  pub least : least_mark book.history ≡ Some front
+  pub booked : (net : ℕ) → tree_at trees net ≡ booked (take front book.history) net
+  pub routed : AreRouted d trees
+  pub free : (net : ℕ) → is_routed d net ≡ false → tree_at trees net ≡ None
+  pub joined : AllJoined d (route_edges trees)
+
+-- each tree is one, in the grid
+abbrev pub AreTrees : Shape → List (Option TreeView) → Type 0
+AreTrees g trees = (net : ℕ) → (t : TreeView) → tree_at trees net ≡ Some t → IsTree t × (t.shape ≡ g)
+
+-- a design's rounds, and the trees that are booked at their first mark of least overflow, where exactly the routed nets
+-- are booked
+pub record AreBookedRoutes (d : DesignView) (options : Options) (r : BookedRoutes) : Type 0 where
+  pub made : IsBookOf d options r.rounds.book.state r.rounds.hands.items
+  pub least : least_mark r.rounds.book.state.history ≡ Some r.rounds.chosen
+  pub within : r.rounds.chosen ≤ length r.rounds.book.state.history
+  pub booked : (net : ℕ) → tree_at r.routes net ≡ booked (take r.rounds.chosen r.rounds.book.state.history) net
+  pub stands : Stands d (take r.rounds.chosen r.rounds.book.state.history)
+
+-- the verdict on a design's trees
+abbrev pub IsVerdictOn : DesignView → Options → List (Option TreeView) → Verdict → Type 0
+IsVerdictOn d options trees v = IsVerdict d options.via_cost (route_edges trees) v
+
+-- the verdict on a design's trees, each of which is one, where it is given
+abbrev pub GivesVerdict : {E : Type 0} → DesignView → Options → List (Option TreeView) → Result Verdict E → Type 0
+GivesVerdict d options trees given = IfOk given (IsVerdictOn d options trees) × OnOk given (AreNetTrees d trees)
+
+-- a design's routes and the verdict on them, with the rounds that they are from
+pub record AreJudgedRoutes (d : DesignView) (options : Options) (r : JudgedRoutes) : Type 0 where
+  pub made : IsBookOf d options r.rounds.book.state r.rounds.hands.items
+  pub routes : AreChosenRoutes d r.rounds.book.state r.rounds.chosen r.routes
+  pub trees : AreTrees d.frame.shape r.routes
+  pub held : AreRoutesOf d r.routes
+  pub judged : IsVerdictOn d options r.routes r.verdict

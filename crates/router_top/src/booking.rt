@@ -1,0 +1,122 @@
+//! The routes that a design's rounds book, and the verdict on them.
+ghost use Rattle.std.specs.Prelude.{IfOk, OnOk};
+ghost use Rattle.gr_base.specs.Designs.{IsDesign};
+ghost use Rattle.route_evaluator.specs.NetTrees.{AreTrees};
+ghost use Rattle.ripup_workers.specs.Made.{IsMade};
+ghost use Rattle.router_top.specs.Booking.{setting_of, AreBookedRoutes, AreJudgedRoutes, IsVerdictOn};
+ghost use Rattle.word_reader.specs.Orders.{AreInRange};
+
+use crate::means::Means;
+use gr_base::{Design, Routes};
+use ripup_workers::{Gate, Rounds, parts_for, route_rounds};
+use route_evaluator::{Verdict, evaluate_routes};
+use std::alloc::{AllocError, Global};
+use std::sync::Wait;
+use std::thread::Threads;
+use word_reader::Options;
+
+/// The routes of a design, with the rounds that they are from.
+#[derive(Drop)]
+pub(crate) struct BookedRoutes {
+    pub rounds: Rounds,
+    pub routes: Routes,
+}
+
+/// The same, and the verdict on the routes.
+#[derive(Drop)]
+pub(crate) struct JudgedRoutes {
+    pub rounds: Rounds,
+    pub routes: Routes,
+    pub verdict: Verdict,
+}
+
+/// Routes a design, and copies the trees that are booked at the first mark of least overflow. The
+/// only error is want of memory.
+pub(crate) fn booked_routes<R: Threads + Wait + Sync, G: Gate + Sync>(
+    means: &Means<R, G>,
+    design: &Design,
+    options: Options,
+) -> Result<BookedRoutes, AllocError>
+    requires design { IsDesign design.now }
+    requires options { AreInRange options }
+    ensures { IfOk result (AreBookedRoutes design.now options) }
+{
+    let rounds = rounds_of(means, design, options)?;
+    let book = rounds.book.state();
+    let parts = parts_for(options.workers);
+    let routes = book.routes_at(means.rt, rounds.chosen, parts)?;
+    Ok(BookedRoutes { rounds, routes })
+}
+
+/// Judges booked routes. The only error is want of memory.
+pub(crate) fn judged_routes(
+    alloc: Global,
+    design: &Design,
+    booked: BookedRoutes,
+    options: Options,
+) -> Result<JudgedRoutes, AllocError>
+    requires booked { AreBookedRoutes design.now options booked }
+    requires options { AreInRange options }
+    ensures { IfOk result (AreJudgedRoutes design.now options) }
+{
+    let verdict = verdict_on(alloc, design, &booked, options)?;
+    Ok(JudgedRoutes {
+        rounds: booked.rounds,
+        routes: booked.routes,
+        verdict,
+    })
+}
+
+/// The rounds that are asked for. The only error is want of memory.
+fn rounds_of<R: Threads + Wait + Sync, G: Gate + Sync>(
+    means: &Means<R, G>,
+    design: &Design,
+    options: Options,
+) -> Result<Rounds, AllocError>
+    requires design { IsDesign design.now }
+    requires options { AreInRange options }
+    ensures { IfOk result (IsMade (setting_of design.now options)) }
+{
+    route_rounds(
+        means.rt,
+        means.alloc,
+        design,
+        means.rules.of(options.formula),
+        options.workers,
+        options.rounds,
+        means.rules.never(),
+        0,
+        means.gate,
+    )
+}
+
+/// The verdict on booked routes, by the loads that the book had at their mark. The only error is want
+/// of memory.
+pub(crate) fn verdict_on(
+    alloc: Global,
+    design: &Design,
+    booked: &BookedRoutes,
+    options: Options,
+) -> Result<Verdict, AllocError>
+    requires booked { AreBookedRoutes design.now options booked.now }
+    requires options { AreInRange options }
+    ensures verdict { IfOk result (IsVerdictOn design.now options booked.now.routes) }
+    ensures trees { OnOk result (AreTrees design.now booked.now.routes) }
+{
+    let book = booked.rounds.book.state();
+    let capacity = book.capacity();
+    let front = booked.rounds.chosen;
+    let via_cost = options.via_cost;
+    if front == book.history().len() {
+        return evaluate_routes(
+            alloc,
+            design,
+            capacity,
+            book.loads(),
+            &booked.routes,
+            via_cost,
+        );
+    }
+    let loads = book.loads_at(capacity, front)?;
+    evaluate_routes(alloc, design, capacity, &loads, &booked.routes, via_cost)
+}

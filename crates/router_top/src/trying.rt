@@ -1,0 +1,93 @@
+//! The command `trial`.
+ghost use Rattle.std.specs.Prelude.{◌≡◌, IfOk, Ok};
+ghost use Rattle.command_form.specs.Commands.{kept_back};
+ghost use Rattle.command_form.specs.Leaving.{LeavesAlone, WritesOut};
+ghost use Rattle.design_maker.specs.Ranges.{IsMade};
+ghost use Rattle.design_maker.specs.Texts.{text_of};
+ghost use Rattle.gr_base.specs.Designs.{IsDesign};
+ghost use Rattle.gr_io.specs.Devices.{device_of};
+ghost use Rattle.ispd_reader.specs.DesignText.{design_of};
+ghost use Rattle.router_top.specs.Trying.{trying};
+ghost use Rattle.text_commands.specs.Judging.{report_of};
+ghost use Rattle.word_reader.specs.Orders.{AreInRange};
+
+use crate::booking::{booked_routes, judged_routes};
+use crate::means::Means;
+use command_form::{Kept, Left, Outcome, Stop};
+use design_maker::{Made, made_text};
+use gr_base::{Design, Name};
+use gr_io::{Shelf, Sink, Slot, SureShelf, write_whole};
+use ispd_reader::read_design;
+use report_text::report;
+use ripup_workers::Gate;
+use route_evaluator::Verdict;
+use std::alloc::{AllocError, Global};
+use std::sync::Wait;
+use std::thread::Threads;
+use word_reader::Options;
+
+/// Carries out `trial`: routes a made design, and writes the report of its routes on out.
+pub(crate) fn trial<R: Threads + Wait + Sync, O: Sink, G: Gate + Sync>(
+    means: &Means<R, G>,
+    out: &mut O,
+    made: Made,
+    options: Options,
+) -> Left
+    requires made { IsMade made }
+    requires options { AreInRange options }
+    ensures { LeavesAlone (trying made options)
+        (device_of O.tells O.faults O.written out.old out.new)
+        (kept_back result.kept) result.end }
+{
+    let Ok(design) = made_design(means.alloc, made) else {
+        return Left::without_book(Err(Stop::NoMemory));
+    };
+    let Ok(booked) = booked_routes(means, &design, options) else {
+        return Left::without_book(Err(Stop::NoMemory));
+    };
+    let Ok(judged) = judged_routes(means.alloc, &design, booked, options) else {
+        return Left::without_book(Err(Stop::NoMemory));
+    };
+    let end = write_report(means.alloc, out, &judged.verdict);
+    Left {
+        end,
+        kept: Some(Kept {
+            book: judged.rounds.book,
+            hands: judged.rounds.hands,
+        }),
+        spent: None,
+    }
+}
+
+/// Writes the report of a verdict on out.
+fn write_report<O: Sink>(alloc: Global, out: &mut O, verdict: &Verdict) -> Result<Outcome, Stop>
+    ensures { WritesOut (report_of verdict.now) (device_of O.tells O.faults O.written out.old out.new) result }
+{
+    let Ok(text) = report(alloc, verdict) else {
+        return Err(Stop::NoMemory);
+    };
+    match write_whole(out, text.bytes()) {
+        Ok(()) => Ok(Outcome::Whole),
+        Err(_) => Err(Stop::WriteFailed),
+    }
+}
+
+/// The design that the text of a made design says. The only error is want of memory.
+fn made_design(alloc: Global, made: Made) -> Result<Design, AllocError>
+    requires { IsMade made }
+    ensures said { IfOk result (λ design. design_of (text_of made) ≡ Ok design) }
+    ensures design { IfOk result IsDesign }
+{
+    let text = made_text(alloc, made)?;
+    let nothing = Name::from_bytes(alloc, b"")?;
+    let unread = Name::from_bytes(alloc, b"")?;
+    let design = Name::from_bytes(alloc, text.bytes())?;
+    let mut shelf = SureShelf::new(design, nothing, unread);
+    let Ok(()) = shelf.reach(alloc, Slot::Design, "") else {
+        unreachable!()
+    };
+    match read_design(alloc, &mut shelf) {
+        Ok(design) => Ok(design),
+        Err(_) => Err(AllocError),
+    }
+}

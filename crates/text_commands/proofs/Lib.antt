@@ -1,0 +1,4 @@
+pub mod PlannedLemmas
+pub mod BufferingLemmas
+pub mod JudgingLemmas
+pub mod MakingLemmas
