@@ -6,11 +6,11 @@ _groute() {
         return
     fi
     case ${COMP_WORDS[1]} in
-    route) options="--workers --via-cost" ;;
+    route) options="--workers --via-cost --rule --stop" ;;
     evaluate) options="--via-cost" ;;
     buffer) options="" ;;
     make) options="" ;;
-    trial) options="--workers" ;;
+    trial) options="--workers --rule" ;;
     *) options= ;;
     esac
     if [[ $word == -* ]]; then

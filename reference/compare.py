@@ -1,10 +1,12 @@
 #!/usr/bin/env python3
-"""Compares the proved router with the slow one on random small texts: reference/compare.py [SEED [COUNT]]
+"""Compares a router with the slow one on random small texts: reference/compare.py [--program PATH] [SEED [COUNT]]
 
-For each seed a design is routed with a library, and then its routes are judged and buffered; in some cases a
-place of one of the texts was changed. Status, standard output and standard error are compared byte for byte. Texts
-on which the two differ are kept in the working folder under the names of their seed.
+For each seed a design is routed with a library, by a rule and with an end of the rounds that are drawn too, and then
+its routes are judged and buffered; in some cases a place of one of the texts was changed. Status, standard output and
+standard error are compared byte for byte. Texts on which the two differ are kept in the working folder under the names
+of their seed. A program that doesn't know `--rule` and `--stop` is asked for neither, and the last line says so.
 """
+import argparse
 import os
 import random
 import subprocess
@@ -145,11 +147,22 @@ def at_times(rng, share, text, odd):
     return changed(rng, text, odd) if rng.random() < share else text
 
 
-class Case:
-    """A seed's texts, and whether the two routers did the same with them."""
+def rules(rng, d, rounds):
+    """A rule and what ends the rounds, with the words for both. A number is the overflow at a mark, or 1 less."""
+    rule, stop = rng.choice(list(route.FORMULAS)), rng.choice([None, "still", "still", "goal", "goal"])
+    if stop == "goal":
+        overflows, _ = route.route(d, rounds, rule, None)
+        stop = max(0, rng.choice(overflows) - rng.randint(0, 1))
+    words = [["--rule", rule], [f"--rule={rule}"]] + [[]] * (rule == "first")
+    ends = [[]] if stop is None else [["--stop", f"{stop}"], [f"--stop={stop}"]]
+    return rule, stop, rng.choice(words) + rng.choice(ends)
 
-    def __init__(self, seed):
-        self.seed, self.kept, self.agrees = seed, [], True
+
+class Case:
+    """A seed's texts, and whether a program did the same with them as the slow router."""
+
+    def __init__(self, program, seed):
+        self.program, self.seed, self.kept, self.agrees = program, seed, [], True
 
     def put(self, name, text):
         """The path of a file with this text."""
@@ -161,7 +174,7 @@ class Case:
 
     def compare(self, wanted, *words):
         """With what the slow router leaves of the same command."""
-        done = subprocess.run([ROUTER, *words], capture_output=True, check=False)
+        done = subprocess.run([self.program, *words], capture_output=True, check=False)
         if (done.returncode, done.stdout, done.stderr) != wanted:
             self.agrees = False
             print("differs:", *words)
@@ -172,19 +185,22 @@ class Case:
                 os.remove(path)
 
 
-def tried(seed):
-    """Whether the two routers agree on a seed's texts."""
+def tried(program, seed, ruled):
+    """Whether a program and the slow router agree on a seed's texts, with rules and stops or without."""
     rng = random.Random(seed)
-    case = Case(seed)
+    case = Case(program, seed)
     text = design(rng)
-    rc = at_times(rng, 0.3, library(rng, read_design(text)), f"{NUMBERS} {WORDS}")
+    d = read_design(text)
+    rc = at_times(rng, 0.3, library(rng, d), f"{NUMBERS} {WORDS}")
     text = at_times(rng, 0.1, text, NUMBERS)
-    rounds, via_cost = rng.randint(0, 4), rng.choice([0, 1, 1, 3, 1000])
+    rounds, via_cost = rng.choice([0, 1, 2, 4, 4, 8]), rng.choice([0, 1, 1, 3, 1000])
     options = ["--via-cost", str(via_cost)]
+    drawn = rules(rng, d, rounds)
+    rule, stop, words = drawn if ruled else ("first", None, [])
     path = case.put("ispd", text)
-    wanted = route.route_command(text, rc, rounds, via_cost)
+    wanted = route.route_command(text, rc, rounds, via_cost, rule, stop)
     rc_path = case.put("library", rc)
-    case.compare(wanted, "route", path, rc_path, str(rounds), *options)
+    case.compare(wanted, "route", path, rc_path, str(rounds), *options, *words)
     twice = rng.random() < 0.05
     solution = at_times(rng, 0.5, wanted[1] * (1 + twice), f"{NUMBERS} {POINTS}")
     solution_path = case.put("solution", solution)
@@ -196,12 +212,24 @@ def tried(seed):
     return case.agrees
 
 
+def knows_rules(program):
+    """Whether a program takes `--rule` and `--stop`: it then looks for the files, of which there is none."""
+    words = ["route", "", "", "0", "--rule", "first", "--stop", "still"]
+    return subprocess.run([program, *words], capture_output=True, check=False).returncode != 2
+
+
 def main():
-    first = int(sys.argv[1]) if len(sys.argv) > 1 else 1
-    count = int(sys.argv[2]) if len(sys.argv) > 2 else 300
-    agree = sum(tried(seed) for seed in range(first, first + count))
-    print(f"{count} cases: {agree} agree, {count - agree} differ")
-    return 0 if agree == count else 1
+    parser = argparse.ArgumentParser(description=__doc__, formatter_class=argparse.RawDescriptionHelpFormatter)
+    parser.add_argument("--program", default=ROUTER, type=os.path.abspath)
+    parser.add_argument("first", metavar="SEED", type=int, nargs="?", default=1)
+    parser.add_argument("count", metavar="COUNT", type=int, nargs="?", default=300)
+    asked = parser.parse_args()
+    ruled = knows_rules(asked.program)
+    seeds = range(asked.first, asked.first + asked.count)
+    agree = sum(tried(asked.program, seed, ruled) for seed in seeds)
+    print(f"{asked.count} cases: {agree} agree, {asked.count - agree} differ"
+          + ("" if ruled else "; without --rule and --stop, which the program doesn't know"))
+    return 0 if agree == asked.count else 1
 
 
 if __name__ == "__main__":

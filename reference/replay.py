@@ -2,8 +2,9 @@
 """Replays the histories of rounds: reference/replay.py [--times N] [--share N] [DESIGN LIBRARY ROUNDS ..]
 
 Each design (made ones where none is named) is routed by 1, 2, 4, 8 and 16 workers, each N times (20 where nothing is
-said), by the program round_histories, which tells the history of its book. Each history is gone through entry by
-entry with a book and plans that were written apart from the proved code:
+said), by each rule and with each end of the rounds in turn: none, `still`, and as enough the overflow at the middle
+mark of the run before. The program round_histories tells the history of its book. Each history is gone through entry
+by entry with a book and plans that were written apart from the proved code:
 
 - each reply is what a book of one caller answers at that point;
 - marks are those of caller 0, claims and releases those of the workers;
@@ -12,11 +13,15 @@ entry with a book and plans that were written apart from the proved code:
   round's margin, twice with room within capacity and then at any demand, and no other net is;
 - each claim's tree is the plan over the demand and the marks of the first `front` entries, among which are all of
   its worker's own (of random designs each tree, of others one in `--share`);
-- the rounds end where no net is due, or where no more were asked for;
+- the rounds end at the first mark at which no net is due, as many were done as were asked for, or the overflow is what
+  `--stop` waits for: at most the number that it names, or, for `still`, no less than at the mark before;
 - the chosen part of the history ends with the first mark of least overflow, and the routes that were written are
   those that are booked there.
+
+A program that doesn't know `--rule` and `--stop` is asked for neither, and the last line says so.
 """
 import argparse
+import itertools
 import os
 import random
 import subprocess
@@ -25,7 +30,7 @@ import tempfile
 
 import compare
 from design import cell, edge, place, read_design, way
-from route import Book, maze_plan, pattern_plan
+from route import FORMULAS, Book, maze_plan, pattern_plan, stops
 from solution import solution_text
 from workers import WORKERS, library, run
 
@@ -35,6 +40,7 @@ PROGRAM = os.path.join(HERE, "..", "crates", "round_histories", "out", "round_hi
 MADE = (("7 24 24 6 1200", 3), ("11 12 12 4 700", 4))
 MARGIN = 4
 SLACKS = (0, 0, None)
+ENDS = (None, "still", "goal")
 TIMEOUT = 600
 
 
@@ -45,6 +51,18 @@ class Wrong(Exception):
 def check(holds, what):
     if not holds:
         raise Wrong(what)
+
+
+class Asked:
+    """How a design is to be routed: what ends the rounds is None, `still` or an overflow that is enough."""
+
+    def __init__(self, rounds, workers, rule, stop):
+        self.rounds, self.workers, self.rule, self.stop = rounds, workers, rule, stop
+
+    def words(self):
+        rule = [] if self.rule == "first" else ["--rule", self.rule]
+        stop = [] if self.stop is None else ["--stop", str(self.stop)]
+        return [str(self.rounds), "--workers", str(self.workers), *rule, *stop]
 
 
 class Entry:
@@ -82,8 +100,8 @@ class Entry:
 class Replay:
     """A book to which the entries of a history are added one after another, and taken back."""
 
-    def __init__(self, d):
-        self.book = Book(d)
+    def __init__(self, d, rule):
+        self.book = Book(d, rule)
         self.done = []
 
     def add(self, entry):
@@ -165,11 +183,12 @@ def check_tree(d, entry):
 class Rounds:
     """The rules of the rounds, entry by entry."""
 
-    def __init__(self, d, workers, rounds, share):
-        self.d, self.workers, self.rounds, self.share = d, workers, rounds, share
-        self.replay = Replay(d)
-        self.round, self.due, self.trying, self.own, self.marks = 0, set(d.routed()), {}, {}, []
-        self.over = False
+    def __init__(self, d, asked, share):
+        self.d, self.asked, self.share = d, asked, share
+        self.replay = Replay(d, asked.rule)
+        self.round, self.due, self.trying, self.own = 0, set(d.routed()), {}, {}
+        self.overflows, self.lengths = [], []
+        self.met, self.over, self.stopped = 0, False, False
 
     def go(self, at, entry):
         check(not self.over, "an entry behind the end")
@@ -177,7 +196,7 @@ class Rounds:
         if entry.call == "mark":
             self.mark(entry)
         else:
-            check(1 <= entry.number <= self.workers, "the number of a worker")
+            check(1 <= entry.number <= self.asked.workers, "the number of a worker")
             self.release(entry) if entry.call == "release" else self.claim(at, entry)
         self.replay.add(entry)
         if entry.call == "mark":
@@ -187,11 +206,14 @@ class Rounds:
     def mark(self, entry):
         check(entry.number == 0, "the number of a mark")
         check(not self.due and not self.trying, "a round ends before all its nets are done")
-        self.marks.append((entry.told, len(self.replay.done) + 1))
+        self.overflows.append(entry.told)
+        self.lengths.append(len(self.replay.done) + 1)
 
     def begin_round(self):
         self.due = set(self.replay.book.victims())
-        self.over = self.round == self.rounds or not self.due
+        may_go_on = bool(self.due) and self.round < self.asked.rounds
+        self.stopped = may_go_on and stops(self.asked.stop, self.overflows)
+        self.over = not may_go_on or self.stopped
         self.round += 1
 
     def release(self, entry):
@@ -213,22 +235,23 @@ class Rounds:
             if entry.reply == "full":
                 self.trying[entry.number] = net, tries + 1
         check(self.own.get(entry.number, 0) <= entry.front <= at, "a front")
+        self.met += entry.front < at
         check_tree(self.d, entry)
         if at % self.share == 0:
             check(self.replay.plan_at(entry) == entry.edges, "a plan")
 
     def end(self, chosen, routes):
         check(self.over, "the rounds have no end")
-        least = min(self.marks)
-        check(chosen == least[1], "the chosen part")
+        _, first = min(zip(self.overflows, self.lengths))
+        check(chosen == first, "the chosen part")
         while len(self.replay.done) > chosen:
             self.replay.back()
         check(solution_text(self.d, self.replay.book.booked) == routes, "the routes")
 
 
-def told(program, design, paths, rounds, workers):
+def told(program, design, paths, asked):
     """The routes, the history's lines and the length of the chosen part of a run."""
-    line = f"run route {design} {paths} {rounds} --workers {workers}\n"
+    line = " ".join(["run route", design, paths, *asked.words()]) + "\n"
     done = subprocess.run([program], input=line.encode(), capture_output=True, check=True, timeout=TIMEOUT)
     lines = done.stdout.split(b"\n")
     check(lines[-1] == b"" and lines[-2].startswith(b"chosen "), "a run has no history")
@@ -238,19 +261,16 @@ def told(program, design, paths, rounds, workers):
     return routes, [text.decode() for text in lines[first + 1 : -2]], int(lines[-2].split()[1])
 
 
-def replayed(program, design, paths, rounds, workers, share):
-    """How many entries a run has, how often another worker's entry stands between two of a turn, and its overflow."""
+def replayed(program, design, paths, asked, share):
+    """The rounds of a run, gone through."""
     with open(design, "rb") as file:
         d = read_design(file.read())
-    routes, lines, chosen = told(program, design, paths, rounds, workers)
-    replay = Rounds(d, workers, rounds, share)
-    met = 0
+    routes, lines, chosen = told(program, design, paths, asked)
+    rounds = Rounds(d, asked, share)
     for at, line in enumerate(lines):
-        entry = Entry(d, line)
-        met += entry.call == "claim" and entry.front < at
-        replay.go(at, entry)
-    replay.end(chosen, routes)
-    return len(lines), met, min(replay.marks)[0]
+        rounds.go(at, Entry(d, line))
+    rounds.end(chosen, routes)
+    return rounds
 
 
 def made(folder):
@@ -276,25 +296,34 @@ def random_designs(folder, count):
         yield *put(folder, f"random_{seed}", compare.design(random.Random(seed))), "4"
 
 
-def tried(program, design, paths, rounds, times, share):
+def tried(program, design, paths, rounds, times, share, orders):
     """Replays runs by each number of workers; the count of those that break a rule."""
-    faults = 0
+    faults, enough = 0, 0
     for workers in WORKERS:
-        entries, met, overflows = 0, 0, []
-        for _ in range(times):
+        entries, met, stopped, overflows = 0, 0, 0, []
+        for rule, end in itertools.islice(orders, times):
+            asked = Asked(int(rounds), workers, rule, enough if end == "goal" else end)
             try:
-                count, beside, overflow = replayed(program, design, paths, int(rounds), workers, share)
+                replay = replayed(program, design, paths, asked, share)
             except Wrong as wrong:
                 faults += 1
-                print(f"{design}, {workers} workers: {wrong}")
+                print(f"{design} {' '.join(asked.words())}: {wrong}")
                 continue
-            entries, met = entries + count, met + beside
-            overflows.append(overflow)
+            entries, met, stopped = entries + replay.lengths[-1], met + replay.met, stopped + replay.stopped
+            overflows.append(min(replay.overflows))
+            enough = replay.overflows[len(replay.overflows) // 2]
         if overflows:
             print(f"{os.path.basename(design)}, {rounds} rounds, {workers} workers: {len(overflows)} runs, "
-                  f"{entries} entries, {met} claims behind others' entries, "
+                  f"{stopped} stopped, {entries} entries, {met} claims behind others' entries, "
                   f"overflow {min(overflows)} to {max(overflows)}", flush=True)
     return faults
+
+
+def knows_rules(program):
+    """Whether a program takes `--rule` and `--stop`: it then reads a folder, in which it fails."""
+    done = subprocess.run([program], input=b"run route . . 0 --rule first --stop still\n", capture_output=True,
+                          check=True, timeout=TIMEOUT)
+    return done.stdout != b"status 2\n"
 
 
 def main():
@@ -307,14 +336,16 @@ def main():
     words = parser.parse_args()
     if len(words.names) % 3:
         parser.error("DESIGN LIBRARY ROUNDS stand together")
+    ruled = knows_rules(words.program)
+    orders = itertools.cycle(itertools.product(FORMULAS, ENDS) if ruled else [("first", None)])
     faults = 0
     with tempfile.TemporaryDirectory() as folder:
         named = [tuple(words.names[at : at + 3]) for at in range(0, len(words.names), 3)]
         for design, paths, rounds in named or made(folder):
-            faults += tried(words.program, design, paths, rounds, words.times, words.share)
+            faults += tried(words.program, design, paths, rounds, words.times, words.share, orders)
         for design, paths, rounds in () if named else random_designs(folder, words.random):
-            faults += tried(words.program, design, paths, rounds, 1, 1)
-    print(f"{faults} faults")
+            faults += tried(words.program, design, paths, rounds, 1, 1, orders)
+    print(f"{faults} faults" + ("" if ruled else "; without --rule and --stop, which the program doesn't know"))
     return 1 if faults else 0
 
 

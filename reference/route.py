@@ -1,7 +1,7 @@
 #!/usr/bin/env python3
 """A slow router for small designs, to compare the proved one with:
 
-    reference/route.py route DESIGN LIBRARY ROUNDS [--via-cost V]
+    reference/route.py route DESIGN LIBRARY ROUNDS [--via-cost V] [--rule first|steep|flat] [--stop still|N]
     reference/route.py evaluate DESIGN SOLUTION [--via-cost V]
     reference/route.py buffer DESIGN LIBRARY SOLUTION
 
@@ -24,18 +24,37 @@ VIA = 3
 TOP = 1048576
 
 
-# Cost and book.
+# Costs, watches and the book.
 
-def first_cost(demand, cap, needed, marks):
-    over = max(0, demand + needed - cap)
-    return min(TOP, 1 + marks + 8 * over)
+def first_cost(over, marks):
+    return 1 + marks + 8 * over
+
+
+def steep_cost(over, marks):
+    return 1 + marks + (8 + marks) * over
+
+
+def flat_cost(over, marks):
+    return 1 + over
+
+
+FORMULAS = {"first": first_cost, "steep": steep_cost, "flat": flat_cost}
+
+
+def stops(stop, overflows):
+    """Whether rounds with these overflows at their marks end at the last of them by what was asked for: None, `still`
+    or a number that is enough."""
+    if stop == "still":
+        return len(overflows) > 1 and overflows[-1] >= overflows[-2]
+    return stop is not None and overflows[-1] <= stop
 
 
 class Book:
-    """Demand, marks and bookings."""
+    """Demand, marks and bookings, with costs by a rule."""
 
-    def __init__(self, d):
+    def __init__(self, d, rule):
         self.d = d
+        self.formula = FORMULAS[rule]
         self.demand = {}
         self.marks = {}
         self.booked = {}            # net -> set of edges
@@ -47,7 +66,8 @@ class Book:
             return VIA
         if not usable(d, e):
             return None
-        return first_cost(self.demand.get(e, 0), capacity(d, e), need(d, net, e), self.marks.get(e, 0))
+        over = max(0, self.demand.get(e, 0) + need(d, net, e) - capacity(d, e))
+        return min(TOP, self.formula(over, self.marks.get(e, 0)))
 
     def wires(self, edges):
         return [e for e in edges if way(self.d, e) != "Up"]
@@ -404,35 +424,35 @@ def freedom(d, net):
     return max(columns) - min(columns) + max(rows) - min(rows) - 2 * len(tiles)
 
 
-def route(d, rounds):
-    """The edges of each routed net at the first mark of least overflow."""
-    book = Book(d)
+def route(d, rounds, rule, stop):
+    """The overflow at each mark, and the edges of each routed net at the first mark of the least."""
+    book = Book(d, rule)
     free = {n: freedom(d, n) for n in d.routed()}
     for n in sorted(free, key=lambda n: (free[n], n)):
         book.claim(n, pattern_plan(book, n), None)
-    best = (book.mark(), dict(book.booked))
-    r = 0
-    while r < rounds:
+    overflows = [book.mark()]
+    best = dict(book.booked)
+    while len(overflows) <= rounds and not stops(stop, overflows):
         due = book.victims()
         if not due:
             break
-        r += 1
+        margin = 4 * len(overflows)
         for n in sorted(due, key=lambda n: (-free[n], n)):
             book.release(n)
             # A refused claim changes neither demand nor marks, so the second plan is the first plan again,
             # and the third too: the tree is planned once.
-            tree = maze_plan(book, n, 4 * r)
+            tree = maze_plan(book, n, margin)
             book.claim(n, tree, 0) or book.claim(n, tree, 0) or book.claim(n, tree, None)
-        total = book.mark()
-        if total < best[0]:
-            best = (total, dict(book.booked))
-    return best[1]
+        overflows.append(book.mark())
+        if overflows[-1] < min(overflows[:-1]):
+            best = dict(book.booked)
+    return overflows, best
 
 
 # The commands: status, standard output and standard error.
 
-def routed(d, library, rounds, via_cost):
-    trees = route(d, rounds)
+def routed(d, library, rounds, via_cost, rule, stop):
+    _, trees = route(d, rounds, rule, stop)
     report = report_text(d, trees, via_cost) + buffers_text(d, library, trees)
     return 0, solution_text(d, trees), report
 
@@ -466,10 +486,10 @@ def read(files):
     return said, None
 
 
-def route_command(design, library, rounds, via_cost):
+def route_command(design, library, rounds, via_cost, rule="first", stop=None):
     """Of texts' bytes."""
     said, fault = read([(3, b"design", read_design, design), (4, b"library", read_library, library)])
-    return fault or routed(*said, rounds, via_cost)
+    return fault or routed(*said, rounds, via_cost, rule, stop)
 
 
 def evaluate_command(design, solution, via_cost):
@@ -488,6 +508,10 @@ def buffer_command(design, library, solution):
 FILES = {"route": ["design", "library"], "evaluate": ["design", "solution"], "buffer": ["design", "library", "solution"]}
 
 
+def stop_of(word):
+    return word if word == "still" else int(word)
+
+
 def arguments():
     parser = argparse.ArgumentParser(description="A slow router for small designs.")
     commands = parser.add_subparsers(dest="command", required=True)
@@ -497,6 +521,8 @@ def arguments():
             words.add_argument(name, type=argparse.FileType("rb"))
         if command == "route":
             words.add_argument("rounds", type=int)
+            words.add_argument("--rule", choices=FORMULAS, default="first")
+            words.add_argument("--stop", metavar="still|N", type=stop_of)
         if command != "buffer":
             words.add_argument("--via-cost", type=int, default=1)
     return parser.parse_args()
@@ -506,7 +532,7 @@ def main():
     words = arguments()
     texts = [getattr(words, name).read() for name in FILES[words.command]]
     if words.command == "route":
-        status, out, err = route_command(*texts, words.rounds, words.via_cost)
+        status, out, err = route_command(*texts, words.rounds, words.via_cost, words.rule, words.stop)
     elif words.command == "evaluate":
         status, out, err = evaluate_command(*texts, words.via_cost)
     else:

@@ -50,7 +50,7 @@ class Tables(unittest.TestCase):
     def test_bash(self):
         self.assertEqual(self.completed("groute", ""), ["route", "evaluate", "buffer", "make", "trial"])
         self.assertEqual(self.completed("groute", "e"), ["evaluate"])
-        self.assertEqual(self.completed("groute", "route", "--"), ["--workers", "--via-cost"])
+        self.assertEqual(self.completed("groute", "route", "--"), ["--workers", "--via-cost", "--rule", "--stop"])
         self.assertEqual(self.completed("groute", "make", "--"), [])
         self.assertEqual(sorted(self.completed("groute", "buffer", "small")),
                          ["small.ispd", "small.library", "small.solution"])
@@ -116,7 +116,7 @@ class Terminal(InFolder):
             status, out, shown = self.shown(*words)
             self.assertEqual((status, out), (2, ""))
             self.assertTrue(shown.startswith("groute: usage\nThe commands:\n"))
-            self.assertIn("  groute route DESIGN LIBRARY ROUNDS [--workers N] [--via-cost V]\n", shown)
+            self.assertIn("  groute make SEED X Y L NETS\n", shown)
             self.assertEqual(run(self.path, *words), (2, "", "groute: usage\n"))
 
     def test_faults(self):

@@ -8,11 +8,12 @@ import sys
 
 # The words of each command, and what it does.
 USAGE = {
-    "route DESIGN LIBRARY ROUNDS [--workers N] [--via-cost V]": "routes a design",
+    "route DESIGN LIBRARY ROUNDS [--workers N] [--via-cost V] [--rule first|steep|flat] [--stop still|N]":
+        "routes a design",
     "evaluate DESIGN SOLUTION [--via-cost V]": "judges the routes of any router",
     "buffer DESIGN LIBRARY SOLUTION": "places buffers on the routes of any router",
     "make SEED X Y L NETS": "makes a design",
-    "trial SEED X Y L NETS ROUNDS [--workers N]": "makes a design and routes it",
+    "trial SEED X Y L NETS ROUNDS [--workers N] [--rule first|steep|flat]": "makes a design and routes it",
 }
 TEXTS = ("DESIGN", "LIBRARY", "SOLUTION")   # words that are files
 FAULTS = {
@@ -98,6 +99,12 @@ def rows():
         yield word, rest[:first], list(zip(rest[first::2], rest[first + 1::2])), does
 
 
+def chosen(value):
+    """The words among an option's values, as zsh completes them."""
+    words = [word for word in value.split("|") if word.islower()]
+    return f"({' '.join(words)})" if words else ""
+
+
 def bash():
     """The completion for bash."""
     cases = "\n".join(f'    {word}) options="{" ".join(option for option, _ in options)}" ;;'
@@ -109,7 +116,7 @@ def zsh():
     """The completion for zsh."""
     cases = []
     for word, positionals, options, _ in rows():
-        parts = [f"'{option}[{value}]:{value}:'" for option, value in options]
+        parts = [f"'{option}[{value}]:{value}:{chosen(value)}'" for option, value in options]
         parts += [f"'{at}:{name}:{'_files' if name in TEXTS else ''}'" for at, name in enumerate(positionals, 2)]
         cases.append(f"{word}) _arguments {' '.join(parts)} ;;")
     return ZSH % ("\n".join(f"    '{word}:{does}'" for word, _, _, does in rows()), "\n".join(cases))

@@ -1,6 +1,7 @@
 -- The book of a design's rounds, the routes that it chooses, and the verdict on them.
 use Rattle.std.specs.Prelude.{◌≡◌, ℕ, ◌≤◌, false, List, Option, Some, None, Result, length, slice_get, take, IsTrue, IfOk, OnOk}
-use Rattle.cost_rules.specs.declared.sight.Watch.TheVariants.{Never}
+use Rattle.cost_rules.specs.declared.sight.Watch.{Watch}
+use Rattle.cost_rules.specs.declared.sight.Watch.TheVariants.{Never, Still, Goal}
 use Rattle.gr_base.specs.Designs.{DesignView, is_routed, is_routed_net}
 use Rattle.gr_base.specs.EdgeSets.{Edges, IsJoined}
 use Rattle.gr_base.specs.Trees.{TreeView, IsTree, edges_or_none, route_edges, tree_at}
@@ -23,6 +24,7 @@ use Rattle.round_core.specs.declared.hands.HandLog.{HandLog}
 use Rattle.router_top.specs.declared.booking.BookedRoutes.{BookedRoutes}
 use Rattle.router_top.specs.declared.booking.JudgedRoutes.{JudgedRoutes}
 use Rattle.word_reader.specs.declared.order.Options.{Options}
+use Rattle.word_reader.specs.declared.order.Stopping.{Stopping}
 
 -- the edges of each net's booked tree
 abbrev pub booked_edges : List Entry → ℕ → Edges
@@ -34,9 +36,21 @@ AllJoined d sets =
     (number : ℕ) → (net : Net) → slice_get d.nets number ≡ Some net → IsTrue (is_routed_net (Some net)) →
     IsJoined d.frame.shape (sets number) net.pins
 
--- the rounds that the options ask for, which no watch ends early
+-- the watch that ends rounds as they are to stop, and its goal
+abbrev pub watch_of : Stopping → Watch
+watch_of Stopping.Never = Never
+watch_of Stopping.Still = Still
+watch_of (Stopping.Goal overflow) = Goal
+
+abbrev pub goal_of : Stopping → ℕ
+goal_of Stopping.Never = 0
+goal_of Stopping.Still = 0
+goal_of (Stopping.Goal overflow) = overflow
+
+-- the rounds that the options ask for
 abbrev pub setting_of : DesignView → Options → Setting
-setting_of d options = asked_for d options.formula options.workers options.rounds Never 0
+setting_of d options =
+    asked_for d options.rule options.workers options.rounds (watch_of options.stop) (goal_of options.stop)
 
 -- the book of a design's rounds: each entry of its history has the reply that the rules give, the history is a run
 -- history of the workers asked for, and the callers' logs part it

@@ -3,17 +3,19 @@ ghost use Rattle.std.specs.Prelude.{IfOk, OnOk};
 ghost use Rattle.gr_base.specs.Designs.{IsDesign};
 ghost use Rattle.route_evaluator.specs.NetTrees.{AreTrees};
 ghost use Rattle.ripup_workers.specs.Made.{IsMade};
+ghost use Rattle.round_core.specs.RunHistories.{asked_for};
 ghost use Rattle.router_top.specs.Booking.{setting_of, AreBookedRoutes, AreJudgedRoutes, IsVerdictOn};
 ghost use Rattle.word_reader.specs.Orders.{AreInRange};
 
 use crate::means::Means;
+use cost_rules::Watcher;
 use gr_base::{Design, Routes};
 use ripup_workers::{Gate, Rounds, parts_for, route_rounds};
 use route_evaluator::{Verdict, evaluate_routes};
 use std::alloc::{AllocError, Global};
 use std::sync::Wait;
 use std::thread::Threads;
-use word_reader::Options;
+use word_reader::{Options, Stopping};
 
 /// The routes of a design, with the rounds that they are from.
 #[derive(Drop)]
@@ -67,7 +69,7 @@ pub(crate) fn judged_routes(
     })
 }
 
-/// The rounds that are asked for. The only error is want of memory.
+/// The rounds that are asked for, which end early as they are to stop. The only error is want of memory.
 fn rounds_of<R: Threads + Wait + Sync, G: Gate + Sync>(
     means: &Means<R, G>,
     design: &Design,
@@ -77,15 +79,38 @@ fn rounds_of<R: Threads + Wait + Sync, G: Gate + Sync>(
     requires options { AreInRange options }
     ensures { IfOk result (IsMade (setting_of design.now options)) }
 {
+    let rules = means.rules;
+    match options.stop {
+        Stopping::Never => rounds_by(means, design, options, rules.never(), 0),
+        Stopping::Still => rounds_by(means, design, options, rules.still(), 0),
+        Stopping::Goal { overflow } => {
+            rounds_by(means, design, options, rules.goal(), u128::from(overflow))
+        }
+    }
+}
+
+/// The same, by this watcher and its goal.
+fn rounds_by<R: Threads + Wait + Sync, G: Gate + Sync>(
+    means: &Means<R, G>,
+    design: &Design,
+    options: Options,
+    watcher: &Watcher,
+    goal: u128,
+) -> Result<Rounds, AllocError>
+    requires design { IsDesign design.now }
+    requires options { AreInRange options }
+    ensures { let o = options in
+        IfOk result (IsMade (asked_for design.now o.rule o.workers o.rounds watcher.now.watch goal)) }
+{
     route_rounds(
         means.rt,
         means.alloc,
         design,
-        means.rules.of(options.formula),
+        means.rules.of(options.rule),
         options.workers,
         options.rounds,
-        means.rules.never(),
-        0,
+        watcher,
+        goal,
         means.gate,
     )
 }

@@ -66,7 +66,7 @@ impl Ended {
 ///
 /// `route DESIGN LIBRARY ROUNDS` reads the design of that name and the library of its wires and
 /// buffers. It gives each routed net a pattern plan over the loads of the nets before it, by the
-/// rule of the first formula. Then, in up to ROUNDS rounds (0 to 64), each net on an edge over its
+/// rule that `--rule` names. Then, in up to ROUNDS rounds (0 to 64), each net on an edge over its
 /// capacity is released and rerouted by a maze plan. As many threads as `--workers` says (1 to 16)
 /// do it, each over what it has seen of the others' routes. In the first pass each takes the nets
 /// that can least go another way first, and in the rounds those that most can. Each passes the gate

@@ -1,11 +1,12 @@
 -- The tables of commands and options.
-use Rattle.std.specs.Prelude.{ℕ, Bool, ◌==◌, List, [], ◌∷◌, Option, Some, codes}
+use Rattle.std.specs.Prelude.{ℕ, Bool, ◌==◌, List, [], ◌∷◌, Option, Some, None, codes}
 use Rattle.std.specs.List.{find, list_any}
 use Rattle.std.specs.Str.{bytes_eq}
+use Rattle.word_reader.specs.Numbers.{most_number}
 use Rattle.word_reader.specs.declared.form.Command.{Command}
 use Rattle.word_reader.specs.declared.form.Command.TheVariants.{Route, Evaluate, Buffer, Make, Trial}
 use Rattle.word_reader.specs.declared.form.OptionKind.{OptionKind}
-use Rattle.word_reader.specs.declared.form.OptionKind.TheVariants.{Workers, ViaCost}
+use Rattle.word_reader.specs.declared.form.OptionKind.TheVariants.{Workers, ViaCost, Rule, Stop}
 use Rattle.word_reader.specs.declared.form.TheConstants.{MOST_WORKERS, MOST_VIA_COST}
 
 -- the most workers, and the most wire edges as which a via edge may count in a report
@@ -34,15 +35,23 @@ pub record OptionRow : Type 0 where
 abbrev pub option_row : OptionKind → OptionRow
 option_row Workers = record { word = codes "--workers"; takes = Number 1 most_workers; default = Some (codes "1") }
 option_row ViaCost = record { word = codes "--via-cost"; takes = Number 0 most_via_cost; default = Some (codes "1") }
+option_row Rule = record {
+  word = codes "--rule";
+  takes = Word (codes "first" ∷ codes "steep" ∷ codes "flat" ∷ []);
+  default = Some (codes "first");
+}
+option_row Stop = record { word = codes "--stop"; takes = WordOrNumber (codes "still" ∷ []) 0 most_number; default = None }
 
 -- the options, each once
 abbrev pub every_option : List OptionKind
-every_option = Workers ∷ ViaCost ∷ []
+every_option = Workers ∷ ViaCost ∷ Rule ∷ Stop ∷ []
 
 -- the place of an option among them
 abbrev pub place : OptionKind → ℕ
 place Workers = 0
 place ViaCost = 1
+place Rule = 2
+place Stop = 3
 
 -- two options are one
 abbrev pub is_option : OptionKind → OptionKind → Bool
@@ -60,11 +69,11 @@ pub record CommandRow : Type 0 where
 
 -- the row of each command
 abbrev pub command_row : Command → CommandRow
-command_row Route = record { word = codes "route"; positionals = 3; options = Workers ∷ ViaCost ∷ [] }
+command_row Route = record { word = codes "route"; positionals = 3; options = Workers ∷ ViaCost ∷ Rule ∷ Stop ∷ [] }
 command_row Evaluate = record { word = codes "evaluate"; positionals = 2; options = ViaCost ∷ [] }
 command_row Buffer = record { word = codes "buffer"; positionals = 3; options = [] }
 command_row Make = record { word = codes "make"; positionals = 5; options = [] }
-command_row Trial = record { word = codes "trial"; positionals = 6; options = Workers ∷ [] }
+command_row Trial = record { word = codes "trial"; positionals = 6; options = Workers ∷ Rule ∷ [] }
 
 -- the commands, each once
 abbrev pub every_command : List Command

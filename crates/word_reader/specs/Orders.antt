@@ -1,8 +1,9 @@
 -- The order that words give.
-use Rattle.std.specs.Prelude.{◌≡◌, ℕ, ◌≤◌, Bool, ◌&&◌, ◌==◌, nat_le, List, [], ◌∷◌, length, get_or, Option, Some, None, Result, Ok, Err, if◌then◌else◌}
+use Rattle.std.specs.Prelude.{◌≡◌, ℕ, ◌≤◌, Bool, ◌&&◌, ◌==◌, nat_le, List, [], ◌∷◌, length, get_or, Option, Some, None, Result, Ok, Err, slice_get, if◌then◌else◌}
 use Rattle.std.specs.Option.{option_map, option_and_then}
 use Rattle.std.specs.List.{list_all}
-use Rattle.cost_rules.specs.declared.site.Formula.TheVariants.{First}
+use Rattle.cost_rules.specs.declared.site.Formula.{Formula}
+use Rattle.cost_rules.specs.declared.site.Formula.TheVariants.{First, Steep, Flat}
 use Rattle.design_maker.specs.Ranges.{is_made, IsMade}
 use Rattle.design_maker.specs.declared.made.Made.{Made}
 use Rattle.design_maker.specs.declared.made.TheConstants.{MOST_MADE_NETS, MOST_SIDE}
@@ -11,15 +12,17 @@ use Rattle.gr_text.specs.Numbers.{natural_in}
 use Rattle.word_reader.specs.Forms.{command_of, command_row, has, every_option, most_via_cost, most_workers}
 use Rattle.word_reader.specs.Numbers.{most_digits, most_number}
 use Rattle.word_reader.specs.Sorting.{Sorted, sorted}
-use Rattle.word_reader.specs.Values.{number_of}
+use Rattle.word_reader.specs.Values.{Value, Absent, Choice, Count, number_of, value_of}
 use Rattle.word_reader.specs.declared.error.WordError.{WordError}
 use Rattle.word_reader.specs.declared.error.WordError.TheVariants.{Usage}
 use Rattle.word_reader.specs.declared.form.Command.{Command}
 use Rattle.word_reader.specs.declared.form.Command.TheVariants.{Route as Routes, Evaluate as Evaluates, Buffer as Buffers, Make as Makes, Trial as Tries}
 use Rattle.word_reader.specs.declared.form.OptionKind.{OptionKind}
-use Rattle.word_reader.specs.declared.form.OptionKind.TheVariants.{Workers, ViaCost}
+use Rattle.word_reader.specs.declared.form.OptionKind.TheVariants.{Workers, ViaCost, Rule, Stop}
 use Rattle.word_reader.specs.declared.order.Options.{Options}
 use Rattle.word_reader.specs.declared.order.Order.{Order as Given}
+use Rattle.word_reader.specs.declared.order.Stopping.{Stopping}
+use Rattle.word_reader.specs.declared.order.Stopping.TheVariants.{Never, Still, Goal}
 use Rattle.word_reader.specs.declared.sorted.Next.TheVariants.{Any}
 
 -- what words ask for, with the names of the texts that it needs
@@ -57,13 +60,37 @@ fills command sorted = length sorted.positionals == (command_row command).positi
 abbrev pub fits : Command → Sorted → Bool
 fits command sorted = fills command sorted && has_all command sorted
 
+-- the rules, in the order of the words that name them
+abbrev pub every_rule : List Formula
+every_rule = First ∷ Steep ∷ Flat ∷ []
+
+-- the rule that a value names
+abbrev pub rule_as : Value → Option Formula
+rule_as Absent = None
+rule_as (Choice place) = slice_get every_rule place
+rule_as (Count number) = None
+
+abbrev pub rule_of : Sorted → Option Formula
+rule_of sorted = option_and_then rule_as (value_of Rule sorted)
+
+-- when rounds are to stop early: never, once the overflow stands still, or once it is at most a number
+abbrev pub stop_as : Value → Stopping
+stop_as Absent = Never
+stop_as (Choice place) = Still
+stop_as (Count number) = Goal number
+
+abbrev pub stop_of : Sorted → Option Stopping
+stop_of sorted = option_map stop_as (value_of Stop sorted)
+
 -- how a design is routed, where ROUNDS is the positional at a place
 unfoldable pub options_of : Sorted → ℕ → Option Options
 options_of sorted place = do
   rounds ← natural_in most_digits most_rounds (positional sorted place)
   workers ← number_of Workers sorted
   via_cost ← number_of ViaCost sorted
-  Some (record { rounds = rounds; workers = workers; via_cost = via_cost; formula = First })
+  rule ← rule_of sorted
+  stop ← stop_of sorted
+  Some (record { rounds = rounds; workers = workers; via_cost = via_cost; rule = rule; stop = stop })
 
 -- the numbers, if a design can be made of them
 abbrev pub in_range : Made → Option Made

@@ -34,6 +34,8 @@ pub(crate) struct CommandRow {
 pub(crate) enum OptionKind {
     Workers,
     ViaCost,
+    Rule,
+    Stop,
 }
 
 /// What words an option takes.
@@ -77,7 +79,12 @@ const EVERY_COMMAND: [Command; 5] = [
 ];
 
 /// The options, each once, in the order in which they are declared.
-pub(crate) const EVERY_OPTION: [OptionKind; 2] = [OptionKind::Workers, OptionKind::ViaCost];
+pub(crate) const EVERY_OPTION: [OptionKind; 4] = [
+    OptionKind::Workers,
+    OptionKind::ViaCost,
+    OptionKind::Rule,
+    OptionKind::Stop,
+];
 
 /// How many options there are.
 pub(crate) const OPTION_COUNT: usize = EVERY_OPTION.len();
@@ -111,7 +118,12 @@ impl Command {
             Command::Route => CommandRow {
                 word: "route",
                 positionals: 3,
-                options: &[OptionKind::Workers, OptionKind::ViaCost],
+                options: &[
+                    OptionKind::Workers,
+                    OptionKind::ViaCost,
+                    OptionKind::Rule,
+                    OptionKind::Stop,
+                ],
             },
             Command::Evaluate => CommandRow {
                 word: "evaluate",
@@ -131,7 +143,7 @@ impl Command {
             Command::Trial => CommandRow {
                 word: "trial",
                 positionals: 6,
-                options: &[OptionKind::Workers],
+                options: &[OptionKind::Workers, OptionKind::Rule],
             },
         }
     }
@@ -165,6 +177,20 @@ impl OptionKind {
                     most: MOST_VIA_COST as u64,
                 },
                 default: Some("1"),
+            },
+            OptionKind::Rule => OptionRow {
+                word: "--rule",
+                takes: Takes::Word(&["first", "steep", "flat"]),
+                default: Some("first"),
+            },
+            OptionKind::Stop => OptionRow {
+                word: "--stop",
+                takes: Takes::WordOrNumber {
+                    words: &["still"],
+                    least: 0,
+                    most: u64::MAX,
+                },
+                default: None,
             },
         }
     }

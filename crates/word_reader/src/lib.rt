@@ -12,5 +12,5 @@ mod values;
 
 pub use error::WordError;
 pub use form::{MOST_VIA_COST, MOST_WORKERS};
-pub use order::{Options, Order};
+pub use order::{Options, Order, Stopping};
 pub use reader::read_words;

@@ -4,13 +4,13 @@ ghost use Rattle.std.specs.Option.{option_map};
 ghost use Rattle.design_maker.specs.Ranges.{IsMade};
 ghost use Rattle.word_reader.specs.Forms.{command_row};
 ghost use Rattle.word_reader.specs.Kept.{words_seen};
-ghost use Rattle.word_reader.specs.Orders.{named, options_of, in_range, made_of, order_as, trial_of, AreInRange, AsksInRange};
+ghost use Rattle.word_reader.specs.Orders.{named, options_of, in_range, made_of, order_as, rule_of, stop_of, trial_of, AreInRange, AsksInRange};
 ghost use Rattle.word_reader.specs.declared.form.Command.TheVariants.{Route as Routes, Evaluate as Evaluates, Buffer as Buffers, Make as Makes, Trial as Tries};
 
 use crate::form::{Command, OptionKind};
 use crate::numbers::{MOST_DIGITS, number_of_word};
 use crate::sorted::Sorted;
-use crate::values::number_of;
+use crate::values::{Value, number_of, value_of};
 use cost_rules::Formula;
 use design_maker::{MOST_MADE_NETS, MOST_SIDE, Made};
 use gr_base::{MOST_LAYERS, MOST_ROUNDS};
@@ -26,15 +26,30 @@ pub struct Options {
     /// As how many wire edges a via edge counts in the report, from 0 to 1,000; 1 where V isn't
     /// given.
     pub via_cost: u32,
-    /// The formula of the edges' costs.
-    pub formula: Formula,
+    /// The rule of the edges' costs; the first where none is named.
+    pub rule: Formula,
+    /// When the rounds are to stop early; never where V isn't given.
+    pub stop: Stopping,
 }
+
+/// When rounds are to stop early.
+#[derive(Clone, Copy, Debug)]
+pub enum Stopping {
+    Never,
+    /// Where a round has not made the total overflow smaller.
+    Still,
+    /// Where the total overflow is at most this, in units of width.
+    Goal { overflow: u64 },
+}
+
+/// The rules, in the order of the words that name them.
+const EVERY_RULE: [Formula; 3] = [Formula::First, Formula::Steep, Formula::Flat];
 
 /// What the words ask for, with the names of the texts that it needs.
 #[derive(Clone, Copy, Debug)]
 pub enum Order<'w> {
-    /// `route DESIGN LIBRARY ROUNDS [--workers N] [--via-cost V]` routes the design. The library is that of its
-    /// wires and buffers.
+    /// `route DESIGN LIBRARY ROUNDS [--workers N] [--via-cost V] [--rule NAME] [--stop V]` routes the
+    /// design. The library is that of its wires and buffers.
     Route {
         design: &'w str,
         library: &'w str,
@@ -58,7 +73,7 @@ pub enum Order<'w> {
     Make {
         made: Made,
     },
-    /// `trial SEED X Y L NETS ROUNDS [--workers N]` routes a made design.
+    /// `trial SEED X Y L NETS ROUNDS [--workers N] [--rule NAME]` routes a made design.
     Trial {
         made: Made,
         options: Options,
@@ -107,12 +122,36 @@ fn options_of(sorted: &Sorted, place: usize) -> Option<Options>
     )?;
     let workers = number_of(OptionKind::Workers, sorted)?;
     let via_cost = number_of(OptionKind::ViaCost, sorted)?;
+    let rule = rule_of(sorted)?;
+    let stop = stop_of(sorted)?;
     Some(Options {
         rounds,
         workers: workers as u32,
         via_cost: via_cost as u32,
-        formula: Formula::First,
+        rule,
+        stop,
     })
+}
+
+/// The rule that is named.
+fn rule_of(sorted: &Sorted) -> Option<Formula>
+    ensures { result ≡ rule_of (words_seen sorted.now) }
+{
+    match value_of(OptionKind::Rule, sorted)? {
+        Value::Choice(place) => EVERY_RULE.get(place).copied(),
+        Value::Absent | Value::Count(_) => None,
+    }
+}
+
+/// When the rounds are to stop early.
+fn stop_of(sorted: &Sorted) -> Option<Stopping>
+    ensures { result ≡ stop_of (words_seen sorted.now) }
+{
+    match value_of(OptionKind::Stop, sorted)? {
+        Value::Absent => Some(Stopping::Never),
+        Value::Choice(_) => Some(Stopping::Still),
+        Value::Count(overflow) => Some(Stopping::Goal { overflow }),
+    }
 }
 
 fn evaluate<'w>(sorted: &Sorted<'w>) -> Option<Order<'w>>
