@@ -4,7 +4,7 @@
 For each seed a design is routed with a library, by a rule and with an end of the rounds that are drawn too, and then
 its routes are judged and buffered; in some cases a place of one of the texts was changed. Status, standard output and
 standard error are compared byte for byte. Texts on which the two differ are kept in the working folder under the names
-of their seed. A program that doesn't know `--rule` and `--stop` is asked for neither, and the last line says so.
+of their seed.
 """
 import argparse
 import os
@@ -147,15 +147,18 @@ def at_times(rng, share, text, odd):
     return changed(rng, text, odd) if rng.random() < share else text
 
 
-def rules(rng, d, rounds):
-    """A rule and what ends the rounds, with the words for both. A number is the overflow at a mark, or 1 less."""
+def rules(rng, d):
+    """How many rounds, by which rule, and what ends them, with the words for the last two. A number that ends them is
+    the overflow at a mark, or 1 less."""
     rule, stop = rng.choice(list(route.FORMULAS)), rng.choice([None, "still", "still", "goal", "goal"])
+    # What `still` gives up shows where a round after it would leave less.
+    rounds = 8 if stop == "still" else rng.randint(0, 4)
     if stop == "goal":
         overflows, _ = route.route(d, rounds, rule, None)
         stop = max(0, rng.choice(overflows) - rng.randint(0, 1))
     words = [["--rule", rule], [f"--rule={rule}"]] + [[]] * (rule == "first")
     ends = [[]] if stop is None else [["--stop", f"{stop}"], [f"--stop={stop}"]]
-    return rule, stop, rng.choice(words) + rng.choice(ends)
+    return rounds, rule, stop, rng.choice(words) + rng.choice(ends)
 
 
 class Case:
@@ -185,18 +188,17 @@ class Case:
                 os.remove(path)
 
 
-def tried(program, seed, ruled):
-    """Whether a program and the slow router agree on a seed's texts, with rules and stops or without."""
+def tried(program, seed):
+    """Whether a program and the slow router agree on a seed's texts."""
     rng = random.Random(seed)
     case = Case(program, seed)
     text = design(rng)
     d = read_design(text)
     rc = at_times(rng, 0.3, library(rng, d), f"{NUMBERS} {WORDS}")
     text = at_times(rng, 0.1, text, NUMBERS)
-    rounds, via_cost = rng.choice([0, 1, 2, 4, 4, 8]), rng.choice([0, 1, 1, 3, 1000])
+    via_cost = rng.choice([0, 1, 1, 3, 1000])
     options = ["--via-cost", str(via_cost)]
-    drawn = rules(rng, d, rounds)
-    rule, stop, words = drawn if ruled else ("first", None, [])
+    rounds, rule, stop, words = rules(rng, d)
     path = case.put("ispd", text)
     wanted = route.route_command(text, rc, rounds, via_cost, rule, stop)
     rc_path = case.put("library", rc)
@@ -212,23 +214,15 @@ def tried(program, seed, ruled):
     return case.agrees
 
 
-def knows_rules(program):
-    """Whether a program takes `--rule` and `--stop`: it then looks for the files, of which there is none."""
-    words = ["route", "", "", "0", "--rule", "first", "--stop", "still"]
-    return subprocess.run([program, *words], capture_output=True, check=False).returncode != 2
-
-
 def main():
     parser = argparse.ArgumentParser(description=__doc__, formatter_class=argparse.RawDescriptionHelpFormatter)
     parser.add_argument("--program", default=ROUTER, type=os.path.abspath)
     parser.add_argument("first", metavar="SEED", type=int, nargs="?", default=1)
     parser.add_argument("count", metavar="COUNT", type=int, nargs="?", default=300)
     asked = parser.parse_args()
-    ruled = knows_rules(asked.program)
     seeds = range(asked.first, asked.first + asked.count)
-    agree = sum(tried(asked.program, seed, ruled) for seed in seeds)
-    print(f"{asked.count} cases: {agree} agree, {asked.count - agree} differ"
-          + ("" if ruled else "; without --rule and --stop, which the program doesn't know"))
+    agree = sum(tried(asked.program, seed) for seed in seeds)
+    print(f"{asked.count} cases: {agree} agree, {asked.count - agree} differ")
     return 0 if agree == asked.count else 1
 
 

@@ -17,8 +17,6 @@ by entry with a book and plans that were written apart from the proved code:
   `--stop` waits for: at most the number that it names, or, for `still`, no less than at the mark before;
 - the chosen part of the history ends with the first mark of least overflow, and the routes that were written are
   those that are booked there.
-
-A program that doesn't know `--rule` and `--stop` is asked for neither, and the last line says so.
 """
 import argparse
 import itertools
@@ -319,13 +317,6 @@ def tried(program, design, paths, rounds, times, share, orders):
     return faults
 
 
-def knows_rules(program):
-    """Whether a program takes `--rule` and `--stop`: it then reads a folder, in which it fails."""
-    done = subprocess.run([program], input=b"run route . . 0 --rule first --stop still\n", capture_output=True,
-                          check=True, timeout=TIMEOUT)
-    return done.stdout != b"status 2\n"
-
-
 def main():
     parser = argparse.ArgumentParser(description=__doc__, formatter_class=argparse.RawDescriptionHelpFormatter)
     parser.add_argument("--program", default=PROGRAM)
@@ -336,8 +327,7 @@ def main():
     words = parser.parse_args()
     if len(words.names) % 3:
         parser.error("DESIGN LIBRARY ROUNDS stand together")
-    ruled = knows_rules(words.program)
-    orders = itertools.cycle(itertools.product(FORMULAS, ENDS) if ruled else [("first", None)])
+    orders = itertools.cycle(itertools.product(FORMULAS, ENDS))
     faults = 0
     with tempfile.TemporaryDirectory() as folder:
         named = [tuple(words.names[at : at + 3]) for at in range(0, len(words.names), 3)]
@@ -345,7 +335,7 @@ def main():
             faults += tried(words.program, design, paths, rounds, words.times, words.share, orders)
         for design, paths, rounds in () if named else random_designs(folder, words.random):
             faults += tried(words.program, design, paths, rounds, 1, 1, orders)
-    print(f"{faults} faults" + ("" if ruled else "; without --rule and --stop, which the program doesn't know"))
+    print(f"{faults} faults")
     return 1 if faults else 0
 
 
