@@ -2,7 +2,7 @@
 """Writes docs/DEFINITIONS.md, the table of what the program's contract is made of: tools/definitions.py
 
 Each file of definitions, crates/CRATE/specs/NAME.antt, that the contract of `run` cites, or another such file, or that
-defines a name of docs/PROVED.md, is listed with the first sentence of the comment that it begins with, up to its colon,
+defines a name of docs/PROVED.md, is listed with the first sentence of the comment that it begins with, up to its colon or comma,
 lowest crates first. Files ..Store.antt, of what fields keep, are left out.
 """
 import argparse
@@ -15,7 +15,7 @@ ROOT = os.path.dirname(os.path.dirname(os.path.abspath(__file__)))
 DOCUMENT = os.path.join(ROOT, "docs", "DEFINITIONS.md")
 HEAD = """# Where each word is defined
 
-The definitions that the contract of `run` cites, themselves or by one another, and those of the other names in `docs/PROVED.md`. `gr_base/Grid` is `crates/gr_base/specs/Grid.antt`; the words are from its first sentence. `grep -rnw NAME crates/*/specs` finds any name. `tools/definitions.py` writes this page.
+The definitions that the contract of `run` cites, themselves or by one another, and those of the other names in `docs/PROVED.md`. `gr_base/Grid` is `crates/gr_base/specs/Grid.antt`; the words begin its first sentence. `grep -rnw NAME crates/*/specs` finds any name. `tools/definitions.py` writes this page.
 
 | file | defines |
 |---|---|
@@ -77,11 +77,12 @@ def of_contracts(texts):
 
 
 def subject_of(text):
-    """The first sentence of the comment that a text begins with, up to a colon behind enough words; or nothing."""
+    """The first sentence of the comment that a text begins with, up to a colon behind enough words or a comma; or nothing."""
     comment = re.match(r"(?:-- .*\n)*", text).group()
     sentence = re.match(r"(?:[^.]|\.(?! |$))*\.?", " ".join(comment.replace("-- ", " ").split())).group()
     subject = sentence.partition(":")[0]
-    words = (sentence if len(subject.split()) < LEAST_WORDS else subject).removeprefix("The ").removesuffix(".")
+    words = (sentence if len(subject.split()) < LEAST_WORDS else subject).partition(",")[0]
+    words = words.removeprefix("The ").removesuffix(".")
     return words[:1].upper() + words[1:]
 
 
