@@ -2,7 +2,7 @@
 _groute() {
     local word=${COMP_WORDS[COMP_CWORD]} options
     if [ "$COMP_CWORD" -eq 1 ]; then
-        COMPREPLY=($(compgen -W "route evaluate buffer make trial" -- "$word"))
+        COMPREPLY=($(compgen -W "route evaluate buffer make trial panels" -- "$word"))
         return
     fi
     case ${COMP_WORDS[1]} in
@@ -11,6 +11,7 @@ _groute() {
     buffer) options="" ;;
     make) options="" ;;
     trial) options="--workers --rule" ;;
+    panels) options="" ;;
     *) options= ;;
     esac
     if [[ $word == -* ]]; then

@@ -7,6 +7,10 @@ is hatched and doesn't count for the colour. Of large designs a dot is the mean 
 edge has its own place, between its two tiles, and a dot of large designs is the fullest of several. A table (.csv) has
 a line for each wire edge that is used; columns and rows count from 0, layers from 1.
 
+--tracks reads what `groute panels` wrote of the solution and prints, fullest first, the tracks of each row and column
+beside those that it holds: its least capacity along it over the layer's minimum width and spacing. One of more tracks
+than it holds can't be routed in detail as it is.
+
 Pictures want Debian's python3-numpy and python3-matplotlib. Tables and totals do without, but are slower then.
 """
 import csv
@@ -49,6 +53,7 @@ def words():
     parser.add_argument("--worst", type=int, default=0, metavar="N", help="frame the N worst regions of hotspots.py")
     parser.add_argument("--net", metavar="NAME", help="draw this net")
     parser.add_argument("--buffers", metavar="REPORT", help="draw the buffers that a report tells of")
+    parser.add_argument("--tracks", metavar="PANELS", help="print the tracks of rows and columns beside what they hold")
     command.add_names(parser)
     asked = parser.parse_args()
     if asked.output and os.path.splitext(asked.output)[1] not in (".png", ".svg", ".csv"):
@@ -97,6 +102,11 @@ def main():
         from tile_map import write_picture      # as above
         write_picture(edges, asked.output, asked, name, terms, asked.buffers and buffers(asked, design))
     sys.stdout.write(command.totals(edges))
+    if asked.tracks:
+        import panel_tracks
+        import tables
+        table = panel_tracks.rows(design, asked.tracks, terms)
+        sys.stdout.writelines(f"{line}\n" for line in ["", *tables.lines(panel_tracks.HEAD, table)])
 
 
 if __name__ == "__main__":

@@ -210,6 +210,27 @@ class Congestion(InFolder):
             self.assertEqual(file.read(), "layer,column,row,to_column,to_row,capacity,demand,overflow\n"
                                           "1,0,1,1,1,2,4,2\n1,1,1,2,1,2,4,2\n")
 
+    def test_tracks(self):
+        """Rows and columns by share; an adjustment may take tracks away, and width and spacing may be 0."""
+        design = self.put("design", "grid 6 3 2\nvertical capacity 0 7\nhorizontal capacity 4 0\nminimum width 1 0\n"
+                                    "minimum spacing 1 0\nvia spacing 1 1\n0 0 10 10\nnum net 1\na 0 1 1\n5 5 1\n"
+                                    "2\n2 0 1 3 0 1 3\n0 2 1 1 2 1 9\n")
+        solution = self.put("solution", "")
+        text = ("panels 4\ntracks 6\npanel h 1 0 tracks 2 at 2\n0 0 2 1\n1 2 4 2\n2 3 5 1\n"
+                "panel h 1 1 tracks 1 at 0\n0 0 1 1\npanel h 1 2 tracks 1 at 0\n0 0 1 1\n"
+                "panel v 2 4 tracks 2 at 0\n0 0 1 1\n1 0 2 2\n")
+        status, out, err = tool("congestion.py", design, solution, "--tracks", self.put("panels", text))
+        self.assertEqual((status, err), (0, ""))
+        self.assertEqual([line.split() for line in out.splitlines()[6:]], [
+            ["layer", "number", "tracks", "holds", "%", "at", "tile"], ["row", "1", "0", "2", "1", "200", "2"],
+            ["row", "1", "1", "1", "2", "50", "0"], ["row", "1", "2", "1", "2", "50", "0"],
+            ["column", "2", "4", "2", "-", "-", "0"]])
+        for text, says in (("panels 1\ntracks 1\n", "1 panels"), ("panels 1\ntracks 1\npanel x", "h or v"),
+                           ("panels 1\ntracks 1\npanel h 1 3 tracks 1 at 0\n0 0 1 1\n", "no row 3"), ("0", "panels")):
+            status, out, err = tool("congestion.py", design, solution, "--tracks", self.put("panels", text))
+            self.assertEqual(status, 1)
+            self.assertIn(says, err)
+
     @unittest.skipUnless(PICTURES, "numpy and matplotlib are not there")
     def test_pictures(self):
         small = f"{ROOT}/examples/small.ispd", f"{ROOT}/examples/small.solution"

@@ -48,7 +48,7 @@ class Tables(unittest.TestCase):
 
     @unittest.skipUnless(shutil.which("bash"), "bash is not there")
     def test_bash(self):
-        self.assertEqual(self.completed("groute", ""), ["route", "evaluate", "buffer", "make", "trial"])
+        self.assertEqual(self.completed("groute", ""), ["route", "evaluate", "buffer", "make", "trial", "panels"])
         self.assertEqual(self.completed("groute", "e"), ["evaluate"])
         self.assertEqual(self.completed("groute", "route", "--"), ["--workers", "--via-cost", "--rule", "--stop"])
         self.assertEqual(self.completed("groute", "make", "--"), [])

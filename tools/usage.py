@@ -14,6 +14,7 @@ USAGE = {
     "buffer DESIGN LIBRARY SOLUTION": "places buffers on the routes of any router",
     "make SEED X Y L NETS": "makes a design",
     "trial SEED X Y L NETS ROUNDS [--workers N] [--rule first|steep|flat]": "makes a design and routes it",
+    "panels DESIGN SOLUTION": "gives straight runs the fewest tracks",
 }
 TEXTS = ("DESIGN", "LIBRARY", "SOLUTION")   # words that are files
 FAULTS = {

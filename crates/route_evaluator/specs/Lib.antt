@@ -8,3 +8,4 @@ pub mod Counts
 pub mod NetTrees
 pub mod TreeSets
 pub mod Floods
+pub mod RunSets

@@ -1,10 +1,10 @@
 //! The numbers of edges in tables.
-ghost use Rattle.std.specs.Prelude.{◌≡◌, ◌<◌, map, IfOk};
+ghost use Rattle.std.specs.Prelude.{◌≡◌, ◌<◌, map, OnOk};
 ghost use Rattle.gr_base.specs.Limits.{most_cells};
 ghost use Rattle.route_evaluator.specs.EdgeNumbers.{edge_number as number_of, edge_numbered, is_via_number};
 
 use gr_base::{Edge, Way};
-use std::alloc::{AllocError, Global};
+use std::alloc::AllocError;
 
 /// The number of an edge: each cell has three, for its East, its North and its Up edge.
 pub(crate) fn edge_number(e: Edge) -> u32
@@ -34,15 +34,15 @@ pub(crate) fn edge_with_number(number: u32) -> Edge
     }
 }
 
-/// The edges with these numbers, in their order. The only error is want of memory.
-pub(crate) fn edges_with_numbers(alloc: Global, numbers: &[u32]) -> Result<Vec<Edge>, AllocError>
-    ensures { IfOk result (λ edges. edges.items ≡ map edge_numbered numbers.now) }
+/// Replaces the list by the edges with these numbers, in their order. The only error is want of memory.
+pub(crate) fn list_edges(edges: &mut Vec<Edge>, numbers: &[u32]) -> Result<(), AllocError>
+    ensures { OnOk result (edges.new.items ≡ map edge_numbered numbers.now) }
 {
-    let mut edges = Vec::new(alloc);
+    edges.clear();
     for number in numbers {
         edges.push(edge_with_number(*number))?;
     }
-    Ok(edges)
+    Ok(())
 }
 
 /// Whether the edge with a number is a via edge.

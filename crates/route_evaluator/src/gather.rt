@@ -1,21 +1,19 @@
-//! The edges that the runs of a net cover, and the straight runs of these edges.
-ghost use Rattle.std.specs.Prelude.{◌≡◌, ◌<◌, ◌*◌, length, All, IfOk, OnOk};
+//! The edges that the runs of a net cover.
+ghost use Rattle.std.specs.Prelude.{◌≡◌, ◌<◌, ◌*◌, length, All, OnOk};
 ghost use Rattle.gr_base.specs.Grid.{cells_of};
 ghost use Rattle.solution_text.specs.Covers.{covers};
-ghost use Rattle.solution_text.specs.Runs.{LieIn, runs_of};
+ghost use Rattle.solution_text.specs.Runs.{LieIn};
 ghost use Rattle.route_reader.specs.Solutions.{IsOf, IsRun, edges_by};
 ghost use Rattle.route_evaluator.specs.EdgeNumbers.{edges_numbered};
 ghost use Rattle.route_evaluator.specs.Gathers.{covered_by, Adds};
 ghost use Rattle.route_evaluator.specs.NumberSets.{empty_set};
 
-use crate::edge_numbers::{edge_number, edges_with_numbers};
+use crate::edge_numbers::edge_number;
 use crate::number_set::NumberSet;
-use crate::straight_list::Straight;
 use gr_base::{Design, Edge, Shape};
 use route_reader::Solution;
 use solution_text::Run;
-use std::alloc::{AllocError, Global};
-use straight_runs::gather_runs;
+use std::alloc::AllocError;
 
 /// Puts the edges that a run covers into a set of edges.
 fn add_run(edges: &mut NumberSet, shape: Shape, run: Run) -> Result<(), AllocError>
@@ -65,42 +63,4 @@ pub(crate) fn gather_net(
 {
     gather(edges, design.frame().shape, solution.runs(net))?;
     Ok(())
-}
-
-/// The set of edges that the runs of a net in a solution cover. The only error is want of memory.
-pub(crate) fn edges_of_net(
-    alloc: Global,
-    design: &Design,
-    solution: &Solution,
-    net: u32,
-) -> Result<NumberSet, AllocError>
-    requires of { IsOf design.now solution.now }
-    requires net { net < length design.now.nets }
-    ensures bound { IfOk result (λ set. set.bound ≡ 3 * cells_of design.now.frame.shape) }
-    ensures edges { IfOk result (λ set. edges_numbered set.numbers ≡ edges_by solution.now net) }
-    ensures grid { IfOk result (λ set. LieIn design.now.frame.shape (edges_numbered set.numbers)) }
-{
-    let mut edges = NumberSet::new(alloc, 3 * design.frame().shape.cells())?;
-    gather_net(&mut edges, design, solution, net)?;
-    Ok(edges)
-}
-
-/// The maximal straight runs of a net's edges in a solution, in the order in which they are written.
-/// The only error is want of memory.
-pub fn straight(
-    alloc: Global,
-    design: &Design,
-    solution: &Solution,
-    net: u32,
-) -> Result<Straight, AllocError>
-    requires of { IsOf design.now solution.now }
-    requires net { net < length design.now.nets }
-    ensures { IfOk result (λ straight. straight ≡ runs_of design.now.frame.shape (edges_by solution.now net)) }
-{
-    let set = edges_of_net(alloc, design, solution, net)?;
-    let edges = edges_with_numbers(alloc, set.numbers())?;
-    let mut runs = Vec::new(alloc);
-    let mut lows = Vec::new(alloc);
-    gather_runs(&mut runs, &mut lows, design.frame().shape, &edges)?;
-    Ok(Straight { runs })
 }

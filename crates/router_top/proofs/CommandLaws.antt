@@ -20,7 +20,8 @@ use Rattle.router_top.specs.Trying.{trying}
 use Rattle.text_commands.proofs.BufferingLemmas.{buffering-lawful}
 use Rattle.text_commands.proofs.JudgingLemmas.{judging-lawful}
 use Rattle.text_commands.proofs.MakingLemmas.{making-lawful}
-use Rattle.word_reader.specs.Orders.{Order, Route, Evaluate, Buffer, Make, Trial, named}
+use Rattle.text_commands.proofs.TrackingLemmas.{tracking-lawful}
+use Rattle.word_reader.specs.Orders.{Order, Route, Evaluate, Buffer, Make, Trial, Panels, named}
 use Rattle.word_reader.specs.declared.order.Order.{Order as Given}
 use Rattle.word_reader.specs.declared.order.Options.{Options}
 
@@ -60,6 +61,7 @@ lawful (Evaluate design solution via_cost) = judging-lawful design solution via_
 lawful (Buffer design library solution) = buffering-lawful design library solution
 lawful (Make made) = making-lawful made
 lawful (Trial made options) = trying-lawful made options
+lawful (Panels design solution) = tracking-lawful design solution
 
 pub asked-lawful : (order : Option Order) → IsLawfully (asked_by order)
 asked-lawful None = tt

@@ -6,7 +6,8 @@ use Rattle.router_top.specs.Trying.{trying}
 use Rattle.text_commands.specs.Buffering.{buffering}
 use Rattle.text_commands.specs.Judging.{judging}
 use Rattle.text_commands.specs.Making.{making}
-use Rattle.word_reader.specs.Orders.{Order, Route, Evaluate, Buffer, Make, Trial}
+use Rattle.text_commands.specs.Tracking.{tracking}
+use Rattle.word_reader.specs.Orders.{Order, Route, Evaluate, Buffer, Make, Trial, Panels}
 
 abbrev pub command_of : Order → Command
 command_of (Route design library options) = routing design library options
@@ -14,6 +15,7 @@ command_of (Evaluate design solution via_cost) = judging design solution via_cos
 command_of (Buffer design library solution) = buffering design library solution
 command_of (Make made) = making made
 command_of (Trial made options) = trying made options
+command_of (Panels design solution) = tracking design solution
 
 -- the command that words ask for, if they give an order
 abbrev pub asked_by : Option Order → Asked

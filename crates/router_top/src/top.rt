@@ -19,7 +19,7 @@ use round_core::HandLog;
 use std::alloc::Global;
 use std::sync::Wait;
 use std::thread::Threads;
-use text_commands::{buffer, judge, make_design};
+use text_commands::{buffer, judge, make_design, panels};
 use track_book::ClosedBook;
 use word_reader::{Order, read_words};
 
@@ -81,6 +81,9 @@ impl Ended {
 /// `buffer DESIGN LIBRARY SOLUTION` reads a design, a library and any router's solution, and writes
 /// on out each routed net's buffers and required time. In both texts of buffers no allowed placement
 /// gives a net's driver a greater required time; a library of version 3 gets none yet.
+///
+/// `panels DESIGN SOLUTION` reads a design and any router's solution, and writes on out a track for each
+/// straight run of it, the fewest in each row and column of tiles.
 ///
 /// `make SEED X Y L NETS` writes the text of a made design on out, and on err how many nets and pins
 /// it has. `trial SEED X Y L NETS ROUNDS` routes that design as `route` does, and writes the report
@@ -181,5 +184,6 @@ fn carry_out<R: Threads + Wait + Sync, S: Shelf, O: Sink, E: Sink, G: Gate + Syn
         } => buffer(means.rt, alloc, shelf, out, design, library, solution),
         Order::Make { made } => make_design(alloc, out, err, made),
         Order::Trial { made, options } => trial(means, out, made, options),
+        Order::Panels { design, solution } => panels(alloc, shelf, out, design, solution),
     }
 }

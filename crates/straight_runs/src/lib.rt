@@ -4,4 +4,4 @@
 mod lows;
 mod runs;
 
-pub use runs::gather_runs;
+pub use runs::{gather_runs, push_way};

@@ -49,8 +49,10 @@ fn push_runs(runs: &mut Vec<Run>, lows: &[u32], shape: Shape, way: Way) -> Resul
     Ok(())
 }
 
-/// Adds the maximal runs of the edges that go this way.
-fn push_way(
+/// Adds the maximal straight runs of the edges that go this way, each once, rising by their low ends.
+/// An edge may stand among the edges more than once. `lows` is room that is used anew. The only error
+/// is want of memory. The time is that of sorting the edges.
+pub fn push_way(
     runs: &mut Vec<Run>,
     lows: &mut Vec<u32>,
     shape: Shape,

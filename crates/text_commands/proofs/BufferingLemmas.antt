@@ -31,7 +31,7 @@ use Rattle.command_form.specs.declared.stop.Stop.{Stop}
 use Rattle.command_form.specs.declared.stop.Stop.TheVariants.{Usage, DesignFault, LibraryFault, SolutionFault, NotTree, ReadFailed, WriteFailed, NoMemory}
 
 -- what holds of the sets of edges that a solution's runs cover holds of those that the held bytes cover
-by-cover : (P : (ℕ → Edges) → Type 0) (d : DesignView) (s : SolutionView) (held : Option (List ℕ)) → IsCovered d held s → P (edges_by s) →
+pub by-cover : (P : (ℕ → Edges) → Type 0) (d : DesignView) (s : SolutionView) (held : Option (List ℕ)) → IsCovered d held s → P (edges_by s) →
     IsSomeAnd held (λ bytes. P (cover d bytes))
 by-cover P d s None covered holds = covered
 by-cover P d s (Some bytes) covered holds = subst P (fun_ext (λ net. fun_ext (λ e. covered net e))) holds

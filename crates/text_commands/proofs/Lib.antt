@@ -2,3 +2,4 @@ pub mod PlannedLemmas
 pub mod BufferingLemmas
 pub mod JudgingLemmas
 pub mod MakingLemmas
+pub mod TrackingLemmas

@@ -1,3 +1,4 @@
 pub mod Judging
 pub mod Buffering
 pub mod Making
+pub mod Tracking

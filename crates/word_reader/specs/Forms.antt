@@ -4,7 +4,7 @@ use Rattle.std.specs.List.{find, list_any}
 use Rattle.std.specs.Str.{bytes_eq}
 use Rattle.word_reader.specs.Numbers.{most_number}
 use Rattle.word_reader.specs.declared.form.Command.{Command}
-use Rattle.word_reader.specs.declared.form.Command.TheVariants.{Route, Evaluate, Buffer, Make, Trial}
+use Rattle.word_reader.specs.declared.form.Command.TheVariants.{Route, Evaluate, Buffer, Make, Trial, Panels}
 use Rattle.word_reader.specs.declared.form.OptionKind.{OptionKind}
 use Rattle.word_reader.specs.declared.form.OptionKind.TheVariants.{Workers, ViaCost, Rule, Stop}
 use Rattle.word_reader.specs.declared.form.TheConstants.{MOST_WORKERS, MOST_VIA_COST}
@@ -74,10 +74,11 @@ command_row Evaluate = record { word = codes "evaluate"; positionals = 2; option
 command_row Buffer = record { word = codes "buffer"; positionals = 3; options = [] }
 command_row Make = record { word = codes "make"; positionals = 5; options = [] }
 command_row Trial = record { word = codes "trial"; positionals = 6; options = Workers ∷ Rule ∷ [] }
+command_row Panels = record { word = codes "panels"; positionals = 2; options = [] }
 
 -- the commands, each once
 abbrev pub every_command : List Command
-every_command = Route ∷ Evaluate ∷ Buffer ∷ Make ∷ Trial ∷ []
+every_command = Route ∷ Evaluate ∷ Buffer ∷ Make ∷ Trial ∷ Panels ∷ []
 
 -- the command that a word names
 abbrev pub command_of : List ℕ → Option Command

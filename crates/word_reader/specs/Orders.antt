@@ -16,7 +16,7 @@ use Rattle.word_reader.specs.Values.{Value, Absent, Choice, Count, number_of, va
 use Rattle.word_reader.specs.declared.error.WordError.{WordError}
 use Rattle.word_reader.specs.declared.error.WordError.TheVariants.{Usage}
 use Rattle.word_reader.specs.declared.form.Command.{Command}
-use Rattle.word_reader.specs.declared.form.Command.TheVariants.{Route as Routes, Evaluate as Evaluates, Buffer as Buffers, Make as Makes, Trial as Tries}
+use Rattle.word_reader.specs.declared.form.Command.TheVariants.{Route as Routes, Evaluate as Evaluates, Buffer as Buffers, Make as Makes, Trial as Tries, Panels as Tracks}
 use Rattle.word_reader.specs.declared.form.OptionKind.{OptionKind}
 use Rattle.word_reader.specs.declared.form.OptionKind.TheVariants.{Workers, ViaCost, Rule, Stop}
 use Rattle.word_reader.specs.declared.order.Options.{Options}
@@ -32,6 +32,7 @@ pub data Order : Type 0 where
   Buffer : (design library solution : List ℕ) → Order
   Make : Made → Order
   Trial : Made → Options → Order
+  Panels : (design solution : List ℕ) → Order
 
 infixl 10 ◌>>=◌
 abbrev ◌>>=◌ : {A B : Type 0} → Option A → (A → Option B) → Option B
@@ -114,7 +115,7 @@ trial_of sorted = do
   Some (Trial made options)
 
 -- what each command asks for: `route DESIGN LIBRARY ROUNDS`, `evaluate DESIGN SOLUTION`,
--- `buffer DESIGN LIBRARY SOLUTION`, `make SEED X Y L NETS` and `trial SEED X Y L NETS ROUNDS`
+-- `buffer DESIGN LIBRARY SOLUTION`, `make SEED X Y L NETS`, `trial SEED X Y L NETS ROUNDS` and `panels DESIGN SOLUTION`
 abbrev pub order_as : Command → Sorted → Option Order
 order_as Routes sorted = option_map (Route (positional sorted 0) (positional sorted 1)) (options_of sorted 2)
 order_as Evaluates sorted =
@@ -122,6 +123,7 @@ order_as Evaluates sorted =
 order_as Buffers sorted = Some (Buffer (positional sorted 0) (positional sorted 1) (positional sorted 2))
 order_as Makes sorted = option_map Make (made_of sorted)
 order_as Tries sorted = trial_of sorted
+order_as Tracks sorted = Some (Panels (positional sorted 0) (positional sorted 1))
 
 -- the order of a command by the words behind its own
 abbrev pub order_by : Command → Sorted → Option Order
@@ -142,6 +144,7 @@ named (Given.Evaluate design solution via_cost) = Evaluate design.now solution.n
 named (Given.Buffer design library solution) = Buffer design.now library.now solution.now
 named (Given.Make made) = Make made
 named (Given.Trial made options) = Trial made options
+named (Given.Panels design solution) = Panels design.now solution.now
 
 -- the order of the words, or that they give none
 abbrev pub Answers : Option Order → Result Given WordError → Type 0
@@ -162,3 +165,4 @@ AsksInRange (Given.Evaluate design solution via_cost) = via_cost ≤ most_via_co
 AsksInRange (Given.Buffer design library solution) = Unit {0}
 AsksInRange (Given.Make made) = IsMade made
 AsksInRange (Given.Trial made options) = IsMade made × AreInRange options
+AsksInRange (Given.Panels design solution) = Unit {0}

@@ -17,6 +17,7 @@ pub(crate) enum Command {
     Buffer,
     Make,
     Trial,
+    Panels,
 }
 
 /// What words a command takes.
@@ -70,12 +71,13 @@ pub(crate) enum Takes {
 pub(crate) const MOST_POSITIONALS: usize = 6;
 
 /// The commands, each once.
-const EVERY_COMMAND: [Command; 5] = [
+const EVERY_COMMAND: [Command; 6] = [
     Command::Route,
     Command::Evaluate,
     Command::Buffer,
     Command::Make,
     Command::Trial,
+    Command::Panels,
 ];
 
 /// The options, each once, in the order in which they are declared.
@@ -144,6 +146,11 @@ impl Command {
                 word: "trial",
                 positionals: 6,
                 options: &[OptionKind::Workers, OptionKind::Rule],
+            },
+            Command::Panels => CommandRow {
+                word: "panels",
+                positionals: 2,
+                options: &[],
             },
         }
     }

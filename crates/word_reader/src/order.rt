@@ -5,7 +5,7 @@ ghost use Rattle.design_maker.specs.Ranges.{IsMade};
 ghost use Rattle.word_reader.specs.Forms.{command_row};
 ghost use Rattle.word_reader.specs.Kept.{words_seen};
 ghost use Rattle.word_reader.specs.Orders.{named, options_of, in_range, made_of, order_as, rule_of, stop_of, trial_of, AreInRange, AsksInRange};
-ghost use Rattle.word_reader.specs.declared.form.Command.TheVariants.{Route as Routes, Evaluate as Evaluates, Buffer as Buffers, Make as Makes, Trial as Tries};
+ghost use Rattle.word_reader.specs.declared.form.Command.TheVariants.{Route as Routes, Evaluate as Evaluates, Buffer as Buffers, Make as Makes, Trial as Tries, Panels as Tracks};
 
 use crate::form::{Command, OptionKind};
 use crate::numbers::{MOST_DIGITS, number_of_word};
@@ -78,6 +78,11 @@ pub enum Order<'w> {
         made: Made,
         options: Options,
     },
+    /// `panels DESIGN SOLUTION` gives the straight runs of a solution of the design their tracks.
+    Panels {
+        design: &'w str,
+        solution: &'w str,
+    },
 }
 
 /// What a command asks for by as many positionals as it has, and its options.
@@ -92,6 +97,7 @@ pub(crate) fn order_as<'w>(command: Command, sorted: &Sorted<'w>) -> Option<Orde
         Command::Buffer => Some(buffer(sorted)),
         Command::Make => make(sorted),
         Command::Trial => trial(sorted),
+        Command::Panels => Some(panels(sorted)),
     }
 }
 
@@ -176,6 +182,17 @@ fn buffer<'w>(sorted: &Sorted<'w>) -> Order<'w>
         design: sorted.positional(0),
         library: sorted.positional(1),
         solution: sorted.positional(2),
+    }
+}
+
+fn panels<'w>(sorted: &Sorted<'w>) -> Order<'w>
+    requires { 2 ≤ length (words_seen sorted.now).positionals }
+    ensures order { Some (named result) ≡ order_as Tracks (words_seen sorted.now) }
+    ensures range { AsksInRange result }
+{
+    Order::Panels {
+        design: sorted.positional(0),
+        solution: sorted.positional(1),
     }
 }
 

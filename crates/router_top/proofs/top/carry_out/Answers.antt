@@ -16,3 +16,7 @@ returns-in-Make-clause-leaves g c = for-order _ c.args.order _ _ _ _ _ c.in-Make
 pub returns-in-Trial-clause-leaves : goal.returns-in-Trial-clause-leaves
 returns-in-Trial-clause-leaves g c =
     for-order _ c.args.order _ _ _ _ _ c.in-Trial.is (c.trial.ensures _ refl _ (untouched _ g.E.Sink.faults g.E.Sink.written _))
+
+pub returns-in-Panels-clause-leaves : goal.returns-in-Panels-clause-leaves
+returns-in-Panels-clause-leaves g c =
+    for-order _ c.args.order _ _ _ _ _ c.in-Panels.is (c.panels.ensures _ (untouched _ g.E.Sink.faults g.E.Sink.written _))

@@ -1,0 +1,4 @@
+pub mod ChainLemmas
+pub mod StartLemmas
+pub mod PieceLemmas
+pub mod TextLemmas

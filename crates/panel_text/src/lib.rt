@@ -1,0 +1,13 @@
+//! The text of the panels of a solution: the fewest tracks for its runs in each row and column.
+#![tactic(auto)]
+
+mod chains;
+mod gathered;
+mod lines;
+mod panel_pieces;
+mod place;
+mod starts;
+mod text;
+mod told;
+
+pub use text::panels;

@@ -1,0 +1,4 @@
+pub mod ListLemmas
+pub mod OpenTrackLemmas
+pub mod LeftEdgeLemmas
+pub mod NumberingLemmas

@@ -1,0 +1,5 @@
+pub mod Pieces
+pub mod Panels
+pub mod Numberings
+pub mod Orders
+pub mod OpenTracks
