@@ -2,7 +2,8 @@
 
 Required times are sums along paths. Placements come from lists of candidates by van Ginneken's method, made as
 the definitions word them: all combinations are listed, and those that another one is as good as are dropped.
-Small nets are also tried with every placement. A library of version 3 gets no buffers yet.
+Candidates for the plain and for the inverted signal stand in two lists. Small nets are also tried with every
+placement.
 """
 from itertools import product
 from math import inf
@@ -40,6 +41,10 @@ class RcTree:
         low, high = (place(self.d, c) for c in edge(u, self.above[u]))
         return self.library.wires[low[2]] if low[2] == high[2] else self.library.via
 
+    def flips_at(self, v):
+        """Whether each sink at a cell wants the inverted signal."""
+        return [(self.net.id, pin) in self.library.flipped for pin, at in enumerate(self.sinks, 1) if at == v]
+
     def is_free(self, v):
         return v != self.driver and place(self.d, v)[:2] not in self.library.blocks
 
@@ -73,19 +78,35 @@ class RcTree:
         times = [2 * self.library.sink_of(self.net, pin)[1] - delay(at) for pin, at in enumerate(self.sinks, 1)]
         return min(times, default=0)
 
+    def is_legal(self, placed):
+        """Whether the number of inverters on the path to each sink is odd where it is flipped, and else even."""
+        return all(sum(placed.get(u) in self.library.inverters for u in self.path_to(v)) % 2 == flipped
+                   for v in self.order for flipped in self.flips_at(v))
+
+    def path_to(self, v):
+        path = [v]
+        while v in self.above:
+            v = self.above[v]
+            path.append(v)
+        return path
+
     def picked(self):
-        """The kinds by cell of the placement that the lists give."""
+        """The kinds by cell of the legal placement that the lists give; None where no placement is legal."""
         if not self.sinks:
             return {}
         lists = {}
         for v in reversed(self.order):
-            lists[v] = self.candidates_below(v, [lists.pop(u) for u in self.below[v]])
+            below = [lists.pop(u) for u in self.below[v]]
+            lists[v] = [self.candidates_below(v, inverted, [both[inverted] for both in below]) for inverted in (0, 1)]
             if v != self.driver:
-                lists[v] = self.candidates_along(v, self.candidates_above(v, lists[v]))
-        return best(lists[self.driver], self.library.driver_of(self.net))[2]
+                lists[v] = [self.candidates_along(v, all_) for all_ in self.candidates_above(v, lists[v])]
+        plain = lists[self.driver][0]
+        return best(plain, self.library.driver_of(self.net))[2] if plain else None
 
-    def candidates_below(self, v, branches):
+    def candidates_below(self, v, inverted, branches):
         """A candidate is (load, time, kinds by cell); a time without a sink is the greatest."""
+        if any(flipped != inverted for flipped in self.flips_at(v)):
+            return []
         sinks = self.sinks_at(v)
         load, time = sum(c for c, _ in sinks), min((2 * at for _, at in sinks), default=inf)
         return thinned([
@@ -95,25 +116,32 @@ class RcTree:
         ])
 
     def candidates_above(self, v, below):
+        """Both lists with what each kind makes, an inverter of the other signal's list, as they are before."""
         if not self.is_free(v):
             return below
-        offers = []
-        for name, (c, r, own) in self.library.kinds.items():
-            load, time, placed = best(below, r)
-            offers.append((c, time - 2 * r * load - 2 * own, {**placed, v: name}))
-        return thinned(below + offers)
+        above = []
+        for inverted in (0, 1):
+            offers = []
+            for name, (c, r, own) in self.library.kinds.items():
+                driven = below[inverted ^ (name in self.library.inverters)]
+                if driven:
+                    load, time, placed = best(driven, r)
+                    offers.append((c, time - 2 * r * load - 2 * own, {**placed, v: name}))
+            above.append(thinned(below[inverted] + offers))
+        return above
 
     def candidates_along(self, u, above):
         r, c = self.wire(u)
         return thinned([(load + c, time - r * (c + 2 * load), placed) for load, time, placed in above])
 
     def all_placements(self):
-        """Each allowed placement of a net with sinks; None where there are too many."""
+        """Each legal placement of a net with sinks; None where there are too many placements."""
         free = [v for v in self.order if self.is_free(v)]
         if not self.sinks or (1 + len(self.library.kinds)) ** len(free) > SMALL:
             return None
         choices = product([None, *self.library.kinds], repeat=len(free))
-        return [{v: kind for v, kind in zip(free, choice) if kind is not None} for choice in choices]
+        all_ = ({v: kind for v, kind in zip(free, choice) if kind is not None} for choice in choices)
+        return [placed for placed in all_ if self.is_legal(placed)]
 
 
 def thinned(all_):
@@ -133,11 +161,15 @@ def best(all_, r):
 
 
 def plan(d, library, net, edges):
-    """The required time of a net's tree, and the kinds by cell that give it."""
+    """The required time of a net's tree, and the kinds by cell that give it; None where no placement is legal."""
     tree = RcTree(d, library, net, edges)
-    placed = {} if library.version == 3 else tree.picked()
+    placed = tree.picked()
+    all_ = tree.all_placements()
+    if placed is None:
+        assert not all_, "a placement is legal"
+        return None
     required = tree.required(placed)
-    all_ = None if library.version == 3 else tree.all_placements()
+    assert tree.is_legal(placed), "the placement isn't legal"
     assert all_ is None or max(map(tree.required, all_)) == required, "another placement is better"
     return required, placed
 
@@ -146,7 +178,11 @@ def buffers_text(d, library, trees):
     lines, count = [], 0
     for n in sorted(trees):
         net = d.nets[n]
-        required, placed = plan(d, library, net, trees[n])
+        planned = plan(d, library, net, trees[n])
+        if planned is None:
+            lines.append(b"net %s %d has no legal placement" % (net.name, net.id))
+            continue
+        required, placed = planned
         count += len(placed)
         lines.append(b"net %s %d required %d buffers %d" % (net.name, net.id, required, len(placed)))
         lines += [b"%s %s" % (centre(d, v), placed[v]) for v in sorted(placed)]

@@ -7,9 +7,6 @@ exchanged, copied, replaced and grown to the limits, bytes are flipped, put in a
 Status, standard output and standard error are compared byte for byte. Texts on which the two differ are kept in the
 folder --keep. A case is made from its number, so that it can be run again alone: --seed NUMBER --count 1. The last line
 is `N passed, M failed`. A run that takes over 60 seconds is stopped, and its case fails.
-
-Of libraries of version 3 that are accepted only the status is compared, as the programs may differ in the buffers that
-they place with them.
 """
 import argparse
 import json
@@ -167,13 +164,6 @@ class Program:
         return (status if in_time else "no end"), *streams
 
 
-def is_alike(one, other, held):
-    """Whether both programs did the same."""
-    if held.get("library", b"").split()[1:2] == [b"3"] and one[0] == other[0] == 0:
-        return True
-    return one == other
-
-
 class Trial:
     """The two programs, the folder of the texts of a case, and how many cases passed and failed."""
 
@@ -208,7 +198,7 @@ class Trial:
         processes = [program.start(line) for program in self.programs]
         one, other = (program.ended(process) for program, process in zip(self.programs, processes))
         self.statuses[one[0]] = self.statuses.get(one[0], 0) + 1
-        if is_alike(one, other, held):
+        if one == other:
             self.passed += 1
         else:
             self.failed += 1

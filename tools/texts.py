@@ -301,6 +301,8 @@ def buffered(design, path):
     tokens.numbers(1)
     while not tokens.is_ended():
         net, _, id_, word, required, word2, count = tokens.take(7)
+        if (net, word, required, word2, count) == (b"net", b"has", b"no", b"legal", b"placement"):
+            continue
         if (net, word, word2) != (b"net", b"required", b"buffers") or not (id_.isdigit() and count.isdigit()):
             raise tokens.fault("a line `net NAME ID required TIME buffers NUMBER` ends here or before")
         if int(id_) not in design.widths:

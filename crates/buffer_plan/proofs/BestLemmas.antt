@@ -8,14 +8,14 @@ use Rattle.std.proofs.lemmas.Int.{ints}
 use Rattle.rc_library.specs.Libraries.{kind_of}
 use Rattle.elmore_delay.specs.RcTrees.{Sink, RcTree, Buffers, slack, soonest, required_time}
 use Rattle.elmore_delay.specs.FromLeaves.{seen_whole, at_driver}
-use Rattle.elmore_delay.specs.Loadings.{LoadingView, IsLoading, rc_of, sink_at, sinks_of}
+use Rattle.elmore_delay.specs.Loadings.{LoadingView, IsLoading, rc_of, is_free, sink_at, sinks_of}
 use Rattle.elmore_delay.specs.Placements.{placed_at, buffers_of}
 use Rattle.elmore_delay.specs.declared.seen.Seen.{Seen}
 use Rattle.elmore_delay.proofs.RequiredFromLeaves.{required-from_leaves}
 use Rattle.elmore_delay.proofs.RcLemmas.{rc-tree, no-root_buffer}
-use Rattle.ginneken_lists.specs.Candidates.{Chosen, Nothing, Candidate, driven_time, chosen_at}
-use Rattle.buffer_plan.specs.Best.{has_sinks, time_with, IsAllowed, IsBest, may_place}
-use Rattle.buffer_plan.specs.Picked.{Sites, sites_of, candidates_of_last, candidates, picked_candidate, chosen_with, picked_choice, picked}
+use Rattle.ginneken_lists.specs.Candidates.{Chosen, Nothing, Candidate, no_later, serves, driven_time, chosen_at}
+use Rattle.buffer_plan.specs.Best.{has_sinks, time_with, IsAllowed, IsBest}
+use Rattle.buffer_plan.specs.Picked.{Sites, sites_of, candidates_of_last, candidates, picked_candidate, chosen_with, placement_of, picked_choice, picked}
 use Rattle.ginneken_lists.proofs.TimeOrder.{no_later-through}
 use Rattle.buffer_plan.proofs.ServingKept.{unwrap-kept, driven-kept}
 use Rattle.buffer_plan.proofs.BestDriven.{best-is, best-some, best-greatest}
@@ -33,34 +33,35 @@ placed-inside p node number is = elim (cases_lt node (length p)) [
   | inr past ↦ let none : placed_at p node ≡ None = get_or_past p node None past in absurd (grind arith)
 ]
 
-allowed-may : (l : LoadingView) (p : List (Option ℕ)) → IsAllowed l p → AllMay (sites_of l) (placed_at p)
+pub allowed-may : (l : LoadingView) (p : List (Option ℕ)) → IsAllowed l p → AllMay (sites_of l) (placed_at p)
 allowed-may l p allowed node = may (placed_at p node) refl
   where
     may : (o : Option ℕ) → placed_at p node ≡ o → MayHold (sites_of l) node o
     may None is = tt
     may (Some number) is =
         let named = subst (λ (o : Option ℕ). IfSome o (λ m. m < length l.library.kinds)) is (allowed.kinds node None (placed-inside p node number is)) in
-        elim (cases_Bool (may_place l node)) [
+        elim (cases_Bool (is_free l node)) [
           | inl free ↦ (free, named)
           | inr blocked ↦ let none = allowed.free node blocked in absurd (grind arith)
         ]
 
-may-named : (s : Sites) (node : ℕ) (o : Option ℕ) → MayHold s node o → IfSome o (λ m. m < length s.library.kinds)
+pub may-named : (s : Sites) (node : ℕ) (o : Option ℕ) → MayHold s node o → IfSome o (λ m. m < length s.library.kinds)
 may-named s node None may = tt
 may-named s node (Some number) may = may.1
 
-may-none : (s : Sites) (node : ℕ) (o : Option ℕ) → MayHold s node o → s.free node ≡ false → o ≡ None
+pub may-none : (s : Sites) (node : ℕ) (o : Option ℕ) → MayHold s node o → s.free node ≡ false → o ≡ None
 may-none s node None may blocked = refl
 may-none s node (Some number) may blocked = absurd (true≢false (sym may.0 ∙ blocked))
 
--- what the picked placement holds is what is chosen
-pub picked-at : (l : LoadingView) (node : ℕ) (d : Option ℕ) → node < length l.tree.nodes → slice_index_or (picked l) node d ≡ chosen_at (picked_choice l) node
-picked-at l node d inside = get_or-map-range_with_len (chosen_at (picked_choice l)) 0 (length l.tree.nodes) node node d inside (omega arith)
+-- what a placement holds is what is chosen
+pub placement-at : (l : LoadingView) (chosen : Chosen) (node : ℕ) (d : Option ℕ) → node < length l.tree.nodes →
+    slice_index_or (placement_of l chosen) node d ≡ chosen_at chosen node
+placement-at l chosen node d inside = get_or-map-range_with_len (chosen_at chosen) 0 (length l.tree.nodes) node node d inside (omega arith)
 
-picked-past : (l : LoadingView) (node : ℕ) → length l.tree.nodes ≤ node → placed_at (picked l) node ≡ None
-picked-past l node past =
-    let long = length-map-range_with_len (chosen_at (picked_choice l)) 0 (length l.tree.nodes) in
-    get_or_past (picked l) node None (omega arith)
+placement-past : (l : LoadingView) (chosen : Chosen) (node : ℕ) → length l.tree.nodes ≤ node → placed_at (placement_of l chosen) node ≡ None
+placement-past l chosen node past =
+    let long = length-map-range_with_len (chosen_at chosen) 0 (length l.tree.nodes) in
+    get_or_past (placement_of l chosen) node None (omega arith)
 
 -- one of the candidates at the driver is picked
 pub some-picked : (l : LoadingView) → IsLoading l → (o : Candidate) × (picked_candidate l ≡ Some o)
@@ -79,94 +80,104 @@ picked-real l o loading is =
     real n 1 (sites_of l) (λ v. o) (rc-tree l loading) (omega arith) (omega arith)
     (λ v below. let root : v ≡ 0 = omega arith in subst (λ (u : ℕ). Contains (candidates_of_last n (sites_of l) u) o) (sym root) among)
 
--- it has a time exactly where the net has a sink
-pub candidate-known : (l : LoadingView) (o : Candidate) → IsLoading l → picked_candidate l ≡ Some o → is_some o.seen.time ≡ has_sinks l
-candidate-known l o loading is =
-    let found = picked-real l o loading is in
-    ap (λ (s : Seen). is_some s.time) (sym (found.seen 0 (omega arith)))
-    ∙ time-known (rc_of l) (buffers_by l.library found.held) (rc-tree l loading) ∙ sinks-known l
+-- the placement of a candidate at node 0 that is real
+abbrev pub IsRealAtRoot : LoadingView → Candidate → Type 0
+IsRealAtRoot l o = IsReal (length l.tree.nodes - 1) 1 (sites_of l) (λ v. o)
 
--- with a sink what is held is what is chosen with the picked candidate
-module _ (l : LoadingView) (loading : IsLoading l) (o : Candidate) (sinks : has_sinks l ≡ true) (is : picked_candidate l ≡ Some o) where
-  pub choice-picked : picked_choice l ≡ o.chosen
-  choice-picked = cond-true (has_sinks l) (chosen_with (picked_candidate l)) Nothing sinks ∙ ap chosen_with is
+module _ (l : LoadingView) (loading : IsLoading l) (o : Candidate) (found : IsRealAtRoot l o) where
+  choice-is : o.chosen ≡ choice_of_last (length l.tree.nodes - 1) (rc_of l) found.held 0
+  choice-is = sym (found.chosen 0 (omega arith))
 
-  choice-is : picked_choice l ≡ choice_of_last (length l.tree.nodes - 1) (rc_of l) (picked-real l o loading is).held 0
-  choice-is = choice-picked ∙ sym ((picked-real l o loading is).chosen 0 (omega arith))
+  pub real-held : (node : ℕ) (d : Option ℕ) → 0 < node → node < length l.tree.nodes → slice_index_or (placement_of l o.chosen) node d ≡ found.held node
+  real-held node d later inside =
+      placement-at l o.chosen node d inside ∙ ap (λ (c : Chosen). chosen_at c node) choice-is
+      ∙ chosen-whole (length l.tree.nodes - 1) node (rc_of l) found.held (rc-tree l loading) (omega arith) later inside
 
-  picked-held : (node : ℕ) (d : Option ℕ) → 0 < node → node < length l.tree.nodes → slice_index_or (picked l) node d ≡ (picked-real l o loading is).held node
-  picked-held node d later inside =
-      picked-at l node d inside ∙ ap (λ (c : Chosen). chosen_at c node) choice-is
-      ∙ chosen-whole (length l.tree.nodes - 1) node (rc_of l) (picked-real l o loading is).held (rc-tree l loading) (omega arith) later inside
-
-  picked-root : (d : Option ℕ) → slice_index_or (picked l) 0 d ≡ None
-  picked-root d =
+  pub real-root : (d : Option ℕ) → slice_index_or (placement_of l o.chosen) 0 d ≡ None
+  real-root d =
       let rooted = loading.tree.rooted in
-      picked-at l 0 d rooted ∙ ap (λ (c : Chosen). chosen_at c 0) choice-is
-      ∙ not-chosen (length l.tree.nodes - 1) 1 0 0 (rc_of l) (picked-real l o loading is).held (omega arith) (omega arith)
+      placement-at l o.chosen 0 d rooted ∙ ap (λ (c : Chosen). chosen_at c 0) choice-is
+      ∙ not-chosen (length l.tree.nodes - 1) 1 0 0 (rc_of l) found.held (omega arith) (omega arith)
 
-  picked-allowed : IsAllowed l (picked l)
-  picked-allowed =
-      let long = length-map-range_with_len (chosen_at (picked_choice l)) 0 (length l.tree.nodes) in
+  pub real-allowed : has_sinks l ≡ true → IsAllowed l (placement_of l o.chosen)
+  real-allowed sinks =
+      let long = length-map-range_with_len (chosen_at o.chosen) 0 (length l.tree.nodes) in
       record {
         long = long;
-        root = picked-root None;
+        root = real-root None;
         kinds = λ node d inside. named node d (omega arith);
         free = λ node blocked. empty node blocked;
         needed = λ node none. absurd (true≢false (sym sinks ∙ none));
       }
     where
-      named : (node : ℕ) (d : Option ℕ) → node < length l.tree.nodes → IfSome (slice_index_or (picked l) node d) (λ m. m < length l.library.kinds)
-      named zero d inside = subst (λ (m : Option ℕ). IfSome m (λ k. k < length l.library.kinds)) (sym (picked-root d)) tt
+      named : (node : ℕ) (d : Option ℕ) → node < length l.tree.nodes → IfSome (slice_index_or (placement_of l o.chosen) node d) (λ m. m < length l.library.kinds)
+      named zero d inside = subst (λ (m : Option ℕ). IfSome m (λ k. k < length l.library.kinds)) (sym (real-root d)) tt
       named (suc node) d inside =
-          subst (λ (m : Option ℕ). IfSome m (λ k. k < length l.library.kinds)) (sym (picked-held (suc node) d (omega arith) inside))
-          (may-named (sites_of l) (suc node) ((picked-real l o loading is).held (suc node)) ((picked-real l o loading is).may (suc node)))
+          subst (λ (m : Option ℕ). IfSome m (λ k. k < length l.library.kinds)) (sym (real-held (suc node) d (omega arith) inside))
+          (may-named (sites_of l) (suc node) (found.held (suc node)) (found.may (suc node)))
 
-      empty : (node : ℕ) → may_place l node ≡ false → placed_at (picked l) node ≡ None
-      empty zero blocked = picked-root None
+      empty : (node : ℕ) → is_free l node ≡ false → placed_at (placement_of l o.chosen) node ≡ None
+      empty zero blocked = real-root None
       empty (suc node) blocked = elim (cases_lt (suc node) (length l.tree.nodes)) [
         | inl inside ↦
-            picked-held (suc node) None (omega arith) inside
-            ∙ may-none (sites_of l) (suc node) ((picked-real l o loading is).held (suc node)) ((picked-real l o loading is).may (suc node)) blocked
-        | inr past ↦ picked-past l (suc node) past
+            real-held (suc node) None (omega arith) inside
+            ∙ may-none (sites_of l) (suc node) (found.held (suc node)) (found.may (suc node)) blocked
+        | inr past ↦ placement-past l o.chosen (suc node) past
       ]
 
-  picked-seen : seen_whole (rc_of l) (buffers_of l.library (picked l)) ≡ o.seen
-  picked-seen =
+  real-seen : seen_whole (rc_of l) (buffers_of l.library (placement_of l o.chosen)) ≡ o.seen
+  real-seen =
       let rooted = loading.tree.rooted in
       let n : ℕ = length l.tree.nodes - 1 in
-      seen-same n 1 0 (rc_of l) (buffers_of l.library (picked l)) (buffers_by l.library (picked-real l o loading is).held) (omega arith)
-      (λ node later inside. ap (λ (m : Option ℕ). option_and_then (kind_of l.library) m) (picked-held node None (omega arith) inside))
-      ∙ (picked-real l o loading is).seen 0 (omega arith)
+      seen-same n 1 0 (rc_of l) (buffers_of l.library (placement_of l o.chosen)) (buffers_by l.library found.held) (omega arith)
+      (λ node later inside. ap (λ (m : Option ℕ). option_and_then (kind_of l.library) m) (real-held node None (omega arith) inside))
+      ∙ found.seen 0 (omega arith)
 
-  pub picked-time : time_with l (picked l) ≡ at_driver (rc_of l).driver o.seen
-  picked-time =
-      required-from_leaves (rc_of l) (buffers_of l.library (picked l)) (rc-tree l loading) (no-root_buffer l.library (picked l) (picked-root None))
-      ∙ ap (λ (s : Seen). at_driver (rc_of l).driver s) picked-seen
+  -- its time at the driver, and whether there is one
+  pub real-time : time_with l (placement_of l o.chosen) ≡ at_driver (rc_of l).driver o.seen
+  real-time =
+      required-from_leaves (rc_of l) (buffers_of l.library (placement_of l o.chosen)) (rc-tree l loading)
+      (no-root_buffer l.library (placement_of l o.chosen) (real-root None))
+      ∙ ap (λ (s : Seen). at_driver (rc_of l).driver s) real-seen
 
-  other-time : (q : List (Option ℕ)) → IsAllowed l q → time_with l q ≤ℤ at_driver (rc_of l).driver o.seen
-  other-time q allowed =
-      let rooted = loading.tree.rooted in
-      let n : ℕ = length l.tree.nodes - 1 in
+  pub real-known : is_some o.seen.time ≡ has_sinks l
+  real-known =
+      ap (λ (s : Seen). is_some s.time) (sym (found.seen 0 (omega arith)))
+      ∙ time-known (rc_of l) (buffers_by l.library found.held) (rc-tree l loading) ∙ sinks-known l
+
+  -- what another placement gives is no better than it, where another candidate that serves as well as that isn't driven better
+  pub other-time : (q : List (Option ℕ)) (by : Candidate) → placed_at q 0 ≡ None → serves by.seen (seen_whole (rc_of l) (buffers_of l.library q)) ≡ true →
+      no_later (driven_time (rc_of l).driver by.seen) (driven_time (rc_of l).driver o.seen) ≡ true → time_with l q ≤ℤ time_with l (placement_of l o.chosen)
+  other-time q by root well no_better =
       let t = rc_of l in
       let b = buffers_of l.library q in
       let r = t.driver in
       let s : Seen = seen_whole t b in
-      let served = complete n 1 0 (sites_of l) (placed_at q) (omega arith) (allowed-may l q allowed) in
-      let driven = no_later-through (driven_time r s) (driven_time r served.by.seen) (driven_time r o.seen)
-      (driven-kept r served.by.seen s served.well) (best-greatest r (candidates l) o served.by (best-is r (candidates l) o is) served.among) in
+      let driven = no_later-through (driven_time r s) (driven_time r by.seen) (driven_time r o.seen) (driven-kept r by.seen s well) no_better in
       let known : is_some (driven_time r s) ≡ is_some (driven_time r o.seen) =
-      less-known (2 * r * s.load) s.time ∙ time-known t b (rc-tree l loading)
-      ∙ sym (time-known t (buffers_of l.library (picked l)) (rc-tree l loading)) ∙ ap (λ (u : Seen). is_some u.time) picked-seen
-      ∙ sym (less-known (2 * r * o.seen.load) o.seen.time) in
-      subst (λ (z : ℤ). z ≤ℤ at_driver r o.seen) (sym (required-from_leaves t b (rc-tree l loading) (no-root_buffer l.library q allowed.root)))
-      (unwrap-kept (driven_time r s) (driven_time r o.seen) driven known)
+      less-known (2 * r * s.load) s.time ∙ time-known t b (rc-tree l loading) ∙ sinks-known l ∙ sym real-known ∙ sym (less-known (2 * r * o.seen.load) o.seen.time) in
+      subst (λ (z : ℤ). z ≤ℤ time_with l (placement_of l o.chosen)) (sym (required-from_leaves t b (rc-tree l loading) (no-root_buffer l.library q root)))
+      (subst (λ (z : ℤ). at_driver r s ≤ℤ z) (sym real-time) (unwrap-kept (driven_time r s) (driven_time r o.seen) driven known))
 
-  picked-best_driven : IsBest l (picked l)
-  picked-best_driven = record {
-    allowed = picked-allowed;
-    greatest = λ q allowed. subst (λ (z : ℤ). time_with l q ≤ℤ z) (sym picked-time) (other-time q allowed);
-  }
+-- it has a time exactly where the net has a sink
+pub candidate-known : (l : LoadingView) (o : Candidate) → IsLoading l → picked_candidate l ≡ Some o → is_some o.seen.time ≡ has_sinks l
+candidate-known l o loading is = real-known l loading o (picked-real l o loading is)
+
+-- with a sink the placement of the picked candidate is picked
+pub choice-picked : (l : LoadingView) (o : Candidate) → has_sinks l ≡ true → picked_candidate l ≡ Some o → picked_choice l ≡ o.chosen
+choice-picked l o sinks is = cond-true (has_sinks l) (chosen_with (picked_candidate l)) Nothing sinks ∙ ap chosen_with is
+
+picked-best_driven : (l : LoadingView) (o : Candidate) → IsLoading l → has_sinks l ≡ true → picked_candidate l ≡ Some o → IsBest l (placement_of l o.chosen)
+picked-best_driven l o loading sinks is =
+    let found = picked-real l o loading is in
+    record {
+      allowed = real-allowed l loading o found sinks;
+      greatest = λ q allowed.
+          let rooted = loading.tree.rooted in
+          let served = complete (length l.tree.nodes - 1) 1 0 (sites_of l) (placed_at q) (omega arith) (allowed-may l q allowed) in
+          other-time l loading o found q served.by allowed.root served.well
+          (best-greatest (rc_of l).driver (candidates l) o served.by (best-is (rc_of l).driver (candidates l) o is) served.among);
+    }
 
 -- without a sink: nothing is placed, and the required time is 0
 pub empty-choice : (l : LoadingView) → has_sinks l ≡ false → picked_choice l ≡ Nothing
@@ -181,35 +192,42 @@ no-sinks l none =
 pub no-time : (t : RcTree) (b : Buffers) → t.sinks ≡ [] → required_time t b ≡ pos 0
 no-time t b none = ap (λ (sinks : List Sink). unwrap_or (soonest (map (slack t b) sinks)) (pos 0)) none
 
-picked-empty : (l : LoadingView) → IsLoading l → has_sinks l ≡ false → IsBest l (picked l)
-picked-empty l loading none = record {
-  allowed = record {
-    long = length-map-range_with_len (chosen_at (picked_choice l)) 0 (length l.tree.nodes);
-    root = empty 0;
-    kinds = λ node d inside. subst (λ (m : Option ℕ). IfSome m (λ k. k < length l.library.kinds)) (sym (inside_empty node d inside)) tt;
-    free = λ node blocked. empty node;
-    needed = λ node without. empty node;
-  };
-  greatest = λ q allowed.
-      let first = no-time (rc_of l) (buffers_of l.library q) (no-sinks l none) in
-      let second = no-time (rc_of l) (buffers_of l.library (picked l)) (no-sinks l none) in
-      let same : pos 0 ≤ℤ pos 0 = omega (arith, ints) in
-      subst (λ (z : ℤ). z ≤ℤ time_with l (picked l)) (sym first) (subst (λ (z : ℤ). pos 0 ≤ℤ z) (sym second) same);
-}
-  where
-    inside_empty : (node : ℕ) (d : Option ℕ) → node < length (picked l) → slice_index_or (picked l) node d ≡ None
-    inside_empty node d inside =
-        let long = length-map-range_with_len (chosen_at (picked_choice l)) 0 (length l.tree.nodes) in
-        picked-at l node d (omega arith) ∙ ap (λ (c : Chosen). chosen_at c node) (empty-choice l none)
+-- the placement of no buffers
+pub empty-at : (l : LoadingView) (node : ℕ) → placed_at (placement_of l Nothing) node ≡ None
+empty-at l node = elim (cases_lt node (length l.tree.nodes)) [
+  | inl inside ↦ placement-at l Nothing node None inside
+  | inr past ↦ placement-past l Nothing node past
+]
 
-    empty : (node : ℕ) → placed_at (picked l) node ≡ None
-    empty node = elim (cases_lt node (length (picked l))) [
-      | inl inside ↦ inside_empty node None inside
-      | inr past ↦ get_or_past (picked l) node None past
-    ]
+pub empty-allowed : (l : LoadingView) → IsAllowed l (placement_of l Nothing)
+empty-allowed l = record {
+  long = length-map-range_with_len (chosen_at Nothing) 0 (length l.tree.nodes);
+  root = empty-at l 0;
+  kinds = λ node d inside.
+      let long = length-map-range_with_len (chosen_at Nothing) 0 (length l.tree.nodes) in
+      subst (λ (m : Option ℕ). IfSome m (λ k. k < length l.library.kinds)) (sym (placement-at l Nothing node d (omega arith))) tt;
+  free = λ node blocked. empty-at l node;
+  needed = λ node none. empty-at l node;
+}
+
+-- without a sink no placement has a greater time than another
+pub same-time : (l : LoadingView) (p q : List (Option ℕ)) → has_sinks l ≡ false → time_with l q ≤ℤ time_with l p
+same-time l p q none =
+    let first = no-time (rc_of l) (buffers_of l.library q) (no-sinks l none) in
+    let second = no-time (rc_of l) (buffers_of l.library p) (no-sinks l none) in
+    let same : pos 0 ≤ℤ pos 0 = omega (arith, ints) in
+    subst (λ (z : ℤ). z ≤ℤ time_with l p) (sym first) (subst (λ (z : ℤ). pos 0 ≤ℤ z) (sym second) same)
+
+picked-empty : (l : LoadingView) → has_sinks l ≡ false → IsBest l (picked l)
+picked-empty l none = subst (λ (c : Chosen). IsBest l (placement_of l c)) (sym (empty-choice l none)) (record {
+  allowed = empty-allowed l;
+  greatest = λ q allowed. same-time l (placement_of l Nothing) q none;
+})
 
 pub picked-is_best : (l : LoadingView) → IsLoading l → IsBest l (picked l)
 picked-is_best l loading = elim (cases_Bool (has_sinks l)) [
-  | inl sinks ↦ let some = some-picked l loading in picked-best_driven l loading some.0 sinks some.1
-  | inr none ↦ picked-empty l loading none
+  | inl sinks ↦
+      let some = some-picked l loading in
+      subst (λ (c : Chosen). IsBest l (placement_of l c)) (sym (choice-picked l some.0 sinks some.1)) (picked-best_driven l some.0 loading sinks some.1)
+  | inr none ↦ picked-empty l none
 ]

@@ -5,7 +5,7 @@ use Rattle.std.proofs.lemmas.List.Elements.{All-contains, Contains-append_cases}
 use Rattle.rc_library.specs.Libraries.{kind_of}
 use Rattle.rc_library.specs.declared.parts.Kind.{Kind}
 use Rattle.elmore_delay.specs.FromLeaves.{behind, along}
-use Rattle.ginneken_lists.specs.Candidates.{Candidate, thinned, along_edge, joined_with, all_joined, best_driven, buffered, with_buffer, with_kind, offers, with_offers}
+use Rattle.ginneken_lists.specs.Candidates.{Candidate, Buffered, thinned, along_edge, joined_with, all_joined, best_driven, buffered, with_buffer, with_kind, offers, with_offers}
 use Rattle.buffer_plan.specs.Picked.{Sites, all_above, all_hanging}
 use Rattle.ginneken_lists.proofs.Thinned.{thinned-real}
 use Rattle.buffer_plan.proofs.Members.{map-comes, flat_map-arises, filter_map-comes, range-below}
@@ -14,7 +14,7 @@ use Rattle.buffer_plan.proofs.Served.{MayHold, seen_above}
 use Rattle.buffer_plan.proofs.HungLemmas.{over}
 
 -- a candidate that is kept is one of all
-from-all : (all : List Candidate) (o : Candidate) → Contains (thinned all) o → Contains all o
+pub from-all : (all : List Candidate) (o : Candidate) → Contains (thinned all) o → Contains all o
 from-all all o at = All-contains (Contains all) (thinned all) o (thinned-real all) at
 
 -- a candidate above a node comes from one below it and from what the node holds
@@ -44,28 +44,33 @@ joined-comes left right o at =
 unbuffered-comes : (s : Sites) (node : ℕ) (all : List Candidate) (o : Candidate) → Contains all o → IsAbove s node all o
 unbuffered-comes s node all o at = record { from = o; among = at; held = None; may = tt; seen = refl; chosen = refl }
 
--- an offer of a kind comes from the candidate that the kind drives best
-best-comes : (s : Sites) (node number : ℕ) (all : List Candidate) (o : Candidate) (kind : Kind) (best : Option Candidate) → s.free node ≡ true →
-    number < length s.library.kinds → kind_of s.library number ≡ Some kind → best_driven kind.r all ≡ best →
-    option_map (buffered node number kind) best ≡ Some o → IsAbove s node all o
-best-comes s node number all o kind None free below kind_is best_is is = absurd (grind arith)
-best-comes s node number all o kind (Some from) free below kind_is best_is is =
+-- what a kind makes comes from a candidate below it
+pub record IsBufferOver (s : Sites) (node number : ℕ) (all : List Candidate) (o : Candidate) : Type 0 where
+  pub from : Candidate
+  pub among : Contains all from
+  pub seen : o.seen ≡ seen_above s (Some number) from.seen
+  pub chosen : o.chosen ≡ Buffered node number from.chosen
+
+best-comes : (s : Sites) (node number : ℕ) (all : List Candidate) (o : Candidate) (kind : Kind) (best : Option Candidate) →
+    kind_of s.library number ≡ Some kind → best_driven kind.r all ≡ best → option_map (buffered node number kind) best ≡ Some o → IsBufferOver s node number all o
+best-comes s node number all o kind None kind_is best_is is = absurd (grind arith)
+best-comes s node number all o kind (Some from) kind_is best_is is =
     let made : buffered node number kind from ≡ o = cc in
     record {
       from = from;
       among = (best-is kind.r all from best_is).among;
-      held = Some number;
-      may = (free, below);
       seen = ap (λ (c : Candidate). c.seen) (sym made) ∙ ap (λ (k : Option Kind). behind k from.seen) (sym kind_is);
       chosen = ap (λ (c : Candidate). c.chosen) (sym made);
     }
 
-kind-comes : (s : Sites) (node number : ℕ) (all : List Candidate) (o : Candidate) (kind : Option Kind) → s.free node ≡ true →
-    number < length s.library.kinds → kind_of s.library number ≡ kind →
-    option_and_then (with_buffer node number all) kind ≡ Some o → IsAbove s node all o
-kind-comes s node number all o None free below kind_is is = absurd (grind arith)
-kind-comes s node number all o (Some kind) free below kind_is is =
-    best-comes s node number all o kind (best_driven kind.r all) free below kind_is refl is
+kind-comes : (s : Sites) (node number : ℕ) (all : List Candidate) (o : Candidate) (kind : Option Kind) →
+    kind_of s.library number ≡ kind → option_and_then (with_buffer node number all) kind ≡ Some o → IsBufferOver s node number all o
+kind-comes s node number all o None kind_is is = absurd (grind arith)
+kind-comes s node number all o (Some kind) kind_is is = best-comes s node number all o kind (best_driven kind.r all) kind_is refl is
+
+pub offer-comes : (s : Sites) (node number : ℕ) (all : List Candidate) (o : Candidate) → with_kind s.library node all number ≡ Some o →
+    IsBufferOver s node number all o
+offer-comes s node number all o is = kind-comes s node number all o (kind_of s.library number) refl is
 
 offers-come : (s : Sites) (node : ℕ) (all : List Candidate) (o : Candidate) → s.free node ≡ true → Contains (with_offers s.library node all) o →
     IsAbove s node all o
@@ -74,7 +79,15 @@ offers-come s node all o free at =
       | inl before ↦ unbuffered-comes s node all o before
       | inr offered ↦
           let comes = filter_map-comes (with_kind s.library node all) (range_with_len 0 (length s.library.kinds)) o offered in
-          kind-comes s node comes.from all o (kind_of s.library comes.from) free (range-below (length s.library.kinds) comes.from comes.among) refl comes.is
+          let over = offer-comes s node comes.from all o comes.is in
+          record {
+            from = over.from;
+            among = over.among;
+            held = Some comes.from;
+            may = (free, range-below (length s.library.kinds) comes.from comes.among);
+            seen = over.seen;
+            chosen = over.chosen;
+          }
     ]
 
 above-comes : (s : Sites) (node : ℕ) (all : List Candidate) (o : Candidate) (b : Bool) → s.free node ≡ b →

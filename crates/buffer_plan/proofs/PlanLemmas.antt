@@ -1,28 +1,27 @@
 -- What a plan takes from the list at node 0.
-use Rattle.std.proofs.Common.{◌≡◌, ℕ, zero, suc, ◌+◌, ◌-◌, ◌*◌, ◌^◌, ◌<◌, ◌≤◌, ℤ, pos, ◌-ℤ◌, Bool, true, false, ◌==◌, if◌then◌else◌, List, length, map, replicate, Option, Some, None, is_some, unwrap_or, Result, Ok, Err, IfOk, SFits, to_z, of_z, mul_right_comm, mul-le-mul, le_refl, sym, ap, subst, ◌∙◌, arith}
-use Rattle.std.specs.List.{range_with_len}
+use Rattle.std.proofs.Common.{◌≡◌, ℕ, zero, suc, ◌+◌, ◌-◌, ◌*◌, ◌^◌, ◌<◌, ◌≤◌, ℤ, pos, ◌-ℤ◌, Bool, true, false, ◌==◌, if◌then◌else◌, List, length, replicate, Option, Some, None, is_some, unwrap_or, Result, Ok, Err, IfOk, SFits, to_z, of_z, inl, inr, refl, mul_right_comm, mul-le-mul, le_refl, sym, ap, subst, ◌∙◌, arith}
 use Rattle.std.specs.Int.{w128}
 use Rattle.std.proofs.lemmas.List.{length-replicate, get_or-replicate, ext_get_or}
 use Rattle.std.proofs.lemmas.List.FromFn.{length-map-range_with_len}
 use Rattle.elmore_delay.specs.RcTrees.{RcTree}
-use Rattle.elmore_delay.specs.FromLeaves.{less}
+use Rattle.elmore_delay.specs.FromLeaves.{less, at_driver}
 use Rattle.elmore_delay.specs.Loadings.{LoadingView, IsLoading, rc_of}
 use Rattle.elmore_delay.specs.Placements.{buffers_of}
 use Rattle.elmore_delay.specs.declared.plans.Plan.{Plan}
+use Rattle.elmore_delay.specs.declared.seen.Seen.{Seen}
 use Rattle.elmore_delay.specs.Ranges.{IsSeen, IsTime, most_load}
 use Rattle.rc_library.specs.Limits.{most_resistance}
 use Rattle.std.proofs.lemmas.Int.{ints}
-use Rattle.std.proofs.lemmas.List.Elements.{All-contains}
+use Rattle.std.proofs.lemmas.Bool.{cases_Bool, true≢false, cond-true, cond-false}
 use Rattle.ginneken_lists.specs.Candidates.{Chosen, Nothing, Buffered, Both, Candidate, both, best_driven, chosen_at}
 use Rattle.ginneken_lists.specs.Pairs.{candidate_of, candidates as candidates_of}
 use Rattle.ginneken_lists.specs.declared.pair.Pair.{Pair}
 use Rattle.buffer_plan.specs.Best.{has_sinks, time_with, IsBest}
-use Rattle.buffer_plan.specs.Picked.{sites_of, candidates, picked_candidate, picked_choice, picked}
+use Rattle.buffer_plan.specs.Picked.{sites_of, picked_candidate, chosen_with, choice_with, placement_of, picked}
 use Rattle.buffer_plan.specs.Gathered.{pairs_at, AreGathered, IsWithin, most_steps}
-use Rattle.buffer_plan.proofs.BestDriven.{best-is}
-use Rattle.buffer_plan.proofs.Small.{candidates-small}
+use Rattle.buffer_plan.proofs.Small.{real-small}
 use Rattle.buffer_plan.proofs.HungLemmas.{Held, over, choice_of_last}
-use Rattle.buffer_plan.proofs.BestLemmas.{picked-is_best, picked-real, candidate-known, choice-picked, picked-time, empty-choice, no-time, no-sinks, picked-at}
+use Rattle.buffer_plan.proofs.BestLemmas.{IsRealAtRoot, placement-at, real-time, real-known, picked-is_best, candidate-known, no-time, no-sinks}
 
 -- what is chosen stands at the nodes that were hung
 both-within : (nodes : ℕ) (left right : Chosen) → IsWithin nodes left → IsWithin nodes right → IsWithin nodes (both left right)
@@ -59,56 +58,61 @@ pair-picked l trail lists r pair are driver is =
     ap (λ (os : List Candidate). best_driven (rc_of l).driver os) (sym (are.listed 0 (omega arith)))
     ∙ ap (λ (n : ℕ). best_driven n (candidates_of trail (pairs_at lists 0))) (sym driver) ∙ is
 
--- what its mark names stands at nodes of the tree
-pub pair-within : (l : LoadingView) (o : Candidate) → IsLoading l → picked_candidate l ≡ Some o → IsWithin (length l.tree.nodes) o.chosen
-pair-within l o loading is =
+-- what a candidate at node 0 names stands at nodes of the tree, and its load and time are in range
+pub real-within : (l : LoadingView) (o : Candidate) → IsLoading l → IsRealAtRoot l o → IsWithin (length l.tree.nodes) o.chosen
+real-within l o loading found =
     let rooted = loading.tree.rooted in
-    let found = picked-real l o loading is in
     subst (λ (c : Chosen). IsWithin (length l.tree.nodes) c) (found.chosen 0 (omega arith))
     (choice-within (length l.tree.nodes - 1) 1 0 (rc_of l) found.held (omega arith) (omega arith))
 
+pub real-in_range : (l : LoadingView) (o : Candidate) → IsLoading l → IsRealAtRoot l o → IsSeen (2 ^ 100) o.seen
+real-in_range l o loading found =
+    let rooted = loading.tree.rooted in
+    real-small l (length l.tree.nodes - 1) 1 0 (λ v. o) loading (omega arith) (omega arith) found
+
 -- with a time: the placement and the required time
-pub sinks-from_time : (l : LoadingView) (o : Candidate) (time : ℤ) → IsLoading l → picked_candidate l ≡ Some o → o.seen.time ≡ Some time → has_sinks l ≡ true
-sinks-from_time l o time loading is known = sym (candidate-known l o loading is) ∙ ap (λ (x : Option ℤ). is_some x) known
+pub plan-chosen : (l : LoadingView) (o : Candidate) (time : ℤ) (p : List (Option ℕ)) → o.seen.time ≡ Some time → p ≡ placement_of l o.chosen →
+    p ≡ placement_of l (choice_with o)
+plan-chosen l o time p known placed =
+    placed ∙ ap (placement_of l) (sym (cond-true (is_some o.seen.time) o.chosen Nothing (ap (λ (x : Option ℤ). is_some x) known)))
 
-pub plan-placement : (l : LoadingView) (o : Candidate) (time : ℤ) (p : List (Option ℕ)) → IsLoading l → picked_candidate l ≡ Some o → o.seen.time ≡ Some time →
-    p ≡ map (chosen_at o.chosen) (range_with_len 0 (length l.tree.nodes)) → p ≡ picked l
-plan-placement l o time p loading is known placed =
-    placed ∙ ap (λ (c : Chosen). map (chosen_at c) (range_with_len 0 (length l.tree.nodes)))
-    (sym (choice-picked l loading o (sinks-from_time l o time loading is known) is))
-
-pub plan-required : (l : LoadingView) (o : Candidate) (time required : ℤ) → IsLoading l → picked_candidate l ≡ Some o → o.seen.time ≡ Some time →
-    required ≡ time -ℤ pos (2 * (rc_of l).driver * o.seen.load) → required ≡ time_with l (picked l)
-plan-required l o time required loading is known told =
-    told ∙ ap (λ (x : Option ℤ). unwrap_or (less (2 * (rc_of l).driver * o.seen.load) x) (pos 0)) (sym known)
-    ∙ sym (picked-time l loading o (sinks-from_time l o time loading is known) is)
+pub plan-driven : (r : ℕ) (s : Seen) (time required : ℤ) → s.time ≡ Some time → required ≡ time -ℤ pos (2 * r * s.load) → required ≡ at_driver r s
+plan-driven r s time required known told = told ∙ ap (λ (x : Option ℤ). unwrap_or (less (2 * r * s.load) x) (pos 0)) (sym known)
 
 -- without a time: no buffers, and 0
-pub none-from_time : (l : LoadingView) (o : Candidate) → IsLoading l → picked_candidate l ≡ Some o → o.seen.time ≡ None → has_sinks l ≡ false
-none-from_time l o loading is unknown = sym (candidate-known l o loading is) ∙ ap (λ (x : Option ℤ). is_some x) unknown
-
-pub plan-empty : (l : LoadingView) (p : List (Option ℕ)) → has_sinks l ≡ false → p ≡ replicate (length l.tree.nodes) None → p ≡ picked l
-plan-empty l p none is =
-    let nodes : ℕ = length l.tree.nodes in
+pub plan-empty : (l : LoadingView) (o : Candidate) (nodes : ℕ) (p : List (Option ℕ)) → o.seen.time ≡ None → nodes ≡ length l.tree.nodes →
+    p ≡ replicate nodes None → p ≡ placement_of l (choice_with o)
+plan-empty l o nodes p unknown same is =
     let long = length-replicate nodes None in
-    let picked_long = length-map-range_with_len (chosen_at (picked_choice l)) 0 nodes in
-    is ∙ ext_get_or None (replicate nodes None) (picked l) (long ∙ sym picked_long) (λ node inside.
-    get_or-replicate nodes node None None (omega arith)
-    ∙ sym (picked-at l node None (omega arith) ∙ ap (λ (c : Chosen). chosen_at c node) (empty-choice l none)))
+    let other = length-map-range_with_len (chosen_at Nothing) 0 (length l.tree.nodes) in
+    is ∙ ext_get_or None (replicate nodes None) (placement_of l Nothing) (long ∙ same ∙ sym other) (λ node inside.
+    get_or-replicate nodes node None None (omega arith) ∙ sym (placement-at l Nothing node None (omega arith)))
+    ∙ ap (placement_of l) (sym (cond-false (is_some o.seen.time) o.chosen Nothing (ap (λ (x : Option ℤ). is_some x) unknown)))
 
-pub plan-empty_of : (l : LoadingView) (nodes : ℕ) (p : List (Option ℕ)) → has_sinks l ≡ false → nodes ≡ length l.tree.nodes → p ≡ replicate nodes None → p ≡ picked l
-plan-empty_of l nodes p none long is = plan-empty l p none (subst (λ (n : ℕ). p ≡ replicate n None) long is)
+pub plan-no_time : (r : ℕ) (s : Seen) → s.time ≡ None → pos 0 ≡ at_driver r s
+plan-no_time r s unknown = ap (λ (x : Option ℤ). unwrap_or (less (2 * r * s.load) x) (pos 0)) (sym unknown)
 
-pub plan-no_time : (l : LoadingView) (required : ℤ) → has_sinks l ≡ false → required ≡ pos 0 → required ≡ time_with l (picked l)
-plan-no_time l required none is = is ∙ sym (no-time (rc_of l) (buffers_of l.library (picked l)) (no-sinks l none))
+-- the required time with the placement of a real candidate
+pub real-required : (l : LoadingView) (o : Candidate) → IsLoading l → IsRealAtRoot l o → at_driver (rc_of l).driver o.seen ≡ time_with l (placement_of l (choice_with o))
+real-required l o loading found = elim (cases_Bool (has_sinks l)) [
+  | inl sinks ↦
+      sym (real-time l loading o found)
+      ∙ ap (λ (c : Chosen). time_with l (placement_of l c))
+      (sym (cond-true (is_some o.seen.time) o.chosen Nothing (real-known l loading o found ∙ sinks)))
+  | inr none ↦
+      sym (plan-no_time (rc_of l).driver o.seen (is-none o.seen.time (real-known l loading o found ∙ none)))
+      ∙ sym (no-time (rc_of l) (buffers_of l.library (placement_of l (choice_with o))) (no-sinks l none))
+]
+  where
+    is-none : (x : Option ℤ) → is_some x ≡ false → x ≡ None
+    is-none None none = refl
+    is-none (Some time) none = absurd (true≢false none)
 
--- the picked candidate is in range
-pub picked-small : (l : LoadingView) (o : Candidate) → IsLoading l → picked_candidate l ≡ Some o → IsSeen (2 ^ 100) o.seen
-picked-small l o loading is =
-    let rooted = loading.tree.rooted in
-    All-contains (λ (c : Candidate). IsSeen (2 ^ 100) c.seen) (candidates l) o
-    (candidates-small l (length l.tree.nodes - 1) 1 0 loading (omega arith) (omega arith) (omega arith))
-    (best-is (rc_of l).driver (candidates l) o is).among
+-- what is ensured of a plan from what is known of its pair
+pub plan-picked : (l : LoadingView) (o : Candidate) → IsLoading l → picked_candidate l ≡ Some o → placement_of l (choice_with o) ≡ picked l
+plan-picked l o loading is =
+    ap (λ (b : Bool). placement_of l (if b then o.chosen else Nothing)) (candidate-known l o loading is)
+    ∙ ap (λ (x : Option Candidate). placement_of l (if has_sinks l then chosen_with x else Nothing)) (sym is)
 
 -- its time at the driver, as it is computed: it fits, and is the time less the delay
 pub driven-fits : (r load from other : ℕ) (time : ℤ) → from ≡ r → other ≡ load → r ≤ most_resistance → load ≤ most_load → IsTime (2 ^ 100) time →
@@ -132,16 +136,22 @@ driven-told r load from other time from_is other_is fits low is =
     let above = is.high in
     omega (arith, ints)
 
--- what is ensured of a plan from what is known of its placement
+pub plan-is_picked : {E : Type 0} (l : LoadingView) (o : Candidate) (r : Result Plan E) → IsLoading l → picked_candidate l ≡ Some o →
+    IfOk r (λ plan. plan.placement ≡ placement_of l (choice_with o)) → IfOk r (λ plan. plan.placement ≡ picked l)
+plan-is_picked l o (Ok plan) loading is placed = placed ∙ plan-picked l o loading is
+plan-is_picked l o (Err e) loading is placed = tt
+
 pub plan-best : {E : Type 0} (l : LoadingView) (r : Result Plan E) → IsLoading l → IfOk r (λ plan. plan.placement ≡ picked l) →
     IfOk r (λ plan. IsBest l plan.placement)
 plan-best l (Ok plan) loading is = subst (λ (p : List (Option ℕ)). IsBest l p) (sym is) (picked-is_best l loading)
 plan-best l (Err e) loading is = tt
 
-pub plan-time : {E : Type 0} (l : LoadingView) (r : Result Plan E) → IfOk r (λ plan. plan.placement ≡ picked l) →
-    IfOk r (λ plan. plan.required ≡ time_with l (picked l)) → IfOk r (λ plan. plan.required ≡ time_with l plan.placement)
-plan-time l (Ok plan) is told = subst (λ (p : List (Option ℕ)). plan.required ≡ time_with l p) (sym is) told
-plan-time l (Err e) is told = tt
+pub plan-time : {E : Type 0} (l : LoadingView) (o : Candidate) (r : Result Plan E) → IsLoading l → IsRealAtRoot l o →
+    IfOk r (λ plan. plan.placement ≡ placement_of l (choice_with o)) → IfOk r (λ plan. plan.required ≡ at_driver (rc_of l).driver o.seen) →
+    IfOk r (λ plan. plan.required ≡ time_with l plan.placement)
+plan-time l o (Ok plan) loading found placed told =
+    told ∙ real-required l o loading found ∙ ap (λ (p : List (Option ℕ)). time_with l p) (sym placed)
+plan-time l o (Err e) loading found placed told = tt
 
 -- the steps of a plan: those of all nodes, and of one list
 steps-by_m : (m d old all now more : ℕ) → all ≤ old + m * d → more ≤ m → now ≤ all + more → now ≤ old + m * (d + 1)

@@ -54,7 +54,7 @@ plan-there : (d : DesignView) (lib : LibraryView) (trees : List (Option TreeView
 plan-there d lib trees net None some is = absurd (false≢true some)
 plan-there d lib trees net (Some plan) some is = is
 
-get-plan : (plans : List (Option Plan)) (net : ℕ) → net < length plans → plan_at plans net ≡ get_or plans net None
+pub get-plan : (plans : List (Option Plan)) (net : ℕ) → net < length plans → plan_at plans net ≡ get_or plans net None
 get-plan plans net below = ap (option_and_then (λ (plan : Option Plan). plan)) (slice_get-get_or plans net None below)
 
 -- all plans, where each routed net has one

@@ -22,7 +22,7 @@ pub record IsReal (n k : ℕ) (s : Sites) (o : ℕ → Candidate) : Type 0 where
   pub seen : (v : ℕ) → v < k → seen_of_last n s.tree (buffers_by s.library held) v ≡ (o v).seen
 
 -- the one candidate of a leaf
-leaf-is : (s : Seen) (o : Candidate) → Contains (bare s ∷ []) o → bare s ≡ o
+pub leaf-is : (s : Seen) (o : Candidate) → Contains (bare s ∷ []) o → bare s ≡ o
 leaf-is s o at = elim (contains-cases (bare s) o [] at) [
   | inl same ↦ same
   | inr later ↦ let none = later.1 in absurd (omega arith)
@@ -36,74 +36,82 @@ selected_before k q below above o v = if v == k then below else (if v == q then 
 abbrev pub held_with : (k : ℕ) → Option ℕ → Held → Held
 held_with k own p v = if v == k then own else p v
 
+-- what is seen and chosen at the parent of a node that is hung: a candidate of the parent before, and one of the node with
+-- what the node holds
+pub record IsHungFrom (s : Sites) (node : ℕ) (o : Candidate) : Type 0 where
+  pub one : Candidate
+  pub from : Candidate
+  pub held : Option ℕ
+  pub may : MayHold s node held
+  pub seen : o.seen ≡ joined one.seen (along (s.tree.wire node) (seen_above s held from.seen))
+  pub chosen : o.chosen ≡ both one.chosen (over node held from.chosen)
+
 -- one more node is hung: what is seen and chosen at its parent, and elsewhere
 module _ (n k : ℕ) (s : Sites) (o : ℕ → Candidate) (at : k + suc n ≡ s.tree.nodes) (earlier : s.tree.parent k < k)
-    (parts : IsJoined (candidates_of_last n s (s.tree.parent k)) (all_hanging s k (candidates_of_last n s k)) (o (s.tree.parent k)))
-    (hung : IsHanging s k (candidates_of_last n s k) parts.other)
-    (rest : IsReal n (suc k) s (selected_before k (s.tree.parent k) hung.from parts.one o)) where
-  now-k : held_with k hung.held rest.held k ≡ hung.held
-  now-k = if-same k k hung.held (rest.held k) refl
+    (parts : IsHungFrom s k (o (s.tree.parent k)))
+    (rest : IsReal n (suc k) s (selected_before k (s.tree.parent k) parts.from parts.one o)) where
+  now-k : held_with k parts.held rest.held k ≡ parts.held
+  now-k = if-same k k parts.held (rest.held k) refl
 
-  now-later : (node : ℕ) → suc k ≤ node → held_with k hung.held rest.held node ≡ rest.held node
-  now-later node later = if-other node k hung.held (rest.held node) (λ e. omega arith)
+  now-later : (node : ℕ) → suc k ≤ node → held_with k parts.held rest.held node ≡ rest.held node
+  now-later node later = if-other node k parts.held (rest.held node) (λ e. omega arith)
 
-  may-now : AllMay s (held_with k hung.held rest.held)
+  pub may-now : AllMay s (held_with k parts.held rest.held)
   may-now node = elim (cases_eq node k) [
-    | inl same ↦ subst (λ (m : Option ℕ). MayHold s node m) (sym (if-same node k hung.held (rest.held node) same))
-        (subst (λ (u : ℕ). MayHold s u hung.held) (sym same) hung.may)
-    | inr other ↦ subst (λ (m : Option ℕ). MayHold s node m) (sym (if-other node k hung.held (rest.held node) other)) (rest.may node)
+    | inl same ↦ subst (λ (m : Option ℕ). MayHold s node m) (sym (if-same node k parts.held (rest.held node) same))
+        (subst (λ (u : ℕ). MayHold s u parts.held) (sym same) parts.may)
+    | inr other ↦ subst (λ (m : Option ℕ). MayHold s node m) (sym (if-other node k parts.held (rest.held node) other)) (rest.may node)
   ]
 
   -- the selection at the node, at its parent, and elsewhere
-  selected-k : selected_before k (s.tree.parent k) hung.from parts.one o k ≡ hung.from
-  selected-k = if-same k k hung.from (if k == s.tree.parent k then parts.one else o k) refl
+  selected-k : selected_before k (s.tree.parent k) parts.from parts.one o k ≡ parts.from
+  selected-k = if-same k k parts.from (if k == s.tree.parent k then parts.one else o k) refl
 
-  selected-parent : (v : ℕ) → v ≡ s.tree.parent k → selected_before k (s.tree.parent k) hung.from parts.one o v ≡ parts.one
+  selected-parent : (v : ℕ) → v ≡ s.tree.parent k → selected_before k (s.tree.parent k) parts.from parts.one o v ≡ parts.one
   selected-parent v same =
-      if-other v k hung.from (if v == s.tree.parent k then parts.one else o v) (λ e. omega arith)
+      if-other v k parts.from (if v == s.tree.parent k then parts.one else o v) (λ e. omega arith)
       ∙ if-same v (s.tree.parent k) parts.one (o v) same
 
-  selected-other : (v : ℕ) → v < k → v ≢ s.tree.parent k → selected_before k (s.tree.parent k) hung.from parts.one o v ≡ o v
+  selected-other : (v : ℕ) → v < k → v ≢ s.tree.parent k → selected_before k (s.tree.parent k) parts.from parts.one o v ≡ o v
   selected-other v below other =
-      if-other v k hung.from (if v == s.tree.parent k then parts.one else o v) (λ e. omega arith)
+      if-other v k parts.from (if v == s.tree.parent k then parts.one else o v) (λ e. omega arith)
       ∙ if-other v (s.tree.parent k) parts.one (o v) other
 
   -- before the node was hung
   chosen-before : (v : ℕ) → v < suc k →
-      choice_of_last n s.tree (held_with k hung.held rest.held) v ≡ (selected_before k (s.tree.parent k) hung.from parts.one o v).chosen
+      choice_of_last n s.tree (held_with k parts.held rest.held) v ≡ (selected_before k (s.tree.parent k) parts.from parts.one o v).chosen
   chosen-before v below =
-      choice-same n (suc k) v s.tree (held_with k hung.held rest.held) rest.held (omega arith) (λ node later inside. now-later node later)
+      choice-same n (suc k) v s.tree (held_with k parts.held rest.held) rest.held (omega arith) (λ node later inside. now-later node later)
       ∙ rest.chosen v below
 
   seen-before : (v : ℕ) → v < suc k →
-      seen_of_last n s.tree (buffers_by s.library (held_with k hung.held rest.held)) v
-      ≡ (selected_before k (s.tree.parent k) hung.from parts.one o v).seen
+      seen_of_last n s.tree (buffers_by s.library (held_with k parts.held rest.held)) v
+      ≡ (selected_before k (s.tree.parent k) parts.from parts.one o v).seen
   seen-before v below =
-      seen-same n (suc k) v s.tree (buffers_by s.library (held_with k hung.held rest.held)) (buffers_by s.library rest.held) (omega arith)
+      seen-same n (suc k) v s.tree (buffers_by s.library (held_with k parts.held rest.held)) (buffers_by s.library rest.held) (omega arith)
       (λ node later inside. ap (λ (m : Option ℕ). option_and_then (kind_of s.library) m) (now-later node later))
       ∙ rest.seen v below
 
-  chosen-now : (v : ℕ) → v < k → choice_of_last (suc n) s.tree (held_with k hung.held rest.held) v ≡ (o v).chosen
+  pub chosen-now : (v : ℕ) → v < k → choice_of_last (suc n) s.tree (held_with k parts.held rest.held) v ≡ (o v).chosen
   chosen-now v below =
-      let p : Held = held_with k hung.held rest.held in
+      let p : Held = held_with k parts.held rest.held in
       let own : ℕ → Chosen = choice_of_last n s.tree p in
       elim (cases_eq v (s.tree.parent k)) [
         | inl same ↦
             choice-hung n k v s.tree p at same
             ∙ ap (λ (x : Chosen). both x (over k (p k) (own k))) (chosen-before v (omega arith) ∙ ap (λ (c : Candidate). c.chosen) (selected-parent v same))
             ∙ ap (λ (x : Chosen). both parts.one.chosen (over k (p k) x)) (chosen-before k (omega arith) ∙ ap (λ (c : Candidate). c.chosen) selected-k)
-            ∙ ap (λ (m : Option ℕ). both parts.one.chosen (over k m hung.from.chosen)) now-k
-            ∙ ap (λ (x : Chosen). both parts.one.chosen x) (sym hung.chosen)
-            ∙ ap (λ (c : Candidate). c.chosen) parts.is
+            ∙ ap (λ (m : Option ℕ). both parts.one.chosen (over k m parts.from.chosen)) now-k
+            ∙ sym parts.chosen
             ∙ ap (λ (u : ℕ). (o u).chosen) (sym same)
         | inr other ↦
             choice-other n k v s.tree p at other
             ∙ chosen-before v (omega arith) ∙ ap (λ (c : Candidate). c.chosen) (selected-other v below other)
       ]
 
-  seen-now : (v : ℕ) → v < k → seen_of_last (suc n) s.tree (buffers_by s.library (held_with k hung.held rest.held)) v ≡ (o v).seen
+  pub seen-now : (v : ℕ) → v < k → seen_of_last (suc n) s.tree (buffers_by s.library (held_with k parts.held rest.held)) v ≡ (o v).seen
   seen-now v below =
-      let p : Held = held_with k hung.held rest.held in
+      let p : Held = held_with k parts.held rest.held in
       let b = buffers_by s.library p in
       let own : ℕ → Seen = seen_of_last n s.tree b in
       let wire = s.tree.wire k in
@@ -112,17 +120,16 @@ module _ (n k : ℕ) (s : Sites) (o : ℕ → Candidate) (at : k + suc n ≡ s.t
             seen-hung n k v s.tree b at same
             ∙ ap (λ (x : Seen). joined x (hanging s.tree b k (own k))) (seen-before v (omega arith) ∙ ap (λ (c : Candidate). c.seen) (selected-parent v same))
             ∙ ap (λ (x : Seen). joined parts.one.seen (hanging s.tree b k x)) (seen-before k (omega arith) ∙ ap (λ (c : Candidate). c.seen) selected-k)
-            ∙ ap (λ (m : Option ℕ). joined parts.one.seen (along wire (seen_above s m hung.from.seen))) now-k
-            ∙ ap (λ (x : Seen). joined parts.one.seen x) (sym hung.seen)
-            ∙ ap (λ (c : Candidate). c.seen) parts.is
+            ∙ ap (λ (m : Option ℕ). joined parts.one.seen (along wire (seen_above s m parts.from.seen))) now-k
+            ∙ sym parts.seen
             ∙ ap (λ (u : ℕ). (o u).seen) (sym same)
         | inr other ↦
             seen-other n k v s.tree b at other
             ∙ seen-before v (omega arith) ∙ ap (λ (c : Candidate). c.seen) (selected-other v below other)
       ]
 
-  real-step : IsReal (suc n) k s o
-  real-step = record { held = held_with k hung.held rest.held; may = may-now; chosen = chosen-now; seen = seen-now }
+  abbrev pub real-step : IsReal (suc n) k s o
+  real-step = record { held = held_with k parts.held rest.held; may = may-now; chosen = chosen-now; seen = seen-now }
 
 -- the selection before a node was hung selects candidates
 selected-contained : (n k : ℕ) (s : Sites) (o : ℕ → Candidate) (one below : Candidate) → k + suc n ≡ s.tree.nodes → s.tree.parent k < k →
@@ -163,4 +170,12 @@ real (suc n) k s o tree later at each =
     let hung = hanging-comes s k (candidates_of_last n s k) parts.other parts.among_right in
     let rest = real n (suc k) s (selected_before k (s.tree.parent k) hung.from parts.one o) tree (omega arith) (omega arith)
     (selected-contained n k s o parts.one hung.from at earlier parts.among_left hung.among each) in
-    real-step n k s o at earlier parts hung rest
+    let from : IsHungFrom s k (o (s.tree.parent k)) = record {
+      one = parts.one;
+      from = hung.from;
+      held = hung.held;
+      may = hung.may;
+      seen = ap (λ (c : Candidate). c.seen) (sym parts.is) ∙ ap (λ (x : Seen). joined parts.one.seen x) hung.seen;
+      chosen = ap (λ (c : Candidate). c.chosen) (sym parts.is) ∙ ap (λ (x : Chosen). both parts.one.chosen x) hung.chosen;
+    } in
+    real-step n k s o at earlier from rest

@@ -66,21 +66,35 @@ served-unbuffered lib node all s h =
     } in
     served-thinned (all ++ offers lib node all) s before
 
+-- what a kind makes where one of some candidates serves as well: a buffer over the one that it drives best
+pub record IsMade (lib : LibraryView) (node number : ℕ) (all : List Candidate) (s : Seen) : Type 0 where
+  pub by : Candidate
+  pub is : with_kind lib node all number ≡ Some by
+  pub well : serves by.seen s ≡ true
+
+pub served-made : (lib : LibraryView) (node number : ℕ) (kind : Kind) (all : List Candidate) (s : Seen) → kind_of lib number ≡ Some kind → IsServed all s →
+    IsMade lib node number all (behind (Some kind) s)
+served-made lib node number kind all s is h =
+    let best = best-some kind.r all h.by h.among in
+    let time = no_later-through (driven_time kind.r s) (driven_time kind.r h.by.seen) (driven_time kind.r best.0.seen) (driven-kept kind.r h.by.seen s h.well)
+    (best-greatest kind.r all best.0 h.by (best-is kind.r all best.0 best.1) h.among) in
+    record {
+      by = buffered node number kind best.0;
+      is = ap (λ (o : Option Kind). option_and_then (with_buffer node number all) o) is
+          ∙ ap (λ (o : Option Candidate). option_map (buffered node number kind) o) best.1;
+      well = behind-kept kind best.0.seen s time;
+    }
+
 served-buffered : (lib : LibraryView) (node number : ℕ) (kind : Kind) (all : List Candidate) (s : Seen) → number < length lib.kinds →
     kind_of lib number ≡ Some kind → IsServed all s → IsServed (with_offers lib node all) (behind (Some kind) s)
 served-buffered lib node number kind all s below is h =
-    let best = best-some kind.r all h.by h.among in
-    let offered : with_kind lib node all number ≡ Some (buffered node number kind best.0) =
-    ap (λ (o : Option Kind). option_and_then (with_buffer node number all) o) is
-    ∙ ap (λ (o : Option Candidate). option_map (buffered node number kind) o) best.1 in
-    let time = no_later-through (driven_time kind.r s) (driven_time kind.r h.by.seen) (driven_time kind.r best.0.seen) (driven-kept kind.r h.by.seen s h.well)
-    (best-greatest kind.r all best.0 h.by (best-is kind.r all best.0 best.1) h.among) in
+    let made = served-made lib node number kind all s is h in
     let before : IsServed (all ++ offers lib node all) (behind (Some kind) s) = record {
-      by = buffered node number kind best.0;
-      among = Contains-append_right all (offers lib node all) (buffered node number kind best.0)
-          (contains-filter_map (with_kind lib node all) number (buffered node number kind best.0) (range_with_len 0 (length lib.kinds))
-          (contains-range (length lib.kinds) number below) offered);
-      well = behind-kept kind best.0.seen s time;
+      by = made.by;
+      among = Contains-append_right all (offers lib node all) made.by
+          (contains-filter_map (with_kind lib node all) number made.by (range_with_len 0 (length lib.kinds))
+          (contains-range (length lib.kinds) number below) made.is);
+      well = made.well;
     } in
     served-thinned (all ++ offers lib node all) (behind (Some kind) s) before
 

@@ -23,7 +23,7 @@ use Rattle.buffer_plan.proofs.Served.{seen_above}
 use Rattle.buffer_plan.proofs.HungLemmas.{Held, buffers_by, if-same, if-other}
 use Rattle.buffer_plan.proofs.Complete.{complete}
 use Rattle.buffer_plan.proofs.Comings.{hanging-comes, above-is}
-use Rattle.buffer_plan.proofs.Real.{real}
+use Rattle.buffer_plan.proofs.Real.{IsReal, real}
 
 -- what a buffer and an edge add to a delay
 less-time : (m d : ℕ) (o : Option ℤ) → IfSome o (IsTime m) → IfSome (less d o) (IsTime (m + d))
@@ -59,7 +59,7 @@ behind-small (Some k) s kind is =
     }
 
 -- what holds of each member
-all-members : {A : Type 0} (P : A → Type 0) (xs : List A) → ((x : A) → Contains xs x → P x) → All P xs
+pub all-members : {A : Type 0} (P : A → Type 0) (xs : List A) → ((x : A) → Contains xs x → P x) → All P xs
 all-members P xs each k d inside = each (get_or xs k d) (Contains-get_or xs k d inside)
 
 -- what is held are kinds in range
@@ -78,9 +78,19 @@ held-small l p loading =
       sinks = small.sinks;
     }
 
--- a candidate below a node is what some placement gives
+-- what some placement gives below a node
+pub real-small : (l : LoadingView) (n k v : ℕ) (o : ℕ → Candidate) → IsLoading l → k + n ≡ length l.tree.nodes → v < k → IsReal n k (sites_of l) o →
+    IsSeen (2 ^ 100) (o v).seen
+real-small l n k v o loading at below found =
+    let fits = subst (λ (s : Seen). IsSeen (under n) s) (found.seen v below)
+    (seen-small n k v (rc_of l) (buffers_by l.library found.held) (rc-tree l loading) (held-small l found.held loading) at below) in
+    let few = (rc-small l [] loading).few_nodes in
+    let le : under n ≤ 2 ^ 100 = omega arith in
+    record { load = fits.load; time = weaken (under n) (2 ^ 100) (o v).seen.time le fits.time }
+
+-- a candidate below a node is that
 one-small : (l : LoadingView) (n k v : ℕ) (o : Candidate) → IsLoading l → 0 < k → k + n ≡ length l.tree.nodes → v < k →
-    Contains (candidates_of_last n (sites_of l) v) o → IsSeen (under n) o.seen
+    Contains (candidates_of_last n (sites_of l) v) o → IsSeen (2 ^ 100) o.seen
 one-small l n k v o loading later at below among =
     let some : ℕ → Candidate = λ u. (complete n k u (sites_of l) (λ node. None) at (λ node. tt)).by in
     let selected : ℕ → Candidate = λ u. if u == v then o else some u in
@@ -92,22 +102,15 @@ one-small l n k v o loading later at below among =
           subst (λ (c : Candidate). Contains (candidates_of_last n (sites_of l) u) c) (sym (if-other u v o (some u) other))
           (complete n k u (sites_of l) (λ node. None) at (λ node. tt)).among
     ] in
-    let found = real n k (sites_of l) selected (rc-tree l loading) later at contained in
-    let seen : seen_of_last n (rc_of l) (buffers_by l.library found.held) v ≡ o.seen =
-    found.seen v below ∙ ap (λ (c : Candidate). c.seen) (if-same v v o (some v) refl) in
-    subst (λ (s : Seen). IsSeen (under n) s) seen
-    (seen-small n k v (rc_of l) (buffers_by l.library found.held) (rc-tree l loading) (held-small l found.held loading) at below)
+    subst (λ (c : Candidate). IsSeen (2 ^ 100) c.seen) (if-same v v o (some v) refl)
+    (real-small l n k v selected loading at below (real n k (sites_of l) selected (rc-tree l loading) later at contained))
 
 pub candidates-small : (l : LoadingView) (n k v : ℕ) → IsLoading l → 0 < k → k + n ≡ length l.tree.nodes → v < k → AreSmall (candidates_of_last n (sites_of l) v)
 candidates-small l n k v loading later at below =
-    all-members (λ (o : Candidate). IsSeen (2 ^ 100) o.seen) (candidates_of_last n (sites_of l) v) (λ o among.
-    let fits = one-small l n k v o loading later at below among in
-    let few = (rc-small l [] loading).few_nodes in
-    let le : under n ≤ 2 ^ 100 = omega arith in
-    record { load = fits.load; time = weaken (under n) (2 ^ 100) o.seen.time le fits.time })
+    all-members (λ (o : Candidate). IsSeen (2 ^ 100) o.seen) (candidates_of_last n (sites_of l) v) (λ o among. one-small l n k v o loading later at below among)
 
 -- above a node, and at the upper end of the edge
-above-small : (l : LoadingView) (held : Option ℕ) (s : Seen) → IsLoading l → IsSeen (2 ^ 100) s → IsSeen (2 ^ 101) (seen_above (sites_of l) held s)
+pub above-small : (l : LoadingView) (held : Option ℕ) (s : Seen) → IsLoading l → IsSeen (2 ^ 100) s → IsSeen (2 ^ 101) (seen_above (sites_of l) held s)
 above-small l held s loading fits = behind-small (option_and_then (kind_of l.library) held) s (held-fits l held loading) fits
 
 pub above-all : (l : LoadingView) (node : ℕ) (all : List Candidate) → IsLoading l → AreSmall all →
@@ -119,7 +122,7 @@ above-all l node all loading small =
     (above-small l above.held above.from.seen loading (All-contains (λ (c : Candidate). IsSeen (2 ^ 100) c.seen) all above.from small above.among)))
 
 -- what is seen is in the range of lists
-record Fits (s : Seen) : Type 0 where
+pub record Fits (s : Seen) : Type 0 where
   load : s.load ≤ 2 ^ 60
   time : IfSome s.time InTime
 
@@ -133,7 +136,7 @@ fits-time m (Some at) le is =
 small-fits : (m : ℕ) (s : Seen) → m ≤ 2 ^ 110 → IsSeen m s → Fits s
 small-fits m s le is = let load = is.load in record { load = omega arith; time = fits-time m s.time le is.time }
 
-along-fits : (l : LoadingView) (node : ℕ) (s : Seen) → IsLoading l → IsSeen (2 ^ 101) s → Fits (along (wire_at l node) s)
+pub along-fits : (l : LoadingView) (node : ℕ) (s : Seen) → IsLoading l → IsSeen (2 ^ 101) s → Fits (along (wire_at l node) s)
 along-fits l node s loading is =
     let wire = (rc-small l [] loading).wires node in
     let load = is.load in
@@ -153,7 +156,7 @@ hanging-all l node all loading small =
     (above-small l above.held above.from.seen loading (All-contains (λ (c : Candidate). IsSeen (2 ^ 100) c.seen) all above.from small above.among))))
 
 -- the pairs of a list whose candidates are in range
-pairs-fit : (trail : List Chosen) (pairs : List Pair) (all : List Candidate) → candidates trail pairs ≡ all → All (λ o. Fits o.seen) all → All IsInRange pairs
+pub pairs-fit : (trail : List Chosen) (pairs : List Pair) (all : List Candidate) → candidates trail pairs ≡ all → All (λ o. Fits o.seen) all → All IsInRange pairs
 pairs-fit trail pairs all is fit k d inside =
     let long = length-map pairs (candidate_of trail) in
     let each : All (λ (o : Candidate). Fits o.seen) (candidates trail pairs) = subst (λ (xs : List Candidate). All (λ (o : Candidate). Fits o.seen) xs) (sym is) fit in
@@ -161,7 +164,7 @@ pairs-fit trail pairs all is fit k d inside =
     (each k (candidate_of trail d) (omega arith)) in
     record { load = here.load; time = here.time }
 
-all-fit : (m : ℕ) (all : List Candidate) → m ≤ 2 ^ 110 → All (λ o. IsSeen m o.seen) all → All (λ o. Fits o.seen) all
+pub all-fit : (m : ℕ) (all : List Candidate) → m ≤ 2 ^ 110 → All (λ o. IsSeen m o.seen) all → All (λ o. Fits o.seen) all
 all-fit m all le small k d inside = small-fits m (get_or all k d).seen le (small k d inside)
 
 pub small-pairs : (trail : List Chosen) (pairs : List Pair) (all : List Candidate) → candidates trail pairs ≡ all → AreSmall all → All IsInRange pairs

@@ -4,7 +4,6 @@ ghost use Rattle.elmore_delay.specs.Loadings.{IsLoading};
 ghost use Rattle.ginneken_lists.specs.Candidates.{all_joined};
 ghost use Rattle.ginneken_lists.specs.Pairs.{candidates as candidates_of, AreMarked, IsList, IsInRange};
 ghost use Rattle.ginneken_lists.specs.Trails.{Keeps};
-ghost use Rattle.buffer_plan.specs.Best.{may_place};
 ghost use Rattle.buffer_plan.specs.Picked.{sites_of, all_hanging};
 ghost use Rattle.buffer_plan.specs.Gathered.{pairs_in, IsLoadingOf, AreGathered, AreSmall, most_steps};
 
@@ -97,21 +96,11 @@ fn raised<L: Ledger>(
         + length below + length library.now.kinds }
 {
     let mut upper = below;
-    if may_place(library, loading, node) {
+    if loading.free(node) {
         upper.offer(node, library, trail, pool, steps)?;
     }
     upper.wire(loading.wire(node), steps);
     Ok(upper)
-}
-
-/// Whether a buffer may be placed at a node. A library of version 3 tells inverted signals from plain
-/// ones; with it no buffers are placed yet.
-fn may_place(library: &Library, loading: &Loading, node: u32) -> bool
-    requires library { loading.now.library ≡ library.now }
-    requires node { node < length loading.now.tree.nodes }
-    ensures { result ≡ may_place loading.now node }
-{
-    loading.free(node) && library.version() < 3
 }
 
 /// Joins what hangs on a node with the node's own list, if it has one.

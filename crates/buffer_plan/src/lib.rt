@@ -9,5 +9,6 @@ mod placing;
 mod planner;
 
 pub use laws::picked_is_best;
-pub use nets::plan_all;
+pub use nets::{plan_all, routed_tree};
+pub use placing::plan_of;
 pub use planner::Planner;

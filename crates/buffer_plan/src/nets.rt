@@ -202,12 +202,13 @@ fn lacks_plan(design: &Design, plans: &[Option<Plan>], net: u32) -> bool
 }
 
 /// The tree of a routed net. None exactly where the net isn't routed.
-fn routed_tree<'r>(design: &Design, routes: &'r Routes, net: u32) -> Option<&'r RouteTree>
+pub fn routed_tree<'r>(design: &Design, routes: &'r Routes, net: u32) -> Option<&'r RouteTree>
     requires net { net < length design.now.nets }
     requires routes { AreRoutesOf design.now routes.now }
     ensures tree { IfSome result (λ tree. tree_at routes.now net ≡ Some tree.now) }
     ensures routes { IfSome result (λ tree. IsTreeOf design.now net tree.now) }
     ensures shape { IfSome result (λ tree. tree.now.shape ≡ design.now.frame.shape) }
+    ensures routed { IfSome result (λ _. IsTrue (is_routed design.now net)) }
     ensures none { result ≡ None → is_routed design.now net ≡ false }
 {
     if design.routed(net) {

@@ -8,8 +8,8 @@ ghost use Rattle.buffer_plan.specs.Picked.{picked_candidate, picked};
 
 use crate::hanging::hang_all;
 use crate::lists::{self, Lists};
-use crate::placing::place;
-use elmore_delay::{Loading, Placement, Plan};
+use crate::placing::plan_of;
+use elmore_delay::{Loading, Plan};
 use ginneken_lists::{ListPool, Pair, Steps, Trail};
 use gr_base::RouteTree;
 use rc_library::Library;
@@ -59,7 +59,7 @@ impl Planner {
             * (1 + length library.now.kinds * length tree.now.nodes) }
     {
         let pair = self.best_pair(alloc, tree, library, loading, steps)?;
-        self.plan_of(alloc, tree, loading, pair)
+        plan_of(alloc, tree, loading, &self.trail, pair, &mut self.marks)
     }
 
     /// The pair at node 0 that the driver drives best.
@@ -96,33 +96,5 @@ impl Planner {
         let best = pairs.best_driven(driver, steps);
         pairs.give_up(&mut self.pool);
         Ok(best)
-    }
-
-    /// The plan with what a pair's mark names. A net without sinks has no time, and gets no buffers.
-    fn plan_of(
-        &mut self,
-        alloc: Global,
-        tree: &RouteTree,
-        loading: &Loading,
-        pair: Pair,
-    ) -> Result<Plan, AllocError>
-        requires tree { loading.now.tree ≡ tree.now }
-        requires picked { picked_candidate loading.now ≡ Some (candidate_of self.old.trail pair) }
-        requires mark { pair.mark ≤ length self.old.trail }
-        ensures picked { IfOk result (λ plan. plan.placement ≡ picked loading.now) }
-        ensures required { IfOk result (λ plan. plan.required ≡ time_with loading.now (picked loading.now)) }
-    {
-        let driver = loading.driver();
-        let Some(time) = pair.time else {
-            return Ok(Plan {
-                placement: Placement::none(alloc, tree.len())?,
-                required: 0,
-            });
-        };
-        let delay = 2 * u128::from(driver) * u128::from(pair.load);
-        Ok(Plan {
-            placement: place(alloc, tree.len(), &self.trail, pair.mark, &mut self.marks)?,
-            required: time - delay as i128,
-        })
     }
 }

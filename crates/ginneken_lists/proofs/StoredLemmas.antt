@@ -72,6 +72,10 @@ stored-marks most xs marks k d inside =
 pub pair-marks : (most : ℕ) (xs : List Stored) → All (λ (s : Stored). s.mark ≤ most) xs → All (λ (p : Pair). p.mark ≤ most) (pairs_of xs)
 pair-marks most xs marks = All-map (λ (p : Pair). p.mark ≤ most) pair_of xs marks
 
+-- ranges likewise
+pub stored-range : (xs : List Stored) → All IsInRange (pairs_of xs) → All (λ s. IsInRange (pair_of s)) xs
+stored-range xs range k d inside =
+    subst IsInRange (get_or-map pair_of xs k d (pair_of d) inside) (range k (pair_of d) (let long = length-map xs pair_of in omega arith))
+
 pub stored-loads : (xs : List Stored) → All IsInRange (pairs_of xs) → All (λ (s : Stored). s.load ≤ 2 ^ 60) xs
-stored-loads xs range k d inside =
-    (subst IsInRange (get_or-map pair_of xs k d (pair_of d) inside) (range k (pair_of d) (let long = length-map xs pair_of in omega arith))).load
+stored-loads xs range k d inside = (stored-range xs range k d inside).load

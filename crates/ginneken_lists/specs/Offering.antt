@@ -2,10 +2,9 @@
 use Rattle.std.specs.Prelude.{ℕ, ◌+◌, not, nat_lt, List, [], ◌∷◌, Option, Some, None, if◌then◌else◌}
 use Rattle.std.specs.List.{fold, filter}
 use Rattle.elmore_delay.specs.declared.seen.Seen.{Seen}
-use Rattle.ginneken_lists.specs.Candidates.{Chosen, Buffered, Candidate, serves, with_one}
-use Rattle.ginneken_lists.specs.Pairs.{seen_of}
+use Rattle.ginneken_lists.specs.Candidates.{Chosen, Candidate, serves, with_one}
+use Rattle.ginneken_lists.specs.Pairs.{seen_of, buffer_of}
 use Rattle.ginneken_lists.specs.StoredPairs.{pair_of}
-use Rattle.ginneken_lists.specs.Trails.{chosen_of}
 use Rattle.ginneken_lists.specs.declared.stored.Stored.{Stored}
 
 -- one more candidate after another
@@ -16,10 +15,9 @@ with_all kept all = fold (λ before o. with_one o before) kept all
 abbrev pub unserved : Candidate → List Candidate → List Candidate
 unserved o all = filter (λ other. not (serves o.seen other.seen)) all
 
--- a buffer of a kind at a node, over what the mark of a pair names, with what is seen with the pair
+-- the candidate with a buffer of a kind at a node over what the mark of a stored pair names
 abbrev pub buffer_over : List Chosen → (node number : ℕ) → Stored → Candidate
-buffer_over trail node number stored =
-    record { seen = seen_of (pair_of stored); chosen = Buffered node number (chosen_of trail stored.mark) }
+buffer_over trail node number stored = buffer_of trail node number (pair_of stored)
 
 -- the candidates of pairs with these buffers, of the kinds from a number on
 abbrev pub offered : List Chosen → (node number : ℕ) → List Stored → List Candidate

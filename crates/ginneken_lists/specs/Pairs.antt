@@ -1,7 +1,7 @@
 -- Lists of pairs: candidates whose choices are named by marks.
-use Rattle.std.specs.Prelude.{◌<◌, ◌≤◌, ◌^◌, ℤ, pos, ◌+ℤ◌, ◌≤ℤ◌, List, length, map, All, IfSome}
+use Rattle.std.specs.Prelude.{ℕ, ◌<◌, ◌≤◌, ◌^◌, ℤ, pos, ◌+ℤ◌, ◌≤ℤ◌, List, length, map, All, IfSome}
 use Rattle.elmore_delay.specs.declared.seen.Seen.{Seen}
-use Rattle.ginneken_lists.specs.Candidates.{Chosen, Candidate}
+use Rattle.ginneken_lists.specs.Candidates.{Chosen, Buffered, Candidate}
 use Rattle.ginneken_lists.specs.Thinning.{IsRising}
 use Rattle.ginneken_lists.specs.Trails.{chosen_of}
 use Rattle.ginneken_lists.specs.declared.pair.Pair.{Pair}
@@ -16,6 +16,11 @@ candidate_of trail pair = record { seen = seen_of pair; chosen = chosen_of trail
 
 abbrev pub candidates : List Chosen → List Pair → List Candidate
 candidates trail pairs = map (candidate_of trail) pairs
+
+-- the candidate with a buffer of a kind at a node, over what the mark of a pair names, and with what is seen with the pair
+abbrev pub buffer_of : List Chosen → (node number : ℕ) → Pair → Candidate
+buffer_of trail node number pair =
+    record { seen = seen_of pair; chosen = Buffered node number (chosen_of trail pair.mark) }
 
 -- the marks are those of a trail
 abbrev pub AreMarked : List Chosen → List Pair → Type 0

@@ -1,17 +1,18 @@
 //! Lists of pairs.
-ghost use Rattle.std.specs.Prelude.{◌≡◌, ◌+◌, ◌*◌, ◌<◌, ◌≤◌, ◌^◌, [], ◌∷◌, List, length, slice_get, Some, All, IfOk, OnOk, OnErr, IfSome, Contains};
-ghost use Rattle.rc_library.specs.Libraries.{IsWire, IsLibrary};
-ghost use Rattle.ginneken_lists.specs.Candidates.{Chosen, all_along, all_joined, best_driven, with_offers};
-ghost use Rattle.ginneken_lists.specs.Pairs.{candidate_of, candidates, AreMarked, IsList, IsTime, IsInRange};
+ghost use Rattle.std.specs.Prelude.{◌≡◌, ℕ, ◌+◌, ◌*◌, ◌<◌, ◌≤◌, ◌^◌, [], ◌∷◌, List, length, slice_get, Some, All, IfOk, OnOk, OnErr, IfSome, Contains};
+ghost use Rattle.rc_library.specs.Libraries.{IsWire, IsKind, IsLibrary};
+ghost use Rattle.ginneken_lists.specs.Candidates.{Chosen, all_along, all_joined, best_driven, with_buffer, with_one, with_offers};
+ghost use Rattle.ginneken_lists.specs.Pairs.{candidate_of, buffer_of, candidates, AreMarked, IsList, IsTime, IsInRange};
 ghost use Rattle.ginneken_lists.specs.Trails.{IsTrail, Keeps};
 
+use crate::offer::Offer;
 use crate::pair::Pair;
 use crate::pool::ListPool;
 use crate::steps::Steps;
 use crate::stored::{Stored, read};
 use crate::trail::Trail;
 use crate::{merging, offering, wiring};
-use rc_library::{Library, Wire};
+use rc_library::{Kind, Library, Wire};
 use std::alloc::{AllocError, Global};
 use std::marker::Model;
 use std::sync::ledger::Ledger;
@@ -129,6 +130,66 @@ impl OptionList {
         offering::find_offers(&mut pool.offers, &self.pairs, library, steps)?;
         self.pairs.reserve(pool.offers.len())?;
         trail.offer_each(node, &mut self.pairs, &pool.offers, steps)?;
+        Ok(())
+    }
+
+    /// A buffer of a kind over the pair that it drives best.
+    pub fn buffered<L: Ledger>(&self, kind: Kind, steps: &mut Steps<L>) -> Offer
+        requires range { All IsInRange self.now }
+        requires kind { IsKind kind }
+        ensures buffered { (trail : List Chosen) (node number : ℕ) →
+            with_buffer node number (candidates trail self.now) kind ≡ Some (buffer_of trail node number result) }
+        ensures mark { (most : ℕ) → All (λ pair. pair.mark ≤ most) self.now → result.mark ≤ most }
+        ensures steps { steps.new ≤ steps.old + length self.now + 1 }
+        ensures list { IsList self.now }
+    {
+        Offer {
+            pair: offering::best_driven(&self.pairs, kind.r, steps).behind(kind),
+        }
+    }
+
+    /// The list of one buffer of a kind at a node. The only error is want of memory.
+    pub fn of_offer(
+        alloc: Global,
+        node: u32,
+        kind: u32,
+        offer: &Offer,
+        trail: &mut Trail,
+        pool: &mut ListPool,
+    ) -> Result<OptionList, AllocError>
+        requires mark { offer.now.mark ≤ length trail.old }
+        ensures one { IfOk result (λ list. candidates trail.new list ≡ buffer_of trail.old node kind offer.now ∷ []) }
+        ensures marks { IfOk result (AreMarked trail.new) }
+        ensures kept { Keeps trail.old trail.new }
+    {
+        let mut pairs = pool.empty(alloc, 1)?;
+        let mark = trail.buffer(node, kind, offer.pair.mark)?;
+        pairs.push(offer.pair.marked(mark))?;
+        Ok(OptionList { pairs })
+    }
+
+    /// Offers one buffer of a kind at a node. On an error, which is want of memory, the list stays as
+    /// it is.
+    pub fn add<L: Ledger>(
+        &mut self,
+        node: u32,
+        kind: u32,
+        offer: &Offer,
+        trail: &mut Trail,
+        steps: &mut Steps<L>,
+    ) -> Result<(), AllocError>
+        requires marks { AreMarked trail.old self.old }
+        requires mark { offer.now.mark ≤ length trail.old }
+        ensures added { OnOk result (candidates trail.new self.new
+            ≡ with_one (buffer_of trail.old node kind offer.now) (candidates trail.old self.old)) }
+        ensures kept { Keeps trail.old trail.new }
+        ensures marks { AreMarked trail.new self.new }
+        ensures short { length self.new ≤ length self.old + 1 }
+        ensures steps { steps.new ≤ steps.old + 2 * length self.old }
+        ensures list { IsList self.new }
+    {
+        self.pairs.reserve(1)?;
+        trail.offer(node, kind, &mut self.pairs, offer.pair, steps)?;
         Ok(())
     }
 

@@ -1,14 +1,15 @@
 //! Trails: the choices that the marks of pairs name.
 ghost use Rattle.std.specs.Prelude.{◌≡◌, ◌+◌, ◌*◌, ◌<◌, ◌≤◌, ◌^◌, [], length, OnOk, OnErr, IfOk, All};
 ghost use Rattle.std.specs.Vec.{vec_len, vec_capacity};
-ghost use Rattle.ginneken_lists.specs.Candidates.{Buffered, both};
+ghost use Rattle.ginneken_lists.specs.Candidates.{Buffered, both, with_one};
 ghost use Rattle.ginneken_lists.specs.Pairs.{candidates, IsList};
 ghost use Rattle.ginneken_lists.specs.StoredPairs.{pairs_of};
-ghost use Rattle.ginneken_lists.specs.Offering.{offered, with_all};
+ghost use Rattle.ginneken_lists.specs.Offering.{buffer_over, offered, with_all};
 ghost use Rattle.ginneken_lists.specs.Trails.{chosen_of, chosen_by, trail_of, IsBelow, Keeps};
 ghost use Rattle.ginneken_lists.specs.TrailStore.{AreChoices};
 
 use crate::choice::Choice;
+use crate::insertion::insert;
 use crate::offering::offer_each;
 use crate::steps::Steps;
 use crate::stored::Stored;
@@ -116,6 +117,46 @@ impl Trail {
         self.choices.reserve(found.len())?;
         offer_each(pairs, found, node, &mut self.choices, steps);
         Ok(())
+    }
+
+    /// Offers a buffer of a kind at a node to a list, with a mark if it is kept. On an error, which is
+    /// want of memory, nothing changes.
+    pub(crate) fn offer<L: Ledger>(
+        &mut self,
+        node: u32,
+        kind: u32,
+        pairs: &mut Vec<Stored>,
+        pair: Stored,
+        steps: &mut Steps<L>,
+    ) -> Result<(), AllocError>
+        requires list { IsList (pairs_of pairs.old.items) }
+        requires room { vec_len pairs.old < vec_capacity pairs.old }
+        requires marks { All (λ other. other.mark ≤ length self.old) pairs.old.items }
+        requires mark { pair.mark ≤ length self.old }
+        ensures pairs { OnOk result (candidates self.new (pairs_of pairs.new.items)
+            ≡ with_one (buffer_over self.old node kind pair) (candidates self.old (pairs_of pairs.old.items))) }
+        ensures kept { Keeps self.old self.new }
+        ensures marks { All (λ other. other.mark ≤ length self.new) pairs.new.items }
+        ensures list { IsList (pairs_of pairs.new.items) }
+        ensures short { vec_len pairs.new ≤ vec_len pairs.old + 1 }
+        ensures steps { steps.new ≤ steps.old + 2 * length pairs.old.items }
+    {
+        self.choices.reserve(1)?;
+        insert(pairs, pair, node, kind, &mut self.choices, steps);
+        Ok(())
+    }
+
+    /// The mark of a buffer of a kind at a node over what a mark names. The only error is want of
+    /// memory.
+    pub(crate) fn buffer(&mut self, node: u32, kind: u32, below: u64) -> Result<u64, AllocError>
+        requires below { below ≤ length self.old }
+        ensures buffer { IfOk result (λ mark. chosen_of self.new mark
+            ≡ Buffered node kind (chosen_of self.old below)) }
+        ensures mark { IfOk result (λ mark. mark ≤ length self.new) }
+        ensures kept { Keeps self.old self.new }
+    {
+        self.choices.reserve(1)?;
+        Ok(push_buffer(&mut self.choices, node, kind, below))
     }
 }
 

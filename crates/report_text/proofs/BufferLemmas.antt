@@ -16,7 +16,7 @@ use Rattle.rc_library.specs.Libraries.{LibraryView}
 use Rattle.elmore_delay.specs.Placements.{placed_at, NamesKinds}
 use Rattle.elmore_delay.specs.PlanLists.{plan_at}
 use Rattle.elmore_delay.specs.declared.plans.Plan.{Plan}
-use Rattle.report_text.specs.BufferTexts.{kind_on, buffered_cells, kind_line, buffer_line, placement_text, plan_line, plan_text, net_buffers, buffers_in, IsPlanFor, ArePlanned}
+use Rattle.report_text.specs.BufferTexts.{kind_on, buffered_cells, kind_line, buffer_line, placement_text, plan_line, no_legal_line, plan_text, net_buffers, buffers_in, IsPlanFor, ArePlanned, AreSomePlanned}
 use Rattle.report_text.specs.Placed.{rising_buffers}
 use Rattle.report_text.specs.declared.buffer_text.Buffered.{Buffered}
 
@@ -109,11 +109,35 @@ net-lines d lib trees plans number net t plan is found tree planned =
     ∙ ap (λ (o : Option TreeView). plan_text d.frame lib (Some net) o (plan_at plans number)) tree
     ∙ ap (λ (o : Option Plan). plan_text d.frame lib (Some net) (Some t) o) planned
 
+-- the line of a routed net with its tree and no plan
+pub net-no_legal : (d : DesignView) (lib : LibraryView) (trees : List (Option TreeView)) (plans : List (Option Plan)) (number : ℕ)
+    (net : Net) (t : TreeView) → is_routed d number ≡ true → slice_get d.nets number ≡ Some net → tree_at trees number ≡ Some t →
+    plan_at plans number ≡ None → net_buffers d lib trees plans number ≡ no_legal_line net
+net-no_legal d lib trees plans number net t is found tree planned =
+    ap (λ (b : Bool). if b then plan_text d.frame lib (slice_get d.nets number) (tree_at trees number) (plan_at plans number) else []) is
+    ∙ ap (λ (o : Option Net). plan_text d.frame lib o (tree_at trees number) (plan_at plans number)) found
+    ∙ ap (λ (o : Option TreeView). plan_text d.frame lib (Some net) o (plan_at plans number)) tree
+    ∙ ap (λ (o : Option Plan). plan_text d.frame lib (Some net) (Some t) o) planned
+
 pub planned-for : (d : DesignView) (lib : LibraryView) (trees : List (Option TreeView)) (plans : List (Option Plan)) (number : ℕ) (t : TreeView) (plan : Plan) →
-    ArePlanned d lib trees plans → is_routed d number ≡ true → tree_at trees number ≡ Some t → plan_at plans number ≡ Some plan → IsPlanFor d lib t plan
+    AreSomePlanned d lib trees plans → is_routed d number ≡ true → tree_at trees number ≡ Some t → plan_at plans number ≡ Some plan → IsPlanFor d lib t plan
 planned-for d lib trees plans number t plan are is tree planned =
-    and-some (IsPlanFor d lib t) (plan_at plans number) plan planned
-    (and-some (λ u. IsSomeAnd (plan_at plans number) (IsPlanFor d lib u)) (tree_at trees number) t tree (are number is))
+    subst (λ (o : Option Plan). IfSome o (IsPlanFor d lib t)) planned
+    (and-some (λ u. IfSome (plan_at plans number) (IsPlanFor d lib u)) (tree_at trees number) t tree (are number is))
+
+-- where each routed net has a plan, it has one or none
+pub all-planned : (d : DesignView) (lib : LibraryView) (trees : List (Option TreeView)) (plans : List (Option Plan)) → ArePlanned d lib trees plans →
+    AreSomePlanned d lib trees plans
+all-planned d lib trees plans are net is = by (tree_at trees net) (are net is)
+  where
+    with : (t : TreeView) (o : Option Plan) → IsSomeAnd o (IsPlanFor d lib t) → IfSome o (IsPlanFor d lib t)
+    with t None some = tt
+    with t (Some plan) some = some
+
+    by : (o : Option TreeView) → IsSomeAnd o (λ t. IsSomeAnd (plan_at plans net) (IsPlanFor d lib t)) →
+        IsSomeAnd o (λ t. IfSome (plan_at plans net) (IsPlanFor d lib t))
+    by None some = some
+    by (Some t) some = with t (plan_at plans net) some
 
 -- the sum over the routed nets before a number, with one more net
 abbrev pub sum_before : DesignView → List (Option Plan) → ℕ → ℕ

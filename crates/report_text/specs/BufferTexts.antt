@@ -1,5 +1,5 @@
 -- The text of the buffers in the trees of a design's nets.
-use Rattle.std.specs.Prelude.{◌≡◌, ℕ, ◌-◌, List, [], ◌++◌, length, filter, count_by, Option, Some, None, is_some, unwrap_or, option_and_then, slice_get, if◌then◌else◌, IsTrue, IsSomeAnd, codes}
+use Rattle.std.specs.Prelude.{◌≡◌, ℕ, ◌-◌, List, [], ◌++◌, length, filter, count_by, Option, Some, None, is_some, unwrap_or, option_and_then, slice_get, if◌then◌else◌, IsTrue, IfSome, IsSomeAnd, codes}
 use Rattle.std.specs.Fmt.{decimal, signed_decimal}
 use Rattle.std.specs.List.{flat_map, range_with_len}
 use Rattle.gr_base.specs.Designs.{DesignView, centre_of, is_routed}
@@ -42,9 +42,14 @@ plan_line net plan =
     ++ codes " required " ++ signed_decimal plan.required
     ++ codes " buffers " ++ decimal (count_by is_some plan.placement) ++ codes "\n"
 
--- the lines of a net, where there is one with a tree and a plan
+-- the line of a net without a legal placement
+abbrev pub no_legal_line : Net → List ℕ
+no_legal_line net = codes "net " ++ net.name ++ codes " " ++ decimal net.id ++ codes " has no legal placement\n"
+
+-- the lines of a net, where there is one with a tree: those of its plan, or that it has no legal placement
 abbrev pub plan_text : Frame → LibraryView → Option Net → Option TreeView → Option Plan → List ℕ
 plan_text frame lib (Some net) (Some t) (Some plan) = plan_line net plan ++ placement_text frame lib t plan.placement
+plan_text frame lib (Some net) (Some t) None = no_legal_line net
 plan_text frame lib _ _ _ = []
 
 -- the lines of a routed net
@@ -79,3 +84,8 @@ pub record IsPlanFor (d : DesignView) (lib : LibraryView) (t : TreeView) (plan :
 abbrev pub ArePlanned : DesignView → LibraryView → List (Option TreeView) → List (Option Plan) → Type 0
 ArePlanned d lib trees plans = (net : ℕ) → IsTrue (is_routed d net) →
     IsSomeAnd (tree_at trees net) (λ t. IsSomeAnd (plan_at plans net) (IsPlanFor d lib t))
+
+-- each routed net has a tree, and a plan for it or none
+abbrev pub AreSomePlanned : DesignView → LibraryView → List (Option TreeView) → List (Option Plan) → Type 0
+AreSomePlanned d lib trees plans = (net : ℕ) → IsTrue (is_routed d net) →
+    IsSomeAnd (tree_at trees net) (λ t. IfSome (plan_at plans net) (IsPlanFor d lib t))

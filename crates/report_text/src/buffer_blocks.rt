@@ -1,9 +1,9 @@
 //! The text of buffers by blocks of nets, whose lines are put together side by side.
 ghost use Rattle.std.specs.Prelude.{◌≡◌, ◌+◌, ◌*◌, ◌<◌, ◌≤◌, ◌++◌, min, length, None, IfOk, IfSome, OnOk};
-ghost use Rattle.report_text.specs.BufferTexts.{ArePlanned, buffers_text, net_lines};
+ghost use Rattle.report_text.specs.BufferTexts.{ArePlanned, AreSomePlanned, buffers_text, net_lines};
 ghost use Rattle.report_text.specs.BufferBlocks.{block_start, IsBlock, AreBlocks};
 
-use crate::buffer_text::{buffers, put_nets, put_total};
+use crate::buffer_text::{polar_text, put_nets, put_total};
 use elmore_delay::Plans;
 use gr_base::{Design, Routes};
 use gr_text::Text;
@@ -26,8 +26,26 @@ pub fn buffers_by<R: Threads + Sync>(
     requires workers { 0 < workers }
     ensures { IfOk result (λ text. text ≡ buffers_text design.now library.now routes.now plans.now) }
 {
+    polar_text_by(rt, alloc, design, library, routes, plans, workers)
+}
+
+/// The text of the buffers, as `polar_text` makes it. More than one worker puts the lines of nets
+/// together side by side, each those of a block of nets. The only error is want of memory.
+pub fn polar_text_by<R: Threads + Sync>(
+    rt: &R,
+    alloc: Global,
+    design: &Design,
+    library: &Library,
+    routes: &Routes,
+    plans: &Plans,
+    workers: u32,
+) -> Result<Text, AllocError>
+    requires plans { AreSomePlanned design.now library.now routes.now plans.now }
+    requires workers { 0 < workers }
+    ensures { IfOk result (λ text. text ≡ buffers_text design.now library.now routes.now plans.now) }
+{
     if workers == 1 {
-        return buffers(alloc, design, library, routes, plans);
+        return polar_text(alloc, design, library, routes, plans);
     }
     let size = design.nets() / workers + 1;
     let mut blocks = no_blocks(alloc, workers)?;
@@ -61,7 +79,7 @@ fn make_blocks<R: Threads + Sync>(
     size: u32,
     blocks: &mut Vec<Option<Text>>,
 )
-    requires plans { ArePlanned design.now library.now routes.now plans.now }
+    requires plans { AreSomePlanned design.now library.now routes.now plans.now }
     requires some { 0 < length blocks.old.items }
     ensures long { length blocks.new.items ≡ length blocks.old.items }
     ensures made { AreBlocks design.now library.now routes.now plans.now size blocks.new.items }
@@ -72,7 +90,7 @@ fn make_blocks<R: Threads + Sync>(
         blocks.as_mut_slice(),
         threads,
         &|at, block: &mut Option<Text>|
-            requires { ArePlanned design.now library.now routes.now plans.now }
+            requires { AreSomePlanned design.now library.now routes.now plans.now }
             ensures { IsBlock design.entry.now library.entry.now routes.entry.now plans.entry.now size at block.exit.now }
         {
             *block = block_of(alloc, design, library, routes, plans, size, at);
@@ -90,7 +108,7 @@ fn block_of(
     size: u32,
     at: usize,
 ) -> Option<Text>
-    requires plans { ArePlanned design.now library.now routes.now plans.now }
+    requires plans { AreSomePlanned design.now library.now routes.now plans.now }
     ensures { IsBlock design.now library.now routes.now plans.now size at result }
 {
     let first = start_of(design, size, at);

@@ -6,7 +6,7 @@ ghost use Rattle.gr_base.specs.Sums.{sum_routed};
 ghost use Rattle.gr_base.specs.Trees.{IsTree};
 ghost use Rattle.elmore_delay.specs.PlanLists.{plan_at};
 ghost use Rattle.solution_text.specs.WrittenText.{point_text};
-ghost use Rattle.report_text.specs.BufferTexts.{kind_line, plan_line, net_buffers, net_lines, buffers_in, total_line, buffers_text, ArePlanned};
+ghost use Rattle.report_text.specs.BufferTexts.{kind_line, placement_text, plan_line, no_legal_line, net_buffers, net_lines, buffers_in, total_line, buffers_text, IsPlanFor, ArePlanned, AreSomePlanned};
 ghost use Rattle.report_text.specs.Placed.{buffered_nodes, rising_buffers};
 
 use crate::lines::put_number_line;
@@ -35,6 +35,21 @@ pub fn buffers(
     plans: &Plans,
 ) -> Result<Text, AllocError>
     requires plans { ArePlanned design.now library.now routes.now plans.now }
+    ensures { IfOk result (λ text. text ≡ buffers_text design.now library.now routes.now plans.now) }
+{
+    polar_text(alloc, design, library, routes, plans)
+}
+
+/// The buffers of the routed nets, as `buffers` tells them, where some nets may have no plan: such a
+/// net has the one line that it has no legal placement. The only error is want of memory.
+pub fn polar_text(
+    alloc: Global,
+    design: &Design,
+    library: &Library,
+    routes: &Routes,
+    plans: &Plans,
+) -> Result<Text, AllocError>
+    requires plans { AreSomePlanned design.now library.now routes.now plans.now }
     ensures { IfOk result (λ text. text ≡ buffers_text design.now library.now routes.now plans.now) }
 {
     let mut text = Text::new(alloc);
@@ -70,7 +85,7 @@ pub(crate) fn put_nets(
     first: u32,
     last: u32,
 ) -> Result<(), AllocError>
-    requires plans { ArePlanned design.now library.now routes.now plans.now }
+    requires plans { AreSomePlanned design.now library.now routes.now plans.now }
     requires first { first ≤ last }
     requires last { last ≤ length design.now.nets }
     ensures { OnOk result
@@ -118,7 +133,7 @@ fn put_net(
     plans: &Plans,
     net: u32,
 ) -> Result<(), AllocError>
-    requires plans { ArePlanned design.now library.now routes.now plans.now }
+    requires plans { AreSomePlanned design.now library.now routes.now plans.now }
     requires net { net < length design.now.nets }
     ensures { OnOk result
         (text.new ≡ text.old ++ net_buffers design.now library.now routes.now plans.now net) }
@@ -127,11 +142,41 @@ fn put_net(
         return Ok(());
     }
     let tree = routes.get(net).unwrap();
-    let plan = plans.get(net).unwrap();
-    put_plan_line(text, design.net(net), plan)?;
+    match plans.get(net) {
+        None => put_no_legal_line(text, design.net(net)),
+        Some(plan) => put_plan(text, found, design, library, design.net(net), tree, plan),
+    }
+}
+
+/// Puts the lines of a net with its plan at the end of the text.
+fn put_plan(
+    text: &mut Text,
+    found: &mut Vec<Buffered>,
+    design: &Design,
+    library: &Library,
+    net: &Net,
+    tree: &RouteTree,
+    plan: &Plan,
+) -> Result<(), AllocError>
+    requires { IsPlanFor design.now library.now tree.now plan.now }
+    ensures { OnOk result (text.new ≡ text.old ++ (plan_line net.now plan.now
+        ++ placement_text design.now.frame library.now tree.now plan.now.placement)) }
+{
+    put_plan_line(text, net, plan)?;
     gather(found, tree, &plan.placement)?;
     put_buffers(text, design, library, found)?;
     Ok(())
+}
+
+/// Puts the line of a net without a legal placement at the end of the text.
+fn put_no_legal_line(text: &mut Text, net: &Net) -> Result<(), AllocError>
+    ensures { OnOk result (text.new ≡ text.old ++ no_legal_line net.now) }
+{
+    text.put(b"net ")?;
+    text.put(net.name.bytes())?;
+    text.put(b" ")?;
+    text.put_number(net.id)?;
+    text.put(b" has no legal placement\n")
 }
 
 /// Puts the line of a net with its plan at the end of the text.

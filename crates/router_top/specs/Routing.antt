@@ -9,7 +9,6 @@ use Rattle.gr_base.specs.declared.grid.Edge.{Edge}
 use Rattle.book_state.specs.Books.{booked, demand as demand_after}
 use Rattle.book_state.specs.Marks.{least_mark}
 use Rattle.book_state.specs.Views.{BookView}
-use Rattle.buffer_plan.specs.Plans.{ArePlans}
 use Rattle.command_form.specs.Commands.{Command, HandedBack, checked}
 use Rattle.command_form.specs.Leaving.{Leaves}
 use Rattle.command_form.specs.Said.{design_said, library_said}
@@ -30,6 +29,7 @@ use Rattle.router_top.specs.Booking.{booked_edges, AllJoined, AreChosenRoutes, A
 use Rattle.router_top.specs.declared.routing.RoutedDesign.{RoutedDesign}
 use Rattle.solution_text.specs.Cover.{cover}
 use Rattle.solution_text.specs.WrittenText.{written_text}
+use Rattle.text_commands.specs.Buffering.{AreBestPlans}
 use Rattle.text_commands.specs.Judging.{report_of}
 use Rattle.word_reader.specs.declared.order.Options.{Options}
 
@@ -51,7 +51,7 @@ pub record IsRoutedDesign (d : DesignView) (lib : LibraryView) (options : Option
   pub verdict : Verdict
   pub judged : IsVerdictOn d options r.routes verdict
   pub plans : List (Option Plan)
-  pub planned : ArePlans d lib r.routes plans
+  pub planned : AreBestPlans d lib r.routes plans
   pub reports : r.report ≡ routing_report d lib verdict r.routes plans
 
 -- the text and the report of routes of the design that was read: the text is that of the trees booked at the first mark
@@ -75,7 +75,7 @@ pub record IsRouting (shelf : Reading) (design_name library_name : List ℕ) (op
   pub trees : List (Option TreeView)
   pub booked : (net : ℕ) → tree_at trees net ≡ booked (take chosen book.history) net
   pub plans : List (Option Plan)
-  pub planned : ArePlans design library trees plans
+  pub planned : AreBestPlans design library trees plans
   pub reports : report ≡ routing_report design library verdict trees plans
 
 -- the texts that it reads

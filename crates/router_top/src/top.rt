@@ -80,7 +80,8 @@ impl Ended {
 ///
 /// `buffer DESIGN LIBRARY SOLUTION` reads a design, a library and any router's solution, and writes
 /// on out each routed net's buffers and required time. In both texts of buffers no allowed placement
-/// gives a net's driver a greater required time; a library of version 3 gets none yet.
+/// gives a net's driver a greater required time; with a library of version 3 those are allowed that give
+/// each sink the signal that it wants, and a net may have none.
 ///
 /// `panels DESIGN SOLUTION` reads a design and any router's solution, and writes on out a track for each
 /// straight run of it, the fewest in each row and column of tiles.

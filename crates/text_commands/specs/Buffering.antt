@@ -1,5 +1,5 @@
 -- The command `buffer`: what its files say, and what it writes.
-use Rattle.std.specs.Prelude.{◌≡◌, ℕ, ◌<◌, true, false, List, [], Option, Some, None, Result, Ok, Err, slice_get, IsTrue, IsSomeAnd}
+use Rattle.std.specs.Prelude.{◌≡◌, ℕ, ◌<◌, nat_lt, Bool, true, false, List, [], Option, Some, None, Result, Ok, Err, slice_get, IsTrue, IsSomeAnd}
 use Rattle.gr_base.specs.Designs.{DesignView, is_routed, pins_at}
 use Rattle.gr_base.specs.EdgeSets.{Edges}
 use Rattle.gr_base.specs.Trees.{TreeView, IsTree, tree_at}
@@ -15,6 +15,7 @@ use Rattle.route_evaluator.specs.NetTrees.{AreTree, HasJust}
 use Rattle.route_reader.specs.Solutions.{SolutionView, edges_by}
 use Rattle.solution_text.specs.Cover.{cover}
 use Rattle.buffer_plan.specs.Plans.{ArePlans}
+use Rattle.polar_lists.specs.PolarPlans.{ArePolarPlans}
 use Rattle.command_form.specs.Commands.{Command, checked}
 use Rattle.command_form.specs.Leaving.{LeavesOut}
 use Rattle.command_form.specs.Said.{design_said, library_said, solution_said}
@@ -47,10 +48,19 @@ pub record StopsAtNet (d : DesignView) (sets : ℕ → Edges) (stop : Stop) : Ty
   pub before : (other : ℕ) → other < number → IsTrue (is_routed d other) → HasTree d sets other
   pub is : stop ≡ NotTree net.id
 
+-- plans of the routed nets: for a library of version 1 or 2 an allowed placement, than which none is better, and for one of
+-- version 3 a legal one, than which no legal one is better, or none where none is legal
+abbrev pub ArePlansBy : (keeps_signals : Bool) → DesignView → LibraryView → List (Option TreeView) → List (Option Plan) → Type 0
+ArePlansBy true d lib trees plans = ArePlans d lib trees plans
+ArePlansBy false d lib trees plans = ArePolarPlans d lib trees plans
+
+abbrev pub AreBestPlans : DesignView → LibraryView → List (Option TreeView) → List (Option Plan) → Type 0
+AreBestPlans d lib trees plans = ArePlansBy (nat_lt lib.version 3) d lib trees plans
+
 -- the plans' text of some trees
 pub record IsBuffersText (d : DesignView) (lib : LibraryView) (trees : List (Option TreeView)) (text : List ℕ) : Type 0 where
   pub plans : List (Option Plan)
-  pub planned : ArePlans d lib trees plans
+  pub planned : AreBestPlans d lib trees plans
   pub says : text ≡ buffers_text d lib trees plans
 
 -- the plans' text of the trees of these sets of edges

@@ -15,8 +15,9 @@ use command_form::{Left, Outcome, Stop, open_design, open_library, open_solution
 use gr_base::{Design, RouteTree, Routes};
 use gr_io::{Shelf, Sink, write_whole};
 use gr_text::Text;
+use polar_lists::plan_all_polar;
 use rc_library::Library;
-use report_text::buffers_by;
+use report_text::{buffers_by, polar_text_by};
 use route_evaluator::{TreeError, TreeMaker};
 use route_reader::Solution;
 use std::alloc::{AllocError, Global};
@@ -194,8 +195,9 @@ fn solution_tree(
     }
 }
 
-/// The text of the buffers that are placed on trees, planned and put together by so many workers. The
-/// only error is want of memory.
+/// The text of the buffers that are placed on trees, planned and put together by so many workers. With a
+/// library of version 3 each sink gets the signal that it wants, or its net no buffers. The only error is
+/// want of memory.
 pub fn buffers_on<R: Threads + Sync>(
     rt: &R,
     alloc: Global,
@@ -209,6 +211,10 @@ pub fn buffers_on<R: Threads + Sync>(
     requires trees { AreRoutesOf design.now trees.now }
     ensures { IfOk result (IsBuffersText design.now library.now trees.now) }
 {
-    let plans = plan_all(rt, alloc, design, library, trees, workers)?;
-    buffers_by(rt, alloc, design, library, trees, &plans, workers)
+    if library.version() < 3 {
+        let plans = plan_all(rt, alloc, design, library, trees, workers)?;
+        return buffers_by(rt, alloc, design, library, trees, &plans, workers);
+    }
+    let plans = plan_all_polar(rt, alloc, design, library, trees, workers)?;
+    polar_text_by(rt, alloc, design, library, trees, &plans, workers)
 }

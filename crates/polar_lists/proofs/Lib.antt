@@ -1,0 +1,14 @@
+pub mod SignalLemmas
+pub mod ServedSinks
+pub mod BothServed
+pub mod BothReal
+pub mod BothSmall
+pub mod LegalLemmas
+pub mod BothGathering
+pub mod BothSteps
+pub mod BothJoined
+pub mod BothRaised
+pub mod SinkWishes
+pub mod LegalPlans
+pub mod BothOffers
+pub mod NetLemmas

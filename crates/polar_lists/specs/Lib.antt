@@ -1,0 +1,4 @@
+pub mod Polarity
+pub mod Signals
+pub mod BothLists
+pub mod PolarPlans

@@ -1,0 +1,37 @@
+-- The plans of a design's routes for a library with inverters.
+use Rattle.std.specs.Prelude.{◌≡◌, ℕ, ◌+◌, ◌<◌, List, length, Option, Some, None, Result, IfOk, IsTrue, IsFalse, IsSomeAnd, slice_index_or}
+use Rattle.gr_base.specs.Designs.{DesignView, is_routed}
+use Rattle.gr_base.specs.Trees.{TreeView, tree_at}
+use Rattle.rc_library.specs.Libraries.{LibraryView}
+use Rattle.elmore_delay.specs.Loadings.{LoadingView}
+use Rattle.elmore_delay.specs.PlanLists.{plan_at}
+use Rattle.elmore_delay.specs.declared.plans.Plan.{Plan}
+use Rattle.buffer_plan.specs.Best.{time_with}
+use Rattle.buffer_plan.specs.Plans.{loading_of}
+use Rattle.polar_lists.specs.Polarity.{IsBestLegal, HasNoLegal}
+use Rattle.polar_lists.specs.Signals.{picked_legal}
+
+-- the picked legal placement, with which the required time is the greatest of all legal ones, and that time
+pub record IsLegalPlan (l : LoadingView) (plan : Plan) : Type 0 where
+  pub placement : picked_legal l ≡ Some plan.placement
+  pub best : IsBestLegal l plan.placement
+  pub required : plan.required ≡ time_with l plan.placement
+
+-- such a plan, or none where no placement is legal
+abbrev pub IsPolarPlan : LoadingView → Option Plan → Type 0
+IsPolarPlan l None = HasNoLegal l
+IsPolarPlan l (Some plan) = IsLegalPlan l plan
+
+-- for a routed net its tree is there, and the plan is one for it; another net has none
+pub record IsNetPlan (d : DesignView) (lib : LibraryView) (trees : List (Option TreeView)) (net : ℕ) (plan : Option Plan) : Type 0 where
+  pub routed : IsTrue (is_routed d net) → IsSomeAnd (tree_at trees net) (λ t. IsPolarPlan (loading_of d lib net t) plan)
+  pub other : IsFalse (is_routed d net) → plan ≡ None
+
+-- plans of the nets from a number on, those that were made
+abbrev pub AreNetPlans : {E : Type 0} (first : ℕ) → DesignView → LibraryView → List (Option TreeView) → List (Result (Option Plan) E) → Type 0
+AreNetPlans {E} first d lib trees planned = (k : ℕ) (default : Result (Option Plan) E) → k < length planned →
+    IfOk (slice_index_or planned k default) (IsNetPlan d lib trees (first + k))
+
+-- each routed net has a tree, and a plan for it exactly where a placement is legal; other nets have no plans
+abbrev pub ArePolarPlans : DesignView → LibraryView → List (Option TreeView) → List (Option Plan) → Type 0
+ArePolarPlans d lib trees plans = (net : ℕ) → net < length d.nets → IsNetPlan d lib trees net (plan_at plans net)
