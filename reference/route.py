@@ -1,7 +1,7 @@
 #!/usr/bin/env python3
 """A slow router for small designs, to compare the proved one with:
 
-    reference/route.py route DESIGN LIBRARY ROUNDS [--via-cost V] [--rule first|steep|flat] [--stop still|N]
+    reference/route.py route DESIGN LIBRARY ROUNDS [--via-cost V] [--rule first|steep|flat] [--stop still|N | --batch B]
     reference/route.py evaluate DESIGN SOLUTION [--via-cost V]
     reference/route.py buffer DESIGN LIBRARY SOLUTION
 
@@ -449,10 +449,40 @@ def route(d, rounds, rule, stop):
     return overflows, best
 
 
+def cut(nets, batch):
+    return [nets[i:i + batch] for i in range(0, len(nets), batch)]
+
+
+def route_batches(d, rounds, rule, batch):
+    """The edges at that mark, where the nets of a batch are planned over one state and then claimed in design order."""
+    book = Book(d, rule)
+    for nets in cut(list(d.routed()), batch):
+        plans = [pattern_plan(book, n) for n in nets]
+        for n, tree in zip(nets, plans):
+            book.claim(n, tree, None)
+    best = (book.mark(), dict(book.booked))
+    for r in range(1, rounds + 1):
+        due = book.victims()
+        if not due:
+            break
+        for nets in cut(due, batch):
+            for n in nets:
+                book.release(n)
+            plans = [maze_plan(book, n, 4 * r) for n in nets]
+            for n, tree in zip(nets, plans):
+                if not book.claim(n, tree, 0):
+                    tree = maze_plan(book, n, 4 * r)
+                    book.claim(n, tree, 0) or book.claim(n, tree, None)
+        total = book.mark()
+        if total < best[0]:
+            best = (total, dict(book.booked))
+    return best[1]
+
+
 # The commands: status, standard output and standard error.
 
-def routed(d, library, rounds, via_cost, rule, stop):
-    _, trees = route(d, rounds, rule, stop)
+def routed(d, library, rounds, via_cost, rule, stop, batch):
+    trees = route(d, rounds, rule, stop)[1] if batch is None else route_batches(d, rounds, rule, batch)
     report = report_text(d, trees, via_cost) + buffers_text(d, library, trees)
     return 0, solution_text(d, trees), report
 
@@ -486,10 +516,10 @@ def read(files):
     return said, None
 
 
-def route_command(design, library, rounds, via_cost, rule="first", stop=None):
+def route_command(design, library, rounds, via_cost, rule="first", stop=None, batch=None):
     """Of texts' bytes."""
     said, fault = read([(3, b"design", read_design, design), (4, b"library", read_library, library)])
-    return fault or routed(*said, rounds, via_cost, rule, stop)
+    return fault or routed(*said, rounds, via_cost, rule, stop, batch)
 
 
 def evaluate_command(design, solution, via_cost):
@@ -522,7 +552,9 @@ def arguments():
         if command == "route":
             words.add_argument("rounds", type=int)
             words.add_argument("--rule", choices=FORMULAS, default="first")
-            words.add_argument("--stop", metavar="still|N", type=stop_of)
+            ends = words.add_mutually_exclusive_group()
+            ends.add_argument("--stop", metavar="still|N", type=stop_of)
+            ends.add_argument("--batch", metavar="B", type=int)
         if command != "buffer":
             words.add_argument("--via-cost", type=int, default=1)
     return parser.parse_args()
@@ -532,7 +564,8 @@ def main():
     words = arguments()
     texts = [getattr(words, name).read() for name in FILES[words.command]]
     if words.command == "route":
-        status, out, err = route_command(*texts, words.rounds, words.via_cost, words.rule, words.stop)
+        status, out, err = route_command(*texts, words.rounds, words.via_cost, words.rule, words.stop,
+                                         words.batch)
     elif words.command == "evaluate":
         status, out, err = evaluate_command(*texts, words.via_cost)
     else:

@@ -1,0 +1,67 @@
+use Rattle.std.proofs.Common.{ℕ, List, [], ◌+◌, length, All, IsTrue, refl, sym, subst, ◌∙◌}
+use Rattle.gr_base.specs.Designs.{is_routed}
+use Rattle.book_state.specs.declared.entry.Entry.{Entry}
+use Rattle.round_core.proofs.WorldSteps.{one-more}
+use Rattle.batch_rounds.specs.BatchedHistories.{IsRound}
+use Rattle.batch_rounds.specs.Rounds.{batching_of}
+use Rattle.batch_rounds.proofs.HeldNets.{IsReady, ready-first, ready-next, round-stands}
+use Rattle.batch_rounds.proofs.RoundSteps.{few-victims, few-routed, goes-on, stops-last, run-first, run-more}
+use Rattle.batch_rounds.proofs.run.run_rounds.Goals as goal
+
+pub run_round-requires-clause-nets : goal.run_round-requires-clause-nets
+run_round-requires-clause-nets g c lives in_lives =
+    let t = batching_of c.args.asked.now in
+    subst (All (λ (net : ℕ). IsTrue (is_routed t.design net))) (sym (c.deref.ensures.value ∙ c.in_ok-routed.ensures.nets)) (ready-first t).routed
+
+pub run_round-requires-clause-few : goal.run_round-requires-clause-few
+run_round-requires-clause-few g c lives in_lives =
+    few-routed c.args.asked.now.design.now c.deref.result.now (c.deref.ensures.value ∙ c.in_ok-routed.ensures.nets) c.in_ok-routed.ensures.few
+
+pub loop-done-init : goal.loop-done-init
+loop-done-init g c =
+    let t = batching_of c.args.asked.now in
+    let new = c.run_round.new.book.history in
+    let made = c.in_ok-victims.ensures in
+    let first = subst (λ (h : List Entry). IsRound t 0 h new) c.requires.nothing made.round in
+    record {
+      capacity = made.capacity;
+      legal = made.legal;
+      seats = c.run_round.auto.seats ∙ c.requires.seats;
+      victims = made.victims;
+      stands = (round-stands t 0 [] new (ready-first t) first).stands;
+      run = run-first t new first;
+    }
+
+pub run_round-requires-in-loop-done-clause-nets : goal.run_round-requires-in-loop-done-clause-nets
+run_round-requires-in-loop-done-clause-nets g c lives in_lives =
+    let t = batching_of c.args.asked.now in
+    let inv = c.loop-done.invariant in
+    subst (All (λ (net : ℕ). IsTrue (is_routed t.design net))) (sym (c.as_slice-in-loop-done.ensures ∙ inv.victims)) (ready-next t c.loop-done.done c.loop-done.book.history inv.stands).routed
+
+pub run_round-requires-in-loop-done-clause-few : goal.run_round-requires-in-loop-done-clause-few
+run_round-requires-in-loop-done-clause-few g c lives in_lives =
+    few-victims c.args.asked.now.design.now c.loop-done.book.history c.as_slice-in-loop-done.result.now (c.as_slice-in-loop-done.ensures ∙ c.loop-done.invariant.victims) c.in_ok-routed.ensures.few
+
+pub loop-done-preserved : goal.loop-done-preserved
+loop-done-preserved g c =
+    let t = batching_of c.args.asked.now in
+    let done = c.loop-done.done in
+    let now = c.loop-done.book.history in
+    let new = c.run_round-in-loop-done.new.book.history in
+    let inv = c.loop-done.invariant in
+    let made = c.in_ok-victims-2.ensures in
+    let ready = subst (λ (n : ℕ). IsReady t n now) (sym (one-more done)) (ready-next t done now inv.stands) in
+    let on = goes-on t done (length c.as_slice.result.now) now c.as_slice.result.now c.loop-done-test.true (c.as_slice.ensures ∙ inv.victims) refl c.if-is_empty.ensures in
+    record {
+      capacity = made.capacity;
+      legal = made.legal;
+      seats = c.run_round-in-loop-done.auto.seats ∙ inv.seats;
+      victims = made.victims;
+      stands = (round-stands t (done + 1) now new ready made.round).stands;
+      run = run-more t done now new inv.run on made.round;
+    }
+
+pub returns-clause-batched : goal.returns-clause-batched
+returns-clause-batched g c =
+    let t = batching_of c.args.asked.now in
+    c.loop-done.invariant.run.over (stops-last t c.loop-done.done c.loop-done.book.history c.loop-done-test.false)

@@ -1,0 +1,17 @@
+use Rattle.std.specs.Prelude.{◌≡◌, length}
+use Rattle.grid_demand.specs.Tables.{capacity_of}
+use Rattle.book_state.specs.Books.{victims, IsLegal}
+use Rattle.round_core.specs.Standing.{Stands}
+use Rattle.batch_rounds.specs.Rounds.{batching_of, HasRun}
+use Rattle.batch_rounds.proofs.run.run_rounds.Given as goal
+
+-- so many rounds were run behind round 0; these are the victims
+abbrev pub invariant-loop-done : goal.invariant-loop-done
+invariant-loop-done g l = record {
+  capacity : l.book.capacity ≡ capacity_of l.asked.design.now;
+  legal : IsLegal l.book.capacity l.book.history;
+  seats : length l.seats ≡ l.asked.threads;
+  victims : l.victims ≡ victims (capacity_of l.asked.design.now) l.book.history;
+  stands : Stands l.asked.design.now l.book.history;
+  run : HasRun (batching_of l.asked) l.done l.book.history;
+}

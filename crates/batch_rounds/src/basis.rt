@@ -1,0 +1,92 @@
+//! What plans are made from.
+ghost use Rattle.std.specs.Prelude.{◌≡◌, ◌≤◌, List, IfOk, IsTrue};
+ghost use Rattle.book_state.specs.Books.{AreLoadsOf};
+ghost use Rattle.book_state.specs.declared.entry.Entry.{Entry};
+ghost use Rattle.gr_base.specs.Designs.{is_routed};
+ghost use Rattle.gr_base.specs.Limits.{most_rounds};
+ghost use Rattle.grid_demand.specs.Tables.{capacity_of};
+ghost use Rattle.net_plan.specs.Prices.{HasBoundedDemand};
+ghost use Rattle.batch_rounds.specs.BatchedHistories.{IsPlanIn};
+
+use crate::asked::Asked;
+use book_state::BookState;
+use cost_rules::CostRule;
+use gr_base::{Design, RouteTree};
+use grid_demand::{Capacity, Loads};
+use net_plan::{Planner, maze_plan, pattern_plan};
+use std::alloc::{AllocError, Global};
+
+/// By how many tiles the window of a net's pins grows on each side with each round.
+pub(crate) const MARGIN: u32 = 4;
+
+/// What the plans of a round are made from: the demand and the marks of one history.
+#[derive(Drop)]
+pub(crate) struct Basis<'a> {
+    pub(crate) alloc: Global,
+    pub(crate) design: &'a Design,
+    pub(crate) rule: &'a CostRule,
+    pub(crate) round: u32,
+    pub(crate) capacity: &'a Capacity,
+    pub(crate) loads: &'a Loads,
+    ghost few: { round ≤ most_rounds },
+    ghost capacity_is: { capacity.now ≡ capacity_of design.now },
+    ghost shape: { loads.now.shape ≡ design.now.frame.shape },
+    ghost bounded: { HasBoundedDemand loads.now },
+}
+
+impl<'a> Basis<'a> {
+    /// What the plans of a round are made from over a book's history.
+    pub(crate) fn over(
+        alloc: Global,
+        asked: &Asked<'a>,
+        round: u32,
+        book: &'a BookState,
+    ) -> Basis<'a>
+        requires capacity { book.now.capacity ≡ capacity_of asked.now.design.now }
+        requires round { round ≤ asked.now.rounds }
+        ensures design { result.design.now ≡ asked.now.design.now }
+        ensures formula { result.rule.now.formula ≡ asked.now.rule.now.formula }
+        ensures round { result.round ≡ round }
+        ensures loads { AreLoadsOf (capacity_of asked.now.design.now) book.now.history result.loads.now }
+    {
+        let fits = asked.design.frame().shape == book.capacity().shape();
+        prove!(fits);
+        Basis {
+            alloc,
+            design: asked.design,
+            rule: asked.rule,
+            round,
+            capacity: book.capacity(),
+            loads: book.loads(),
+        }
+    }
+
+    /// A net's plan. The only error is want of memory.
+    pub(crate) fn plan(&self, planner: &mut Planner, net: u32) -> Result<RouteTree, AllocError>
+        requires { IsTrue (is_routed self.now.design.now net) }
+        ensures { (h : List Entry) → AreLoadsOf (capacity_of self.now.design.now) h self.now.loads.now →
+            IfOk result (IsPlanIn self.now.design.now self.now.rule.now.formula self.now.round h net) }
+    {
+        if self.round == 0 {
+            return pattern_plan(
+                self.alloc,
+                planner,
+                self.design,
+                self.capacity,
+                self.loads,
+                net,
+                self.rule,
+            );
+        }
+        maze_plan(
+            self.alloc,
+            planner,
+            self.design,
+            self.capacity,
+            self.loads,
+            net,
+            MARGIN * self.round,
+            self.rule,
+        )
+    }
+}

@@ -1,0 +1,145 @@
+//! A batch: its nets are planned side by side over one history, and then claimed in order.
+ghost use Rattle.std.specs.Prelude.{◌≡◌, ◌<◌, ◌≤◌, List, All, length, IfOk, OnOk, IsTrue};
+ghost use Rattle.book_state.specs.Books.{nets_of};
+ghost use Rattle.gr_base.specs.Designs.{is_routed};
+ghost use Rattle.gr_base.specs.Limits.{most_nets};
+ghost use Rattle.grid_demand.specs.Tables.{capacity_of};
+ghost use Rattle.batch_rounds.specs.BatchedHistories.{after_releases, AreTurns, IsBatch};
+ghost use Rattle.batch_rounds.specs.Rounds.{batching_of};
+ghost use Rattle.batch_rounds.specs.Seats.{IsShare, HasPlanned, HavePlans};
+
+use crate::asked::Asked;
+use crate::basis::Basis;
+use crate::claims::{CLAIMANT, claim_net};
+use crate::seat::{Seat, all_done, take_tree};
+use beside_calls::for_each_beside;
+use book_state::BookState;
+use net_plan::Planner;
+use std::alloc::{AllocError, Global};
+use std::thread::Threads;
+
+/// How many nets a thread has to plan at least in round 0, and how many later. Starting a thread takes as
+/// long as some pattern plans, and hardly longer than a maze plan.
+const LEAST_PATTERNS: usize = 64;
+
+const LEAST_MAZES: usize = 4;
+
+/// A batch of these nets: in a later round they are released; then they are planned over the history
+/// there is, and claimed in order. The only error is want of memory.
+pub(crate) fn run_batch<R: Threads + Sync>(
+    rt: &R,
+    alloc: Global,
+    asked: &Asked,
+    round: u32,
+    nets: &[u32],
+    book: &mut BookState,
+    seats: &mut [Seat],
+    alone: &mut Planner,
+) -> Result<(), AllocError>
+    requires capacity { book.old.capacity ≡ capacity_of asked.now.design.now }
+    requires round { round ≤ asked.now.rounds }
+    requires nets { All (λ net. IsTrue (is_routed asked.now.design.now net)) nets.now }
+    requires few { length nets.now ≤ most_nets }
+    requires seats { length seats.old ≡ asked.now.threads }
+    ensures capacity { OnOk result (book.new.capacity ≡ capacity_of asked.now.design.now) }
+    ensures batch { OnOk result (IsBatch (batching_of asked.now) round nets.now book.old.history book.new.history) }
+{
+    if round > 0 {
+        release_all(book, nets)?;
+    }
+    let count = seats_for(asked.threads, round, nets.len());
+    let seats = &mut seats[..count];
+    plan_beside(rt, alloc, asked, round, nets, book, seats);
+    all_done(seats)?;
+    claim_all(alloc, asked, round, nets, book, seats, alone)
+}
+
+/// At how many seats a batch of so many nets is planned, where there is one for each thread.
+fn seats_for(threads: u32, round: u32, nets: usize) -> usize
+    requires { 1 ≤ threads }
+    ensures some { 0 < result }
+    ensures most { result ≤ threads }
+{
+    let least = if round == 0 {
+        LEAST_PATTERNS
+    } else {
+        LEAST_MAZES
+    };
+    (nets / least).clamp(1, threads as usize)
+}
+
+/// Releases the nets, in order.
+fn release_all(book: &mut BookState, nets: &[u32]) -> Result<(), AllocError>
+    requires { All (λ net. net < nets_of book.old.capacity) nets.now }
+    ensures capacity { OnOk result (book.new.capacity ≡ book.old.capacity) }
+    ensures releases { OnOk result
+        (book.new.history ≡ after_releases book.old.capacity book.old.history nets.now) }
+{
+    for &net in nets {
+        book.release(CLAIMANT, net)?;
+    }
+    Ok(())
+}
+
+/// Plans the nets over the history there is, at the seats side by side. Memory may be wanting at a seat.
+fn plan_beside<R: Threads + Sync>(
+    rt: &R,
+    alloc: Global,
+    asked: &Asked,
+    round: u32,
+    nets: &[u32],
+    book: &BookState,
+    seats: &mut [Seat],
+)
+    requires capacity { book.now.capacity ≡ capacity_of asked.now.design.now }
+    requires round { round ≤ asked.now.rounds }
+    requires nets { All (λ net. IsTrue (is_routed asked.now.design.now net)) nets.now }
+    requires few { length nets.now ≤ most_nets }
+    requires some { 0 < length seats.old }
+    requires most { length seats.old ≤ asked.now.threads }
+    ensures count { length seats.new ≡ length seats.old }
+    ensures plans { All (λ seat. seat.done ≡ Ok tt) seats.new →
+        HavePlans asked.now.design.now asked.now.rule.now.formula round book.now.history nets.now 0 seats.new }
+{
+    let basis = Basis::over(alloc, asked, round, book);
+    let count = seats.len();
+    for_each_beside(
+        rt,
+        seats,
+        count,
+        &|first, seat: &mut Seat|
+            requires { IsShare first count nets.now × All (λ net. IsTrue (is_routed basis.design.now net)) nets.now }
+            ensures { seat.exit.now.done ≡ Ok tt → HasPlanned basis.entry.design.now basis.entry.rule.now.formula
+                basis.entry.round basis.entry.loads.now nets.entry.now first count seat.exit.now }
+        { seat.plan_share(&basis, nets, first, count) },
+    );
+}
+
+/// Claims the nets in order, each for the tree that a seat holds for it.
+fn claim_all(
+    alloc: Global,
+    asked: &Asked,
+    round: u32,
+    nets: &[u32],
+    book: &mut BookState,
+    seats: &mut [Seat],
+    alone: &mut Planner,
+) -> Result<(), AllocError>
+    requires capacity { book.old.capacity ≡ capacity_of asked.now.design.now }
+    requires round { round ≤ asked.now.rounds }
+    requires nets { All (λ net. IsTrue (is_routed asked.now.design.now net)) nets.now }
+    requires some { 0 < length seats.old }
+    requires plans { HavePlans asked.now.design.now asked.now.rule.now.formula round book.old.history nets.now 0
+        seats.old }
+    ensures capacity { OnOk result (book.new.capacity ≡ capacity_of asked.now.design.now) }
+    ensures turns { OnOk result (AreTurns (batching_of asked.now) round book.old.history nets.now book.old.history
+        book.new.history) }
+{
+    let front = book.history().len();
+    for place in 0..nets.len() {
+        let tree = take_tree(seats, place);
+        let net = nets[place];
+        claim_net(alloc, asked, round, net, tree, front, book, alone)?;
+    }
+    Ok(())
+}

@@ -1,0 +1,157 @@
+//! The claims of nets.
+ghost use Rattle.std.specs.Prelude.{◌≡◌, ◌<◌, ◌≤◌, ℕ, List, All, length, IfOk, OnOk, IsTrue};
+ghost use Rattle.book_state.specs.Books.{reply_to, IsClaim};
+ghost use Rattle.book_state.specs.declared.entry.Entry.{Entry};
+ghost use Rattle.gr_base.specs.Designs.{is_routed};
+ghost use Rattle.gr_base.specs.Limits.{most_rounds};
+ghost use Rattle.grid_demand.specs.Tables.{capacity_of};
+ghost use Rattle.round_core.specs.Attempts.{kind_of};
+ghost use Rattle.batch_rounds.specs.BatchedHistories.{claimant, after_call, is_full as is_full_reply, first_slack, IsPlanIn, IsClaimedAlone, IsTurn};
+ghost use Rattle.batch_rounds.specs.Rounds.{batching_of};
+
+use crate::asked::Asked;
+use crate::basis::{Basis, MARGIN};
+use book_state::{BookState, Call, Claim, PlanKind, Reply};
+use gr_base::RouteTree;
+use net_plan::Planner;
+use std::alloc::{AllocError, Global};
+
+/// The number under which releases and claims stand in a history.
+pub(crate) const CLAIMANT: u32 = 1;
+
+/// How plans are made in a round.
+fn kind_of(round: u32) -> PlanKind
+    requires { round ≤ most_rounds }
+    ensures { result ≡ kind_of round }
+{
+    if round == 0 {
+        return PlanKind::Pattern;
+    }
+    PlanKind::Maze {
+        margin: MARGIN * round,
+    }
+}
+
+/// The slack of a net's first claim in a round.
+fn first_slack(round: u32) -> Option<u32>
+    ensures { result ≡ first_slack round }
+{
+    if round == 0 { None } else { Some(0) }
+}
+
+/// Whether a claim found no room.
+fn is_full(reply: Reply) -> bool
+    ensures { result ≡ is_full_reply reply }
+{
+    matches!(reply, Reply::Full { .. })
+}
+
+/// Claims a net for its plan from a batch, which was made after the first `front` entries, and where that
+/// finds no room, alone. The only error is want of memory.
+pub(crate) fn claim_net(
+    alloc: Global,
+    asked: &Asked,
+    round: u32,
+    net: u32,
+    tree: RouteTree,
+    front: u64,
+    book: &mut BookState,
+    planner: &mut Planner,
+) -> Result<(), AllocError>
+    requires capacity { book.old.capacity ≡ capacity_of asked.now.design.now }
+    requires round { round ≤ asked.now.rounds }
+    requires net { IsTrue (is_routed asked.now.design.now net) }
+    requires front { front ≤ length book.old.history }
+    requires shape { tree.shape ≡ asked.now.design.now.frame.shape }
+    ensures capacity { OnOk result (book.new.capacity ≡ capacity_of asked.now.design.now) }
+    ensures turn { (h : List Entry) → front ≡ length h →
+        IsPlanIn asked.now.design.now asked.now.rule.now.formula round h net tree →
+        OnOk result (IsTurn (batching_of asked.now) round h net book.old.history book.new.history) }
+{
+    let claim = Claim {
+        net,
+        tree,
+        slack: first_slack(round),
+        front,
+        kind: kind_of(round),
+    };
+    if is_full(add_claim(book, claim)?) {
+        claim_alone(alloc, asked, round, net, book, planner)?;
+    }
+    Ok(())
+}
+
+/// Claims a net for its plan over the history so far, with room within capacity; and where there is none,
+/// for the same tree at any demand.
+fn claim_alone(
+    alloc: Global,
+    asked: &Asked,
+    round: u32,
+    net: u32,
+    book: &mut BookState,
+    planner: &mut Planner,
+) -> Result<(), AllocError>
+    requires capacity { book.old.capacity ≡ capacity_of asked.now.design.now }
+    requires round { round ≤ asked.now.rounds }
+    requires net { IsTrue (is_routed asked.now.design.now net) }
+    ensures capacity { OnOk result (book.new.capacity ≡ capacity_of asked.now.design.now) }
+    ensures alone { OnOk result
+        (IsClaimedAlone (batching_of asked.now) round net book.old.history book.new.history) }
+{
+    let kind = kind_of(round);
+    let tree = plan_alone(alloc, asked, round, net, book, planner)?;
+    let same = tree.copy(alloc)?;
+    let front = book.history().len();
+    let within = Claim {
+        net,
+        tree,
+        slack: Some(0),
+        front,
+        kind,
+    };
+    if is_full(add_claim(book, within)?) {
+        let front = book.history().len();
+        let forced = Claim {
+            net,
+            tree: same,
+            slack: None,
+            front,
+            kind,
+        };
+        add_claim(book, forced)?;
+    }
+    Ok(())
+}
+
+/// A net's plan over the history so far.
+fn plan_alone(
+    alloc: Global,
+    asked: &Asked,
+    round: u32,
+    net: u32,
+    book: &BookState,
+    planner: &mut Planner,
+) -> Result<RouteTree, AllocError>
+    requires capacity { book.now.capacity ≡ capacity_of asked.now.design.now }
+    requires round { round ≤ asked.now.rounds }
+    requires net { IsTrue (is_routed asked.now.design.now net) }
+    ensures { IfOk result (IsPlanIn asked.now.design.now asked.now.rule.now.formula round book.now.history net) }
+{
+    let basis = Basis::over(alloc, asked, round, book);
+    basis.plan(planner, net)
+}
+
+/// Adds a claim to the book. The only error is want of memory.
+fn add_claim(book: &mut BookState, claim: Claim) -> Result<Reply, AllocError>
+    requires { IsClaim book.old.capacity (length book.old.history) claim }
+    ensures capacity { OnOk result (book.new.capacity ≡ book.old.capacity) }
+    ensures reply { IfOk result
+        (λ reply. reply ≡ reply_to book.old.capacity book.old.history (Call.Claim claim)) }
+    ensures history { OnOk result
+        (book.new.history ≡ after_call book.old.capacity book.old.history claimant (Call.Claim claim)) }
+{
+    match book.claim(CLAIMANT, claim) {
+        Ok(reply) => Ok(reply),
+        Err(_) => Err(AllocError),
+    }
+}

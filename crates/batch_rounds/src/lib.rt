@@ -1,0 +1,16 @@
+//! The rounds of rip-up and reroute in batches: the nets of a batch are planned side by side over one
+//! state of the demand, and then claimed in order, so that the result is the same for every number of
+//! threads.
+#![tactic(auto)]
+
+mod asked;
+mod basis;
+mod batch;
+mod claims;
+mod laws;
+mod rounds;
+mod run;
+mod seat;
+
+pub use laws::batched_histories_are_alike;
+pub use rounds::{Batched, batch_rounds};

@@ -1,0 +1,95 @@
+//! Seats, at which the nets of a batch are planned side by side.
+ghost use Rattle.std.specs.Prelude.{◌≡◌, ◌<◌, ◌≤◌, ℕ, List, All, Some, IfOk, OnOk, IsSome, IsTrue, length, Ok};
+ghost use Rattle.batch_rounds.specs.Seats.{IsShare, tree_for, HasPlanned};
+ghost use Rattle.gr_base.specs.Designs.{is_routed};
+
+use crate::basis::Basis;
+use gr_base::RouteTree;
+use net_plan::Planner;
+use std::alloc::{AllocError, Global};
+
+/// A seat: what one thread plans its nets of a batch with, and the trees that it made. It serves batch
+/// after batch.
+#[derive(Drop)]
+pub(crate) struct Seat {
+    pub(crate) planner: Planner,
+    pub(crate) trees: Vec<Option<RouteTree>>,
+    /// Memory may have been wanting.
+    pub(crate) done: Result<(), AllocError>,
+}
+
+impl Seat {
+    /// Plans the nets of a batch from the first on, each so many places behind the one before.
+    pub(crate) fn plan_share(&mut self, basis: &Basis<'_>, nets: &[u32], first: usize, count: usize)
+        requires share { IsShare first count nets.now }
+        requires nets { All (λ net. IsTrue (is_routed basis.now.design.now net)) nets.now }
+        ensures { self.new.done ≡ Ok tt → HasPlanned basis.now.design.now basis.now.rule.now.formula basis.now.round
+            basis.now.loads.now nets.now first count self.new }
+    {
+        self.done = self.plan_each(basis, nets, first, count);
+    }
+
+    /// The same. The only error is want of memory.
+    fn plan_each(
+        &mut self,
+        basis: &Basis<'_>,
+        nets: &[u32],
+        first: usize,
+        count: usize,
+    ) -> Result<(), AllocError>
+        requires share { IsShare first count nets.now }
+        requires nets { All (λ net. IsTrue (is_routed basis.now.design.now net)) nets.now }
+        ensures { OnOk result (HasPlanned basis.now.design.now basis.now.rule.now.formula basis.now.round
+            basis.now.loads.now nets.now first count self.new) }
+    {
+        self.trees.clear();
+        let mut at = first;
+        while at < nets.len() {
+            let tree = basis.plan(&mut self.planner, nets[at])?;
+            self.trees.push(Some(tree))?;
+            at += count;
+        }
+        Ok(())
+    }
+}
+
+/// So many seats. The only error is want of memory.
+pub(crate) fn seats_of(alloc: Global, count: u32) -> Result<Vec<Seat>, AllocError>
+    ensures { IfOk result (λ seats. length seats.items ≡ count) }
+{
+    let mut seats = Vec::new(alloc);
+    for _ in 0..count {
+        let planner = Planner::new(alloc)?;
+        seats.push(Seat {
+            planner,
+            trees: Vec::new(alloc),
+            done: Ok(()),
+        })?;
+    }
+    Ok(seats)
+}
+
+/// Want of memory, if it was wanting at a seat.
+pub(crate) fn all_done(seats: &[Seat]) -> Result<(), AllocError>
+    ensures { OnOk result (All (λ seat. seat.done ≡ Ok tt) seats.now) }
+{
+    for seat in seats {
+        seat.done?;
+    }
+    Ok(())
+}
+
+/// Takes the tree for a place in a batch, whose places went to the seats in turn.
+pub(crate) fn take_tree(seats: &mut [Seat], place: usize) -> RouteTree
+    requires some { 0 < length seats.old }
+    requires there { IsSome (tree_for seats.old place) }
+    ensures tree { tree_for seats.old place ≡ Some result }
+    ensures count { length seats.new ≡ length seats.old }
+    ensures others { (other : ℕ) → (other ≡ place → ⊥) → tree_for seats.new other ≡ tree_for seats.old other }
+{
+    let count = seats.len();
+    let Some(tree) = seats[place % count].trees[place / count].take() else {
+        unreachable!()
+    };
+    tree
+}
