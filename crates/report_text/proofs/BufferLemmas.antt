@@ -20,6 +20,10 @@ use Rattle.report_text.specs.BufferTexts.{kind_on, buffered_cells, kind_line, bu
 use Rattle.report_text.specs.Placed.{rising_buffers}
 use Rattle.report_text.specs.declared.buffer_text.Buffered.{Buffered}
 
+-- a part that was put behind others
+pub then-part : (old x y n m : List ℕ) → n ≡ old ++ x → m ≡ n ++ y → m ≡ old ++ (x ++ y)
+then-part old x y n m first second = second ∙ ap (λ (t : List ℕ). t ++ y) first ∙ append_assoc old x y
+
 -- ---- the buffers of a tree, rising by their cells
 
 -- the numbers of a range that pass a test

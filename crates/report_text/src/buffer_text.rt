@@ -176,7 +176,8 @@ fn put_no_legal_line(text: &mut Text, net: &Net) -> Result<(), AllocError>
     text.put(net.name.bytes())?;
     text.put(b" ")?;
     text.put_number(net.id)?;
-    text.put(b" has no legal placement\n")
+    text.put(b" has no legal placement\n")?;
+    Ok(())
 }
 
 /// Puts the line of a net with its plan at the end of the text.

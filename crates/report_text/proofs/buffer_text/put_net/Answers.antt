@@ -29,5 +29,5 @@ returns-in-Some c =
     let tree = sym c.get.ensures ∙ ap option_copied c.unwrap-tree.ensures in
     let plan = sym c.get-2.ensures ∙ ap option_copied c.in-Some.is in
     subst (λ (lines : List ℕ). OnOk c.put_plan.result (c.put_plan.new.text ≡ c.args.text.now ++ lines))
-    (sym (net-lines c.args.design.now c.args.library.now c.args.routes.now c.args.plans.now c.args.net c.net-2.result.now c.unwrap-tree.result.now c.in-Some.plan.now
-    (sym c.routed.ensures ∙ c.if-not-routed.false) c.net-2.ensures.net tree plan)) c.put_plan.ensures
+    (sym (net-lines c.args.design.now c.args.library.now c.args.routes.now c.args.plans.now c.args.net c.net-in-Some.result.now c.unwrap-tree.result.now c.in-Some.plan.now
+    (sym c.routed.ensures ∙ c.if-not-routed.false) c.net-in-Some.ensures.net tree plan)) c.put_plan.ensures
