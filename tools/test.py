@@ -121,7 +121,7 @@ class Manual(unittest.TestCase):
             says = re.sub(r"`(\w+)`", r"\\(oq\1\\(cq" if number in "67" else r"\1", says)
             self.assertIn(f"{number:>2}  {re.sub(r'(?<=[0-9]),(?=[0-9])', '', says)}\n", manual)
         words = re.findall(r"^    (groute [a-z]+ [A-Z].*)$", formats, re.MULTILINE)
-        self.assertEqual(len(words), 5)
+        self.assertEqual(len(words), 6)
         for line in words:
             self.assertIn(f"{line}\n", manual)
 
