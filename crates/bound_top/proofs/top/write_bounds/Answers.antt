@@ -1,0 +1,33 @@
+use Rattle.std.proofs.Common.{◌≡◌, ℕ, List, ◌++◌, sym, ap, subst, ◌∙◌}
+use Rattle.cut_bounds.specs.Bounds.{BoundsView, bounds_text}
+use Rattle.cut_bounds.specs.BoundsOf.{bounds_of}
+use Rattle.gr_io.specs.Parts.{AppendsPart}
+use Rattle.bound_top.proofs.LeavingLemmas.{bounds-said}
+use Rattle.bound_top.proofs.top.write_bounds.Goals as goal
+
+pub returns-in-Ok-write_whole : goal.returns-in-Ok-write_whole
+returns-in-Ok-write_whole g c =
+    let said = bounds-said c.args.design.now c.args.via_cost c.in-Ok.bounds c.in-Ok-bounds_text.text c.in-Ok.ensures.value c.in-Ok.ensures.law c.in-Ok-bounds_text.ensures in (
+      c.in-Ok-bounds_text.text,
+      (
+        said,
+        record {
+          faults = c.in-Ok-write_whole.ensures.quiet;
+          written = λ tells. c.in-Ok-write_whole.ensures.ok tells ∙ ap (λ (t : List ℕ). g.O.Sink.written c.args.out.now ++ t) c.bytes.ensures;
+        },
+      ),
+    )
+
+pub returns : goal.returns
+returns g c =
+    let said = bounds-said c.args.design.now c.args.via_cost c.in-Ok.bounds c.in-Ok-bounds_text.text c.in-Ok.ensures.value c.in-Ok.ensures.law c.in-Ok-bounds_text.ensures in (
+      c.in-Ok-bounds_text.text,
+      (
+        said,
+        (
+          c.in-Err.ensures.failed,
+          λ tells.
+              subst (AppendsPart (g.O.Sink.written c.args.out.now) (g.O.Sink.written c.write_whole.new.sink)) c.bytes.ensures (c.in-Err.ensures.prefix tells),
+        ),
+      ),
+    )

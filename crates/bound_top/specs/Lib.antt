@@ -1,0 +1,4 @@
+pub mod Words
+pub mod Asking
+pub mod Stops
+pub mod Bounding

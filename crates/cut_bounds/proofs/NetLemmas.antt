@@ -1,0 +1,131 @@
+-- Routed nets in flat lists, and the least that they need.
+use Rattle.std.proofs.Common.{◌≡◌, ℕ, suc, zero, ◌+◌, ◌*◌, ◌<◌, ◌≤◌, min, inl, inr, Bool, true, false, List, [], ◌∷◌, ◌++◌, All, map, filter, fold, take, drop, length, get_or, slice_get, Option, Some, None, unwrap_or, sum_by, IsTrue, refl, sym, ap, subst, ◌∙◌, arith}
+use Rattle.std.specs.List.{range_with_len}
+use Rattle.std.proofs.lemmas.Bool.{cases_Bool}
+use Rattle.std.proofs.lemmas.List.{map-append, length-append, length-map, take_all, take-append-le, drop-append-le, nil_from_length, length-drop, drop_more}
+use Rattle.std.proofs.lemmas.List.Sums.{fold-append, sum_by-cons, sum_by_push}
+use Rattle.gr_base.specs.Capacities.{width_in, widths_of}
+use Rattle.gr_base.specs.Designs.{DesignView, is_routed, layers_of, pins_at, pins_in}
+use Rattle.gr_base.specs.declared.frame.Layer.{Layer}
+use Rattle.gr_base.specs.declared.frame.Net.{Net}
+use Rattle.gr_base.specs.declared.grid.Shape.{Shape}
+use Rattle.grid_demand.proofs.RangeFilters.{filter-fails, filter-passes}
+use Rattle.wall_laws.specs.Walls.{least_need, least_on, taken_on}
+use Rattle.cut_bounds.specs.declared.net_tiles.Claim.{Claim}
+use Rattle.cut_bounds.specs.declared.axis.Tile.{Tile}
+use Rattle.cut_bounds.specs.NetTiles.{Placed, placed_by, placed_in, placed_net, pins_claimed, tile_in}
+
+-- ---- the least need over layers
+
+pub least-push : (width : ℕ) (layers : List Layer) (layer : Layer) → 0 < length layers →
+    least_on width (layers ++ layer ∷ []) ≡ min (least_on width layers) (taken_on width layer)
+least-push width [] layer some = absurd (omega (arith, some))
+least-push width (first ∷ layers) layer some =
+    ap (λ (ns : List ℕ). fold min (taken_on width first) ns) (map-append (taken_on width) layers (layer ∷ []))
+    ∙ fold-append min (taken_on width first) (map (taken_on width) layers) (taken_on width layer ∷ [])
+
+-- ---- nets in flat lists
+
+pub placed-push : (claims : List Claim) (tiles more : List Tile) (claim : Claim) → pins_claimed claims ≡ length tiles → claim.pins ≡ length more →
+    placed_by (claims ++ claim ∷ []) (tiles ++ more) ≡ placed_by claims tiles ++ record { need = claim.need; tiles = more } ∷ []
+placed-push [] tiles more claim whole all =
+    let none : tiles ≡ [] = nil_from_length tiles (sym whole) in
+    ap (λ (ts : List Tile). placed_by (claim ∷ []) (ts ++ more)) none
+    ∙ ap (λ (ts : List Tile). record { need = claim.need; tiles = ts } ∷ []) (take_all claim.pins more (omega (arith, all)))
+placed-push (first ∷ claims) tiles more claim whole all =
+    let sum = sum_by-cons (λ (c : Claim). c.pins) first claims in
+    let fits : first.pins ≤ length tiles = omega (arith, sum, whole) in
+    let rest : pins_claimed claims ≡ length (drop first.pins tiles) = omega (arith, sum, whole, length-drop first.pins tiles) in
+    ap (λ (ts : List Tile). record { need = first.need; tiles = ts } ∷ placed_by (claims ++ claim ∷ []) (drop first.pins (tiles ++ more))) (take-append-le first.pins tiles more fits)
+    ∙ ap (λ (ts : List Tile). record { need = first.need; tiles = take first.pins tiles } ∷ placed_by (claims ++ claim ∷ []) ts) (drop-append-le first.pins tiles more fits)
+    ∙ ap (λ (ps : List Placed). record { need = first.need; tiles = take first.pins tiles } ∷ ps) (placed-push claims (drop first.pins tiles) more claim rest all)
+
+pub whole-push : (claims : List Claim) (tiles more : List Tile) (claim : Claim) → pins_claimed claims ≡ length tiles → claim.pins ≡ length more →
+    pins_claimed (claims ++ claim ∷ []) ≡ length (tiles ++ more)
+whole-push claims tiles more claim whole all =
+    omega (arith, sum_by_push (λ (c : Claim). c.pins) claims claim, whole, all, length-append tiles more)
+
+-- ---- the routed nets one after another
+
+-- the routed ones of the first nets
+abbrev pub placed_before : DesignView → ℕ → List Placed
+placed_before d n = map (placed_net d) (filter (is_routed d) (range_with_len 0 n))
+
+pub placed-more : (d : DesignView) (n : ℕ) (so-far new : List Placed) → is_routed d n ≡ true → so-far ≡ placed_before d n →
+    new ≡ so-far ++ placed_net d n ∷ [] → new ≡ placed_before d (n + 1)
+placed-more d n so-far new on was is =
+    let ns : List ℕ = filter (is_routed d) (range_with_len 0 n) in
+    let more = filter-passes (is_routed d) n ns (ns ++ n ∷ []) refl on refl in
+    is ∙ ap (λ (ps : List Placed). ps ++ placed_net d n ∷ []) was
+    ∙ sym (map-append (placed_net d) ns (n ∷ []))
+    ∙ ap (λ (ks : List ℕ). map (placed_net d) ks) more
+
+pub placed-passed : (d : DesignView) (n : ℕ) (so-far : List Placed) → is_routed d n ≡ false → so-far ≡ placed_before d n → so-far ≡ placed_before d (n + 1)
+placed-passed d n so-far off was =
+    let ns : List ℕ = filter (is_routed d) (range_with_len 0 n) in
+    was ∙ ap (λ (ks : List ℕ). map (placed_net d) ks) (filter-fails (is_routed d) n ns refl off)
+
+-- ---- a net of the design
+
+width-at : (nets : List Net) (k : ℕ) (net : Net) → slice_get nets k ≡ Some net → width_in (map (λ (n : Net). n.width) nets) k ≡ net.width
+width-at [] k net is = cc
+width-at (first ∷ nets) zero net is = let same : first ≡ net = cc in ap (λ (n : Net). n.width) same
+width-at (first ∷ nets) (suc k) net is = width-at nets k net is
+
+pub need-of : (d : DesignView) (k : ℕ) (net : Net) → slice_get d.nets k ≡ Some net → least_on net.width (layers_of d.frame) ≡ least_need d k
+need-of d k net is = ap (λ (n : ℕ). least_on n (layers_of d.frame)) (sym (width-at d.nets k net is))
+
+pub pins-of : (d : DesignView) (k : ℕ) (net : Net) → slice_get d.nets k ≡ Some net → net.pins ≡ pins_at d k
+pins-of d k net is = sym (ap (λ (o : Option Net). pins_in o) is)
+
+-- the nets with one more, as the code adds it
+pub net-added : (d : DesignView) (k : ℕ) (net : Net) (claims new : List Claim) (tiles new' : List Tile) (claim : Claim) (pins : List ℕ) →
+    slice_get d.nets k ≡ Some net → pins ≡ net.pins → pins_claimed claims ≡ length tiles →
+    new ≡ claims ++ claim ∷ [] → claim.need ≡ least_on net.width (layers_of d.frame) → claim.pins ≡ length pins →
+    new' ≡ tiles ++ map (tile_in d.frame.shape) pins →
+    (placed_by new new' ≡ placed_by claims tiles ++ placed_net d k ∷ []) × (pins_claimed new ≡ length new')
+net-added d k net claims new tiles new' claim pins there are whole is need count is' =
+    let ts : List Tile = map (tile_in d.frame.shape) pins in
+    let all : claim.pins ≡ length ts = count ∙ sym (length-map pins (tile_in d.frame.shape)) in
+    let same : ts ≡ map (tile_in d.frame.shape) (pins_at d k) = ap (λ (ns : List ℕ). map (tile_in d.frame.shape) ns) (are ∙ pins-of d k net there) in (
+      ap (λ (cs : List Claim). placed_by cs new') is ∙ ap (λ (us : List Tile). placed_by (claims ++ claim ∷ []) us) is'
+          ∙ placed-push claims tiles ts claim whole all
+          ∙ ap (λ (n : ℕ). placed_by claims tiles ++ record { need = n; tiles = ts } ∷ []) (need ∙ need-of d k net there)
+          ∙ ap (λ (us : List Tile). placed_by claims tiles ++ record { need = least_need d k; tiles = us } ∷ []) same,
+      ap (λ (cs : List Claim). pins_claimed cs) is ∙ whole-push claims tiles ts claim whole all ∙ ap (λ (us : List Tile). length us) (sym is'),
+    )
+
+-- ---- going through the nets
+
+-- the first of the nets that are left, with its tiles, and the others
+pub record IsNext (claims : List Claim) (at : ℕ) (claim : Claim) (rest tiles others : List Tile) : Type 0 where
+  pub is : placed_by (drop at claims) rest ≡ record { need = claim.need; tiles = tiles } ∷ placed_by (drop (at + 1) claims) others
+  pub whole : pins_claimed (drop (at + 1) claims) ≡ length others
+
+pub next-net : (claims : List Claim) (at : ℕ) (claim d : Claim) (rest tiles others : List Tile) → at < length claims → claim ≡ get_or claims at d →
+    pins_claimed (drop at claims) ≡ length rest → tiles ≡ take claim.pins rest → others ≡ drop claim.pins rest → IsNext claims at claim rest tiles others
+next-net claims at claim d rest tiles others inside there whole is is' =
+    let split : drop at claims ≡ claim ∷ drop (at + 1) claims = drop_more claims at d inside ∙ ap (λ (c : Claim). c ∷ drop (at + 1) claims) (sym there) in
+    let sum = ap (λ (cs : List Claim). pins_claimed cs) split ∙ sum_by-cons (λ (c : Claim). c.pins) claim (drop (at + 1) claims) in
+    record {
+      is = ap (λ (cs : List Claim). placed_by cs rest) split
+          ∙ ap (λ (ts : List Tile). record { need = claim.need; tiles = ts } ∷ placed_by (drop (at + 1) claims) (drop claim.pins rest)) (sym is)
+          ∙ ap (λ (ts : List Tile). record { need = claim.need; tiles = tiles } ∷ placed_by (drop (at + 1) claims) ts) (sym is');
+      whole = let long = ap (λ (ts : List Tile). length ts) is' ∙ length-drop claim.pins rest in omega (arith, sum, whole, long);
+    }
+
+-- the same, as the code reads the claims
+pub next-read : (claims items : List Claim) (at : ℕ) (d : Claim) (rest tiles others : List Tile) → items ≡ claims → at < length items →
+    pins_claimed (drop at claims) ≡ length rest → tiles ≡ take (get_or items at d).pins rest → others ≡ drop (get_or items at d).pins rest →
+    IsNext claims at (get_or items at d) rest tiles others
+next-read claims items at d rest tiles others same inside whole is is' =
+    next-net claims at (get_or items at d) d rest tiles others (subst (λ (cs : List Claim). at < length cs) same inside)
+    (ap (λ (cs : List Claim). get_or cs at d) same) whole is is'
+
+pub next-fits : (claims items : List Claim) (at : ℕ) (d : Claim) (rest : List Tile) → items ≡ claims → at < length items →
+    pins_claimed (drop at claims) ≡ length rest → (get_or items at d).pins ≤ length rest
+next-fits claims items at d rest same inside whole =
+    let split = drop_more items at d inside in
+    let sum = ap (λ (cs : List Claim). pins_claimed cs) split ∙ sum_by-cons (λ (c : Claim). c.pins) (get_or items at d) (drop (at + 1) items) in
+    let e = ap (λ (cs : List Claim). pins_claimed (drop at cs)) same in
+    omega (arith, sum, e, whole)

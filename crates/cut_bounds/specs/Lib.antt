@@ -1,0 +1,14 @@
+pub mod NetTiles
+pub mod TileWires
+pub mod Cuts
+pub mod Boxes
+pub mod Measured
+pub mod Crossings
+pub mod Candidates
+pub mod Fullest
+pub mod Bounds
+pub mod BoundsStore
+pub mod Places
+pub mod Taken
+pub mod BoundsOf
+pub mod Straight

@@ -1,0 +1,3 @@
+pub mod SortedLemmas
+pub mod NetLemmas
+pub mod RoutedSums

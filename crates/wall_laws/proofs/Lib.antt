@@ -1,0 +1,11 @@
+pub mod SumLemmas
+pub mod WalkLemmas
+pub mod GridLists
+pub mod OverflowLemmas
+pub mod CutLemmas
+pub mod SpanLemmas
+pub mod TileLemmas
+pub mod ForcedLemmas
+pub mod LengthLemmas
+pub mod BoundLemmas
+pub mod DifferentLemmas

@@ -1,0 +1,3 @@
+pub mod Walls
+pub mod Spans
+pub mod Laws
