@@ -80,3 +80,12 @@ low-within low high now bound n is empty inside within =
     let sum = together-read 65536 low high now n is inside in
     let none = nothing-high high n 0 empty (omega arith) in
     omega (arith, sum, none, within)
+
+pub low-is : (low high now : List ℕ) → together 65536 low high ≡ now → length high ≡ 0 → low ≡ now
+low-is low high now is empty =
+    same_number_lists low now (sym (length-together 65536 low high) ∙ ap length is)
+    (λ n below.
+    let inside : n < length now = let h = length-together 65536 low high in let same = ap length is in omega (arith, h, same, below) in
+    let sum = together-read 65536 low high now n is inside in
+    let none = nothing-high high n 0 empty (omega arith) in
+    omega (arith, sum, none))

@@ -14,3 +14,4 @@ pub mod ClearedTables
 pub mod MarkSteps
 pub mod OperationLemmas
 pub mod ChargeLemmas
+pub mod RunLemmas

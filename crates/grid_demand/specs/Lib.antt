@@ -10,3 +10,4 @@ pub mod Operations
 pub mod Listings
 pub mod Overfull
 pub mod OverfullStore
+pub mod Runs

@@ -1,5 +1,5 @@
 //! The capacity of wire edges, and what nets need of them.
-ghost use Rattle.std.specs.Prelude.{◌≡◌, ℕ, ◌+◌, ◌*◌, ◌^◌, ◌<◌, ◌≤◌, ◌++◌, IfOk, OnOk, IsTrue, map, slice_get, Some};
+ghost use Rattle.std.specs.Prelude.{◌≡◌, ℕ, ◌+◌, ◌*◌, ◌^◌, ◌<◌, ◌≤◌, ◌++◌, length, IfOk, OnOk, IsTrue, map, slice_get, Some};
 ghost use Rattle.gr_base.specs.Designs.{DesignView, IsFrame, IsLayer};
 ghost use Rattle.gr_base.specs.Capacities.{stated_along, capacity, usable, need, need_along, width_in, widths_of};
 ghost use Rattle.gr_base.specs.Grid.{cells_of, place_at, has_edge, is_wire};
@@ -8,6 +8,7 @@ ghost use Rattle.gr_base.specs.Sums.{wires_from_cells};
 ghost use Rattle.grid_demand.specs.Planes.{by_number};
 ghost use Rattle.grid_demand.specs.Tables.{capacity_of, stated_table, stated_along_way, capacity_table, capacity_at, usable_at, need_at, cell_layers, IsCapacity};
 ghost use Rattle.grid_demand.specs.LayerNeeds.{IsLayerNeed};
+ghost use Rattle.grid_demand.specs.Runs.{IsPart, AreBeside, IsRunOf};
 
 use crate::wires::place;
 use gr_base::{Design, Edge, Frame, Layer, Shape, Way};
@@ -60,6 +61,16 @@ impl Capacity {
         ensures most { result ≤ most_capacity }
     {
         u64::from(self.capacities[place(e, self.capacities.len())])
+    }
+
+    /// The capacity of each of so many wire edges that lie side by side, from one on.
+    pub fn run(&self, from: Edge, count: u32) -> &[u32]
+        requires { AreBeside self.now.shape from count }
+        ensures run { IsRunOf (capacity_at self.now) from count result.now }
+        ensures tables { IsCapacity self.now }
+    {
+        let first = place(from, self.capacities.len());
+        part(&self.capacities, first, first + count as usize)
     }
 
     /// Whether wires may use an edge: a wire edge where its layer states a capacity for its way,
@@ -201,6 +212,15 @@ impl Model for Capacity {
     ghost view = { seen };
 
     ghost invariant = { Keeps };
+}
+
+/// The capacities from a place to below another.
+fn part(capacities: &[u32], from: usize, to: usize) -> &[u32]
+    requires range { from ≤ to }
+    requires inside { to ≤ length capacities.now }
+    ensures { IsPart capacities.now from to result.now }
+{
+    &capacities[from..to]
 }
 
 /// How many cells each layer has. They follow one another by number.

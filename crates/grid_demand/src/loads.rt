@@ -1,5 +1,5 @@
 //! The loads of a grid: the demand for each wire edge, and its marks.
-ghost use Rattle.std.specs.Prelude.{◌≡◌, ℕ, ◌+◌, ◌-◌, ◌*◌, ◌^◌, ◌<◌, ◌≤◌, length, map, fold, max, zip, sum_by, slice_index, slice_set, true, false, All, IfOk, IsTrue};
+ghost use Rattle.std.specs.Prelude.{◌≡◌, ℕ, ◌+◌, ◌-◌, ◌*◌, ◌^◌, ◌<◌, ◌≤◌, length, map, fold, max, zip, sum_by, slice_index, slice_set, true, false, All, IfOk, IfSome, IsTrue};
 ghost use Rattle.std.specs.List.Sorted.{IsStrictlyIncreasing};
 ghost use Rattle.gr_base.specs.Capacities.{capacity as capacity_in};
 ghost use Rattle.gr_base.specs.Designs.{DesignView};
@@ -10,6 +10,7 @@ ghost use Rattle.gr_base.specs.Trees.{IsTree, edges_of};
 ghost use Rattle.grid_demand.specs.Planes.{by_number, in_planes};
 ghost use Rattle.grid_demand.specs.Tables.{capacity_of, capacity_at, need_at};
 ghost use Rattle.grid_demand.specs.LoadSums.{no_loads, demand_at, marks_at, share, charged, added, taken, marked, mark_of, mark_where, HasRoom, HasShare, AreLoads, Fits, changed_by};
+ghost use Rattle.grid_demand.specs.Runs.{AreBeside, IsRunOf};
 ghost use Rattle.grid_demand.specs.Overfull.{AreOverfull, has_number};
 
 use crate::capacity::{Capacity, LayerNeed};
@@ -71,6 +72,26 @@ impl Loads {
             return 0;
         }
         self.marks.at(place(e, self.demands.len())) as u32
+    }
+
+    /// The demand for each of so many wire edges that lie side by side, from one on. None where some
+    /// wire edge of the grid may have a demand above 65,535.
+    pub fn demand_run(&self, from: Edge, count: u32) -> Option<&[u16]>
+        requires { AreBeside self.now.shape from count }
+        ensures { IfSome result (λ run. IsRunOf (demand_at self.now) from count run.now) }
+    {
+        let first = place(from, self.demands.len());
+        self.demands.run(first, first + count as usize)
+    }
+
+    /// The marks of each of so many wire edges that lie side by side, from one on. None where some wire
+    /// edge of the grid may have more than 65,535 marks.
+    pub fn marks_run(&self, from: Edge, count: u32) -> Option<&[u16]>
+        requires { AreBeside self.now.shape from count }
+        ensures { IfSome result (λ run. IsRunOf (marks_at self.now) from count run.now) }
+    {
+        let first = place(from, self.demands.len());
+        self.marks.run(first, first + count as usize)
     }
 
     /// Puts one wire edge of a net in: the edge gains the net's need.

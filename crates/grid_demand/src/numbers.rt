@@ -1,5 +1,6 @@
 //! A number for each wire edge.
-ghost use Rattle.std.specs.Prelude.{◌≡◌, ℕ, ◌<◌, ◌≤◌, false, length, replicate, slice_index, slice_set, IfOk};
+ghost use Rattle.std.specs.Prelude.{◌≡◌, ℕ, ◌<◌, ◌≤◌, false, length, replicate, slice_index, slice_set, IfOk, IfSome};
+ghost use Rattle.grid_demand.specs.Runs.{IsPart};
 ghost use Rattle.std.specs.Vec.{vec_capacity};
 
 use std::alloc::{AllocError, Global};
@@ -55,6 +56,20 @@ impl Numbers {
         u64::from(self.low[place]) + 65536 * high
     }
 
+    /// The numbers from a place to below another. None where some number may have a part in the second
+    /// list.
+    #[inline(always)]
+    pub(crate) fn run(&self, from: usize, to: usize) -> Option<&[u16]>
+        requires range { from ≤ to }
+        requires inside { to ≤ length self.now }
+        ensures { IfSome result (λ run. IsPart self.now from to run.now) }
+    {
+        if !self.high.is_empty() {
+            return None;
+        }
+        Some(part(&self.low, from, to))
+    }
+
     /// Whether a number may be above its bound, of the numbers from a place to below another. It goes by
     /// the first list alone, so only that there is none is said for certain.
     pub(crate) fn may_exceed(&self, bounds: &[u32], from: usize, to: usize) -> bool
@@ -76,6 +91,15 @@ impl Numbers {
             put_high(&mut self.high, self.low.len(), place, number / 65536);
         }
     }
+}
+
+/// The numbers from a place to below another.
+fn part(numbers: &[u16], from: usize, to: usize) -> &[u16]
+    requires range { from ≤ to }
+    requires inside { to ≤ length numbers.now }
+    ensures { IsPart numbers.now from to result.now }
+{
+    &numbers[from..to]
 }
 
 /// Whether a number is above its bound, of the numbers from a place to below another. It goes through

@@ -10,14 +10,18 @@ use Rattle.std.proofs.lemmas.Option.{none-some, same_Some}
 use Rattle.gr_base.specs.declared.grid.Edge.{Edge}
 use Rattle.gr_base.specs.Trees.{TreeView, holds, is_among}
 use Rattle.maze_route.specs.Kept.{cells_of_pairs, AreWaiting, IsKept, IsLabelOf, Serves}
+use Rattle.maze_route.specs.Fields.{IsPriced}
 use Rattle.maze_route.specs.Labels.{label_at}
 use Rattle.maze_route.specs.Queues.{QueueView, IsPushed}
+use Rattle.maze_route.specs.Scales.{AreScales}
 use Rattle.maze_route.specs.Search.{most_distance, IsAtMost, IsSearching, is_marked, HasGoal}
 use Rattle.maze_route.specs.Steps.{size_of, cell_in, pane_source, pane_graph}
 use Rattle.maze_route.specs.Walks.{Graph, Reaches, Starts, Goes_on}
+use Rattle.maze_route.specs.declared.field.Field.{Field}
 use Rattle.maze_route.specs.declared.front.Front.{Front}
 use Rattle.maze_route.specs.declared.pane.Pane.{Pane}
 use Rattle.maze_route.specs.declared.room.MazeRoom.{MazeRoom}
+use Rattle.maze_route.specs.declared.scales.Scales.{Scales}
 use Rattle.maze_route.specs.declared.window.Window.{Window}
 use Rattle.maze_route.proofs.Distances.{make-at-most}
 use Rattle.maze_route.proofs.EndLemmas.{among-cases}
@@ -56,8 +60,10 @@ pub serves-grown : (w : Window) (price : Edge → Option ℕ) (room : MazeRoom) 
 serves-grown w price room t u same keeps serves = record {
   grid = serves.grid ∙ sym same;
   window = serves.window;
+  priced = serves.priced;
+  scales = serves.scales;
   size = serves.size;
-  kept = kept-grown room.pane t u price (size_of room.pane) room.front keeps serves.kept;
+  kept = kept-grown room.field.pane t u price (size_of room.field.pane) room.front keeps serves.kept;
 }
 
 -- before any label
@@ -200,14 +206,16 @@ known-goal graph rest label pairs nowhere marks ends (Some cost) searching marke
 )
 
 -- a room still serves a tree after a walk to it
-pub serves-after : (t : TreeView) (w : Window) (price : Edge → Option ℕ) (old new : MazeRoom) → Serves t w price old → new.pane ≡ old.pane →
-    length new.front.labels.costs.items ≡ size_of old.pane → IsKept (pane_graph old.pane t price) (size_of old.pane) new.front → Serves t w price new
-serves-after t w price old new serves same size kept =
-    let S : Pane → Type 0 = λ p. length new.front.labels.costs.items ≡ size_of p in
-    let K : Pane → Type 0 = λ p. IsKept (pane_graph p t price) (size_of p) new.front in
+pub serves-after : (t : TreeView) (w : Window) (price : Edge → Option ℕ) (old new : MazeRoom) → Serves t w price old → new.field ≡ old.field → new.scales ≡ old.scales →
+    length new.front.labels.costs.items ≡ size_of old.field.pane → IsKept (pane_graph old.field.pane t price) (size_of old.field.pane) new.front → Serves t w price new
+serves-after t w price old new serves same scaled size kept =
+    let S : Field → Type 0 = λ f. length new.front.labels.costs.items ≡ size_of f.pane in
+    let K : Field → Type 0 = λ f. IsKept (pane_graph f.pane t price) (size_of f.pane) new.front in
     record {
-      grid = ap (λ (p : Pane). p.grid) same ∙ serves.grid;
-      window = ap (λ (p : Pane). p.window) same ∙ serves.window;
+      grid = ap (λ (f : Field). f.pane.grid) same ∙ serves.grid;
+      window = ap (λ (f : Field). f.pane.window) same ∙ serves.window;
+      priced = subst (λ (f : Field). IsPriced price f) (sym same) serves.priced;
+      scales = subst (λ (f : Field). AreScales f.pane.grid w price new.scales) (sym same) (subst (λ (s : Scales). AreScales old.field.pane.grid w price s) (sym scaled) serves.scales);
       size = subst S (sym same) size;
       kept = subst K (sym same) kept;
     }

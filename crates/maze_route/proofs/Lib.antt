@@ -6,13 +6,14 @@ pub mod PositionLemmas
 pub mod ScaleLemmas
 pub mod SpotLemmas
 pub mod LabelLemmas
-pub mod LowLemmas
 pub mod SearchLemmas
 pub mod HandingLemmas
 pub mod TurnLemmas
 pub mod WindowLemmas
 pub mod AttachLemmas
 pub mod EndLemmas
+pub mod FieldLemmas
+pub mod RunLemmas
 pub mod SpanLemmas
 pub mod BackLemmas
 pub mod WalkLemmas

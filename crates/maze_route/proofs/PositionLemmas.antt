@@ -10,9 +10,13 @@ use Rattle.gr_base.specs.declared.grid.Shape.{Shape}
 use Rattle.gr_base.specs.declared.grid.Way.{Way}
 use Rattle.gr_base.specs.declared.grid.Way.TheVariants.{East, North, Up}
 use Rattle.gr_base.specs.Grid.{cells_of, number_of, place_at, IsInside, stride, has_room, has_edge, edge_at}
-use Rattle.gr_base.proofs.GridLemmas.{some_layers, number-place, place-inside, same_cell, place-number, number-below}
-use Rattle.maze_route.specs.Positions.{most_position, at, AreUpTo, sums_from, AreLowered, borders_of, lines_of, start_of, border_of, line_of, IsBefore, IsLine, IsUnderLine, AreUnder, ArePositions}
+use Rattle.gr_base.proofs.GridLemmas.{some_columns, some_rows, some_layers, number-place, place-inside, same_cell, place-number, number-below}
+use Rattle.maze_route.specs.Positions.{most_position, at, AreUpTo, sums_from, AreLowered, borders_of, lines_of, start_of, border_of, line_of, IsBefore, IsUnderLine, AreUnder, ArePositions}
+use Rattle.maze_route.specs.Fields.{inner, IsTable, IsUnderPrices}
+use Rattle.maze_route.specs.Panes.{out_of}
+use Rattle.maze_route.specs.Steps.{size_of, cell_in}
 use Rattle.maze_route.specs.Windows.{IsWindow, is_within, in_window}
+use Rattle.maze_route.specs.declared.pane.Pane.{Pane}
 use Rattle.maze_route.specs.declared.window.Window.{Window}
 use Rattle.maze_route.proofs.SpotLemmas.{few-each}
 
@@ -94,17 +98,66 @@ line-inside g w North layer line place window level within below = (
 )
 line-inside g w Up layer line place window level within below = absurd (omega arith)
 
--- the edges of a line are the grid's
-pub line-edges : (g : Shape) (w : Window) (way : Way) (layer line first count : ℕ) → IsWindow g w → layer < g.layers → line < lines_of w way →
-    first ≡ number_of g (start_of w way layer line) → count ≡ borders_of w way → IsLine g way first count
-line-edges g w way layer line first count window level within first_is count_is place below =
-    let few : place < borders_of w way = omega arith in
+-- a line of a window's own grid
+inner-window : (s : Shape) → IsWindow s (inner s)
+inner-window s =
+    let columns = some_columns s in
+    let rows = some_rows s in
+    record { columns = omega arith; rows = omega arith; last_column = omega (arith, columns); last_row = omega (arith, rows) }
+
+inner-borders : (p : Pane) (way : Way) → borders_of (inner p.shape) way ≡ borders_of p.window way
+inner-borders p East = let fits = p.fits in omega (arith, fits.columns)
+inner-borders p North = let fits = p.fits in omega (arith, fits.rows)
+inner-borders p Up = refl
+
+inner-lines : (p : Pane) (way : Way) → lines_of (inner p.shape) way ≡ lines_of p.window way
+inner-lines p East = let fits = p.fits in let some = some_rows p.shape in omega (arith, fits.rows, some)
+inner-lines p North = let fits = p.fits in let some = some_columns p.shape in omega (arith, fits.columns, some)
+inner-lines p Up = refl
+
+out-line : (w : Window) (s : Shape) (way : Way) (layer line place : ℕ) → out_of w (along_line (inner s) way layer line place) ≡ along_line w way layer line place
+out-line w s East layer line place = same_cell (out_of w (along_line (inner s) East layer line place)) (along_line w East layer line place) (omega arith) (omega arith) refl
+out-line w s North layer line place = same_cell (out_of w (along_line (inner s) North layer line place)) (along_line w North layer line place) (omega arith) (omega arith) refl
+out-line w s Up layer line place = same_cell (out_of w (along_line (inner s) Up layer line place)) (along_line w Up layer line place) (omega arith) (omega arith) refl
+
+-- a cell of a line, by its number in the window
+pub record IsHeldInLine (p : Pane) (way : Way) (layer line place n : ℕ) : Type 0 where
+  pub inside : n < size_of p
+  pub room : IsTrue (has_room p.shape (place_at p.shape n) way)
+  pub cell : cell_in p n ≡ number_of p.grid (along_line p.window way layer line place)
+
+pub line-held : (p : Pane) (way : Way) (layer line place first n : ℕ) → layer < p.shape.layers → line < lines_of p.window way → place < borders_of p.window way →
+    first ≡ number_of p.shape (start_of (inner p.shape) way layer line) → n ≡ first + place * stride p.shape way → IsHeldInLine p way layer line place n
+line-held p way layer line place first n level within below first_is is =
+    let s = p.shape in
+    let w = inner s in
+    let window = inner-window s in
+    let borders = inner-borders p way in
+    let lines = inner-lines p way in
+    let few : place < borders_of w way = omega (arith, borders, below) in
     let q = along_line w way layer line place in
-    let inside = line-inside g w way layer line place window level within few in
-    let number : first + place * stride g way ≡ number_of g q = let h = line-number g w way layer line place few in omega (arith, first_is, h) in
-    let P : ℕ → Type 0 = λ n. IsTrue (has_edge g (edge_at n way)) in
-    let B : Cell → Type 0 = λ c. IsBefore w way c in
-    subst P (sym number) (edge-here g w (number_of g q) way window (number-below g q inside.0) (subst B (sym (place-number g q inside.0)) inside.1))
+    let inside = line-inside s w way layer line place window level (omega (arith, lines, within)) few in
+    let number : number_of s q ≡ n = let h = line-number s w way layer line place few in omega (arith, h, is, first_is) in
+    let at = place-number s q inside.0 in
+    let out : Cell → ℕ = λ c. number_of p.grid (out_of p.window c) in
+    let room : Cell → Type 0 = λ c. IsTrue (has_room s c way) in
+    let P : ℕ → Type 0 = λ m. IsHeldInLine p way layer line place m in
+    subst P number (record {
+      inside = number-below s q inside.0;
+      room = subst room (sym at) (room-at s w q way window inside.1);
+      cell = ap out at ∙ ap (λ (c : Cell). number_of p.grid c) (out-line p.window s way layer line place);
+    })
+
+-- what is below the prices that are held for a line is below those of its edges
+pub prices-under : (p : Pane) (price : Edge → Option ℕ) (way : Way) (layer line first count : ℕ) (prices numbers : List ℕ) → IsTable p price way prices →
+    layer < p.shape.layers → line < lines_of p.window way → first ≡ number_of p.shape (start_of (inner p.shape) way layer line) → count ≡ borders_of p.window way →
+    IsUnderPrices prices p.shape way first count numbers → IsUnderLine p.grid price way (number_of p.grid (start_of p.window way layer line)) count numbers
+prices-under p price way layer line first count prices numbers table level within first_is count_is under place cost below is =
+    let few : place < borders_of p.window way = omega (arith, count_is, below) in
+    let n = first + place * stride p.shape way in
+    let held = line-held p way layer line place first n level within few first_is refl in
+    let cell : cell_in p n ≡ number_of p.grid (start_of p.window way layer line) + place * stride p.grid way = held.cell ∙ sym (line-number p.grid p.window way layer line place few) in
+    under place cost below (table.each n held.inside held.room ∙ ap (λ (c : ℕ). price (edge_at c way)) cell ∙ is)
 
 -- a cell of the window by its line and border
 on-line : (w : Window) (way : Way) (q : Cell) (layer line : ℕ) → IsHeld w q → IsBefore w way q → q.layer ≡ layer → line_of w way q ≡ line →

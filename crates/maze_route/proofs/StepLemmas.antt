@@ -175,6 +175,10 @@ ahead-is p n m way next =
     let room : has_room p.shape (place_at p.shape n) way ≡ true = edge-room p.shape (edge_at n way) edge.0 in
     ap (λ b. if b then Some (n + stride p.shape way) else None) room ∙ ap (λ (c : ℕ). Some c) edge.1
 
+-- there is room for the edge between a cell and the next
+pub next-room : (p : Pane) (n m : ℕ) (way : Way) → IsNext p n m way → IsTrue (has_room p.shape (place_at p.shape n) way)
+next-room p n m way next = edge-room p.shape (edge_at n way) (edge-of-beyond p.shape n m way next.low_inside next.inside next.place).0
+
 room-behind : (q : Cell) (way : Way) → has_room_behind (beyond q way) way ≡ true
 room-behind q East = grind (arith, nat_tests)
 room-behind q North = grind (arith, nat_tests)

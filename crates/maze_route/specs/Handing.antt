@@ -1,5 +1,5 @@
 -- What it does to a front that a cell hands its label on.
-use Rattle.std.specs.Prelude.{◌≡◌, ℕ, ◌+◌, ◌≤◌, Bool, true, false, ◌&&◌, nat_le, List, [], ◌∷◌, Option, Some, None, slice_set}
+use Rattle.std.specs.Prelude.{◌≡◌, ℕ, ◌+◌, Bool, true, false, ◌&&◌, nat_le, List, [], ◌∷◌, Option, Some, None, slice_set}
 use Rattle.gr_base.specs.declared.grid.Edge.{Edge}
 use Rattle.maze_route.specs.Labels.{label_at, is_lower}
 use Rattle.maze_route.specs.Queues.{IsPushed}
@@ -28,10 +28,6 @@ IsReachIf false cost step before after = Stands before after
 -- a cost within the limit lowers a label that is higher
 abbrev pub does_lower : ℕ → Step → Front → Bool
 does_lower cost step before = nat_le cost most_distance && is_lower (label_at before.labels.costs.items step.cell) cost
-
--- no step from a cell with this label lowers that of another, since each costs at least 1
-abbrev pub IsLow : List ℕ → ℕ → ℕ → Type 0
-IsLow labels from cell = (cost : ℕ) → 1 ≤ cost → is_lower (label_at labels cell) (from + cost) ≡ false
 
 -- what a step from a cell with this label does
 abbrev pub IsReach : ℕ → Option Step → Front → Front → Type 0

@@ -4,7 +4,9 @@ use Rattle.std.specs.List.{filter_map}
 use Rattle.gr_base.specs.declared.grid.Edge.{Edge}
 use Rattle.gr_base.specs.Trees.{TreeView, is_among}
 use Rattle.maze_route.specs.Buckets.{pair_in}
+use Rattle.maze_route.specs.Fields.{IsPriced}
 use Rattle.maze_route.specs.Labels.{label_at}
+use Rattle.maze_route.specs.Scales.{AreScales}
 use Rattle.maze_route.specs.Search.{IsSearching}
 use Rattle.maze_route.specs.Steps.{size_of, pane_graph}
 use Rattle.maze_route.specs.Walks.{Graph}
@@ -45,7 +47,9 @@ pub record IsLabelOf (label : ℕ → Option ℕ) (ends : List ℕ) (cost : ℕ)
 
 -- a room in which least walks to a tree in a window can be searched: what it holds of earlier walks stands for this tree
 pub record Serves (t : TreeView) (w : Window) (price : Edge → Option ℕ) (room : MazeRoom) : Type 0 where
-  pub grid : room.pane.grid ≡ t.shape
-  pub window : room.pane.window ≡ w
-  pub size : length room.front.labels.costs.items ≡ size_of room.pane
-  pub kept : IsKept (pane_graph room.pane t price) (size_of room.pane) room.front
+  pub grid : room.field.pane.grid ≡ t.shape
+  pub window : room.field.pane.window ≡ w
+  pub priced : IsPriced price room.field
+  pub scales : AreScales room.field.pane.grid w price room.scales
+  pub size : length room.front.labels.costs.items ≡ size_of room.field.pane
+  pub kept : IsKept (pane_graph room.field.pane t price) (size_of room.field.pane) room.front

@@ -17,5 +17,7 @@ pub mod Stored
 pub mod Spreading
 pub mod Places
 pub mod Renewed
+pub mod Runs
+pub mod Fields
 pub mod Kept
 pub mod Divisors

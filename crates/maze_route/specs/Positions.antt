@@ -6,7 +6,7 @@ use Rattle.gr_base.specs.declared.grid.Edge.{Edge}
 use Rattle.gr_base.specs.declared.grid.Shape.{Shape}
 use Rattle.gr_base.specs.declared.grid.Way.{Way}
 use Rattle.gr_base.specs.declared.grid.Way.TheVariants.{East, North, Up}
-use Rattle.gr_base.specs.Grid.{place_at, stride, has_edge, edge_at}
+use Rattle.gr_base.specs.Grid.{place_at, stride, edge_at}
 use Rattle.maze_route.specs.Windows.{in_window}
 use Rattle.maze_route.specs.declared.window.Window.{Window}
 
@@ -75,11 +75,6 @@ abbrev pub IsBefore : Window → Way → Cell → Type 0
 IsBefore w East cell = cell.x < w.x1
 IsBefore w North cell = cell.y < w.y1
 IsBefore w Up cell = ⊥
-
--- an edge for each number, one after another along a way
-abbrev pub IsLine : Shape → Way → ℕ → ℕ → Type 0
-IsLine g way first count = (place : ℕ) → place < count →
-    IsTrue (has_edge g (edge_at (first + place * stride g way) way))
 
 -- no edge of a line costs less than the number for it
 abbrev pub IsUnderLine : Shape → (Edge → Option ℕ) → Way → ℕ → ℕ → List ℕ → Type 0

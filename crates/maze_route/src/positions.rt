@@ -1,12 +1,16 @@
 //! Positions of columns and rows, as sums of what it costs at least to cross from each to the next.
-ghost use Rattle.std.specs.Prelude.{◌≡◌, ℕ, ◌+◌, ◌<◌, ◌≤◌, length, Some, IfOk, IsTrue};
+ghost use Rattle.std.specs.Prelude.{◌≡◌, ℕ, ◌+◌, ◌*◌, ◌<◌, ◌≤◌, length, Option, IfOk};
 ghost use Rattle.cost_rules.specs.Formulas.{most_cost};
-ghost use Rattle.gr_base.specs.Grid.{number_of, has_edge};
+ghost use Rattle.gr_base.specs.declared.grid.Edge.{Edge};
+ghost use Rattle.gr_base.specs.Grid.{number_of, stride};
 ghost use Rattle.gr_base.specs.Limits.{most_cells};
-ghost use Rattle.maze_route.specs.Positions.{most_position, AreUpTo, sums_from, AreLowered, borders_of, lines_of, start_of, IsLine, IsUnderLine, AreUnder, ArePositions};
+ghost use Rattle.maze_route.specs.Fields.{IsTable, IsPriced, inner, IsUnderPrices};
+ghost use Rattle.maze_route.specs.Positions.{most_position, AreUpTo, sums_from, AreLowered, borders_of, lines_of, start_of, AreUnder, ArePositions};
 ghost use Rattle.maze_route.specs.Scales.{AreScales};
-ghost use Rattle.maze_route.specs.Windows.{IsWindow};
+ghost use Rattle.maze_route.specs.Steps.{size_of};
 
+use crate::field::Field;
+use crate::pane::Pane;
 use crate::scales::Scales;
 use crate::window::Window;
 use cost_rules::{Costs, MOST_COST};
@@ -14,41 +18,43 @@ use gr_base::{Edge, Shape, Way};
 use std::alloc::{AllocError, Global};
 
 impl Scales {
-    /// The scales of a window by the least cost of its edges between each column and the next, and
+    /// The scales of a window by the least price of its edges between each column and the next, and
     /// between each row and the next. The only error is want of memory.
-    pub fn new<C: Costs>(
+    pub(crate) fn of<C: Costs>(
         alloc: Global,
         costs: &C,
-        grid: Shape,
-        window: Window,
+        field: &Field,
     ) -> Result<Scales, AllocError>
-        requires grid { C.grid costs.now ≡ grid }
-        requires window { IsWindow grid window }
-        ensures { IfOk result (AreScales grid window (C.price costs.now)) }
+        requires grid { C.grid costs.now ≡ field.now.pane.grid }
+        requires priced { IsPriced (C.price costs.now) field.now }
+        ensures { IfOk result (AreScales field.now.pane.grid field.now.pane.window (C.price costs.now)) }
     {
+        let pane = field.pane;
         Ok(Scales {
-            columns: positions(alloc, costs, grid, window, Way::East)?,
-            rows: positions(alloc, costs, grid, window, Way::North)?,
+            columns: positions(alloc, costs, pane, Way::East, &field.east)?,
+            rows: positions(alloc, costs, pane, Way::North, &field.north)?,
         })
     }
 }
 
-/// The positions of a window's columns, for the way East, or of its rows, for North.
+/// The positions of a window's columns, for the way East, or of its rows, for North, by the prices of the
+/// edges that go the way.
 fn positions<C: Costs>(
     alloc: Global,
     costs: &C,
-    grid: Shape,
-    window: Window,
+    pane: Pane,
     way: Way,
+    prices: &Vec<u32>,
 ) -> Result<Vec<u64>, AllocError>
-    requires grid { C.grid costs.now ≡ grid }
-    requires window { IsWindow grid window }
-    ensures size { IfOk result (λ positions. length positions.items ≡ borders_of window way + 1) }
+    requires grid { C.grid costs.now ≡ pane.grid }
+    requires table { IsTable pane (C.price costs.now) way prices.now.items }
+    ensures size { IfOk result (λ positions. length positions.items ≡ borders_of pane.window way + 1) }
     ensures near { IfOk result (λ positions. AreUpTo most_position positions.items) }
-    ensures positions { IfOk result (λ positions. ArePositions grid window (C.price costs.now) way positions.items) }
+    ensures positions { IfOk result (λ positions.
+        ArePositions pane.grid pane.window (C.price costs.now) way positions.items) }
 {
-    let mut steps = vec![in alloc; MOST_COST; borders(window, way) as usize]?;
-    lower(costs, grid, window, way, &mut steps);
+    let mut steps = vec![in alloc; MOST_COST; borders(pane.window, way) as usize]?;
+    lower(costs, pane, way, prices, &mut steps);
     sums(alloc, &steps)
 }
 
@@ -66,99 +72,74 @@ fn borders(window: Window, way: Way) -> u32
 }
 
 /// How many lines of edges cross these borders on a layer.
-fn lines(grid: Shape, window: Window, way: Way) -> u32
-    requires { IsWindow grid window }
-    ensures { result ≡ lines_of window way }
+fn lines(pane: Pane, way: Way) -> u32
+    ensures { result ≡ lines_of pane.window way }
 {
     match way {
-        Way::East => window.y1 - window.y0 + 1,
-        Way::North => window.x1 - window.x0 + 1,
+        Way::East => pane.shape.rows,
+        Way::North => pane.shape.columns,
         Way::Up => 0,
     }
 }
 
-/// The first cell of such a line.
-fn start(grid: Shape, window: Window, way: Way, layer: u32, line: u32) -> u32
-    requires window { IsWindow grid window }
-    requires layer { layer < grid.layers }
-    requires line { line < lines_of window way }
-    ensures { result ≡ number_of grid (start_of window way layer line) }
+/// The first cell of such a line, by its number in the window.
+fn start(pane: Pane, way: Way, layer: u32, line: u32) -> u32
+    requires layer { layer < pane.shape.layers }
+    requires line { line < lines_of pane.window way }
+    ensures { result ≡ number_of pane.shape (start_of (inner pane.shape) way layer line) }
 {
     match way {
-        Way::East => grid.cell_of(window.x0, window.y0 + line, layer),
-        Way::North => grid.cell_of(window.x0 + line, window.y0, layer),
-        Way::Up => grid.cell_of(window.x0, window.y0, layer),
+        Way::East => pane.shape.cell_of(0, line, layer),
+        Way::North => pane.shape.cell_of(line, 0, layer),
+        Way::Up => pane.shape.cell_of(0, 0, layer),
     }
 }
 
-/// The lesser of a number and what an edge costs, if it costs something. Since that is at least 1, it is
-/// asked for only where the number is greater.
-#[inline(always)]
-fn lesser<C: Costs>(costs: &C, edge: Edge, number: u64) -> u64
-    requires { IsTrue (has_edge (C.grid costs.now) edge) }
-    ensures lower { result ≤ number }
-    ensures under { (cost : ℕ) → C.price costs.now edge ≡ Some cost → result ≤ cost }
-{
-    if number <= 1 {
-        return number;
-    }
-    match costs.cost(edge) {
-        Some(cost) => number.min(cost),
-        None => number,
-    }
-}
-
-/// Lowers numbers to what the edges of a line cost, each to what its own one does.
-fn lower_line<C: Costs>(costs: &C, grid: Shape, way: Way, first: u32, numbers: &mut Vec<u64>)
-    requires grid { C.grid costs.now ≡ grid }
-    requires line { IsLine grid way first (length numbers.old.items) }
+/// Lowers numbers to the prices of the edges of a line, each to its own one's.
+fn lower_line(prices: &Vec<u32>, shape: Shape, way: Way, first: u32, numbers: &mut Vec<u64>)
+    requires inside { (place : ℕ) → place < length numbers.old.items →
+        first + place * stride shape way < length prices.now.items }
+    requires few { length prices.now.items ≤ most_cells }
     ensures lowered { AreLowered numbers.old.items numbers.new.items }
-    ensures under { IsUnderLine grid (C.price costs.now) way first (length numbers.old.items) numbers.new.items }
+    ensures under { IsUnderPrices prices.now.items shape way first (length numbers.old.items) numbers.new.items }
 {
-    let stride = grid.stride(way);
-    let mut low = first;
+    let stride = shape.stride(way);
+    let mut at = first;
     for place in 0..numbers.len() {
-        numbers[place] = lesser(costs, Edge { low, way }, numbers[place]);
-        low += stride;
+        numbers[place] = numbers[place].min(u64::from(prices[at as usize]));
+        at += stride;
     }
 }
 
-/// Lowers the numbers of a window's borders to what the edges that cross them on a layer cost.
-fn lower_layer<C: Costs>(
-    costs: &C,
-    grid: Shape,
-    window: Window,
-    way: Way,
-    layer: u32,
-    numbers: &mut Vec<u64>,
-)
-    requires grid { C.grid costs.now ≡ grid }
-    requires window { IsWindow grid window }
-    requires layer { layer < grid.layers }
-    requires size { length numbers.old.items ≡ borders_of window way }
+/// Lowers the numbers of a window's borders to the prices of the edges that cross them on a layer.
+fn lower_layer(pane: Pane, way: Way, layer: u32, prices: &Vec<u32>, numbers: &mut Vec<u64>)
+    requires layer { layer < pane.shape.layers }
+    requires prices { length prices.now.items ≡ size_of pane }
+    requires size { length numbers.old.items ≡ borders_of pane.window way }
     ensures lowered { AreLowered numbers.old.items numbers.new.items }
-    ensures under { AreUnder grid window (C.price costs.now) way (λ place. place.layer ≡ layer) numbers.new.items }
+    ensures under { (price : Edge → Option ℕ) → IsTable pane price way prices.now.items →
+        AreUnder pane.grid pane.window price way (λ place. place.layer ≡ layer) numbers.new.items }
 {
-    for line in 0..lines(grid, window, way) {
-        let first = start(grid, window, way, layer, line);
-        lower_line(costs, grid, way, first, numbers);
+    for line in 0..lines(pane, way) {
+        let first = start(pane, way, layer, line);
+        lower_line(prices, pane.shape, way, first, numbers);
     }
 }
 
-/// Lowers the numbers of a window's borders to what the edges that cross them cost.
-fn lower<C: Costs>(costs: &C, grid: Shape, window: Window, way: Way, numbers: &mut Vec<u64>)
-    requires grid { C.grid costs.now ≡ grid }
-    requires window { IsWindow grid window }
-    requires size { length numbers.old.items ≡ borders_of window way }
+/// Lowers the numbers of a window's borders to the prices of the edges that cross them.
+fn lower<C: Costs>(costs: &C, pane: Pane, way: Way, prices: &Vec<u32>, numbers: &mut Vec<u64>)
+    requires grid { C.grid costs.now ≡ pane.grid }
+    requires table { IsTable pane (C.price costs.now) way prices.now.items }
+    requires size { length numbers.old.items ≡ borders_of pane.window way }
     ensures lowered { AreLowered numbers.old.items numbers.new.items }
-    ensures under { AreUnder grid window (C.price costs.now) way (λ place. place.layer < grid.layers)
+    ensures under { AreUnder pane.grid pane.window (C.price costs.now) way (λ place. place.layer < pane.grid.layers)
         numbers.new.items }
 {
-    for layer in 0..grid.layers() {
+    for layer in 0..pane.shape.layers() {
         if !costs.goes(layer, way) {
             continue;
         }
-        lower_layer(costs, grid, window, way, layer, numbers);
+        lower_layer(pane, way, layer, prices, numbers);
     }
 }
 

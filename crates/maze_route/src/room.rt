@@ -1,12 +1,13 @@
-ghost use Rattle.std.specs.Prelude.{◌≡◌, ℕ, Option, OnOk};
-ghost use Rattle.gr_base.specs.declared.grid.Edge.{Edge};
+ghost use Rattle.std.specs.Prelude.{◌≡◌, OnOk};
 ghost use Rattle.gr_base.specs.Trees.{TreeView};
 ghost use Rattle.maze_route.specs.Kept.{Serves};
 ghost use Rattle.maze_route.specs.Windows.{IsWindow};
 
+use crate::field::Field;
 use crate::front::{Front, Labels};
-use crate::pane::Pane;
 use crate::queue::BucketQueue;
+use crate::runs::RunCosts;
+use crate::scales::Scales;
 use crate::window::Window;
 use gr_base::Shape;
 use std::alloc::{AllocError, Global};
@@ -17,8 +18,9 @@ use std::alloc::{AllocError, Global};
 /// stay those of walks, and the next goes on from them.
 #[derive(Debug, Drop)]
 pub struct MazeRoom {
-    /// The window of the walks.
-    pub(crate) pane: Pane,
+    /// The window of the walks, with its prices.
+    pub(crate) field: Field,
+    pub(crate) scales: Scales,
     pub(crate) front: Front,
     /// The goals by their numbers in the window.
     pub(crate) ends: Vec<u32>,
@@ -31,19 +33,9 @@ pub struct MazeRoom {
 impl MazeRoom {
     /// Room for walks in any windows, which takes no memory yet.
     pub fn new(alloc: Global) -> MazeRoom {
-        let cell = Shape {
-            columns: 1,
-            rows: 1,
-            layers: 1,
-        };
-        let tile = Window {
-            x0: 0,
-            y0: 0,
-            x1: 0,
-            y1: 0,
-        };
         MazeRoom {
-            pane: Pane::new(cell, tile),
+            field: Field::new(alloc),
+            scales: Scales::new(alloc),
             front: Front {
                 labels: Labels::new(alloc),
                 queue: BucketQueue::new(alloc),
@@ -54,15 +46,22 @@ impl MazeRoom {
         }
     }
 
-    /// Begins the walks to a tree that grows in a window of a grid. What the room holds before doesn't
-    /// matter. The only error is want of memory.
-    pub fn begin(&mut self, grid: Shape, window: Window) -> Result<(), AllocError>
-        requires { IsWindow grid window }
-        ensures { (t : TreeView) (price : Edge → Option ℕ) → t.shape ≡ grid →
-            OnOk result (Serves t window price self.new) }
+    /// Begins the walks to a tree that grows in a window of a grid, by what edges cost. What the room
+    /// holds before doesn't matter. The only error is want of memory.
+    pub fn begin<C: RunCosts>(
+        &mut self,
+        alloc: Global,
+        costs: &C,
+        grid: Shape,
+        window: Window,
+    ) -> Result<(), AllocError>
+        requires grid { C.grid costs.now ≡ grid }
+        requires window { IsWindow grid window }
+        ensures { (t : TreeView) → t.shape ≡ grid → OnOk result (Serves t window (C.price costs.now) self.new) }
     {
-        self.pane = Pane::new(grid, window);
-        self.front.clear(self.pane.size())?;
+        self.field.fill(costs, grid, window)?;
+        self.scales = Scales::of(alloc, costs, &self.field)?;
+        self.front.clear(self.field.pane.size())?;
         Ok(())
     }
 }

@@ -1,17 +1,19 @@
 ghost use Rattle.std.specs.Prelude.{◌≡◌, ℕ, ◌+◌, ◌^◌, ◌<◌, ◌≤◌, true, length, Option, Some, IfSome, OnOk, IsTrue, if◌then◌else◌};
 ghost use Rattle.cost_rules.specs.Formulas.{most_cost};
 ghost use Rattle.gr_base.specs.declared.grid.Edge.{Edge};
+ghost use Rattle.maze_route.specs.Fields.{IsPriced};
 ghost use Rattle.maze_route.specs.Labels.{label_at};
 ghost use Rattle.maze_route.specs.Steps.{size_of, rest_of, IsGuide, IsSpot, pane_graph, beside, step_to};
 ghost use Rattle.maze_route.specs.Kept.{IsKept};
 ghost use Rattle.maze_route.specs.Search.{most_distance, is_above, HasSources, IsSearching, is_marked, HasGoal, CanReach, Finds};
-ghost use Rattle.maze_route.specs.Handing.{IsLow, IsReach, HandsOn};
+ghost use Rattle.maze_route.specs.Handing.{IsReach, HandsOn};
 
-use crate::front::{Front, Labels};
-use crate::pane::{Aim, Pane, Spot, Step};
+use crate::field::Field;
+use crate::front::Front;
+use crate::pane::{Aim, Spot, Step};
 use crate::side::Side;
 use crate::side::Side::{Ahead, Behind};
-use crate::steps::{cell_beside, distance_to, step_beside};
+use crate::steps::{distance_to, step_beside};
 use cost_rules::Costs;
 use gr_base::{RouteTree, Way};
 use std::alloc::AllocError;
@@ -45,84 +47,56 @@ pub(crate) fn reach(front: &mut Front, from: u64, step: Option<Step>) -> Result<
     Ok(())
 }
 
-/// Whether no step from a cell with a label lowers that of another cell. A step costs at least 1.
-fn is_low(labels: &Labels, cell: u32, from: u64) -> bool
-    requires cell { cell < length labels.now.costs.items }
-    requires from { from ≤ most_distance }
-    ensures { IsTrue result → IsLow labels.now.costs.items from cell }
-{
-    match labels.at(cell) {
-        Some(label) => label <= from + 1,
-        None => false,
-    }
-}
-
-/// Whether no step lowers the label of the neighbour. Where there is none the answer says nothing.
-fn is_low_beside(labels: &Labels, pane: Pane, spot: Spot, from: u64, side: Side) -> bool
-    requires spot { IsSpot pane spot }
-    requires from { from ≤ most_distance }
-    requires size { length labels.now.costs.items ≡ size_of pane }
-    ensures { IsTrue result → (to : ℕ) → beside pane.shape spot.local side ≡ Some to →
-        IsLow labels.now.costs.items from to }
-{
-    match cell_beside(pane, spot, side) {
-        Some(cell) => is_low(labels, cell, from),
-        None => false,
-    }
-}
-
-/// Hands a cell's label on to the neighbour on a side. The edge's cost is asked for only where it can
-/// matter.
+/// Hands a cell's label on to the neighbour on a side.
+#[inline(always)]
 fn hand<C: Costs>(
     costs: &C,
-    pane: Pane,
+    field: &Field,
     aim: &Aim,
     front: &mut Front,
     spot: Spot,
     from: u64,
     side: Side,
 ) -> Result<(), AllocError>
-    requires grid { C.grid costs.now ≡ pane.grid }
-    requires guide { IsGuide pane (C.price costs.now) aim.now }
-    requires spot { IsSpot pane spot }
+    requires grid { C.grid costs.now ≡ field.now.pane.grid }
+    requires priced { IsPriced (C.price costs.now) field.now }
+    requires guide { IsGuide field.now.pane (C.price costs.now) aim.now }
+    requires spot { IsSpot field.now.pane spot }
     requires from { from ≤ most_distance }
-    requires size { length front.old.labels.costs.items ≡ size_of pane }
-    requires key { front.old.queue.last ≤ from + rest_of pane aim.now spot.local }
+    requires size { length front.old.labels.costs.items ≡ size_of field.now.pane }
+    requires key { front.old.queue.last ≤ from + rest_of field.now.pane aim.now spot.local }
     ensures done { OnOk result (IsReach from
-        (step_to pane (C.price costs.now) aim.now spot.local (beside pane.shape spot.local side)) front.old front.new) }
+        (step_to field.now.pane (C.price costs.now) aim.now spot.local (beside field.now.pane.shape spot.local side)) front.old front.new) }
     ensures size { length front.new.labels.costs.items ≡ length front.old.labels.costs.items }
     ensures last { front.new.queue.last ≡ front.old.queue.last }
 {
-    if is_low_beside(&front.labels, pane, spot, from, side) {
-        return Ok(());
-    }
-    reach(front, from, step_beside(costs, pane, aim, spot, side))?;
-    Ok(())
+    reach(front, from, step_beside(costs, field, aim, spot, side))
 }
 
 /// Hands a cell's label on to its neighbours.
 fn settle<C: Costs>(
     costs: &C,
-    pane: Pane,
+    field: &Field,
     aim: &Aim,
     front: &mut Front,
     spot: Spot,
     from: u64,
 ) -> Result<(), AllocError>
-    requires grid { C.grid costs.now ≡ pane.grid }
-    requires guide { IsGuide pane (C.price costs.now) aim.now }
-    requires spot { IsSpot pane spot }
+    requires grid { C.grid costs.now ≡ field.now.pane.grid }
+    requires priced { IsPriced (C.price costs.now) field.now }
+    requires guide { IsGuide field.now.pane (C.price costs.now) aim.now }
+    requires spot { IsSpot field.now.pane spot }
     requires from { from ≤ most_distance }
-    requires size { length front.old.labels.costs.items ≡ size_of pane }
-    requires key { front.old.queue.last ≤ from + rest_of pane aim.now spot.local }
-    ensures { OnOk result (HandsOn pane (C.price costs.now) aim.now spot.local from front.old front.new) }
+    requires size { length front.old.labels.costs.items ≡ size_of field.now.pane }
+    requires key { front.old.queue.last ≤ from + rest_of field.now.pane aim.now spot.local }
+    ensures { OnOk result (HandsOn field.now.pane (C.price costs.now) aim.now spot.local from front.old front.new) }
 {
-    hand(costs, pane, aim, front, spot, from, Behind(Way::Up))?;
-    hand(costs, pane, aim, front, spot, from, Behind(Way::North))?;
-    hand(costs, pane, aim, front, spot, from, Behind(Way::East))?;
-    hand(costs, pane, aim, front, spot, from, Ahead(Way::East))?;
-    hand(costs, pane, aim, front, spot, from, Ahead(Way::North))?;
-    hand(costs, pane, aim, front, spot, from, Ahead(Way::Up))?;
+    hand(costs, field, aim, front, spot, from, Behind(Way::Up))?;
+    hand(costs, field, aim, front, spot, from, Behind(Way::North))?;
+    hand(costs, field, aim, front, spot, from, Behind(Way::East))?;
+    hand(costs, field, aim, front, spot, from, Ahead(Way::East))?;
+    hand(costs, field, aim, front, spot, from, Ahead(Way::North))?;
+    hand(costs, field, aim, front, spot, from, Ahead(Way::Up))?;
     Ok(())
 }
 
@@ -135,29 +109,30 @@ fn settle<C: Costs>(
 /// 1968. The search goes on until every key up to the first goal's distance is taken.
 pub(crate) fn search<C: Costs>(
     costs: &C,
-    pane: Pane,
+    field: &Field,
     aim: &Aim,
     marks: &[bool],
     known: Option<u64>,
     tree: &RouteTree,
     front: &mut Front,
 ) -> Result<(), AllocError>
-    requires costs { C.grid costs.now ≡ pane.grid }
-    requires guide { IsGuide pane (C.price costs.now) aim.now }
-    requires size { length front.old.labels.costs.items ≡ size_of pane }
-    requires sources { HasSources (pane_graph pane tree.now (C.price costs.now))
+    requires grid { C.grid costs.now ≡ field.now.pane.grid }
+    requires priced { IsPriced (C.price costs.now) field.now }
+    requires guide { IsGuide field.now.pane (C.price costs.now) aim.now }
+    requires size { length front.old.labels.costs.items ≡ size_of field.now.pane }
+    requires sources { HasSources (pane_graph field.now.pane tree.now (C.price costs.now))
         (label_at front.old.labels.costs.items) }
-    requires searching { IsSearching (pane_graph pane tree.now (C.price costs.now)) (rest_of pane aim.now)
-        (label_at front.old.labels.costs.items) front.old.queue.pairs (size_of pane) }
+    requires searching { IsSearching (pane_graph field.now.pane tree.now (C.price costs.now)) (rest_of field.now.pane aim.now)
+        (label_at front.old.labels.costs.items) front.old.queue.pairs (size_of field.now.pane) }
     requires known { IfSome known (HasGoal marks.now (label_at front.old.labels.costs.items)) }
     requires near { IfSome known (λ distance. distance ≤ most_distance) }
-    requires marks { length marks.now ≡ size_of pane }
-    requires aim { (cell : ℕ) → is_marked marks.now cell ≡ true → rest_of pane aim.now cell ≡ 0 }
-    requires goal { CanReach (pane_graph pane tree.now (C.price costs.now)) marks.now }
+    requires marks { length marks.now ≡ size_of field.now.pane }
+    requires aim { (cell : ℕ) → is_marked marks.now cell ≡ true → rest_of field.now.pane aim.now cell ≡ 0 }
+    requires goal { CanReach (pane_graph field.now.pane tree.now (C.price costs.now)) marks.now }
     ensures found { OnOk result (let label = label_at front.new.labels.costs.items in
-        Finds (pane_graph pane tree.now (C.price costs.now)) (rest_of pane aim.now) marks.now label) }
-    ensures size { OnOk result (length front.new.labels.costs.items ≡ size_of pane) }
-    ensures kept { OnOk result (IsKept (pane_graph pane tree.now (C.price costs.now)) (size_of pane) front.new) }
+        Finds (pane_graph field.now.pane tree.now (C.price costs.now)) (rest_of field.now.pane aim.now) marks.now label) }
+    ensures size { OnOk result (length front.new.labels.costs.items ≡ size_of field.now.pane) }
+    ensures kept { OnOk result (IsKept (pane_graph field.now.pane tree.now (C.price costs.now)) (size_of field.now.pane) front.new) }
 {
     let _tree = tree;
     let mut nearest = known;
@@ -166,13 +141,13 @@ pub(crate) fn search<C: Costs>(
             front.queue.push(key, cell)?;
             return Ok(());
         }
-        let spot = pane.spot(cell);
+        let spot = field.pane.spot(cell);
         let label = front.labels.at(cell).unwrap();
         if label + distance_to(aim, spot.place) < key {
             continue;
         }
         nearest = nearest_with(nearest, marks[cell as usize], key);
-        settle(costs, pane, aim, front, spot, label)?;
+        settle(costs, field, aim, front, spot, label)?;
     }
     Ok(())
 }

@@ -2,8 +2,10 @@ ghost use Rattle.std.specs.Prelude.{◌≡◌, ◌^◌, ◌<◌, ◌≤◌, leng
 ghost use Rattle.cost_rules.specs.Formulas.{most_cost};
 ghost use Rattle.gr_base.specs.Grid.{IsInside, beyond, has_room};
 ghost use Rattle.gr_base.specs.Limits.{most_cells};
+ghost use Rattle.maze_route.specs.Fields.{IsPriced};
 ghost use Rattle.maze_route.specs.Steps.{IsSpot, has_room_behind, before, ahead_of, behind_of, beside, size_of, FitsIn, least_to, step_to};
 
+use crate::field::Field;
 use crate::pane::{Aim, Pane, Spot, Step};
 use crate::side::Side;
 use cost_rules::Costs;
@@ -77,6 +79,7 @@ fn one_back(place: Cell, way: Way) -> Cell
 }
 
 /// What a walk between a place and the box of an aim costs at least.
+#[inline(always)]
 pub(crate) fn distance_to(aim: &Aim, place: Cell) -> u64
     requires column { place.x < length aim.now.columns.items }
     requires row { place.y < length aim.now.rows.items }
@@ -88,24 +91,24 @@ pub(crate) fn distance_to(aim: &Aim, place: Cell) -> u64
 }
 
 /// The step to the next cell along the way, if there is one.
-fn ahead<C: Costs>(costs: &C, pane: Pane, aim: &Aim, spot: Spot, way: Way) -> Option<Step>
-    requires grid { C.grid costs.now ≡ pane.grid }
-    requires aim { FitsIn pane aim.now }
-    requires spot { IsSpot pane spot }
-    ensures step { result ≡ step_to pane (C.price costs.now) aim.now spot.local (ahead_of pane.shape spot.local way) }
+#[inline(always)]
+fn ahead<C: Costs>(costs: &C, field: &Field, aim: &Aim, spot: Spot, way: Way) -> Option<Step>
+    requires grid { C.grid costs.now ≡ field.now.pane.grid }
+    requires priced { IsPriced (C.price costs.now) field.now }
+    requires aim { FitsIn field.now.pane aim.now }
+    requires spot { IsSpot field.now.pane spot }
+    ensures step { result ≡ step_to field.now.pane (C.price costs.now) aim.now spot.local (ahead_of field.now.pane.shape spot.local way) }
     ensures cost { IfSome result (λ s. s.cost ≤ most_cost) }
     ensures rest { IfSome result (λ s. s.rest < 2 ^ 53) }
 {
-    if !has_ahead(pane.shape, spot.place, way) {
+    if !has_ahead(field.pane.shape, spot.place, way) {
         return None;
     }
-    let Some(cost) = costs.cost(Edge {
-        low: spot.cell,
-        way,
-    }) else {
+    let low = spot.cell;
+    let Some(cost) = field.cost(costs, spot.local, Edge { low, way }) else {
         return None;
     };
-    let cell = spot.local + pane.shape.stride(way);
+    let cell = spot.local + field.pane.shape.stride(way);
     Some(Step {
         cell,
         cost,
@@ -114,22 +117,24 @@ fn ahead<C: Costs>(costs: &C, pane: Pane, aim: &Aim, spot: Spot, way: Way) -> Op
 }
 
 /// The step to the next cell against the way, if there is one.
-fn behind<C: Costs>(costs: &C, pane: Pane, aim: &Aim, spot: Spot, way: Way) -> Option<Step>
-    requires grid { C.grid costs.now ≡ pane.grid }
-    requires aim { FitsIn pane aim.now }
-    requires spot { IsSpot pane spot }
-    ensures step { result ≡ step_to pane (C.price costs.now) aim.now spot.local (behind_of pane.shape spot.local way) }
+#[inline(always)]
+fn behind<C: Costs>(costs: &C, field: &Field, aim: &Aim, spot: Spot, way: Way) -> Option<Step>
+    requires grid { C.grid costs.now ≡ field.now.pane.grid }
+    requires priced { IsPriced (C.price costs.now) field.now }
+    requires aim { FitsIn field.now.pane aim.now }
+    requires spot { IsSpot field.now.pane spot }
+    ensures step { result ≡ step_to field.now.pane (C.price costs.now) aim.now spot.local (behind_of field.now.pane.shape spot.local way) }
     ensures cost { IfSome result (λ s. s.cost ≤ most_cost) }
     ensures rest { IfSome result (λ s. s.rest < 2 ^ 53) }
 {
     if !has_behind(spot.place, way) {
         return None;
     }
-    let low = spot.cell - pane.grid.stride(way);
-    let Some(cost) = costs.cost(Edge { low, way }) else {
+    let low = spot.cell - field.pane.grid.stride(way);
+    let cell = spot.local - field.pane.shape.stride(way);
+    let Some(cost) = field.cost(costs, cell, Edge { low, way }) else {
         return None;
     };
-    let cell = spot.local - pane.shape.stride(way);
     Some(Step {
         cell,
         cost,
@@ -137,48 +142,25 @@ fn behind<C: Costs>(costs: &C, pane: Pane, aim: &Aim, spot: Spot, way: Way) -> O
     })
 }
 
-/// The number of the neighbour on a side, if there is one.
-pub(crate) fn cell_beside(pane: Pane, spot: Spot, side: Side) -> Option<u32>
-    requires spot { IsSpot pane spot }
-    ensures cell { result ≡ beside pane.shape spot.local side }
-    ensures inside { IfSome result (λ cell. cell < size_of pane) }
-{
-    match side {
-        Side::Behind(way) => {
-            if has_behind(spot.place, way) {
-                Some(spot.local - pane.shape.stride(way))
-            } else {
-                None
-            }
-        }
-        Side::Ahead(way) => {
-            if has_ahead(pane.shape, spot.place, way) {
-                Some(spot.local + pane.shape.stride(way))
-            } else {
-                None
-            }
-        }
-    }
-}
-
 /// The step to the neighbour on a side, if there is one.
 #[inline(always)]
 pub(crate) fn step_beside<C: Costs>(
     costs: &C,
-    pane: Pane,
+    field: &Field,
     aim: &Aim,
     spot: Spot,
     side: Side,
 ) -> Option<Step>
-    requires grid { C.grid costs.now ≡ pane.grid }
-    requires aim { FitsIn pane aim.now }
-    requires spot { IsSpot pane spot }
-    ensures step { result ≡ step_to pane (C.price costs.now) aim.now spot.local (beside pane.shape spot.local side) }
+    requires grid { C.grid costs.now ≡ field.now.pane.grid }
+    requires priced { IsPriced (C.price costs.now) field.now }
+    requires aim { FitsIn field.now.pane aim.now }
+    requires spot { IsSpot field.now.pane spot }
+    ensures step { result ≡ step_to field.now.pane (C.price costs.now) aim.now spot.local (beside field.now.pane.shape spot.local side) }
     ensures cost { IfSome result (λ s. s.cost ≤ most_cost) }
     ensures rest { IfSome result (λ s. s.rest < 2 ^ 53) }
 {
     match side {
-        Side::Behind(way) => behind(costs, pane, aim, spot, way),
-        Side::Ahead(way) => ahead(costs, pane, aim, spot, way),
+        Side::Behind(way) => behind(costs, field, aim, spot, way),
+        Side::Ahead(way) => ahead(costs, field, aim, spot, way),
     }
 }

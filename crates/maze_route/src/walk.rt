@@ -1,5 +1,6 @@
 ghost use Rattle.std.specs.Prelude.{◌≡◌, ◌<◌, length, IfOk, OnOk, IsTrue};
 ghost use Rattle.gr_base.specs.Trees.{IsTree, IsWalkTo};
+ghost use Rattle.maze_route.specs.Fields.{IsPriced};
 ghost use Rattle.maze_route.specs.Kept.{IsKept, Serves};
 ghost use Rattle.maze_route.specs.Scales.{AreScales};
 ghost use Rattle.maze_route.specs.Steps.{size_of, pane_graph};
@@ -10,10 +11,9 @@ ghost use Rattle.maze_route.specs.Whole.{whole};
 use crate::aim::aim_at;
 use crate::back::walk_back;
 use crate::ends::{first_reached, locals, mark, nearest_of};
-use crate::pane::Pane;
 use crate::resume::resume;
 use crate::room::MazeRoom;
-use crate::scales::Scales;
+use crate::runs::RunCosts;
 use crate::search::search;
 use crate::window::Window;
 use cost_rules::Costs;
@@ -30,7 +30,7 @@ use std::alloc::{AllocError, Global};
 ///
 /// The walk is found by Dijkstra's method, "A note on two problems in connexion with graphs", 1959,
 /// with a lower bound on the rest of the way.
-pub fn least_walk<C: Costs>(
+pub fn least_walk<C: RunCosts>(
     alloc: Global,
     costs: &C,
     window: Window,
@@ -52,7 +52,7 @@ pub fn least_walk<C: Costs>(
 
 /// The same walk, searched with a room that is kept from walk to walk. What the room holds before
 /// doesn't matter.
-pub fn least_walk_in<C: Costs>(
+pub fn least_walk_in<C: RunCosts>(
     alloc: Global,
     room: &mut MazeRoom,
     costs: &C,
@@ -69,17 +69,15 @@ pub fn least_walk_in<C: Costs>(
     ensures walk { IfOk result (IsLeastWalk (window_graph tree.now window (C.price costs.now)) goals.now) }
     ensures attaches { IfOk result (IsWalkTo tree.now) }
 {
-    let scales = Scales::new(alloc, costs, tree.shape(), window)?;
-    room.begin(tree.shape(), window)?;
-    least_walk_by(alloc, room, &scales, costs, window, tree, goals)
+    room.begin(alloc, costs, tree.shape(), window)?;
+    least_walk_by(alloc, room, costs, window, tree, goals)
 }
 
-/// The same walk, by scales of the window, in a room that serves the tree: `MazeRoom::begin` makes it
-/// so, and each walk leaves it so, also for the tree with the walk attached.
+/// The same walk, in a room that serves the tree: `MazeRoom::begin` makes it so, and each walk leaves it
+/// so, also for the tree with the walk attached.
 pub fn least_walk_by<C: Costs>(
     alloc: Global,
     room: &mut MazeRoom,
-    scales: &Scales,
     costs: &C,
     window: Window,
     tree: &RouteTree,
@@ -87,7 +85,6 @@ pub fn least_walk_by<C: Costs>(
 ) -> Result<Cells, AllocError>
     requires grid { C.grid costs.now ≡ tree.now.shape }
     requires window { IsWindow tree.now.shape window }
-    requires scales { AreScales tree.now.shape window (C.price costs.now) scales.now }
     requires room { Serves tree.now window (C.price costs.now) room.old }
     requires tree { TreeLiesIn window tree.now }
     requires goals { LieIn tree.now.shape window goals.now }
@@ -99,41 +96,59 @@ pub fn least_walk_by<C: Costs>(
 {
     // The call says that it is a tree.
     let _shape = tree.shape();
-    let pane = room.pane;
-    walk_in(alloc, room, scales, costs, pane, tree, goals)
+    walk_in(alloc, room, costs, tree, goals)
 }
 
-/// The same walk in a pane.
+/// The same walk in the room's window.
 fn walk_in<C: Costs>(
     alloc: Global,
     room: &mut MazeRoom,
-    scales: &Scales,
     costs: &C,
-    pane: Pane,
     tree: &RouteTree,
     goals: &[u32],
 ) -> Result<Cells, AllocError>
-    requires grid { C.grid costs.now ≡ pane.grid }
-    requires shape { tree.now.shape ≡ pane.grid }
-    requires scales { AreScales pane.grid pane.window (C.price costs.now) scales.now }
-    requires tree { TreeLiesIn pane.window tree.now }
+    requires grid { C.grid costs.now ≡ room.old.field.pane.grid }
+    requires priced { IsPriced (C.price costs.now) room.old.field }
+    requires shape { tree.now.shape ≡ room.old.field.pane.grid }
+    requires scales { AreScales room.old.field.pane.grid room.old.field.pane.window (C.price costs.now) room.old.scales }
+    requires tree { TreeLiesIn room.old.field.pane.window tree.now }
     requires rooted { IsTree tree.now }
-    requires goals { LieIn pane.grid pane.window goals.now }
+    requires goals { LieIn room.old.field.pane.grid room.old.field.pane.window goals.now }
     requires some { 0 < length goals.now }
-    requires passable { IsPassable pane.grid (C.ways costs.now) pane.window }
-    requires size { length room.old.front.labels.costs.items ≡ size_of pane }
-    requires kept { IsKept (pane_graph pane tree.now (C.price costs.now)) (size_of pane) room.old.front }
-    ensures walk { IfOk result (IsLeastWalk (whole pane tree.now (C.price costs.now)) goals.now) }
-    ensures pane { room.new.pane ≡ room.old.pane }
-    ensures size { OnOk result (length room.new.front.labels.costs.items ≡ size_of pane) }
-    ensures kept { OnOk result (IsKept (pane_graph pane tree.now (C.price costs.now)) (size_of pane) room.new.front) }
+    requires passable { IsPassable room.old.field.pane.grid (C.ways costs.now) room.old.field.pane.window }
+    requires size { length room.old.front.labels.costs.items ≡ size_of room.old.field.pane }
+    requires kept { let pane = room.old.field.pane in
+        IsKept (pane_graph pane tree.now (C.price costs.now)) (size_of pane) room.old.front }
+    ensures walk { IfOk result (IsLeastWalk (whole room.old.field.pane tree.now (C.price costs.now)) goals.now) }
+    ensures field { room.new.field ≡ room.old.field }
+    ensures scales { room.new.scales ≡ room.old.scales }
+    ensures size { OnOk result (length room.new.front.labels.costs.items ≡ size_of room.old.field.pane) }
+    ensures kept { let pane = room.old.field.pane in
+        OnOk result (IsKept (pane_graph pane tree.now (C.price costs.now)) (size_of pane) room.new.front) }
 {
+    let pane = room.field.pane;
     locals(pane, goals, &mut room.ends)?;
-    let aim = aim_at(alloc, scales, pane, &room.ends, costs.least_via())?;
+    let aim = aim_at(alloc, &room.scales, pane, &room.ends, costs.least_via())?;
     mark(pane, &room.ends, &mut room.marks)?;
     resume(pane, &aim, tree, &mut room.waiting, &mut room.front)?;
     let known = nearest_of(&room.front.labels, &room.ends);
-    search(costs, pane, &aim, &room.marks, known, tree, &mut room.front)?;
+    search(
+        costs,
+        &room.field,
+        &aim,
+        &room.marks,
+        known,
+        tree,
+        &mut room.front,
+    )?;
     let goal = first_reached(&room.front.labels, &room.ends).unwrap();
-    walk_back(alloc, costs, pane, &aim, tree, &room.front.labels, goal)
+    walk_back(
+        alloc,
+        costs,
+        &room.field,
+        &aim,
+        tree,
+        &room.front.labels,
+        goal,
+    )
 }

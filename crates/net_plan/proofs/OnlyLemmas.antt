@@ -1,4 +1,4 @@
--- All pattern plans have the same edges.
+-- There is one pattern plan.
 use Rattle.std.proofs.Common.{◌≡◌, ℕ, zero, suc, ◌+◌, ◌<◌, ◌≤◌, inl, inr, Bool, true, false, ◌&&◌, ◌||◌, nat_lt, Option, None, unwrap_or, List, ◌∷◌, ◌++◌, length, map, filter, IsTrue, refl, sym, ap, subst, ◌∙◌, arith}
 use Rattle.std.specs.List.{list_any, range_with_len}
 use Rattle.std.specs.Option.{option_map}
@@ -16,7 +16,8 @@ use Rattle.gr_base.specs.declared.grid.Shape.{Shape}
 use Rattle.gr_base.specs.declared.grid.Way.{Way}
 use Rattle.layer_assign.proofs.FlatLemmas.{root_edge}
 use Rattle.layer_assign.specs.Assignments.{ends_at, met, cost_of, tile_at, pin_layers, IsAssignment, IsLeast, IsFirst, AreAlike}
-use Rattle.layer_assign.specs.Raised.{is_wire_of, is_via_in, raised_edges}
+use Rattle.layer_assign.specs.NodeOrder.{raised_tree}
+use Rattle.layer_assign.proofs.OrderLemmas.{tree-same}
 use Rattle.layer_assign.specs.Spans.{span_of}
 use Rattle.steiner_topology.specs.Topology.{topology_of}
 use Rattle.net_plan.specs.FlatPrices.{flat_price}
@@ -102,35 +103,14 @@ met-same g t pins a b node alike =
     ap (λ (xs : List ℕ). pin_layers g pins (tile_at t node) ++ xs)
     (map-same (ends_at t node) a b (length t.nodes) 0 (λ v below ends. alike v (later-end t node v ends) (omega arith)))
 
-wire-same : (g : Shape) (t : TreeView) (a b : ℕ → ℕ) (e : Edge) (node : ℕ) → IsTree t → AreAlike a b (length t.nodes) → node < length t.nodes →
-    is_wire_of g t a node e ≡ is_wire_of g t b node e
-wire-same g t a b e node tree alike below =
-    let f : ℕ → Option Edge → Bool = λ layer o. unwrap_or (option_map (λ (h : Edge). is_edge e (on_layer g layer h)) o) false in
-    elim (cases_eq node 0) [
-      | inl root ↦
-          let none : parent_edge t node ≡ None = ap (parent_edge t) root ∙ root_edge t tree in
-          ap (f (a node)) none ∙ sym (ap (f (b node)) none)
-      | inr other ↦ ap (λ (layer : ℕ). f layer (parent_edge t node)) (alike node (omega arith) below)
-    ]
-
-edges-same : (g : Shape) (t : TreeView) (pins : List ℕ) (a b : ℕ → ℕ) (e : Edge) → IsTree t → AreAlike a b (length t.nodes) →
-    raised_edges g t pins a e ≡ raised_edges g t pins b e
-edges-same g t pins a b e tree alike =
-    let wires = any-same (λ node. is_wire_of g t a node e) (λ node. is_wire_of g t b node e) (length t.nodes) 0
-    (λ node below. wire-same g t a b e node tree alike (omega arith)) in
-    let vias = any-same (λ node. is_via_in g (tile_at t node) (span_of (met g t pins a node)) e) (λ node. is_via_in g (tile_at t node) (span_of (met g t pins b node)) e)
-    (length t.nodes) 0 (λ node below. ap (λ (layers : List ℕ). is_via_in g (tile_at t node) (span_of layers) e) (met-same g t pins a b node alike)) in
-    ap (λ (x : Bool). x || list_any (λ node. is_via_in g (tile_at t node) (span_of (met g t pins a node)) e) (range_with_len 0 (length t.nodes))) wires ∙
-    ap (λ (x : Bool). list_any (λ node. is_wire_of g t b node e) (range_with_len 0 (length t.nodes)) || x) vias
-
--- two pattern plans have the same edges
+-- there is one pattern plan
 pub pattern-only : (g : Shape) (ways : ℕ → Way → Bool) (price : Edge → Option ℕ) (pins : List ℕ) (t u : TreeView) → IsPatternTree g ways price pins t →
-    IsPatternTree g ways price pins u → (e : Edge) → edges_of u e ≡ edges_of t e
-pattern-only g ways price pins t u one other e =
+    IsPatternTree g ways price pins u → u ≡ t
+pattern-only g ways price pins t u one other =
     let flat = flat-only g price pins other.flat one.flat other.is_flat one.is_flat in
     let assigned = subst (λ (f : TreeView). IsAssignment g ways f other.layers) flat other.assignment in
     let least = subst (λ (f : TreeView). IsLeast g ways price f pins other.layers) flat other.least in
     let first = subst (λ (f : TreeView). IsFirst g ways price f pins other.layers) flat other.first in
     let alike = assignment-only g ways price one.flat pins other.layers one.layers assigned one.assignment least one.least first one.first in
-    other.edges e ∙ ap (λ (f : TreeView). raised_edges g f pins other.layers e) flat ∙
-    edges-same g one.flat pins other.layers one.layers e one.flat_tree alike ∙ sym (one.edges e)
+    other.nodes ∙ ap (λ (f : TreeView). raised_tree g f pins other.layers) flat ∙
+    tree-same g one.flat pins other.layers one.layers one.flat_tree alike (λ node. met-same g one.flat pins other.layers one.layers node alike) ∙ sym one.nodes

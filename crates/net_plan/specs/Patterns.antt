@@ -8,12 +8,13 @@ use Rattle.gr_base.specs.declared.grid.Way.{Way}
 use Rattle.grid_demand.specs.LoadSums.{LoadsView}
 use Rattle.grid_demand.specs.Tables.{CapacityView}
 use Rattle.layer_assign.specs.Assignments.{IsAssignment, IsLeast, IsFirst}
+use Rattle.layer_assign.specs.NodeOrder.{raised_tree}
 use Rattle.layer_assign.specs.Raised.{raised_edges}
 use Rattle.net_plan.specs.FlatTrees.{IsFlatTree}
 use Rattle.net_plan.specs.Prices.{price_of, ways_of}
 
 -- a tree from the first pin's cell, whose edges are those that are raised from the first least assignment of the pins'
--- flat tree
+-- flat tree, in the order in which they are raised
 pub record IsPatternTree (g : Shape) (ways : ℕ → Way → Bool) (price : Edge → Option ℕ) (pins : List ℕ) (t : TreeView)
     : Type 0 where
   pub tree : IsTree t
@@ -27,12 +28,12 @@ pub record IsPatternTree (g : Shape) (ways : ℕ → Way → Bool) (price : Edge
   pub least : IsLeast g ways price flat pins layers
   pub first : IsFirst g ways price flat pins layers
   pub edges : (e : Edge) → edges_of t e ≡ raised_edges g flat pins layers e
+  pub nodes : t ≡ raised_tree g flat pins layers
 
 -- a pattern plan of a net, by the net's prices
 abbrev pub IsPattern : CapacityView → LoadsView → Formula → ℕ → List ℕ → TreeView → Type 0
 IsPattern c l formula net pins t = IsPatternTree c.shape (ways_of c) (price_of c l formula net) pins t
 
--- any other such plan has the tree's edges
-abbrev pub HasPatternEdges : CapacityView → LoadsView → Formula → ℕ → List ℕ → TreeView → Type 0
-HasPatternEdges c l formula net pins t =
-    (other : TreeView) → IsPattern c l formula net pins other → (e : Edge) → edges_of other e ≡ edges_of t e
+-- there is no other such plan
+abbrev pub IsOnlyPattern : CapacityView → LoadsView → Formula → ℕ → List ℕ → TreeView → Type 0
+IsOnlyPattern c l formula net pins t = (other : TreeView) → IsPattern c l formula net pins other → other ≡ t

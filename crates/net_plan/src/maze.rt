@@ -12,10 +12,10 @@ ghost use Rattle.net_plan.specs.Prices.{HasBoundedDemand};
 use crate::net_costs::NetCosts;
 use crate::planner::Planner;
 use crate::window::window_of;
-use cost_rules::{CostRule, Costs};
+use cost_rules::CostRule;
 use gr_base::{Design, RouteTree, Shape};
 use grid_demand::{Capacity, Loads};
-use maze_route::{MazeRoom, Scales, Window, least_walk_by};
+use maze_route::{MazeRoom, RunCosts, Window, least_walk_by};
 use std::alloc::{AllocError, Global};
 
 /// The maze plan of a routed net over the loads of a design, in which no wire edge has a demand
@@ -52,7 +52,7 @@ pub fn maze_plan(
 }
 
 /// The tree that grows in a window from the first pin's cell to the cells of all pins.
-fn grow<C: Costs>(
+fn grow<C: RunCosts>(
     alloc: Global,
     room: &mut MazeRoom,
     costs: &C,
@@ -71,12 +71,11 @@ fn grow<C: Costs>(
     ensures driver { IfOk result (λ t. cell_at t.nodes 0 ≡ slice_get pins.now 0) }
     ensures pins { IfOk result (λ t. All (λ pin. IsTrue (holds t pin)) pins.now) }
 {
-    let scales = Scales::new(alloc, costs, shape, window)?;
-    room.begin(shape, window)?;
+    room.begin(alloc, costs, shape, window)?;
     let mut tree = RouteTree::start(alloc, shape, pins[0])?;
     let mut goals = missing(alloc, &tree, pins)?;
     while !goals.is_empty() {
-        let walk = least_walk_by(alloc, room, &scales, costs, window, &tree, &goals)?;
+        let walk = least_walk_by(alloc, room, costs, window, &tree, &goals)?;
         tree.attach(walk.as_slice())?;
         goals = others(alloc, &goals, walk.as_slice())?;
     }

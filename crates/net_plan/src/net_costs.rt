@@ -4,9 +4,11 @@ ghost use Rattle.gr_base.specs.Grid.{has_edge, is_wire};
 ghost use Rattle.grid_demand.specs.Tables.{capacity_of};
 ghost use Rattle.net_plan.specs.Prices.{HasBoundedDemand, HasNetPrices, kept_prices, site_of, price_of, ways_of};
 
+use crate::site_run::SiteRun;
 use cost_rules::{CostRule, Costs, Site, VIA_COST};
 use gr_base::{Design, Edge, Frame, Way};
 use grid_demand::{Capacity, Loads};
+use maze_route::{RunCosts, price_each};
 
 /// What the edges of a design's grid cost a net over given loads: a via edge
 /// what each via edge costs, a usable wire edge what the rule gives at the edge's demand, capacity and marks and the
@@ -65,7 +67,8 @@ impl<'a> NetCosts<'a> {
     }
 
     /// What a site costs by the rule. Where the net fits and no mark was left, each formula gives 1.
-    fn cost_at(&self, site: Site) -> u64
+    #[inline(always)]
+    pub(crate) fn cost_at(&self, site: Site) -> u64
         requires { IsInRange site }
         ensures value { result ≡ cost_at self.now.rule.now.formula site }
         ensures least { 1 ≤ result }
@@ -111,5 +114,31 @@ impl Costs for NetCosts<'_> {
 
     fn least_via(&self) -> u64 {
         VIA_COST
+    }
+}
+
+impl RunCosts for NetCosts<'_> {
+    // The edges lie on one layer, so the net takes the same of each.
+    fn price_run(&self, from: Edge, count: u32, first: usize, prices: &mut Vec<u32>) {
+        if count == 0 {
+            return;
+        }
+        let Some(demands) = self.loads.demand_run(from, count) else {
+            price_each(self, from, count, first, prices);
+            return;
+        };
+        let Some(marks) = self.loads.marks_run(from, count) else {
+            price_each(self, from, count, first, prices);
+            return;
+        };
+        let capacities = self.capacity.run(from, count);
+        let need = self.capacity.need(self.net, from);
+        let sites = SiteRun {
+            demands,
+            marks,
+            capacities,
+            need,
+        };
+        self.price_sites(from, &sites, first, prices);
     }
 }

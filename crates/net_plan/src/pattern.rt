@@ -5,7 +5,7 @@ ghost use Rattle.gr_base.specs.Trees.{TreeView, edges_of};
 ghost use Rattle.gr_base.specs.declared.frame.Net.{Net};
 ghost use Rattle.gr_base.specs.declared.grid.Edge.{Edge};
 ghost use Rattle.grid_demand.specs.Tables.{capacity_of};
-ghost use Rattle.net_plan.specs.Patterns.{IsPattern, HasPatternEdges};
+ghost use Rattle.net_plan.specs.Patterns.{IsPattern, IsOnlyPattern};
 ghost use Rattle.net_plan.specs.Prices.{HasBoundedDemand};
 
 use crate::flat::flat_tree;
@@ -38,8 +38,7 @@ pub fn pattern_plan(
     requires loads { loads.now.shape ≡ design.now.frame.shape }
     requires demand { HasBoundedDemand loads.now }
     ensures plan { IfOk result (IsPattern capacity.now loads.now rule.now.formula net (pins_at design.now net)) }
-    // Another such plan has the same edges.
-    ensures only { IfOk result (HasPatternEdges capacity.now loads.now rule.now.formula net (pins_at design.now net)) }
+    ensures only { IfOk result (IsOnlyPattern capacity.now loads.now rule.now.formula net (pins_at design.now net)) }
     ensures routes { (wanted : Net) → slice_get design.now.nets net ≡ Some wanted →
         IfOk result (IsRouteOf design.now.frame.shape wanted) }
 {

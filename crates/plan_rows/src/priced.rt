@@ -6,6 +6,7 @@ ghost use Rattle.std.proofs.Common.{rules};
 use crate::numbers::at;
 use cost_rules::Costs;
 use gr_base::{Edge, Shape, Way};
+use maze_route::{RunCosts, price_each};
 
 /// Costs from 1 on by the low cell and a factor, up to 4 or up to 13, but for the edge between two
 /// cells, which has a cost of its own. With factor 0 each other edge costs 1.
@@ -86,5 +87,11 @@ impl Costs for Priced {
 
     fn least_via(&self) -> u64 {
         1
+    }
+}
+
+impl RunCosts for Priced {
+    fn price_run(&self, from: Edge, count: u32, first: usize, prices: &mut Vec<u32>) {
+        price_each(self, from, count, first, prices);
     }
 }

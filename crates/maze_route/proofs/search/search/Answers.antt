@@ -23,37 +23,38 @@ loop-key-init g c = record {
 
 pub spot-spot-requires : goal.spot-spot-requires
 spot-spot-requires g c =
-    let graph = pane_graph c.args.pane c.args.tree.now (g.C.Costs.price c.args.costs.now) in
-    let has = taken-has graph (rest_of c.args.pane c.args.aim.now) c.args.marks.now (size_of c.args.pane) c.loop-key.nearest c.loop-key.front c.in-Some.key c.in-Some.cell c.pop.new.self c.loop-key.invariant c.in-Some.ensures in
+    let graph = pane_graph c.args.field.now.pane c.args.tree.now (g.C.Costs.price c.args.costs.now) in
+    let has = taken-has graph (rest_of c.args.field.now.pane c.args.aim.now) c.args.marks.now (size_of c.args.field.now.pane) c.loop-key.nearest c.loop-key.front c.in-Some.key c.in-Some.cell c.pop.new.self c.loop-key.invariant c.in-Some.ensures in
     has.inside
 
 pub unwrap-label-requires : goal.unwrap-label-requires
 unwrap-label-requires g c =
-    let graph = pane_graph c.args.pane c.args.tree.now (g.C.Costs.price c.args.costs.now) in
-    let has = taken-has graph (rest_of c.args.pane c.args.aim.now) c.args.marks.now (size_of c.args.pane) c.loop-key.nearest c.loop-key.front c.in-Some.key c.in-Some.cell c.pop.new.self c.loop-key.invariant c.in-Some.ensures in
+    let graph = pane_graph c.args.field.now.pane c.args.tree.now (g.C.Costs.price c.args.costs.now) in
+    let has = taken-has graph (rest_of c.args.field.now.pane c.args.aim.now) c.args.marks.now (size_of c.args.field.now.pane) c.loop-key.nearest c.loop-key.front c.in-Some.key c.in-Some.cell c.pop.new.self c.loop-key.invariant c.in-Some.ensures in
     is-some c.at.result has.cost (c.at.ensures ∙ has.is)
 
 pub overflow_add-label : goal.overflow_add-label
 overflow_add-label g c =
-    let graph = pane_graph c.args.pane c.args.tree.now (g.C.Costs.price c.args.costs.now) in
-    let has = taken-has graph (rest_of c.args.pane c.args.aim.now) c.args.marks.now (size_of c.args.pane) c.loop-key.nearest c.loop-key.front c.in-Some.key c.in-Some.cell c.pop.new.self c.loop-key.invariant c.in-Some.ensures in
+    let graph = pane_graph c.args.field.now.pane c.args.tree.now (g.C.Costs.price c.args.costs.now) in
+    let has = taken-has graph (rest_of c.args.field.now.pane c.args.aim.now) c.args.marks.now (size_of c.args.field.now.pane) c.loop-key.nearest c.loop-key.front c.in-Some.key c.in-Some.cell c.pop.new.self c.loop-key.invariant c.in-Some.ensures in
     let same : has.cost ≡ c.unwrap-label.result = same_Some has.cost c.unwrap-label.result (sym has.is ∙ sym c.at.ensures ∙ c.unwrap-label.ensures) in
     omega (arith, same, has.small, c.distance_to.ensures.small)
 
 pub distance_to-requires : goal.distance_to-requires
 distance_to-requires g c =
     let spot = c.spot-spot.ensures.spot in
-    let bounds = fits-at c.args.pane c.args.aim.now c.spot-spot.result.local c.spot-spot.result.place c.requires.guide.fits spot.inside spot.place in
+    let bounds = fits-at c.args.field.now.pane c.args.aim.now c.spot-spot.result.local c.spot-spot.result.place c.requires.guide.fits spot.inside spot.place in
     record { column = bounds.0; row = bounds.1 }
 
 pub settle-requires : goal.settle-requires
 settle-requires g c =
-    let graph = pane_graph c.args.pane c.args.tree.now (g.C.Costs.price c.args.costs.now) in
-    let has = taken-has graph (rest_of c.args.pane c.args.aim.now) c.args.marks.now (size_of c.args.pane) c.loop-key.nearest c.loop-key.front c.in-Some.key c.in-Some.cell c.pop.new.self c.loop-key.invariant c.in-Some.ensures in
+    let graph = pane_graph c.args.field.now.pane c.args.tree.now (g.C.Costs.price c.args.costs.now) in
+    let has = taken-has graph (rest_of c.args.field.now.pane c.args.aim.now) c.args.marks.now (size_of c.args.field.now.pane) c.loop-key.nearest c.loop-key.front c.in-Some.key c.in-Some.cell c.pop.new.self c.loop-key.invariant c.in-Some.ensures in
     let same : has.cost ≡ c.unwrap-label.result = same_Some has.cost c.unwrap-label.result (sym has.is ∙ sym c.at.ensures ∙ c.unwrap-label.ensures) in
-    let rest = spot-rest c.args.pane c.args.aim.now c.spot-spot.result c.spot-spot.result.local c.distance_to.result c.spot-spot.ensures.spot refl c.distance_to.ensures.least in
+    let rest = spot-rest c.args.field.now.pane c.args.aim.now c.spot-spot.result c.spot-spot.result.local c.distance_to.result c.spot-spot.ensures.spot refl c.distance_to.ensures.least in
     record {
-      grid = c.requires.costs;
+      grid = c.requires.grid;
+      priced = c.requires.priced;
       guide = c.requires.guide;
       spot = c.spot-spot.ensures.spot;
       from = omega (arith, same, has.small);
@@ -64,47 +65,47 @@ settle-requires g c =
 pub returns-then-is_past-clause-found : goal.returns-then-is_past-clause-found
 returns-then-is_past-clause-found g c =
     let price : Edge → Option ℕ = g.C.Costs.price c.args.costs.now in
-    stop-turn (pane_graph c.args.pane c.args.tree.now price) (rest_of c.args.pane c.args.aim.now) c.args.marks.now (size_of c.args.pane) c.loop-key.nearest c.loop-key.front
-    c.in-Some.key c.in-Some.cell c.pop.new.self (pane-rest c.args.pane c.args.tree.now price c.args.aim.now c.requires.guide)
+    stop-turn (pane_graph c.args.field.now.pane c.args.tree.now price) (rest_of c.args.field.now.pane c.args.aim.now) c.args.marks.now (size_of c.args.field.now.pane) c.loop-key.nearest c.loop-key.front
+    c.in-Some.key c.in-Some.cell c.pop.new.self (pane-rest c.args.field.now.pane c.args.tree.now price c.args.aim.now c.requires.guide)
     c.loop-key.invariant c.in-Some.ensures (sym c.is_past.ensures ∙ c.if-is_past.true)
 
 pub returns-then-is_past-clause-kept : goal.returns-then-is_past-clause-kept
 returns-then-is_past-clause-kept g c = record {
-  rest = rest_of c.args.pane c.args.aim.now;
-  searching = search-again (pane_graph c.args.pane c.args.tree.now (g.C.Costs.price c.args.costs.now)) (rest_of c.args.pane c.args.aim.now) (labels_of c.loop-key.front)
-      c.loop-key.front.queue.pairs c.push.new.self.pairs (size_of c.args.pane) c.loop-key.invariant.searching
+  rest = rest_of c.args.field.now.pane c.args.aim.now;
+  searching = search-again (pane_graph c.args.field.now.pane c.args.tree.now (g.C.Costs.price c.args.costs.now)) (rest_of c.args.field.now.pane c.args.aim.now) (labels_of c.loop-key.front)
+      c.loop-key.front.queue.pairs c.push.new.self.pairs (size_of c.args.field.now.pane) c.loop-key.invariant.searching
       (IsPermutation-trans c.loop-key.front.queue.pairs _ c.push.new.self.pairs c.in-Some.ensures.pairs c.in_ok-push.ensures.ok.pairs);
 }
 
 pub loop-key-preserved : goal.loop-key-preserved
 loop-key-preserved g c =
-    (settled-turn c.args.pane c.args.tree.now (g.C.Costs.grid c.args.costs.now) (g.C.Costs.ways c.args.costs.now) (g.C.Costs.price c.args.costs.now) c.args.aim.now c.args.marks.now
+    (settled-turn c.args.field.now.pane c.args.tree.now (g.C.Costs.grid c.args.costs.now) (g.C.Costs.ways c.args.costs.now) (g.C.Costs.price c.args.costs.now) c.args.aim.now c.args.marks.now
     c.loop-key.nearest c.nearest_with-nearest.result c.loop-key.front c.settle.new.front c.pop.new.self c.spot-spot.result c.in-Some.key c.in-Some.cell c.unwrap-label.result
-    c.distance_to.result c.requires.costs (g.met.C.Costs.prices c.args.costs.now) c.loop-key.invariant c.in-Some.ensures (sym c.at.ensures ∙ c.unwrap-label.ensures)
+    c.distance_to.result c.requires.grid (g.met.C.Costs.prices c.args.costs.now) c.loop-key.invariant c.in-Some.ensures (sym c.at.ensures ∙ c.unwrap-label.ensures)
     c.spot-spot.ensures.spot c.spot-spot.ensures.local c.distance_to.ensures.least (omega (arith, c.if-label-distance_to.false)) c.nearest_with-nearest.ensures c.requires.aim
     c.in_ok-settle.ensures).0
 
 pub loop-key-smaller : goal.loop-key-smaller
 loop-key-smaller g c =
-    (settled-turn c.args.pane c.args.tree.now (g.C.Costs.grid c.args.costs.now) (g.C.Costs.ways c.args.costs.now) (g.C.Costs.price c.args.costs.now) c.args.aim.now c.args.marks.now
+    (settled-turn c.args.field.now.pane c.args.tree.now (g.C.Costs.grid c.args.costs.now) (g.C.Costs.ways c.args.costs.now) (g.C.Costs.price c.args.costs.now) c.args.aim.now c.args.marks.now
     c.loop-key.nearest c.nearest_with-nearest.result c.loop-key.front c.settle.new.front c.pop.new.self c.spot-spot.result c.in-Some.key c.in-Some.cell c.unwrap-label.result
-    c.distance_to.result c.requires.costs (g.met.C.Costs.prices c.args.costs.now) c.loop-key.invariant c.in-Some.ensures (sym c.at.ensures ∙ c.unwrap-label.ensures)
+    c.distance_to.result c.requires.grid (g.met.C.Costs.prices c.args.costs.now) c.loop-key.invariant c.in-Some.ensures (sym c.at.ensures ∙ c.unwrap-label.ensures)
     c.spot-spot.ensures.spot c.spot-spot.ensures.local c.distance_to.ensures.least (omega (arith, c.if-label-distance_to.false)) c.nearest_with-nearest.ensures c.requires.aim
     c.in_ok-settle.ensures).1
 
 pub loop-key-preserved-then-label-distance_to : goal.loop-key-preserved-then-label-distance_to
 loop-key-preserved-then-label-distance_to g c =
     let is = sym c.at.ensures ∙ c.unwrap-label.ensures in
-    let rest = spot-rest c.args.pane c.args.aim.now c.spot-spot.result c.in-Some.cell c.distance_to.result c.spot-spot.ensures.spot c.spot-spot.ensures.local c.distance_to.ensures.least in
-    let turn = stale-turn (pane_graph c.args.pane c.args.tree.now (g.C.Costs.price c.args.costs.now)) (rest_of c.args.pane c.args.aim.now) c.args.marks.now (size_of c.args.pane) c.loop-key.nearest
+    let rest = spot-rest c.args.field.now.pane c.args.aim.now c.spot-spot.result c.in-Some.cell c.distance_to.result c.spot-spot.ensures.spot c.spot-spot.ensures.local c.distance_to.ensures.least in
+    let turn = stale-turn (pane_graph c.args.field.now.pane c.args.tree.now (g.C.Costs.price c.args.costs.now)) (rest_of c.args.field.now.pane c.args.aim.now) c.args.marks.now (size_of c.args.field.now.pane) c.loop-key.nearest
     c.loop-key.front c.in-Some.key c.in-Some.cell c.unwrap-label.result c.pop.new.self c.loop-key.invariant c.in-Some.ensures is (omega (arith, rest, c.if-label-distance_to.true)) in
     turn.0
 
 pub loop-key-smaller-then-label-distance_to : goal.loop-key-smaller-then-label-distance_to
 loop-key-smaller-then-label-distance_to g c =
     let is = sym c.at.ensures ∙ c.unwrap-label.ensures in
-    let rest = spot-rest c.args.pane c.args.aim.now c.spot-spot.result c.in-Some.cell c.distance_to.result c.spot-spot.ensures.spot c.spot-spot.ensures.local c.distance_to.ensures.least in
-    let turn = stale-turn (pane_graph c.args.pane c.args.tree.now (g.C.Costs.price c.args.costs.now)) (rest_of c.args.pane c.args.aim.now) c.args.marks.now (size_of c.args.pane) c.loop-key.nearest
+    let rest = spot-rest c.args.field.now.pane c.args.aim.now c.spot-spot.result c.in-Some.cell c.distance_to.result c.spot-spot.ensures.spot c.spot-spot.ensures.local c.distance_to.ensures.least in
+    let turn = stale-turn (pane_graph c.args.field.now.pane c.args.tree.now (g.C.Costs.price c.args.costs.now)) (rest_of c.args.field.now.pane c.args.aim.now) c.args.marks.now (size_of c.args.field.now.pane) c.loop-key.nearest
     c.loop-key.front c.in-Some.key c.in-Some.cell c.unwrap-label.result c.pop.new.self c.loop-key.invariant c.in-Some.ensures is (omega (arith, rest, c.if-label-distance_to.true)) in
     turn.1
 
@@ -113,11 +114,11 @@ returns g c =
     let price : Edge → Option ℕ = g.C.Costs.price c.args.costs.now in
     record {
       kept = record {
-        rest = rest_of c.args.pane c.args.aim.now;
-        searching = subst (λ (q : QueueView). IsSearching (pane_graph c.args.pane c.args.tree.now price) (rest_of c.args.pane c.args.aim.now)
-            (labels_of c.loop-key.front) q.pairs (size_of c.args.pane)) (sym c.in_default.ensures.1) c.loop-key.invariant.searching;
+        rest = rest_of c.args.field.now.pane c.args.aim.now;
+        searching = subst (λ (q : QueueView). IsSearching (pane_graph c.args.field.now.pane c.args.tree.now price) (rest_of c.args.field.now.pane c.args.aim.now)
+            (labels_of c.loop-key.front) q.pairs (size_of c.args.field.now.pane)) (sym c.in_default.ensures.1) c.loop-key.invariant.searching;
       };
-      found = end-turn (pane_graph c.args.pane c.args.tree.now price) (rest_of c.args.pane c.args.aim.now) c.args.marks.now (size_of c.args.pane) c.loop-key.nearest c.loop-key.front
-          (pane-rest c.args.pane c.args.tree.now price c.args.aim.now c.requires.guide) c.requires.aim c.loop-key.invariant c.in_default.ensures.0 c.requires.goal;
+      found = end-turn (pane_graph c.args.field.now.pane c.args.tree.now price) (rest_of c.args.field.now.pane c.args.aim.now) c.args.marks.now (size_of c.args.field.now.pane) c.loop-key.nearest c.loop-key.front
+          (pane-rest c.args.field.now.pane c.args.tree.now price c.args.aim.now c.requires.guide) c.requires.aim c.loop-key.invariant c.in_default.ensures.0 c.requires.goal;
       size = c.loop-key.invariant.size_is;
     }

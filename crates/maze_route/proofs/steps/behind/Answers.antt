@@ -1,39 +1,41 @@
-use Rattle.std.proofs.Common.{◌≡◌, ℕ, ◌-◌, IsTrue, sym, subst, ◌∙◌, arith}
-use Rattle.gr_base.specs.declared.grid.Shape.{Shape}
-use Rattle.gr_base.specs.Grid.{stride, has_edge, edge_at}
+use Rattle.std.proofs.Common.{◌≡◌, ℕ, ◌-◌, ◌<◌, IsTrue, sym, subst, ◌∙◌, arith}
+use Rattle.gr_base.specs.Grid.{place_at, stride, has_room}
 use Rattle.maze_route.proofs.SpotLemmas.{spot-behind, no-behind, step-back, place-back, rest-at, fits-at, made, unmade}
-use Rattle.maze_route.specs.Steps.{cell_in}
+use Rattle.maze_route.specs.Steps.{size_of, cell_in}
+use Rattle.maze_route.proofs.StepLemmas.{next-room}
 use Rattle.maze_route.proofs.steps.behind.Goals as goal
 
 pub overflow_sub-low : goal.overflow_sub-low
 overflow_sub-low g c =
-    let back = spot-behind c.args.pane c.args.spot c.args.way c.requires.spot (sym c.has_behind.ensures ∙ c.if-not-has_behind.false) in
+    let back = spot-behind c.args.field.now.pane c.args.spot c.args.way c.requires.spot (sym c.has_behind.ensures ∙ c.if-not-has_behind.false) in
     omega (arith, c.stride.ensures, back.next.high, c.requires.spot.cell)
 
 pub cost-requires : goal.cost-requires
 cost-requires g c =
-    let P : Shape → Type 0 = λ s. IsTrue (has_edge s (edge_at (c.args.spot.cell - c.stride.result) c.args.way)) in
-    let to = c.args.spot.local - stride c.args.pane.shape c.args.way in
-    let back = spot-behind c.args.pane c.args.spot c.args.way c.requires.spot (sym c.has_behind.ensures ∙ c.if-not-has_behind.false) in
-    let Q : ℕ → Type 0 = λ n. IsTrue (has_edge c.args.pane.grid (edge_at n c.args.way)) in
-    let low : c.args.spot.cell - c.stride.result ≡ cell_in c.args.pane to = omega (arith, c.stride.ensures, back.next.high, c.requires.spot.cell) in
-    subst P (sym c.requires.grid) (subst Q (sym low) back.next.edge)
+    let p = c.args.field.now.pane in
+    let to = c.args.spot.local - stride p.shape c.args.way in
+    let back = spot-behind p c.args.spot c.args.way c.requires.spot (sym c.has_behind.ensures ∙ c.if-not-has_behind.false) in
+    let local : to ≡ c.args.spot.local - c.stride-2.result = omega (arith, c.stride-2.ensures) in
+    let P : ℕ → Type 0 = λ n. (n < size_of p) × ((c.args.spot.cell - c.stride.result ≡ cell_in p n) × IsTrue (has_room p.shape (place_at p.shape n) c.args.way)) in
+    let low : c.args.spot.cell - c.stride.result ≡ cell_in p to = omega (arith, c.stride.ensures, back.next.high, c.requires.spot.cell) in
+    let all = subst P local (back.next.low_inside, (low, next-room p to c.args.spot.local c.args.way back.next)) in
+    record { grid = c.requires.grid; priced = c.requires.priced; inside = all.0; low = all.1.0; room = all.1.1 }
 
 pub returns-then-not-has_behind-clause-step : goal.returns-then-not-has_behind-clause-step
 returns-then-not-has_behind-clause-step g c =
-    no-behind c.args.pane (g.C.Costs.price c.args.costs.now) c.args.aim.now c.args.spot c.args.way c.requires.spot (sym c.has_behind.ensures ∙ c.if-not-has_behind.true)
+    no-behind c.args.field.now.pane (g.C.Costs.price c.args.costs.now) c.args.aim.now c.args.spot c.args.way c.requires.spot (sym c.has_behind.ensures ∙ c.if-not-has_behind.true)
 
 pub returns-in_default-clause-step : goal.returns-in_default-clause-step
 returns-in_default-clause-step g c =
-    let to = c.args.spot.local - stride c.args.pane.shape c.args.way in
-    let back = spot-behind c.args.pane c.args.spot c.args.way c.requires.spot (sym c.has_behind.ensures ∙ c.if-not-has_behind.false) in
-    let low : c.args.spot.cell - c.stride.result ≡ cell_in c.args.pane to = omega (arith, c.stride.ensures, back.next.high, c.requires.spot.cell) in
-    unmade c.args.pane c.args.aim.now to c.cost.result c.in_default.is _
-    (step-back c.args.pane (g.C.Costs.price c.args.costs.now) c.args.aim.now c.args.spot c.args.way to (c.args.spot.cell - c.stride.result) c.cost.result c.requires.spot back.next low c.cost.ensures.price)
+    let to = c.args.spot.local - stride c.args.field.now.pane.shape c.args.way in
+    let back = spot-behind c.args.field.now.pane c.args.spot c.args.way c.requires.spot (sym c.has_behind.ensures ∙ c.if-not-has_behind.false) in
+    let low : c.args.spot.cell - c.stride.result ≡ cell_in c.args.field.now.pane to = omega (arith, c.stride.ensures, back.next.high, c.requires.spot.cell) in
+    unmade c.args.field.now.pane c.args.aim.now to c.cost.result c.in_default.is _
+    (step-back c.args.field.now.pane (g.C.Costs.price c.args.costs.now) c.args.aim.now c.args.spot c.args.way to (c.args.spot.cell - c.stride.result) c.cost.result c.requires.spot back.next low c.cost.ensures.price)
 
 pub overflow_sub-cell : goal.overflow_sub-cell
 overflow_sub-cell g c =
-    let back = spot-behind c.args.pane c.args.spot c.args.way c.requires.spot (sym c.has_behind.ensures ∙ c.if-not-has_behind.false) in
+    let back = spot-behind c.args.field.now.pane c.args.spot c.args.way c.requires.spot (sym c.has_behind.ensures ∙ c.if-not-has_behind.false) in
     omega (arith, c.stride-2.ensures, back.sum)
 
 pub one_back-requires : goal.one_back-requires
@@ -41,16 +43,16 @@ one_back-requires g c = sym c.has_behind.ensures ∙ c.if-not-has_behind.false
 
 pub distance_to-requires : goal.distance_to-requires
 distance_to-requires g c =
-    let to = c.args.spot.local - stride c.args.pane.shape c.args.way in
-    let back = spot-behind c.args.pane c.args.spot c.args.way c.requires.spot (sym c.has_behind.ensures ∙ c.if-not-has_behind.false) in
-    let bounds = fits-at c.args.pane c.args.aim.now to c.one_back.result c.requires.aim back.next.low_inside (place-back c.args.pane c.args.spot c.args.way to c.one_back.result c.requires.spot back.next c.one_back.ensures) in
+    let to = c.args.spot.local - stride c.args.field.now.pane.shape c.args.way in
+    let back = spot-behind c.args.field.now.pane c.args.spot c.args.way c.requires.spot (sym c.has_behind.ensures ∙ c.if-not-has_behind.false) in
+    let bounds = fits-at c.args.field.now.pane c.args.aim.now to c.one_back.result c.requires.aim back.next.low_inside (place-back c.args.field.now.pane c.args.spot c.args.way to c.one_back.result c.requires.spot back.next c.one_back.ensures) in
     record { column = bounds.0; row = bounds.1 }
 
 pub returns-clause-step : goal.returns-clause-step
 returns-clause-step g c =
-    let to = c.args.spot.local - stride c.args.pane.shape c.args.way in
-    let back = spot-behind c.args.pane c.args.spot c.args.way c.requires.spot (sym c.has_behind.ensures ∙ c.if-not-has_behind.false) in
-    let low : c.args.spot.cell - c.stride.result ≡ cell_in c.args.pane to = omega (arith, c.stride.ensures, back.next.high, c.requires.spot.cell) in
-    let rest = rest-at c.args.pane c.args.aim.now to c.distance_to.result c.one_back.result (place-back c.args.pane c.args.spot c.args.way to c.one_back.result c.requires.spot back.next c.one_back.ensures) c.distance_to.ensures.least in
-    made c.args.pane c.args.aim.now to (c.args.spot.local - c.stride-2.result) c.in-Some.cost c.distance_to.result c.cost.result c.in-Some.is (omega (arith, c.stride-2.ensures)) rest _
-    (step-back c.args.pane (g.C.Costs.price c.args.costs.now) c.args.aim.now c.args.spot c.args.way to (c.args.spot.cell - c.stride.result) c.cost.result c.requires.spot back.next low c.cost.ensures.price)
+    let to = c.args.spot.local - stride c.args.field.now.pane.shape c.args.way in
+    let back = spot-behind c.args.field.now.pane c.args.spot c.args.way c.requires.spot (sym c.has_behind.ensures ∙ c.if-not-has_behind.false) in
+    let low : c.args.spot.cell - c.stride.result ≡ cell_in c.args.field.now.pane to = omega (arith, c.stride.ensures, back.next.high, c.requires.spot.cell) in
+    let rest = rest-at c.args.field.now.pane c.args.aim.now to c.distance_to.result c.one_back.result (place-back c.args.field.now.pane c.args.spot c.args.way to c.one_back.result c.requires.spot back.next c.one_back.ensures) c.distance_to.ensures.least in
+    made c.args.field.now.pane c.args.aim.now to (c.args.spot.local - c.stride-2.result) c.in-Some.cost c.distance_to.result c.cost.result c.in-Some.is (omega (arith, c.stride-2.ensures)) rest _
+    (step-back c.args.field.now.pane (g.C.Costs.price c.args.costs.now) c.args.aim.now c.args.spot c.args.way to (c.args.spot.cell - c.stride.result) c.cost.result c.requires.spot back.next low c.cost.ensures.price)

@@ -1,7 +1,6 @@
 use Rattle.std.proofs.Common.{sym, subst, ◌∙◌}
 use Rattle.gr_base.specs.declared.grid.Shape.{Shape}
 use Rattle.maze_route.proofs.KeptLemmas.{serves-grown}
-use Rattle.maze_route.specs.Scales.{AreScales}
 use Rattle.maze_route.specs.Windows.{IsWindow, IsPassable, LieIn}
 use Rattle.net_plan.proofs.GrowthLemmas.{adds-keeps, growing-first, growing-goals, growing-turn, growing-done, growing-pins, growing-driver, no-goals}
 use Rattle.net_plan.proofs.maze.grow.Goals as goal
@@ -10,14 +9,10 @@ pub loop-alloc-init : goal.loop-alloc-init
 loop-alloc-init g c =
     let growing = growing-first c.args.shape c.args.window (g.C.Costs.price c.args.costs.now) c.args.pins.now c.in_ok-tree.tree c.in_ok-goals.goals.items c.requires.some c.requires.pins
     c.in_ok-tree.ensures.tree c.in_ok-goals.ensures in
-    record { growing = growing; serves = c.in_ok-begin.ensures c.in_ok-tree.tree (g.C.Costs.price c.args.costs.now) growing.shape }
+    record { growing = growing; serves = c.in_ok-begin.ensures c.in_ok-tree.tree growing.shape }
 
 pub least_walk_by-requires-clause-window : goal.least_walk_by-requires-clause-window
 least_walk_by-requires-clause-window g c = subst (λ (s : Shape). IsWindow s c.args.window) (sym c.loop-alloc.invariant.growing.shape) c.requires.window
-
-pub least_walk_by-requires-clause-scales : goal.least_walk_by-requires-clause-scales
-least_walk_by-requires-clause-scales g c =
-    subst (λ (s : Shape). AreScales s c.args.window (g.C.Costs.price c.args.costs.now) c.in_ok-scales.scales) (sym c.loop-alloc.invariant.growing.shape) c.in_ok-scales.ensures
 
 pub least_walk_by-requires-clause-passable : goal.least_walk_by-requires-clause-passable
 least_walk_by-requires-clause-passable g c =

@@ -4,6 +4,7 @@ use Rattle.gr_base.specs.declared.grid.Edge.{Edge}
 use Rattle.gr_base.specs.declared.grid.Shape.{Shape}
 use Rattle.grid_demand.specs.Tables.{CapacityView}
 use Rattle.layer_assign.specs.Assignments.{HasLayers}
+use Rattle.layer_assign.specs.NodeOrder.{raised_tree}
 use Rattle.layer_assign.specs.Raised.{raised_edges}
 use Rattle.net_plan.specs.FlatTrees.{IsFlatTree}
 use Rattle.net_plan.specs.Prices.{price_of, ways_of}
@@ -42,8 +43,9 @@ returns-clause-plan g c =
     let shape : s ≡ d.frame.shape = c.shape-shape.ensures.shape ∙ ap (λ (x : CapacityView). x.shape) c.requires.capacity in
     let is_flat : IsFlatTree s price cells flat = subst (λ (x : Shape). IsFlatTree x price cells flat) (sym shape) c.in_ok-flat.ensures.tree in
     let pins = c.as_slice-pins.ensures ∙ sym (pins-of d costs.net c.net.result.now c.net.ensures.net) in
-    if-three {P = λ t. IsTree t × (t.shape ≡ s)} {Q = λ t. cell_at t.nodes 0 ≡ slice_get cells 0} {R = λ t. (e : Edge) → edges_of t e ≡ raised_edges s flat cells layers e} c.raise.result
-    (λ t whole driver edges.
+    if-three {P = λ t. IsTree t × (t.shape ≡ s)} {Q = λ t. cell_at t.nodes 0 ≡ slice_get cells 0}
+    {R = λ t. ((e : Edge) → edges_of t e ≡ raised_edges s flat cells layers e) × (t ≡ raised_tree s flat cells layers)} c.raise.result
+    (λ t whole driver raised.
     same-plan s costs.capacity.now costs.capacity.now costs.loads.now costs.loads.now costs.rule.now.formula costs.rule.now.formula costs.net costs.net cells _ t
     c.shape-shape.ensures.shape refl refl refl refl pins (record {
       tree = whole.0;
@@ -56,9 +58,12 @@ returns-clause-plan g c =
       assignment = c.in_ok-layers.ensures.assignment;
       least = c.in_ok-layers.ensures.least;
       first = c.in_ok-layers.ensures.first;
-      edges = edges;
+      edges = raised.0;
+      nodes = raised.1;
     }))
-    (if-both {P = IsTree} {Q = λ t. t.shape ≡ s} c.raise.result (λ t rooted same. (rooted, same)) c.raise.ensures.tree c.raise.ensures.shape) c.raise.ensures.driver c.raise.ensures.edges
+    (if-both {P = IsTree} {Q = λ t. t.shape ≡ s} c.raise.result (λ t rooted same. (rooted, same)) c.raise.ensures.tree c.raise.ensures.shape) c.raise.ensures.driver
+    (if-both {P = λ t. (e : Edge) → edges_of t e ≡ raised_edges s flat cells layers e} {Q = λ t. t ≡ raised_tree s flat cells layers} c.raise.result
+    (λ t edges nodes. (edges, nodes)) c.raise.ensures.edges c.raise.ensures.nodes)
 
 pub returns-clause-routes : goal.returns-clause-routes
 returns-clause-routes g c =

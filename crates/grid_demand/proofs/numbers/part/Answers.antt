@@ -1,0 +1,5 @@
+use Rattle.grid_demand.proofs.RunLemmas.{part-is}
+use Rattle.grid_demand.proofs.numbers.part.Goals as goal
+
+pub returns : goal.returns
+returns c = part-is c.args.numbers.now c.args.from c.args.to c.requires.range c.requires.inside
