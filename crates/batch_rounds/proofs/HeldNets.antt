@@ -89,7 +89,7 @@ no-mark-release : (net : ℕ) → Release net ≡ Mark → ⊥
 no-mark-release net is = cc
 
 -- what a claim, a release and a mark may do to a booking
-claim-books : (net : ℕ) (old : Option TreeView) (claim : Claim) (reply : Reply) →
+pub claim-books : (net : ℕ) (old : Option TreeView) (claim : Claim) (reply : Reply) →
     (booked_by net old (Claims claim) reply ≡ old) ⊎ ((claim.net ≡ net) × (booked_by net old (Claims claim) reply ≡ Some claim.tree))
 claim-books net old claim Claimed = elim (cases_Bool (claim.net == net)) [
   | inl same ↦ inr (grind (arith, nat_tests), ap (λ (b : Bool). if b then Some claim.tree else old) same)

@@ -1,7 +1,7 @@
 pub mod HeldNets
-pub mod AlikeBooks
-pub mod AlikePatterns
-pub mod AlikeRounds
+pub mod PatternPrices
+pub mod OnlyHistories
 pub mod SeatSteps
 pub mod RoundSteps
 pub mod PlanSteps
+pub mod KeptPlans

@@ -1,7 +1,7 @@
 -- Plans of a net in a round.
-use Rattle.std.proofs.Common.{◌≡◌, ℕ, zero, suc, ◌*◌, ◌<◌, List, Result, Ok, Err, Some, slice_get, IfOk, refl, sym, subst, arith}
+use Rattle.std.proofs.Common.{◌≡◌, ℕ, zero, suc, ◌*◌, ◌<◌, List, Result, Ok, Err, Some, slice_get, IfOk, IsTrue, refl, sym, subst, ◌∙◌, arith}
 use Rattle.cost_rules.specs.declared.site.Formula.{Formula}
-use Rattle.gr_base.specs.Designs.{DesignView, pins_at}
+use Rattle.gr_base.specs.Designs.{DesignView, is_routed, pins_at}
 use Rattle.gr_base.specs.Plans.{IsRouteOf}
 use Rattle.gr_base.specs.Trees.{TreeView}
 use Rattle.gr_base.specs.declared.frame.Net.{Net}
@@ -12,7 +12,7 @@ use Rattle.net_plan.specs.Patterns.{IsPattern}
 use Rattle.book_state.specs.Books.{AreLoadsOf}
 use Rattle.book_state.specs.declared.entry.Entry.{Entry}
 use Rattle.book_state.specs.declared.entry.PlanKind.TheVariants.{Pattern, Maze}
-use Rattle.round_core.proofs.TurnLemmas.{plan-after}
+use Rattle.round_core.proofs.TurnLemmas.{plan-after, routed-net}
 use Rattle.round_core.specs.Rounds.{IsRouteOfNet}
 use Rattle.batch_rounds.specs.BatchedHistories.{IsPlanIn}
 
@@ -35,3 +35,9 @@ pub routes-net : {E : Type 0} (d : DesignView) (net : ℕ) (r : Result TreeView 
     ((wanted : Net) → slice_get d.nets net ≡ Some wanted → IfOk r (IsRouteOf d.frame.shape wanted)) → IfOk r (IsRouteOfNet d net)
 routes-net d net (Ok t) routes = λ wanted is. routes wanted is
 routes-net d net (Err e) routes = tt
+
+-- it lies in the grid of the loads
+pub in-grid : {E : Type 0} (d : DesignView) (net : ℕ) (l : LoadsView) (r : Result TreeView E) → IsTrue (is_routed d net) → l.shape ≡ d.frame.shape →
+    ((wanted : Net) → slice_get d.nets net ≡ Some wanted → IfOk r (IsRouteOf d.frame.shape wanted)) → IfOk r (λ t. t.shape ≡ l.shape)
+in-grid d net l (Ok t) routed shape routes = let one = routed-net d net routed in (routes one.net one.there).shape ∙ sym shape
+in-grid d net l (Err e) routed shape routes = tt

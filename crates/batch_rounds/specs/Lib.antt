@@ -1,5 +1,5 @@
 pub mod BatchedHistories
-pub mod AlikeHistories
+pub mod SecondTries
 pub mod Seats
 pub mod Rounds
 pub mod Made

@@ -7,8 +7,11 @@ ghost use Rattle.gr_base.specs.Limits.{most_rounds};
 ghost use Rattle.grid_demand.specs.Tables.{capacity_of};
 ghost use Rattle.net_plan.specs.Prices.{HasBoundedDemand};
 ghost use Rattle.batch_rounds.specs.BatchedHistories.{IsPlanIn};
+ghost use Rattle.batch_rounds.specs.SecondTries.{IsNoted};
 
+use crate::again::demand_from;
 use crate::asked::Asked;
+use crate::seat::Planned;
 use book_state::BookState;
 use cost_rules::CostRule;
 use gr_base::{Design, RouteTree};
@@ -64,8 +67,9 @@ impl<'a> Basis<'a> {
     /// A net's plan. The only error is want of memory.
     pub(crate) fn plan(&self, planner: &mut Planner, net: u32) -> Result<RouteTree, AllocError>
         requires { IsTrue (is_routed self.now.design.now net) }
-        ensures { (h : List Entry) → AreLoadsOf (capacity_of self.now.design.now) h self.now.loads.now →
+        ensures plan { (h : List Entry) → AreLoadsOf (capacity_of self.now.design.now) h self.now.loads.now →
             IfOk result (IsPlanIn self.now.design.now self.now.rule.now.formula self.now.round h net) }
+        ensures shape { IfOk result (λ tree. tree.shape ≡ self.now.loads.now.shape) }
     {
         if self.round == 0 {
             return pattern_plan(
@@ -88,5 +92,16 @@ impl<'a> Basis<'a> {
             MARGIN * self.round,
             self.rule,
         )
+    }
+
+    /// The same, with the demand from its cells.
+    pub(crate) fn noted_plan(&self, planner: &mut Planner, net: u32) -> Result<Planned, AllocError>
+        requires { IsTrue (is_routed self.now.design.now net) }
+        ensures { (h : List Entry) → AreLoadsOf (capacity_of self.now.design.now) h self.now.loads.now →
+            IfOk result (IsNoted self.now.design.now self.now.rule.now.formula self.now.round h net) }
+    {
+        let tree = self.plan(planner, net)?;
+        let demand = demand_from(self.loads, &tree);
+        Ok(Planned { tree, demand })
     }
 }

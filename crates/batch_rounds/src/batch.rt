@@ -11,7 +11,7 @@ ghost use Rattle.batch_rounds.specs.Seats.{IsShare, HasPlanned, HavePlans};
 use crate::asked::Asked;
 use crate::basis::Basis;
 use crate::claims::{CLAIMANT, claim_net};
-use crate::seat::{Seat, all_done, take_tree};
+use crate::seat::{Seat, all_done, take_plan};
 use beside_calls::for_each_beside;
 use book_state::BookState;
 use net_plan::Planner;
@@ -115,7 +115,7 @@ fn plan_beside<R: Threads + Sync>(
     );
 }
 
-/// Claims the nets in order, each for the tree that a seat holds for it.
+/// Claims the nets in order, each for the plan that a seat holds for it.
 fn claim_all(
     alloc: Global,
     asked: &Asked,
@@ -137,9 +137,9 @@ fn claim_all(
 {
     let front = book.history().len();
     for place in 0..nets.len() {
-        let tree = take_tree(seats, place);
+        let plan = take_plan(seats, place);
         let net = nets[place];
-        claim_net(alloc, asked, round, net, tree, front, book, alone)?;
+        claim_net(alloc, asked, round, net, plan, front, book, alone)?;
     }
     Ok(())
 }

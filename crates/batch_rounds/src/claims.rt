@@ -7,12 +7,14 @@ ghost use Rattle.gr_base.specs.Limits.{most_rounds};
 ghost use Rattle.grid_demand.specs.Tables.{capacity_of};
 ghost use Rattle.round_core.specs.Attempts.{kind_of};
 ghost use Rattle.batch_rounds.specs.BatchedHistories.{claimant, after_call, is_full as is_full_reply, first_slack, IsPlanIn, IsClaimedAlone, IsTurn};
+ghost use Rattle.batch_rounds.specs.SecondTries.{IsRefused, WasNoted};
 ghost use Rattle.batch_rounds.specs.Rounds.{batching_of};
 
+use crate::again::plan_again;
 use crate::asked::Asked;
-use crate::basis::{Basis, MARGIN};
+use crate::basis::MARGIN;
+use crate::seat::Planned;
 use book_state::{BookState, Call, Claim, PlanKind, Reply};
-use gr_base::RouteTree;
 use net_plan::Planner;
 use std::alloc::{AllocError, Global};
 
@@ -53,7 +55,7 @@ pub(crate) fn claim_net(
     asked: &Asked,
     round: u32,
     net: u32,
-    tree: RouteTree,
+    planned: Planned,
     front: u64,
     book: &mut BookState,
     planner: &mut Planner,
@@ -62,44 +64,48 @@ pub(crate) fn claim_net(
     requires round { round ≤ asked.now.rounds }
     requires net { IsTrue (is_routed asked.now.design.now net) }
     requires front { front ≤ length book.old.history }
-    requires shape { tree.shape ≡ asked.now.design.now.frame.shape }
+    requires shape { planned.tree.shape ≡ asked.now.design.now.frame.shape }
+    requires planned { WasNoted asked.now.design.now asked.now.rule.now.formula round book.old.history net planned }
     ensures capacity { OnOk result (book.new.capacity ≡ capacity_of asked.now.design.now) }
     ensures turn { (h : List Entry) → front ≡ length h →
-        IsPlanIn asked.now.design.now asked.now.rule.now.formula round h net tree →
+        IsPlanIn asked.now.design.now asked.now.rule.now.formula round h net planned.tree →
         OnOk result (IsTurn (batching_of asked.now) round h net book.old.history book.new.history) }
 {
     let claim = Claim {
         net,
-        tree,
+        tree: planned.tree,
         slack: first_slack(round),
         front,
         kind: kind_of(round),
     };
     if is_full(add_claim(book, claim)?) {
-        claim_alone(alloc, asked, round, net, book, planner)?;
+        claim_alone(alloc, asked, round, net, planned.demand, book, planner)?;
     }
     Ok(())
 }
 
-/// Claims a net for its plan over the history so far, with room within capacity; and where there is none,
-/// for the same tree at any demand.
+/// Claims a net, whose first claim was refused, for its plan over the history so far, with room within
+/// capacity; and where there is none, for the same tree at any demand. The refused plan was made over this
+/// demand from its cells.
 fn claim_alone(
     alloc: Global,
     asked: &Asked,
     round: u32,
     net: u32,
+    demand: u128,
     book: &mut BookState,
     planner: &mut Planner,
 ) -> Result<(), AllocError>
     requires capacity { book.old.capacity ≡ capacity_of asked.now.design.now }
     requires round { round ≤ asked.now.rounds }
     requires net { IsTrue (is_routed asked.now.design.now net) }
+    requires refused { IsRefused asked.now.design.now asked.now.rule.now.formula round net demand book.old.history }
     ensures capacity { OnOk result (book.new.capacity ≡ capacity_of asked.now.design.now) }
     ensures alone { OnOk result
         (IsClaimedAlone (batching_of asked.now) round net book.old.history book.new.history) }
 {
     let kind = kind_of(round);
-    let tree = plan_alone(alloc, asked, round, net, book, planner)?;
+    let tree = plan_again(alloc, asked, round, net, demand, book, planner)?;
     let same = tree.copy(alloc)?;
     let front = book.history().len();
     let within = Claim {
@@ -121,24 +127,6 @@ fn claim_alone(
         add_claim(book, forced)?;
     }
     Ok(())
-}
-
-/// A net's plan over the history so far.
-fn plan_alone(
-    alloc: Global,
-    asked: &Asked,
-    round: u32,
-    net: u32,
-    book: &BookState,
-    planner: &mut Planner,
-) -> Result<RouteTree, AllocError>
-    requires capacity { book.now.capacity ≡ capacity_of asked.now.design.now }
-    requires round { round ≤ asked.now.rounds }
-    requires net { IsTrue (is_routed asked.now.design.now net) }
-    ensures { IfOk result (IsPlanIn asked.now.design.now asked.now.rule.now.formula round book.now.history net) }
-{
-    let basis = Basis::over(alloc, asked, round, book);
-    basis.plan(planner, net)
 }
 
 /// Adds a claim to the book. The only error is want of memory.

@@ -3,6 +3,7 @@
 //! threads.
 #![tactic(auto)]
 
+mod again;
 mod asked;
 mod basis;
 mod batch;
@@ -12,5 +13,5 @@ mod rounds;
 mod run;
 mod seat;
 
-pub use laws::batched_histories_are_alike;
+pub use laws::there_is_one_batched_history;
 pub use rounds::{Batched, batch_rounds};

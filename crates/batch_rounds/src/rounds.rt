@@ -1,7 +1,6 @@
 //! The rounds in batches.
 ghost use Rattle.std.specs.Prelude.{◌≤◌, IfOk};
-ghost use Rattle.gr_base.specs.Limits.{most_rounds};
-ghost use Rattle.round_core.specs.Worlds.{most_workers};
+ghost use Rattle.gr_base.specs.Limits.{most_rounds, most_workers};
 ghost use Rattle.batch_rounds.specs.BatchedHistories.{batches_of};
 ghost use Rattle.batch_rounds.specs.Made.{IsMade};
 

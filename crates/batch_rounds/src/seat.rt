@@ -1,6 +1,6 @@
 //! Seats, at which the nets of a batch are planned side by side.
 ghost use Rattle.std.specs.Prelude.{◌≡◌, ◌<◌, ◌≤◌, ℕ, List, All, Some, IfOk, OnOk, IsSome, IsTrue, length, Ok};
-ghost use Rattle.batch_rounds.specs.Seats.{IsShare, tree_for, HasPlanned};
+ghost use Rattle.batch_rounds.specs.Seats.{IsShare, plan_for, HasPlanned};
 ghost use Rattle.gr_base.specs.Designs.{is_routed};
 
 use crate::basis::Basis;
@@ -8,12 +8,20 @@ use gr_base::RouteTree;
 use net_plan::Planner;
 use std::alloc::{AllocError, Global};
 
-/// A seat: what one thread plans its nets of a batch with, and the trees that it made. It serves batch
+/// A net's plan, and the demand for the wire edges that begin at its cells, together, over which it was
+/// made.
+#[derive(Drop)]
+pub(crate) struct Planned {
+    pub(crate) tree: RouteTree,
+    pub(crate) demand: u128,
+}
+
+/// A seat: what one thread plans its nets of a batch with, and the plans that it made. It serves batch
 /// after batch.
 #[derive(Drop)]
 pub(crate) struct Seat {
     pub(crate) planner: Planner,
-    pub(crate) trees: Vec<Option<RouteTree>>,
+    pub(crate) plans: Vec<Option<Planned>>,
     /// Memory may have been wanting.
     pub(crate) done: Result<(), AllocError>,
 }
@@ -42,11 +50,11 @@ impl Seat {
         ensures { OnOk result (HasPlanned basis.now.design.now basis.now.rule.now.formula basis.now.round
             basis.now.loads.now nets.now first count self.new) }
     {
-        self.trees.clear();
+        self.plans.clear();
         let mut at = first;
         while at < nets.len() {
-            let tree = basis.plan(&mut self.planner, nets[at])?;
-            self.trees.push(Some(tree))?;
+            let plan = basis.noted_plan(&mut self.planner, nets[at])?;
+            self.plans.push(Some(plan))?;
             at += count;
         }
         Ok(())
@@ -62,7 +70,7 @@ pub(crate) fn seats_of(alloc: Global, count: u32) -> Result<Vec<Seat>, AllocErro
         let planner = Planner::new(alloc)?;
         seats.push(Seat {
             planner,
-            trees: Vec::new(alloc),
+            plans: Vec::new(alloc),
             done: Ok(()),
         })?;
     }
@@ -79,17 +87,17 @@ pub(crate) fn all_done(seats: &[Seat]) -> Result<(), AllocError>
     Ok(())
 }
 
-/// Takes the tree for a place in a batch, whose places went to the seats in turn.
-pub(crate) fn take_tree(seats: &mut [Seat], place: usize) -> RouteTree
+/// Takes the plan for a place in a batch, whose places went to the seats in turn.
+pub(crate) fn take_plan(seats: &mut [Seat], place: usize) -> Planned
     requires some { 0 < length seats.old }
-    requires there { IsSome (tree_for seats.old place) }
-    ensures tree { tree_for seats.old place ≡ Some result }
+    requires there { IsSome (plan_for seats.old place) }
+    ensures plan { plan_for seats.old place ≡ Some result }
     ensures count { length seats.new ≡ length seats.old }
-    ensures others { (other : ℕ) → (other ≡ place → ⊥) → tree_for seats.new other ≡ tree_for seats.old other }
+    ensures others { (other : ℕ) → (other ≡ place → ⊥) → plan_for seats.new other ≡ plan_for seats.old other }
 {
     let count = seats.len();
-    let Some(tree) = seats[place % count].trees[place / count].take() else {
+    let Some(plan) = seats[place % count].plans[place / count].take() else {
         unreachable!()
     };
-    tree
+    plan
 }

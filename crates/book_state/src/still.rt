@@ -28,7 +28,8 @@ impl Replica {
     /// result is true only where they leave the net's booking, and where each wire edge that begins in
     /// the window stays as much over its capacity with the net on it, and keeps its marks: then it costs
     /// the net the same. An edge may get over it by more where it doesn't join two cells of the tree: a
-    /// plan doesn't change because what it leaves aside gets dearer.
+    /// plan doesn't change because what it leaves aside gets dearer. It takes memory to look, and is false
+    /// where memory is wanting.
     pub fn catch_up_beside(&mut self, capacity: &Capacity, past: &Past, sought: &Sought<'_>) -> bool
         requires legal { IsLegal capacity.now past.now }
         requires stands { StandsFor capacity.now (take self.old.front past.now) self.old }

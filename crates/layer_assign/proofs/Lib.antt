@@ -17,3 +17,4 @@ pub mod LinkLemmas
 pub mod RaisingLemmas
 pub mod SpanLemmas
 pub mod PlantLemmas
+pub mod OrderLemmas

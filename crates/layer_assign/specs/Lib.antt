@@ -7,3 +7,4 @@ pub mod Runs
 pub mod Answers
 pub mod Raised
 pub mod Raising
+pub mod NodeOrder

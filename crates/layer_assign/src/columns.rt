@@ -1,4 +1,4 @@
-ghost use Rattle.std.specs.Prelude.{◌≡◌, ◌≢◌, ◌∷◌, [], ℕ, ◌+◌, ◌*◌, ◌<◌, ◌≤◌, false, ◌&&◌, ◌||◌, ◌==◌, Some, length, OnOk, IsTrue};
+ghost use Rattle.std.specs.Prelude.{◌≡◌, ◌≢◌, ◌∷◌, [], ℕ, ◌+◌, ◌-◌, ◌*◌, ◌<◌, ◌≤◌, false, ◌&&◌, ◌||◌, ◌==◌, Some, length, OnOk, IsTrue};
 ghost use Rattle.gr_base.specs.Grid.{cells_of, AreNeighbours};
 ghost use Rattle.gr_base.specs.EdgeSets.{is_way, set_of};
 ghost use Rattle.gr_base.specs.Trees.{cell_at, holds, walk_edges, IsTree};
@@ -6,6 +6,7 @@ ghost use Rattle.gr_base.specs.declared.grid.Way.TheVariants.{Up};
 ghost use Rattle.layer_assign.specs.Assignments.{tile_count, cell_on};
 ghost use Rattle.layer_assign.specs.Raised.{in_column, is_via_of, Grows};
 ghost use Rattle.layer_assign.specs.Raising.{IsEarly};
+ghost use Rattle.layer_assign.specs.NodeOrder.{hung_on, rising, sinking, spreading};
 
 use crate::span::Span;
 use gr_base::{RouteTree, Shape};
@@ -18,8 +19,9 @@ pub(crate) fn hang(tree: &mut RouteTree, end: u32, cell: u32, on: u32) -> Result
     requires end { end ≤ length tree.old.nodes }
     requires on { IsEarly tree.old end on }
     requires near { AreNeighbours tree.old.shape cell on }
-    ensures { OnOk result (Grows tree.old tree.new (λ other. cell == other)
+    ensures grows { OnOk result (Grows tree.old tree.new (λ other. cell == other)
         (set_of (walk_edges tree.old.shape (cell ∷ on ∷ [])))) }
+    ensures nodes { OnOk result (tree.new ≡ hung_on tree.old cell on) }
 {
     let parent = last_node_at(tree, end, on);
     tree.hang(parent, &[cell, on])
@@ -58,9 +60,10 @@ pub(crate) fn rise(tree: &mut RouteTree, tile: u32, from: u32, to: u32) -> Resul
     requires on { IsTrue (holds tree.old (cell_on tree.old.shape tile from)) }
     requires free { (layer : ℕ) → from < layer → layer ≤ to →
         holds tree.old (cell_on tree.old.shape tile layer) ≡ false }
-    ensures { OnOk result (Grows tree.old tree.new
+    ensures grows { OnOk result (Grows tree.old tree.new
         (in_column tree.old.shape tile (from + 1) (to + 1))
         (λ e. is_way e.way Up && in_column tree.old.shape tile from to e.low)) }
+    ensures nodes { OnOk result (tree.new ≡ rising tree.old.shape tile from (to - from) tree.old) }
 {
     let shape = tree.shape();
     for layer in from..to {
@@ -83,8 +86,9 @@ pub(crate) fn sink(tree: &mut RouteTree, tile: u32, from: u32, to: u32) -> Resul
     requires on { IsTrue (holds tree.old (cell_on tree.old.shape tile from)) }
     requires free { (layer : ℕ) → to ≤ layer → layer < from →
         holds tree.old (cell_on tree.old.shape tile layer) ≡ false }
-    ensures { OnOk result (Grows tree.old tree.new
+    ensures grows { OnOk result (Grows tree.old tree.new
         (in_column tree.old.shape tile to from) (λ e. is_way e.way Up && in_column tree.old.shape tile to from e.low)) }
+    ensures nodes { OnOk result (tree.new ≡ sinking tree.old.shape tile to (from - to) tree.old) }
 {
     let shape = tree.shape();
     for layer in (to..from).rev() {
@@ -113,8 +117,9 @@ pub(crate) fn spread(
     requires on { IsTrue (holds tree.old (cell_on tree.old.shape tile layer)) }
     requires free { (other : ℕ) → other ≢ layer → other < tree.old.shape.layers →
         holds tree.old (cell_on tree.old.shape tile other) ≡ false }
-    ensures { OnOk result (Grows tree.old tree.new
+    ensures grows { OnOk result (Grows tree.old tree.new
         (in_column tree.old.shape tile span.low (span.high + 1)) (is_via_of tree.old.shape tile span)) }
+    ensures nodes { OnOk result (tree.new ≡ spreading tree.old.shape tile layer span tree.old) }
 {
     rise(tree, tile, layer, span.high)?;
     sink(tree, tile, layer, span.low)

@@ -8,6 +8,7 @@ ghost use Rattle.gr_base.specs.declared.grid.Edge.{Edge as EdgeView};
 ghost use Rattle.layer_assign.specs.Spans.{IsWithin, IsSpan, span_in};
 ghost use Rattle.layer_assign.specs.Assignments.{IsFlat, tile_count, cell_on, tile_of, level_of, tile_at, parent_of, ArePins};
 ghost use Rattle.layer_assign.specs.Raised.{in_column, is_via_of, is_wire_of, Grows, AreLayers, raised_edges};
+ghost use Rattle.layer_assign.specs.NodeOrder.{planted, entering, visiting, climbing, filling, raised_from, raised_tree};
 ghost use Rattle.layer_assign.specs.Raising.{is_done, end_of, IsEarly, AreEnds, IsFree, IsIn, HoldEdges, Links, IsRaised, IsColumn};
 
 use crate::columns::{cell_at_level, hang, spread};
@@ -45,6 +46,8 @@ pub fn raise(
     ensures pins { IfOk result (λ tree. All (λ pin. IsTrue (holds tree pin)) pins.now) }
     ensures edges { IfOk result (λ tree. (e : EdgeView) →
         edges_of tree e ≡ raised_edges shape flat.now pins.now (λ node. slice_index layers.now node) e) }
+    ensures nodes { IfOk result (λ tree.
+        tree ≡ raised_tree shape flat.now pins.now (λ node. slice_index layers.now node)) }
     ensures room { room.new ≡ room.old }
 {
     room.index.extend(flat, 0);
@@ -94,6 +97,8 @@ fn raise_from(
     ensures raised { IfOk result (λ tree. IsRaised shape flat.now (λ node. slice_index layers.now node)
         (span_in spans.now)
         (Some cell) (λ _. true) 0 tree) }
+    ensures nodes { IfOk result (λ tree. tree ≡ raised_from shape flat.now (λ node. slice_index layers.now node)
+        (span_in spans.now) cell) }
 {
     let tile = cell % (shape.columns() * shape.rows());
     let start = index.node_at(flat, tile).unwrap();
@@ -130,7 +135,8 @@ fn plant(
     requires cell { cell < cells_of shape }
     requires span { IsIn span (level_of shape cell) }
     requires high { span.high < shape.layers }
-    ensures { IfOk result (IsColumn shape cell span) }
+    ensures column { IfOk result (IsColumn shape cell span) }
+    ensures nodes { IfOk result (λ tree. tree ≡ planted shape cell span) }
 {
     let tiles = shape.columns() * shape.rows();
     let mut tree = RouteTree::start_with_room(alloc, shape, cell, room)?;
@@ -157,10 +163,11 @@ fn enter(
     requires end { end ≤ length tree.old.nodes }
     requires on { IsEarly tree.old end (cell_on tree.old.shape from layer) }
     requires free { IsFree tree.old tile }
-    ensures { OnOk result (Grows tree.old tree.new (in_column tree.old.shape tile span.low (span.high + 1))
+    ensures grows { OnOk result (Grows tree.old tree.new (in_column tree.old.shape tile span.low (span.high + 1))
         (λ e. set_of (walk_edges tree.old.shape
         (cell_on tree.old.shape tile layer ∷ cell_on tree.old.shape from layer ∷ [])) e
         || is_via_of tree.old.shape tile span e)) }
+    ensures nodes { OnOk result (tree.new ≡ entering tree.old.shape from tile layer span tree.old) }
 {
     let shape = tree.shape();
     hang(
@@ -209,6 +216,8 @@ fn visit(
         (in_column tree.old.shape (tile_at flat.now to) (span_in spans.now to).low ((span_in spans.now to).high + 1))
         (λ e. is_wire_of tree.old.shape flat.now (λ node. slice_index layers.now node) edge e
         || is_via_of tree.old.shape (tile_at flat.now to) (span_in spans.now to) e)) }
+    ensures nodes { OnOk result (tree.new ≡ visiting tree.old.shape flat.now (λ node. slice_index layers.now node)
+        (span_in spans.now) edge from to tree.old) }
     ensures ends { OnOk result (ends.new.items ≡ slice_set ends.old.items to (length tree.new.nodes)) }
 {
     enter(
@@ -248,6 +257,8 @@ fn raise_ancestors(
     ensures raised { OnOk result (IsRaised tree.old.shape flat.now (λ node. slice_index layers.now node)
         (span_in spans.now)
         (cell_at tree.old.nodes 0) (is_done ends.new.items) 0 tree.new) }
+    ensures nodes { OnOk result (tree.new ≡ climbing tree.old.shape flat.now (λ node. slice_index layers.now node)
+        (span_in spans.now) start start tree.old) }
     ensures ends { OnOk result (AreEnds tree.old.shape flat.now (span_in spans.now) ends.new.items tree.new) }
 {
     let mut node = start;
@@ -276,8 +287,10 @@ fn raise_others(
     requires raised { IsRaised tree.old.shape flat.now (λ node. slice_index layers.now node) (span_in spans.now)
         (cell_at tree.old.nodes 0) (is_done ends.old.items) 0 tree.old }
     requires ends { AreEnds tree.old.shape flat.now (span_in spans.now) ends.old.items tree.old }
-    ensures { OnOk result (IsRaised tree.old.shape flat.now (λ node. slice_index layers.now node) (span_in spans.now)
-        (cell_at tree.old.nodes 0) (λ _. true) 0 tree.new) }
+    ensures raised { OnOk result (IsRaised tree.old.shape flat.now (λ node. slice_index layers.now node)
+        (span_in spans.now) (cell_at tree.old.nodes 0) (λ _. true) 0 tree.new) }
+    ensures nodes { OnOk result (tree.new ≡ filling tree.old.shape flat.now (λ node. slice_index layers.now node)
+        (span_in spans.now) (length flat.now.nodes - 1) 1 tree.old) }
 {
     for node in 1..flat.len() {
         if ends[node as usize] > 0 {

@@ -12,7 +12,8 @@ across box = (box.x1 - box.x0) + (box.y1 - box.y0)
 -- how far it is across the least box that holds the net's pins, less 2 for each tile with a pin
 abbrev pub freedom : DesignView → ℕ → ℤ
 freedom d net =
-    pos (across (window_of d.frame.shape (pins_at d net) 0)) -ℤ pos (2 * length (distinct_tiles d.frame.shape (pins_at d net)))
+    pos (across (window_of d.frame.shape (pins_at d net) 0))
+    -ℤ pos (2 * length (distinct_tiles d.frame.shape (pins_at d net)))
 
 -- in round 0 the least free nets go first, and later the most free
 abbrev pub in_round : ℕ → ℤ → ℤ

@@ -1,7 +1,6 @@
 //! What is asked for.
 ghost use Rattle.std.specs.Prelude.{◌≤◌};
-ghost use Rattle.gr_base.specs.Limits.{most_rounds};
-ghost use Rattle.round_core.specs.Worlds.{most_workers};
+ghost use Rattle.gr_base.specs.Limits.{most_rounds, most_workers};
 
 use cost_rules::{CostRule, Watcher};
 use gr_base::Design;

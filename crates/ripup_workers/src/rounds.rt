@@ -1,8 +1,7 @@
 //! The rounds.
 ghost use Rattle.std.specs.Prelude.{◌≤◌, IfOk};
-ghost use Rattle.gr_base.specs.Limits.{most_rounds};
+ghost use Rattle.gr_base.specs.Limits.{most_rounds, most_workers};
 ghost use Rattle.round_core.specs.RunHistories.{asked_for};
-ghost use Rattle.round_core.specs.Worlds.{most_workers};
 ghost use Rattle.ripup_workers.specs.Made.{IsMade};
 
 use crate::asked::Asked;

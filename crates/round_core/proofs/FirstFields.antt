@@ -5,13 +5,13 @@ use Rattle.std.proofs.lemmas.List.Sums.{length-filter, count_by-le-length}
 use Rattle.std.proofs.lemmas.List.FromFn.{length-range_with_len}
 use Rattle.std.specs.List.{range_with_len}
 use Rattle.gr_base.specs.Designs.{is_routed}
-use Rattle.gr_base.specs.Limits.{most_nets, most_rounds}
+use Rattle.gr_base.specs.Limits.{most_nets, most_rounds, most_workers}
 use Rattle.grid_demand.specs.Tables.{capacity_of}
 use Rattle.book_state.specs.Views.{BookView}
 use Rattle.book_state.specs.declared.entry.Entry.{Entry}
 use Rattle.round_core.specs.RunHistories.{Setting, asked_for, overflows_of}
 use Rattle.round_core.specs.WorldRules.{IsWorld}
-use Rattle.round_core.specs.Worlds.{most_workers, routed_nets, at_first, WorldView}
+use Rattle.round_core.specs.Worlds.{routed_nets, at_first, WorldView}
 use Rattle.round_core.specs.WorldStore.{setting_of, seen, Keeps}
 use Rattle.round_core.specs.declared.steps.Phase.{Phase}
 use Rattle.round_core.specs.declared.steps.Phase.TheVariants.{Idle}

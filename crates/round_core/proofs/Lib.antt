@@ -19,3 +19,4 @@ pub mod WorldSpan
 pub mod WorldFields
 pub mod MarkFields
 pub mod FirstFields
+pub mod StillPlans

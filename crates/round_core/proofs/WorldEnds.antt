@@ -11,7 +11,7 @@ use Rattle.book_state.specs.Cuts.{cut}
 use Rattle.round_core.specs.Attempts.{Rests}
 use Rattle.round_core.specs.RunHistories.{Setting, IsRunHistory}
 use Rattle.round_core.specs.WorldRules.{KeepsRules, stage_in, stage_at, is_holding_net, IsPhaseRight, IsRunning, IsWorld}
-use Rattle.round_core.specs.Worlds.{WorldView, phase_in, phase_before_end, phase_at, since_of, at_first}
+use Rattle.round_core.specs.Worlds.{WorldView, phase_in, phase_before_end, phase_at, since_in, since_of, at_first}
 use Rattle.round_core.specs.declared.steps.Phase.{Phase}
 use Rattle.round_core.specs.declared.steps.Phase.TheVariants.{Idle, Ended}
 use Rattle.round_core.proofs.JoiningLaw.{none-apart}
@@ -27,6 +27,11 @@ first-phase (suc n) (suc worker) = first-phase n worker
 first-held : (n net : ℕ) → count_by (is_holding_net net) (replicate n Idle) ≡ 0
 first-held zero net = refl
 first-held (suc n) net = first-held n net
+
+first-since : (n worker : ℕ) → since_in (slice_get (replicate n 0) worker) ≡ 0
+first-since zero worker = refl
+first-since (suc n) zero = refl
+first-since (suc n) (suc worker) = first-since n worker
 
 first-stages : (t : Setting) (number : ℕ) → Rests ≡ stage_at (at_first t) number
 first-stages t zero = refl
@@ -45,6 +50,7 @@ first-running t = record {
       let held = first-held t.workers net in
       omega (arith, kept, held);
   last = λ worker place own there number. absurd (none-some own there);
+  exact = λ worker some. let none = first-since t.workers worker in absurd (omega (arith, some, none));
   right = λ worker. subst (λ (p : Phase). IsPhaseRight 0 (since_of (at_first t) worker) p) (sym (first-phase t.workers worker)) tt;
   apart = none-apart t.design;
 }

@@ -20,11 +20,11 @@ use Rattle.book_state.specs.declared.entry.Entry.{Entry}
 use Rattle.book_state.specs.declared.entry.Reply.{Reply}
 use Rattle.book_state.specs.declared.entry.Reply.TheVariants.{Taken, Released, NotBooked}
 use Rattle.round_core.specs.RunHistories.{Overflows, no_overflows, overflows_after, overflows_of, IsRunHistory}
-use Rattle.round_core.specs.WorldRules.{IsWorld}
-use Rattle.round_core.specs.Worlds.{WorldView, phase_in, phase_at, net_in, tries_in, phase_replied, IsStep, with_taken, entry_by, with_entry_by, is_allowed, happens}
+use Rattle.round_core.specs.WorldRules.{IsPhaseRight, IsWorld}
+use Rattle.round_core.specs.Worlds.{WorldView, phase_in, phase_at, phase_before_end, net_in, tries_in, phase_replied, IsStep, with_taken, entry_by, with_entry_by, is_allowed, happens}
 use Rattle.round_core.specs.WorldStore.{seen, Keeps}
 use Rattle.round_core.specs.declared.steps.Phase.{Phase}
-use Rattle.round_core.specs.declared.steps.Phase.TheVariants.{Holding, Trying, Ended}
+use Rattle.round_core.specs.declared.steps.Phase.TheVariants.{Idle, Holding, Trying, Ended}
 use Rattle.round_core.specs.declared.steps.Step.TheVariants.{Take, Release, Claim as Claiming}
 use Rattle.round_core.specs.declared.world.World.TheInside.{Inside}
 use Rattle.round_core.proofs.WorldCalls.{release-by, release-world, claim-runs, claim-world}
@@ -237,3 +237,19 @@ claimed-keeps w book worker claim phase reply since keeps step allowed is reply_
     called-keeps w book worker (Claims claim) new since keeps called refl
     (subst IsWorld (sym (claimed-view w book worker claim phase reply since keeps step.0 allowed is reply_is called) ∙ called-view w book worker (Claims claim) new since keeps called)
     (claim-world (seen w) worker claim keeps.world step allowed))
+
+-- whose claim is allowed has tried at most twice
+few-tries : (round last : ℕ) (p : Phase) → IsPhaseRight round last p → tries_in p ≤ 2
+few-tries round last Idle right = omega arith
+few-tries round last (Holding net) right = omega arith
+few-tries round last (Trying net tries since) right = right.1
+few-tries round last Ended right = absurd right
+
+pub claimed-tries : (w : Inside) (worker : ℕ) (claim : Claim) (phase : Phase) → Keeps w → worker < length w.phases.items → is_allowed (seen w) (Claiming worker claim) ≡ true →
+    phase ≡ get_or w.phases.items worker phase → tries_in phase ≤ 2
+claimed-tries w worker claim phase keeps within allowed is =
+    let runs = claim-runs (seen w) worker claim allowed in
+    let few = few-tries _ _ (phase_before_end (seen w) worker) ((keeps.world.running runs).right worker) in
+    let at : phase ≡ phase_before_end (seen w) worker =
+    phase-read w worker phase runs within is ∙ ap (λ (b : Bool). if b then Ended else phase_before_end (seen w) worker) runs in
+    subst (λ (p : Phase). tries_in p ≤ 2) (sym at) few

@@ -30,7 +30,7 @@ use Rattle.round_core.proofs.HeldCounts.{all-idle, none-held}
 use Rattle.round_core.proofs.JoiningLaw.{AreHeld, all-held, mark-apart}
 use Rattle.round_core.proofs.RangeCounts.{times-kept}
 use Rattle.round_core.proofs.TurnLemmas.{routed-within}
-use Rattle.round_core.proofs.WorldSteps.{entry-cases}
+use Rattle.round_core.proofs.WorldSteps.{entry-cases, own-kept}
 
 -- a mark at which every worker is idle, and no net is left
 none-busy : (o : Option Phase) → is_none o ≡ true → o ≡ None
@@ -146,6 +146,7 @@ module _ (v : WorldView) (world : IsWorld v) (runs : v.over ≡ false) (idle : f
     stages = λ number. sym (sym (still_running.stages number) ∙ mark-whole number);
     nets = next-nets;
     last = mark-last;
+    exact = λ worker some. own-kept v.history mark_entry worker (since_of v worker) (still_running.exact worker some);
     right = mark-right (cut_here.round + 1);
     apart = now-apart;
   }

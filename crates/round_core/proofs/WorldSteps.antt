@@ -17,7 +17,7 @@ use Rattle.book_state.specs.declared.entry.Claim.{Claim as ClaimOf}
 use Rattle.book_state.specs.declared.entry.Entry.{Entry}
 use Rattle.round_core.specs.Attempts.{Stage, Broken, stage_after, stage_of, begins, attempts_at, IsGranted}
 use Rattle.round_core.specs.RunHistories.{IsNumbered, IsPlanned, is_due, AreWhole, AreOfDue, IsAsked}
-use Rattle.round_core.specs.WorldRules.{KeepsRules, stage_in, stage_at, is_holding_net, times_in, IsPhaseRight, IsRunning, IsWorld}
+use Rattle.round_core.specs.WorldRules.{KeepsRules, HasOwnBefore, stage_in, stage_at, is_holding_net, times_in, IsPhaseRight, IsRunning, IsWorld}
 use Rattle.round_core.specs.Worlds.{WorldView, phase_in, phase_before_end, since_in, since_of, entry_by, with_entry_by}
 use Rattle.round_core.specs.declared.steps.Phase.{Phase}
 use Rattle.round_core.specs.declared.steps.Phase.TheVariants.{Idle, Holding, Trying, Ended}
@@ -56,6 +56,16 @@ numbered workers worker Marks one other = absurd (both_ways true other refl)
 
 marks-other : (P : Cut → Type 0) (h : List Entry) (e : Entry) → is_mark e ≡ false → AtMarks P h → AtMarks P (h ++ e ∷ [])
 marks-other P h e other each = each-push (λ before x. IsTrue (is_mark x) → P (cut before)) h e each (λ mark. absurd (both_ways (is_mark e) other mark))
+
+-- a worker's last entry stands where it stood
+pub own-kept : (h : List Entry) (e : Entry) (worker since : ℕ) → HasOwnBefore h worker since → HasOwnBefore (h ++ e ∷ []) worker since
+own-kept h e worker since own = record {
+  place = own.place;
+  since_is = own.since_is;
+  own = own.own;
+  there = slice_get-left h (e ∷ []) own.place (slice_get_within h own.place own.own own.there) ∙ own.there;
+  number = own.number;
+}
 
 -- the entry at a place, with one more entry
 pub entry-cases : (h : List Entry) (e own : Entry) (place : ℕ) → slice_get (h ++ e ∷ []) place ≡ Some own → (slice_get h place ≡ Some own) ⊎ ((place ≡ length h) × (e ≡ own))
@@ -165,6 +175,22 @@ module _ (v : WorldView) (worker : ℕ) (call : Call) (phase : Phase) (world : I
     ]
   ]
 
+  call-exact : (who : ℕ) → 0 < since_of called who → HasOwnBefore called.history who (since_of called who)
+  call-exact who some = elim (is_same who worker) [
+    | inl same ↦
+        let last : since_of called who ≡ length v.history + 1 = ap (λ (w : ℕ). since_of called w) same ∙ since-own in
+        record {
+          place = length v.history;
+          since_is = omega (arith, last);
+          own = said;
+          there = slice_get-right v.history (said ∷ []) (length v.history) 0 (omega arith);
+          number = omega (arith, same);
+        }
+    | inr apart ↦
+        let other = since-other who apart in
+        subst (HasOwnBefore called.history who) (sym other) (own-kept v.history said who (since_of v who) ((world.running runs).exact who (omega (arith, some, other))))
+  ]
+
   call-right_phase : (who : ℕ) → IsPhaseRight cut_now.round (since_of called who) (phase_before_end called who)
   call-right_phase who = elim (is_same who worker) [
     | inl same ↦
@@ -187,6 +213,7 @@ module _ (v : WorldView) (worker : ℕ) (call : Call) (phase : Phase) (world : I
         stages = call-stages;
         nets = call-nets;
         last = call-last;
+        exact = call-exact;
         right = call-right_phase;
         apart = call-well.apart;
       }

@@ -96,6 +96,7 @@ module _ (v : WorldView) (worker net : ℕ) (world : IsWorld v) (one : worker < 
       stages = take-stages;
       nets = take-nets;
       last = running.last;
+      exact = running.exact;
       right = take-right;
       apart = running.apart;
     };

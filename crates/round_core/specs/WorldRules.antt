@@ -53,6 +53,14 @@ IsPhaseRight round last (Holding net) = Unit {0}
 IsPhaseRight round last (Trying net tries since) = (0 < round) × (tries ≤ 2) × (since ≡ last)
 IsPhaseRight round last Ended = ⊥
 
+-- the entry just before so many is the worker's
+pub record HasOwnBefore (h : List Entry) (worker since : ℕ) : Type 0 where
+  pub place : ℕ
+  pub since_is : since ≡ suc place
+  pub own : Entry
+  pub there : slice_get h place ≡ Some own
+  pub number : own.number ≡ suc worker
+
 -- before the end, with the history cut at its last mark: each net that is due is once left, or held, or begun, and no
 -- other is; each worker's entries in the last segment have led to its phase, and its last entry lies where the state
 -- says
@@ -65,6 +73,7 @@ pub record IsRunning (v : WorldView) (s : Cut) : Type 0 where
   pub nets : (net : ℕ) → times_in v s net ≡ (if is_due v.setting.design s.round s.before net then 1 else 0)
   pub last : (worker place : ℕ) (own : Entry) → slice_get v.history place ≡ Some own →
       own.number ≡ suc worker → place < since_of v worker
+  pub exact : (worker : ℕ) → 0 < since_of v worker → HasOwnBefore v.history worker (since_of v worker)
   pub right : (worker : ℕ) → IsPhaseRight s.round (since_of v worker) (phase_before_end v worker)
   pub apart : AreApartIn v.setting.design v.history s
 

@@ -1,10 +1,10 @@
 -- What the fields of a world keep.
 use Rattle.std.specs.Prelude.{◌≡◌, ◌≤◌, length}
-use Rattle.gr_base.specs.Limits.{most_nets, most_rounds}
+use Rattle.gr_base.specs.Limits.{most_nets, most_rounds, most_workers}
 use Rattle.grid_demand.specs.Tables.{capacity_of}
 use Rattle.round_core.specs.RunHistories.{Setting, overflows_of}
 use Rattle.round_core.specs.WorldRules.{IsWorld}
-use Rattle.round_core.specs.Worlds.{most_workers, WorldView}
+use Rattle.round_core.specs.Worlds.{WorldView}
 use Rattle.round_core.specs.declared.world.World.TheInside.{Inside}
 
 -- what the fields say

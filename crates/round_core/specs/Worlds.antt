@@ -16,17 +16,12 @@ use Rattle.book_state.specs.declared.entry.Reply.TheVariants.{Full}
 use Rattle.round_core.specs.Attempts.{kind_of, is_claim_for}
 use Rattle.round_core.specs.Rounds.{marker}
 use Rattle.round_core.specs.RunHistories.{Setting, IsPlanOver, says}
-use Rattle.round_core.specs.declared.hands.TheConstants.{MOST_WORKERS}
 use Rattle.round_core.specs.declared.steps.Phase.{Phase}
 use Rattle.round_core.specs.declared.steps.Phase.TheVariants.{Idle, Holding, Trying, Ended}
 use Rattle.round_core.specs.declared.steps.Step.{Step}
 use Rattle.round_core.specs.declared.steps.StepRefused.{StepRefused}
 use Rattle.round_core.specs.declared.steps.StepRefused.TheVariants.{NotAllowed, NoMemory}
 use Rattle.round_core.specs.declared.steps.Step.TheVariants.{Take, Release, Claim, Mark}
-
--- the most workers
-abbrev pub most_workers : ℕ
-most_workers = MOST_WORKERS
 
 -- a state: what is asked for, the history, the round, whether the rounds are over, which nets are left, and for each
 -- worker its phase before the end and the length of the history just after its last entry

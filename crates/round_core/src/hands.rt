@@ -10,9 +10,6 @@ use std::marker::Model;
 /// The number under which the marks stand in a history.
 pub(crate) const MARKER: u32 = 0;
 
-/// The most workers of a run, each with a number of its own from 1 on.
-pub const MOST_WORKERS: u32 = 16;
-
 /// Places in a history, counted from 0 and rising.
 #[derive(Debug, Drop)]
 pub struct Places {

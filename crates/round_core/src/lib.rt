@@ -10,7 +10,7 @@ mod phases;
 mod steps;
 mod world;
 
-pub use hands::{HandLog, MOST_WORKERS, Places, hands_of};
+pub use hands::{HandLog, Places, hands_of};
 pub use laws::attempts_are_turns;
 pub use machine::routed_nets;
 pub use steps::{Phase, Step, StepRefused};

@@ -1,10 +1,10 @@
 //! What can be asked of the machine.
 ghost use Rattle.std.specs.Prelude.{◌≡◌, ◌<◌, ◌≤◌, length, IfOk, IfErr, OnOk, OnErr, IsTrue};
-ghost use Rattle.gr_base.specs.Limits.{most_nets, most_rounds};
+ghost use Rattle.gr_base.specs.Limits.{most_nets, most_rounds, most_workers};
 ghost use Rattle.grid_demand.specs.Tables.{capacity_of};
 ghost use Rattle.round_core.specs.RunHistories.{asked_for, IsRunHistory};
 ghost use Rattle.round_core.specs.WorldRules.{IsWorld};
-ghost use Rattle.round_core.specs.Worlds.{most_workers, routed_nets as nets_routed, phase_at, since_of, is_allowed, happens, IsStep, IsRefusal, at_first};
+ghost use Rattle.round_core.specs.Worlds.{routed_nets as nets_routed, phase_at, since_of, is_allowed, happens, IsStep, IsRefusal, at_first};
 ghost use Rattle.round_core.specs.declared.steps.StepRefused.TheVariants.{NoMemory};
 
 use crate::steps::{Phase, Step, StepRefused};

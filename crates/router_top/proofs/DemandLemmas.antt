@@ -16,7 +16,7 @@ use Rattle.book_state.specs.Books.{booked, share_of, demand}
 use Rattle.book_state.specs.declared.entry.Entry.{Entry}
 
 -- a sum whose other terms are nothing is the sum over what a test keeps
-sum-kept : (p : ℕ → Bool) (f g : ℕ → ℕ) (xs : List ℕ) → ((x : ℕ) → p x ≡ true → f x ≡ g x) → ((x : ℕ) → p x ≡ false → f x ≡ 0) →
+pub sum-kept : (p : ℕ → Bool) (f g : ℕ → ℕ) (xs : List ℕ) → ((x : ℕ) → p x ≡ true → f x ≡ g x) → ((x : ℕ) → p x ≡ false → f x ≡ 0) →
     sum_by f xs ≡ sum_by g (filter p xs)
 sum-kept p f g [] same none = refl
 sum-kept p f g (x ∷ xs) same none =

@@ -1,4 +1,5 @@
 pub mod DemandLemmas
 pub mod RouteLemmas
 pub mod RoutingLemmas
+pub mod RepeatingLemmas
 pub mod CommandLaws

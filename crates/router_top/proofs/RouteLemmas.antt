@@ -1,11 +1,12 @@
 -- The trees that a history leaves booked.
-use Rattle.std.proofs.Common.{◌≡◌, ℕ, ◌<◌, ◌≤◌, false, List, map, length, take, get_or, Option, Some, None, IsSomeAnd, IsTrue, inl, inr, refl, sym, ap, subst, ◌∙◌, arith}
+use Rattle.std.proofs.Common.{◌≡◌, ℕ, ◌+◌, ◌<◌, ◌≤◌, Bool, true, false, List, map, length, take, get_or, Option, Some, None, Result, Ok, Err, IfOk, IsSomeAnd, IsTrue, if◌then◌else◌, inl, inr, refl, sym, ap, subst, ◌∙◌, arith}
 use Rattle.std.specs.List.{range_with_len}
 use Rattle.std.specs.Option.{option_and_then}
 use Rattle.std.proofs.lemmas.Bool.{cases_Bool, cases_lt}
 use Rattle.std.proofs.lemmas.List.{length-map}
 use Rattle.std.proofs.lemmas.List.FromFn.{length-map-range_with_len, get_or-map-range_with_len}
 use Rattle.std.proofs.lemmas.Option.{slice_get-get_or, slice_get_past}
+use Rattle.cost_rules.specs.declared.site.Formula.{Formula}
 use Rattle.gr_base.specs.Designs.{DesignView, is_routed, is_routed_net}
 use Rattle.gr_base.specs.EdgeSets.{IsJoined}
 use Rattle.gr_base.specs.Plans.{IsRouteOf}
@@ -17,13 +18,22 @@ use Rattle.gr_base.proofs.TreeEdges.{joins-pins}
 use Rattle.grid_demand.specs.Tables.{CapacityView, capacity_of}
 use Rattle.grid_demand.specs.LoadSums.{LoadsView}
 use Rattle.book_state.specs.Books.{nets_of, booked, AreLoadsOf}
+use Rattle.book_state.specs.Entries.{is_mark}
+use Rattle.book_state.specs.Marks.{least_mark}
+use Rattle.book_state.specs.Views.{BookView}
 use Rattle.book_state.specs.declared.entry.Entry.{Entry}
 use Rattle.route_evaluator.specs.Verdicts.{AreLoadsBy}
 use Rattle.straight_runs.specs.Routed.{AreRouted}
 use Rattle.round_core.proofs.TurnLemmas.{routed-net}
-use Rattle.round_core.specs.Rounds.{IsRouteOfNet}
+use Rattle.round_core.specs.Hands.{log_of}
+use Rattle.round_core.specs.Rounds.{marker, IsRouteOfNet}
+use Rattle.batch_rounds.specs.BatchedHistories.{batches_of, claimant, IsBatched, IsNumbered}
+use Rattle.batch_rounds.specs.Made.{IsMade as IsMadeInBatches}
+use Rattle.batch_rounds.specs.declared.rounds.Batched.{Batched}
+use Rattle.ripup_workers.specs.Made.{IsMade}
+use Rattle.ripup_workers.specs.declared.rounds.Rounds.{Rounds}
 use Rattle.router_top.proofs.DemandLemmas.{booked-demand}
-use Rattle.router_top.specs.Booking.{AllJoined, AreTrees, AreBookedRoutes, AreChosenRoutes}
+use Rattle.router_top.specs.Booking.{setting_of, AllJoined, AreTrees, AreBookedRoutes, AreChosenRoutes, AreRoundsOf, IsBookOf, IsHistoryBy}
 use Rattle.router_top.specs.declared.booking.BookedRoutes.{BookedRoutes}
 use Rattle.word_reader.specs.declared.order.Options.{Options}
 use Rattle.round_core.specs.Standing.{Stands}
@@ -97,10 +107,10 @@ pub loads-booked : (d : DesignView) (options : Options) (r : BookedRoutes) (l : 
     AreLoadsOf r.rounds.book.state.capacity (take r.rounds.chosen r.rounds.book.state.history) l → AreLoadsBy d (route_edges r.routes) l
 loads-booked d options r l are loads =
     let h = take r.rounds.chosen r.rounds.book.state.history in
-    let of : AreLoadsOf (capacity_of d) h l = subst (λ (c : CapacityView). AreLoadsOf c h l) are.made.capacity loads in
+    let of : AreLoadsOf (capacity_of d) h l = subst (λ (c : CapacityView). AreLoadsOf c h l) are.rounds.made.capacity loads in
     record {
       shape = of.shape;
-      demand = λ e edge wire. of.demand e edge wire ∙ booked-demand d h (route_edges r.routes) are.stands.free
+      demand = λ e edge wire. of.demand e edge wire ∙ booked-demand d h (route_edges r.routes) are.rounds.stands.free
           (λ net routed f. ap (λ (o : Option TreeView). edges_or_none o f) (are.booked net)) e;
     }
 
@@ -110,9 +120,51 @@ pub chosen-routes : (d : DesignView) (options : Options) (r : BookedRoutes) → 
 chosen-routes d options r are trees =
     let h = take r.rounds.chosen r.rounds.book.state.history in
     record {
-      least = are.least;
+      least = are.rounds.least;
       booked = are.booked;
-      routed = routes-routed d h r.routes are.stands are.booked;
-      free = routes-free d h r.routes are.stands are.booked;
-      joined = routes-joined d h r.routes are.stands are.booked trees;
+      routed = routes-routed d h r.routes are.rounds.stands are.booked;
+      free = routes-free d h r.routes are.rounds.stands are.booked;
+      joined = routes-joined d h r.routes are.rounds.stands are.booked trees;
     }
+
+-- who marks and who claims in batches are among the callers
+number-within : (e : Entry) (workers : ℕ) → 1 ≤ workers → IsNumbered e → e.number ≤ workers
+number-within e workers some is = by (is_mark e) is
+  where
+    by : (b : Bool) → e.number ≡ (if b then marker else claimant) → e.number ≤ workers
+    by true is = omega (arith, is)
+    by false is = omega (arith, is, some)
+
+-- rounds in batches, with their logs
+pub rounds-batched : (d : DesignView) (options : Options) (batch : ℕ) (formula : Formula) (b : Batched) (r : Rounds) → formula ≡ options.rule → options.batch ≡ Some batch → 1 ≤ options.workers →
+    IsMadeInBatches (batches_of d formula options.rounds batch) b → r.book.state ≡ b.state → r.hands.items ≡ map (log_of b.state.history) (range_with_len 0 (options.workers + 1)) →
+    r.chosen ≡ b.chosen → AreRoundsOf d options r
+rounds-batched d options batch formula b r rule asked some made state logs chosen = record {
+  made = subst (λ (s : BookView). IsBookOf d options s r.hands.items) (sym state) (record {
+    capacity = made.capacity;
+    legal = made.legal;
+    made = subst (λ (o : Option ℕ). IsHistoryBy d options o b.state.history) (sym asked) (record {
+      batched = subst (λ (f : Formula). IsBatched (batches_of d f options.rounds batch) b.state.history) rule made.batched;
+      numbers = made.numbers;
+    });
+    parted = record { logs = logs; all = λ place e there. number-within e options.workers some (made.numbers place e there) };
+  });
+  least = ap (λ (s : BookView). least_mark s.history) state ∙ made.least ∙ ap (λ (n : ℕ). Some n) (sym chosen);
+  within = let long = ap (λ (s : BookView). length s.history) state in let most = made.within in omega (arith, chosen, long, most);
+  stands = subst (Stands d) (sym (ap (λ (n : ℕ). take n r.book.state.history) chosen ∙ ap (λ (s : BookView). take b.chosen s.history) state)) made.stands;
+}
+
+-- rounds by workers
+pub rounds-made : {E : Type 0} (d : DesignView) (options : Options) (r : Result Rounds E) → options.batch ≡ None → IfOk r (IsMade (setting_of d options)) → IfOk r (AreRoundsOf d options)
+rounds-made d options (Err e) none made = tt
+rounds-made d options (Ok r) none made = record {
+  made = record {
+    capacity = made.capacity;
+    legal = made.legal;
+    made = subst (λ (o : Option ℕ). IsHistoryBy d options o r.book.state.history) (sym none) made.run;
+    parted = made.parted;
+  };
+  least = made.least;
+  within = made.within;
+  stands = made.stands;
+}

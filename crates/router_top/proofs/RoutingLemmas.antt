@@ -21,7 +21,7 @@ use Rattle.solution_text.specs.WrittenText.{written_text}
 use Rattle.solution_text.proofs.LawLemmas.{written-text-covers}
 use Rattle.gr_io.specs.Devices.{Reading}
 use Rattle.router_top.specs.Booking.{booked_edges, AllJoined, AreTrees}
-use Rattle.router_top.specs.Routing.{IsRoutedDesign, IsRouting}
+use Rattle.router_top.specs.Routing.{IsRoutedDesign, IsRouting, IsRoutingOf}
 use Rattle.rc_library.specs.Libraries.{LibraryView}
 use Rattle.command_form.specs.Said.{design_said, library_said}
 use Rattle.word_reader.specs.declared.order.Options.{Options}
@@ -72,16 +72,11 @@ demand-same d c h trees design capacity are same none e =
 joined-same : (d : DesignView) (sets others : ℕ → Edges) → ((net : ℕ) (e : Edge) → sets net e ≡ others net e) → AllJoined d sets → AllJoined d others
 joined-same d sets others same joined = subst (λ (s : ℕ → Edges). AllJoined d s) (fun_ext (λ net. fun_ext (λ e. same net e))) joined
 
--- routes of a design that was read, and their report, are a routing
-pub is-routing : (shelf : Reading) (design_name library_name : List ℕ) (d : DesignView) (lib : LibraryView) (options : Options) (r : RoutedDesign) →
-    (IsTrue shelf.tells → design_said shelf.held design_name ≡ Some (Ok d)) → (IsTrue shelf.tells → library_said shelf.held library_name d ≡ Some (Ok lib)) →
-    IsDesign d → IsRoutedDesign d lib options r →
-    IsRouting shelf design_name library_name options r.rounds.book.state r.rounds.hands.items (written_text d (route_edges r.routes)) r.report
-is-routing shelf design_name library_name d lib options r said read design is = record {
-  design = d;
-  said = said;
-  library = lib;
-  read = read;
+-- routes of a design and their report are a routing
+routing-of : (d : DesignView) (lib : LibraryView) (options : Options) (r : RoutedDesign) → IsDesign d → IsRoutedDesign d lib options r →
+    IsRoutingOf d lib options r.rounds.book.state r.rounds.hands.items (written_text d (route_edges r.routes)) r.report
+routing-of d lib options r design is = record {
+  design = design;
   made = is.made;
   chosen = r.rounds.chosen;
   least = is.routes.least;
@@ -102,3 +97,16 @@ is-routing shelf design_name library_name d lib options r said read design is = 
 
     same : (net : ℕ) (e : Edge) → route_edges r.routes net e ≡ cover d (written_text d (route_edges r.routes)) net e
     same = text-same d r.routes design is.trees is.routes.free
+
+-- likewise those of a design that was read
+pub is-routing : (shelf : Reading) (design_name library_name : List ℕ) (d : DesignView) (lib : LibraryView) (options : Options) (r : RoutedDesign) →
+    (IsTrue shelf.tells → design_said shelf.held design_name ≡ Some (Ok d)) → (IsTrue shelf.tells → library_said shelf.held library_name d ≡ Some (Ok lib)) →
+    IsDesign d → IsRoutedDesign d lib options r →
+    IsRouting shelf design_name library_name options r.rounds.book.state r.rounds.hands.items (written_text d (route_edges r.routes)) r.report
+is-routing shelf design_name library_name d lib options r said read design is = record {
+  design = d;
+  said = said;
+  library = lib;
+  read = read;
+  routed = routing-of d lib options r design is;
+}

@@ -9,6 +9,7 @@ use Rattle.gr_base.specs.declared.frame.Net.{Net}
 use Rattle.gr_base.specs.declared.grid.Shape.{Shape}
 use Rattle.grid_demand.specs.Tables.{capacity_of}
 use Rattle.book_state.specs.Books.{booked, IsLegal}
+use Rattle.book_state.specs.Entries.{AtEach}
 use Rattle.book_state.specs.Marks.{least_mark}
 use Rattle.book_state.specs.Views.{BookView}
 use Rattle.book_state.specs.declared.entry.Entry.{Entry}
@@ -17,6 +18,8 @@ use Rattle.route_evaluator.specs.NetTrees.{AreTrees as AreNetTrees}
 use Rattle.route_evaluator.specs.Verdicts.{IsVerdict}
 use Rattle.route_evaluator.specs.declared.verdict.Verdict.{Verdict}
 use Rattle.straight_runs.specs.Routed.{AreRouted}
+use Rattle.batch_rounds.specs.BatchedHistories.{Batching, batches_of, IsBatched, IsNumbered}
+use Rattle.ripup_workers.specs.declared.rounds.Rounds.{Rounds}
 use Rattle.round_core.specs.Hands.{ArePartedTo}
 use Rattle.round_core.specs.RunHistories.{Setting, asked_for, IsRunHistory}
 use Rattle.round_core.specs.Standing.{Stands}
@@ -47,18 +50,40 @@ goal_of Stopping.Never = 0
 goal_of Stopping.Still = 0
 goal_of (Stopping.Goal overflow) = overflow
 
--- the rounds that the options ask for
+-- the rounds by workers that the options ask for
 abbrev pub setting_of : DesignView → Options → Setting
 setting_of d options =
     asked_for d options.rule options.workers options.rounds (watch_of options.stop) (goal_of options.stop)
 
--- the book of a design's rounds: each entry of its history has the reply that the rules give, the history is a run
--- history of the workers asked for, and the callers' logs part it
+-- the rounds in batches of so many nets that they ask for, in which the number of workers is no part
+abbrev pub batching_of : DesignView → Options → (batch : ℕ) → Batching
+batching_of d options batch = batches_of d options.rule options.rounds batch
+
+-- a batched history: the marks are at hand 0, and all other entries at hand 1
+pub record IsInBatches (t : Batching) (h : List Entry) : Type 0 where
+  pub batched : IsBatched t h
+  pub numbers : AtEach (λ before e. IsNumbered e) h
+
+-- the history of the rounds that are asked for: in batches where a number of nets is given, else by workers side by
+-- side
+abbrev pub IsHistoryBy : DesignView → Options → (batch : Option ℕ) → List Entry → Type 0
+IsHistoryBy d options None h = IsRunHistory (setting_of d options) h
+IsHistoryBy d options (Some batch) h = IsInBatches (batching_of d options batch) h
+
+-- the book of a design's rounds: each entry of its history has the reply that the rules give, the history is one of the
+-- rounds that are asked for, and the logs of the hands part it
 pub record IsBookOf (d : DesignView) (options : Options) (book : BookView) (hands : List HandLog) : Type 0 where
   pub capacity : book.capacity ≡ capacity_of d
   pub legal : IsLegal book.capacity book.history
-  pub run : IsRunHistory (setting_of d options) book.history
+  pub made : IsHistoryBy d options options.batch book.history
   pub parted : ArePartedTo options.workers book.history hands
+
+-- a design's rounds, at whose first mark of least overflow exactly the routed nets are booked
+pub record AreRoundsOf (d : DesignView) (options : Options) (r : Rounds) : Type 0 where
+  pub made : IsBookOf d options r.book.state r.hands.items
+  pub least : least_mark r.book.state.history ≡ Some r.chosen
+  pub within : r.chosen ≤ length r.book.state.history
+  pub stands : Stands d (take r.chosen r.book.state.history)
 
 -- a design's routes: the trees booked at the first mark of least overflow; exactly the routed nets have one, and it
 -- joins their pins
@@ -74,14 +99,10 @@ pub record AreChosenRoutes (d : DesignView) (book : BookView) (front : ℕ) (tre
 abbrev pub AreTrees : Shape → List (Option TreeView) → Type 0
 AreTrees g trees = (net : ℕ) → (t : TreeView) → tree_at trees net ≡ Some t → IsTree t × (t.shape ≡ g)
 
--- a design's rounds, and the trees that are booked at their first mark of least overflow, where exactly the routed nets
--- are booked
+-- a design's rounds, and the trees that are booked at their first mark of least overflow
 pub record AreBookedRoutes (d : DesignView) (options : Options) (r : BookedRoutes) : Type 0 where
-  pub made : IsBookOf d options r.rounds.book.state r.rounds.hands.items
-  pub least : least_mark r.rounds.book.state.history ≡ Some r.rounds.chosen
-  pub within : r.rounds.chosen ≤ length r.rounds.book.state.history
+  pub rounds : AreRoundsOf d options r.rounds
   pub booked : (net : ℕ) → tree_at r.routes net ≡ booked (take r.rounds.chosen r.rounds.book.state.history) net
-  pub stands : Stands d (take r.rounds.chosen r.rounds.book.state.history)
 
 -- the verdict on a design's trees
 abbrev pub IsVerdictOn : DesignView → Options → List (Option TreeView) → Verdict → Type 0

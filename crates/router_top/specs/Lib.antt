@@ -1,4 +1,5 @@
 pub mod Booking
 pub mod Routing
+pub mod Repeating
 pub mod Trying
 pub mod Orders

@@ -1,6 +1,6 @@
 -- The command `route`: the book of its rounds, the text of its routes, and their report.
 use Rattle.std.specs.Prelude.{◌≡◌, ℕ, Bool, true, false, List, ◌++◌, Option, Some, Result, Ok, take, IsTrue, IsSomeAnd}
-use Rattle.gr_base.specs.Designs.{DesignView}
+use Rattle.gr_base.specs.Designs.{DesignView, IsDesign}
 use Rattle.gr_base.specs.EdgeSets.{Edges}
 use Rattle.gr_base.specs.Grid.{has_edge, is_wire}
 use Rattle.gr_base.specs.Sums.{demand as demand_by}
@@ -54,29 +54,35 @@ pub record IsRoutedDesign (d : DesignView) (lib : LibraryView) (options : Option
   pub planned : AreBestPlans d lib r.routes plans
   pub reports : r.report ≡ routing_report d lib verdict r.routes plans
 
--- the text and the report of routes of the design that was read: the text is that of the trees booked at the first mark
--- of least overflow; by what it covers, each routed net is joined, booked demand is that of the text, and the first five
--- numbers of the report are the text's; the rest of the report tells, of each routed net, the buffers of a plan than
--- which no allowed one gives its booked tree a greater required time, and that time
+-- the text and the report of routes of a design, which rounds made, with buffers of a library: the text is that of the
+-- trees booked at the first mark of least overflow; by what it covers, each routed net is joined, booked demand is that
+-- of the text, and the first five numbers of the report are the text's; the rest of the report tells, of each routed
+-- net, the buffers of a plan than which no allowed one gives its booked tree a greater required time, and that time
+pub record IsRoutingOf (d : DesignView) (lib : LibraryView) (options : Options) (book : BookView) (hands : List HandLog)
+    (text report : List ℕ) : Type 0 where
+  pub design : IsDesign d
+  pub made : IsBookOf d options book hands
+  pub chosen : ℕ
+  pub least : least_mark book.history ≡ Some chosen
+  pub says : text ≡ written_text d (booked_edges (take chosen book.history))
+  pub joined : AllJoined d (cover d text)
+  pub demand : IsBookedDemand d book chosen (cover d text)
+  pub verdict : Verdict
+  pub judged : IsVerdict d options.via_cost (cover d text) verdict
+  pub trees : List (Option TreeView)
+  pub booked : (net : ℕ) → tree_at trees net ≡ booked (take chosen book.history) net
+  pub plans : List (Option Plan)
+  pub planned : AreBestPlans d lib trees plans
+  pub reports : report ≡ routing_report d lib verdict trees plans
+
+-- they are those of the design and the library that were read
 pub record IsRouting (shelf : Reading) (design_name library_name : List ℕ) (options : Options) (book : BookView)
     (hands : List HandLog) (text report : List ℕ) : Type 0 where
   pub design : DesignView
   pub said : IsTrue shelf.tells → design_said shelf.held design_name ≡ Some (Ok design)
   pub library : LibraryView
   pub read : IsTrue shelf.tells → library_said shelf.held library_name design ≡ Some (Ok library)
-  pub made : IsBookOf design options book hands
-  pub chosen : ℕ
-  pub least : least_mark book.history ≡ Some chosen
-  pub says : text ≡ written_text design (booked_edges (take chosen book.history))
-  pub joined : AllJoined design (cover design text)
-  pub demand : IsBookedDemand design book chosen (cover design text)
-  pub verdict : Verdict
-  pub judged : IsVerdict design options.via_cost (cover design text) verdict
-  pub trees : List (Option TreeView)
-  pub booked : (net : ℕ) → tree_at trees net ≡ booked (take chosen book.history) net
-  pub plans : List (Option Plan)
-  pub planned : AreBestPlans design library trees plans
-  pub reports : report ≡ routing_report design library verdict trees plans
+  pub routed : IsRoutingOf design library options book hands text report
 
 -- the texts that it reads
 abbrev pub routing_reads : Slot → Bool
@@ -97,7 +103,8 @@ routing design library options = record {
 }
 
 -- the routing of a design and a library, where no read failed and the texts of some names say them
-abbrev pub LeavesRouted : DesignView → LibraryView → Options → (out err : Device) → Option HandedBack → Result Outcome Stop → Type 0
+abbrev pub LeavesRouted : DesignView → LibraryView → Options → (out err : Device) → Option HandedBack →
+    Result Outcome Stop → Type 0
 LeavesRouted d lib options out err kept end =
     (shelf : Reading) (design library : List ℕ) → shelf.faults_after ≡ shelf.faults →
     (IsTrue shelf.tells → design_said shelf.held design ≡ Some (Ok d)) →

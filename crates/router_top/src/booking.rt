@@ -1,20 +1,23 @@
 //! The routes that a design's rounds book, and the verdict on them.
-ghost use Rattle.std.specs.Prelude.{IfOk, OnOk};
+ghost use Rattle.std.specs.Prelude.{◌≡◌, Some, IfOk, OnOk};
 ghost use Rattle.gr_base.specs.Designs.{IsDesign};
 ghost use Rattle.route_evaluator.specs.NetTrees.{AreTrees};
 ghost use Rattle.ripup_workers.specs.Made.{IsMade};
 ghost use Rattle.round_core.specs.RunHistories.{asked_for};
-ghost use Rattle.router_top.specs.Booking.{setting_of, AreBookedRoutes, AreJudgedRoutes, IsVerdictOn};
+ghost use Rattle.router_top.specs.Booking.{setting_of, AreBookedRoutes, AreJudgedRoutes, AreRoundsOf, IsVerdictOn};
 ghost use Rattle.word_reader.specs.Orders.{AreInRange};
 
 use crate::means::Means;
+use batch_rounds::batch_rounds;
 use cost_rules::Watcher;
 use gr_base::{Design, Routes};
 use ripup_workers::{Gate, Rounds, parts_for, route_rounds};
+use round_core::hands_of;
 use route_evaluator::{Verdict, evaluate_routes};
 use std::alloc::{AllocError, Global};
 use std::sync::Wait;
 use std::thread::Threads;
+use track_book::ClosedBook;
 use word_reader::{Options, Stopping};
 
 /// The routes of a design, with the rounds that they are from.
@@ -69,8 +72,55 @@ pub(crate) fn judged_routes(
     })
 }
 
-/// The rounds that are asked for, which end early as they are to stop. The only error is want of memory.
+/// The rounds that are asked for, in batches or by workers side by side. The only error is want of
+/// memory.
 fn rounds_of<R: Threads + Wait + Sync, G: Gate + Sync>(
+    means: &Means<R, G>,
+    design: &Design,
+    options: Options,
+) -> Result<Rounds, AllocError>
+    requires design { IsDesign design.now }
+    requires options { AreInRange options }
+    ensures { IfOk result (AreRoundsOf design.now options) }
+{
+    match options.batch {
+        Some(batch) => rounds_in_batches(means, design, options, batch),
+        None => rounds_by_workers(means, design, options),
+    }
+}
+
+/// The rounds in batches of so many nets. The only error is want of memory.
+fn rounds_in_batches<R: Threads + Wait + Sync, G: Gate + Sync>(
+    means: &Means<R, G>,
+    design: &Design,
+    options: Options,
+    batch: u32,
+) -> Result<Rounds, AllocError>
+    requires options { AreInRange options }
+    requires batch { options.batch ≡ Some batch }
+    ensures { IfOk result (AreRoundsOf design.now options) }
+{
+    let rule = means.rules.of(options.rule);
+    let batched = batch_rounds(
+        means.rt,
+        means.alloc,
+        design,
+        rule,
+        options.workers,
+        options.rounds,
+        batch,
+    )?;
+    let hands = hands_of(means.alloc, batched.state.history(), options.workers + 1)?;
+    Ok(Rounds {
+        book: ClosedBook::of(batched.state),
+        hands,
+        chosen: batched.chosen,
+    })
+}
+
+/// The rounds by workers side by side, which end early as they are to stop. The only error is want of
+/// memory.
+fn rounds_by_workers<R: Threads + Wait + Sync, G: Gate + Sync>(
     means: &Means<R, G>,
     design: &Design,
     options: Options,

@@ -6,6 +6,7 @@ ghost use Rattle.command_form.specs.Ends.{LeavesFor, Ends};
 ghost use Rattle.command_form.specs.Leaving.{Leaves};
 ghost use Rattle.command_form.specs.Statuses.{is_apart, IsApart, IsByStatus};
 ghost use Rattle.router_top.specs.Orders.{asked_by, command_of};
+ghost use Rattle.router_top.specs.Repeating.{BatchesDecide};
 ghost use Rattle.word_reader.specs.Orders.{named, order_of, AsksInRange};
 
 use crate::means::Means;
@@ -31,7 +32,8 @@ pub struct Ended {
     /// The book of the rounds of `route`, once its routes are made.
     pub book: Option<ClosedBook>,
     /// Which entries of the book's history are whose: the marks are those of number 0, the claims
-    /// and releases those of the workers, from number 1. Empty without a book.
+    /// and releases those of the workers, from number 1, and in batches all of number 1. Empty without a
+    /// book.
     pub hands: Vec<HandLog>,
     /// What the run read and made beside the book, and needs no more. To let go of it takes as long as
     /// there are nets and trees, which a program that ends need not wait for.
@@ -70,7 +72,9 @@ impl Ended {
 /// capacity is released and rerouted by a maze plan. As many threads as `--workers` says (1 to 16)
 /// do it, each over what it has seen of the others' routes. In the first pass each takes the nets
 /// that can least go another way first, and in the rounds those that most can. Each passes the gate
-/// before it searches a plan, and before it claims a net.
+/// before it searches a plan, and before it claims a net. Where `--batch` says a number of nets, so many
+/// are planned over one state and then claimed in the design's order; what is written is then the same
+/// for every number of threads, and nobody passes the gate.
 /// It writes the routes of the first round of least overflow on out, and on err their report of
 /// demand, overflow, wirelength and vias, and each routed net's buffers and required time.
 ///
@@ -117,6 +121,7 @@ pub fn run<R: Threads + Wait + Sync, S: Shelf, O: Sink, E: Sink, G: Gate + Sync>
     ensures apart { IsTrue (is_apart (asked_by (order_of (map string_bytes words.now))))
         → IsApart shelf.old shelf.new result.status }
     ensures hands { result.book ≡ None → result.hands.items ≡ [] }
+    ensures batches { BatchesDecide }
 {
     let means = Means {
         rt,

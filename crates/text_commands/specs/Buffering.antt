@@ -48,9 +48,10 @@ pub record StopsAtNet (d : DesignView) (sets : ℕ → Edges) (stop : Stop) : Ty
   pub before : (other : ℕ) → other < number → IsTrue (is_routed d other) → HasTree d sets other
   pub is : stop ≡ NotTree net.id
 
--- plans of the routed nets: for a library of version 1 or 2 an allowed placement, than which none is better, and for one of
--- version 3 a legal one, than which no legal one is better, or none where none is legal
-abbrev pub ArePlansBy : (keeps_signals : Bool) → DesignView → LibraryView → List (Option TreeView) → List (Option Plan) → Type 0
+-- plans of the routed nets: for a library of version 1 or 2 an allowed placement, than which none is better, and for
+-- one of version 3 a legal one, than which no legal one is better, or none where none is legal
+abbrev pub ArePlansBy : (keeps_signals : Bool) → DesignView → LibraryView → List (Option TreeView) →
+    List (Option Plan) → Type 0
 ArePlansBy true d lib trees plans = ArePlans d lib trees plans
 ArePlansBy false d lib trees plans = ArePolarPlans d lib trees plans
 
@@ -58,7 +59,8 @@ abbrev pub AreBestPlans : DesignView → LibraryView → List (Option TreeView) 
 AreBestPlans d lib trees plans = ArePlansBy (nat_lt lib.version 3) d lib trees plans
 
 -- the plans' text of some trees
-pub record IsBuffersText (d : DesignView) (lib : LibraryView) (trees : List (Option TreeView)) (text : List ℕ) : Type 0 where
+pub record IsBuffersText (d : DesignView) (lib : LibraryView) (trees : List (Option TreeView)) (text : List ℕ)
+    : Type 0 where
   pub plans : List (Option Plan)
   pub planned : AreBestPlans d lib trees plans
   pub says : text ≡ buffers_text d lib trees plans
@@ -101,7 +103,8 @@ pub record RefusesNet (shelf : Reading) (design_name library_name solution_name 
 abbrev pub GivesTree : DesignView → (ℕ → Edges) → ℕ → Result TreeView Stop → Type 0
 GivesTree d sets net (Ok t) = IsTreeBy d sets net t × HasTree d sets net
 GivesTree d sets net (Err NoMemory) = Unit {0}
-GivesTree d sets net (Err stop) = (value : Net) → slice_get d.nets net ≡ Some value → (stop ≡ NotTree value.id) × ¬ HasTree d sets net
+GivesTree d sets net (Err stop) =
+    (value : Net) → slice_get d.nets net ≡ Some value → (stop ≡ NotTree value.id) × ¬ HasTree d sets net
 
 -- why a solution's trees weren't all made
 abbrev pub StopsAtTrees : DesignView → (ℕ → Edges) → Stop → Type 0
@@ -139,7 +142,8 @@ begun_at shelf held faults misses = record {
 
 -- the buffering of a solution that is still to be opened, where no read failed before, and where texts that the shelf
 -- held then say the design and the library
-abbrev pub LeavesPlaced : DesignView → LibraryView → (solution : List ℕ) → Reading → (out : Device) → Result Outcome Stop → Type 0
+abbrev pub LeavesPlaced : DesignView → LibraryView → (solution : List ℕ) → Reading → (out : Device) →
+    Result Outcome Stop → Type 0
 LeavesPlaced d lib solution shelf out end =
     (held : Slot → List ℕ → Option (List ℕ)) (faults misses : ℕ) (design library : List ℕ) →
     shelf.faults ≡ faults → shelf.misses ≡ misses → shelf.held Solution solution ≡ held Solution solution →

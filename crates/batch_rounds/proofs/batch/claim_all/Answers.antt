@@ -2,17 +2,19 @@ use Rattle.std.proofs.Common.{ℕ, IsTrue, get_or, ◌∙◌, arith}
 use Rattle.std.proofs.lemmas.List.Elements.{All-get_or}
 use Rattle.std.proofs.lemmas.Option.{slice_get-get_or}
 use Rattle.gr_base.specs.Designs.{is_routed}
+use Rattle.grid_demand.specs.Tables.{capacity_of}
 use Rattle.batch_rounds.specs.Rounds.{batching_of}
 use Rattle.batch_rounds.proofs.HeldNets.{turn-longer}
+use Rattle.batch_rounds.proofs.KeptPlans.{grows-both, turn-grows}
 use Rattle.batch_rounds.proofs.RoundSteps.{turns-more, turns-all}
-use Rattle.batch_rounds.proofs.SeatSteps.{held-tree, tree-known, plans-left}
+use Rattle.batch_rounds.proofs.SeatSteps.{held-plan, plan-known, plans-left}
 use Rattle.batch_rounds.proofs.batch.claim_all.Goals as goal
 
-pub take_tree-tree-requires-clause-there : goal.take_tree-tree-requires-clause-there
-take_tree-tree-requires-clause-there g c =
+pub take_plan-plan-requires-clause-there : goal.take_plan-plan-requires-clause-there
+take_plan-plan-requires-clause-there g c =
     let nets = c.args.nets.now in
     let place = c.loop-place.place in
-    held-tree c.args.asked.now.design.now c.args.asked.now.rule.now.formula c.args.round c.args.book.now.history nets place place (get_or nets place 0) c.loop-place.seats c.loop-place.invariant.plans (omega arith)
+    held-plan c.args.asked.now.design.now c.args.asked.now.rule.now.formula c.args.round c.args.book.now.history nets place place (get_or nets place 0) c.loop-place.seats c.loop-place.invariant.plans (omega arith)
     (slice_get-get_or nets place 0 c.loop-place-test.true)
 
 pub claim_net-requires-clause-shape : goal.claim_net-requires-clause-shape
@@ -20,8 +22,20 @@ claim_net-requires-clause-shape g c =
     let d = c.args.asked.now.design.now in
     let nets = c.args.nets.now in
     let place = c.loop-place.place in
-    (tree-known d c.args.asked.now.rule.now.formula c.args.round c.args.book.now.history nets place place (get_or nets place 0) c.loop-place.seats c.take_tree-tree.result c.loop-place.invariant.plans (omega arith)
-    (slice_get-get_or nets place 0 c.loop-place-test.true) (All-get_or (λ (n : ℕ). IsTrue (is_routed d n)) nets place 0 c.loop-place-test.true c.requires.nets) c.take_tree-tree.ensures.tree).shape
+    (plan-known d c.args.asked.now.rule.now.formula c.args.round c.args.book.now.history nets place place (get_or nets place 0) c.loop-place.seats c.take_plan-plan.result c.loop-place.invariant.plans (omega arith)
+    (slice_get-get_or nets place 0 c.loop-place-test.true) (All-get_or (λ (n : ℕ). IsTrue (is_routed d n)) nets place 0 c.loop-place-test.true c.requires.nets) c.take_plan-plan.ensures.plan).shape
+
+pub claim_net-requires-clause-planned : goal.claim_net-requires-clause-planned
+claim_net-requires-clause-planned g c =
+    let d = c.args.asked.now.design.now in
+    let nets = c.args.nets.now in
+    let place = c.loop-place.place in
+    record {
+      first = c.args.book.now.history;
+      noted = (plan-known d c.args.asked.now.rule.now.formula c.args.round c.args.book.now.history nets place place (get_or nets place 0) c.loop-place.seats c.take_plan-plan.result c.loop-place.invariant.plans (omega arith)
+          (slice_get-get_or nets place 0 c.loop-place-test.true) (All-get_or (λ (n : ℕ). IsTrue (is_routed d n)) nets place 0 c.loop-place-test.true c.requires.nets) c.take_plan-plan.ensures.plan).noted;
+      grows = c.loop-place.invariant.grows;
+    }
 
 pub loop-place-preserved : goal.loop-place-preserved
 loop-place-preserved g c =
@@ -33,9 +47,9 @@ loop-place-preserved g c =
     let start = c.args.book.now.history in
     let inv = c.loop-place.invariant in
     let routed = All-get_or (λ (n : ℕ). IsTrue (is_routed d n)) nets place 0 c.loop-place-test.true c.requires.nets in
-    let known = tree-known d formula c.args.round start nets place place net c.loop-place.seats c.take_tree-tree.result inv.plans (omega arith)
-    (slice_get-get_or nets place 0 c.loop-place-test.true) routed c.take_tree-tree.ensures.tree in
-    let turn = c.in_ok-claim_net.ensures.turn start inv.front known.plan in
+    let known = plan-known d formula c.args.round start nets place place net c.loop-place.seats c.take_plan-plan.result inv.plans (omega arith)
+    (slice_get-get_or nets place 0 c.loop-place-test.true) routed c.take_plan-plan.ensures.plan in
+    let turn = c.in_ok-claim_net.ensures.turn start inv.front known.noted.plan in
     let t = batching_of c.args.asked.now in
     record {
       capacity = c.in_ok-claim_net.ensures.capacity;
@@ -44,8 +58,10 @@ loop-place-preserved g c =
           let before = inv.longer in
           let more = turn-longer t c.args.round net start c.loop-place.book.history c.claim_net.new.book.history routed turn in
           omega (arith, before, more);
-      count = c.take_tree-tree.ensures.count ∙ inv.count;
-      plans = plans-left d formula c.args.round start nets place c.loop-place.seats c.take_tree-tree.new.seats inv.plans c.take_tree-tree.ensures.others;
+      grows = grows-both (capacity_of d) start c.loop-place.book.history c.claim_net.new.book.history inv.grows
+          (turn-grows t c.args.round net start c.loop-place.book.history c.claim_net.new.book.history turn);
+      count = c.take_plan-plan.ensures.count ∙ inv.count;
+      plans = plans-left d formula c.args.round start nets place c.loop-place.seats c.take_plan-plan.new.seats inv.plans c.take_plan-plan.ensures.others;
       turns = turns-more t c.args.round start start nets place 0 c.loop-place.book.history c.claim_net.new.book.history c.loop-place-test.true turn inv.turns;
     }
 

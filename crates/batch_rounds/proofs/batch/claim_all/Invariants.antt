@@ -1,6 +1,7 @@
 use Rattle.std.specs.Prelude.{◌≡◌, ◌≤◌, length}
 use Rattle.grid_demand.specs.Tables.{capacity_of}
 use Rattle.batch_rounds.specs.Rounds.{batching_of}
+use Rattle.batch_rounds.specs.SecondTries.{Grows}
 use Rattle.batch_rounds.specs.Seats.{HavePlans}
 use Rattle.batch_rounds.proofs.RoundSteps.{TurnsGoOn}
 use Rattle.batch_rounds.proofs.batch.claim_all.Given as goal
@@ -11,6 +12,7 @@ invariant-loop-place g l = record {
   capacity : l.book.capacity ≡ capacity_of l.asked.design.now;
   front : l.front ≡ length l.fn.book.history;
   longer : length l.fn.book.history ≤ length l.book.history;
+  grows : Grows (capacity_of l.asked.design.now) l.fn.book.history l.book.history;
   count : length l.seats ≡ length l.fn.seats;
   plans : HavePlans l.asked.design.now l.asked.rule.now.formula l.round l.fn.book.history l.nets l.place l.seats;
   turns : TurnsGoOn (batching_of l.asked) l.round l.fn.book.history l.fn.book.history l.nets l.place l.book.history;

@@ -1,5 +1,6 @@
-use Rattle.std.proofs.Common.{◌+◌, arith}
+use Rattle.std.proofs.Common.{◌+◌, ◌-◌, refl, ◌∙◌, arith}
 use Rattle.layer_assign.proofs.ColumnLemmas.{held-early, risen-none, risen-more, rise-outside, rise-on, near_up, at-shape}
+use Rattle.layer_assign.proofs.OrderLemmas.{hung-named, rising-next, rising-end}
 use Rattle.layer_assign.proofs.columns.rise.Goals as goal
 
 pub loop-layer-init : goal.loop-layer-init
@@ -7,6 +8,8 @@ loop-layer-init c = record {
   so_far = risen-none c.args.tree.now.shape c.args.tree.now c.args.tile c.args.from;
   shape = c.shape-shape.ensures.shape;
   above = omega arith;
+  within = c.requires.up;
+  same = refl;
 }
 
 pub hang-requires-clause-outside : goal.hang-requires-clause-outside
@@ -43,7 +46,20 @@ loop-layer-preserved c =
           c.cell_at_level-in-loop-layer.result c.requires.tile (omega arith) c.loop-layer.invariant.above c.loop-layer.invariant.so_far.shape
           (at-shape c.args.tree.now.shape c.shape-shape.result c.args.tile (c.loop-layer.layer + 1) c.cell_at_level.result c.shape-shape.ensures.shape c.cell_at_level.ensures.cell)
           (at-shape c.args.tree.now.shape c.shape-shape.result c.args.tile c.loop-layer.layer c.cell_at_level-in-loop-layer.result c.shape-shape.ensures.shape
-          c.cell_at_level-in-loop-layer.ensures.cell) c.loop-layer.invariant.so_far c.in_ok-hang.ensures;
+          c.cell_at_level-in-loop-layer.ensures.cell) c.loop-layer.invariant.so_far c.in_ok-hang.ensures.grows;
       shape = c.loop-layer.invariant.shape;
       above = let h = c.loop-layer.invariant.above in omega arith;
+      within = omega arith;
+      same =
+          rising-next c.args.tree.now.shape c.args.tile c.loop-layer.layer (c.args.to - (c.loop-layer.layer + 1)) (c.args.to - c.loop-layer.layer) c.loop-layer.tree c.hang.new.tree (omega arith)
+          (hung-named c.loop-layer.tree c.hang.new.tree c.cell_at_level.result c.cell_at_level-in-loop-layer.result _ _ c.in_ok-hang.ensures.nodes
+          (at-shape c.args.tree.now.shape c.shape-shape.result c.args.tile (c.loop-layer.layer + 1) c.cell_at_level.result c.shape-shape.ensures.shape c.cell_at_level.ensures.cell)
+          (at-shape c.args.tree.now.shape c.shape-shape.result c.args.tile c.loop-layer.layer c.cell_at_level-in-loop-layer.result c.shape-shape.ensures.shape
+          c.cell_at_level-in-loop-layer.ensures.cell))
+          ∙ c.loop-layer.invariant.same;
     }
+
+pub returns-clause-nodes : goal.returns-clause-nodes
+returns-clause-nodes c =
+    let end = c.loop-layer-test.false in
+    rising-end c.args.tree.now.shape c.args.tile c.loop-layer.layer (c.args.to - c.loop-layer.layer) c.loop-layer.tree (omega arith) ∙ c.loop-layer.invariant.same

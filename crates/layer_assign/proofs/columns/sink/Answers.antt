@@ -1,5 +1,6 @@
-use Rattle.std.proofs.Common.{◌≡◌, ℕ, ◌+◌, ◌-◌, sym, subst, arith}
+use Rattle.std.proofs.Common.{◌≡◌, ℕ, ◌+◌, ◌-◌, refl, sym, subst, ◌∙◌, arith}
 use Rattle.layer_assign.proofs.ColumnLemmas.{held-early, Sunk, sunk-none, sunk-more, sink-outside, sink-on, near_down, at-shape}
+use Rattle.layer_assign.proofs.OrderLemmas.{hung-named, sinking-next, sinking-end}
 use Rattle.layer_assign.proofs.columns.sink.Goals as goal
 
 pub loop-layer-init : goal.loop-layer-init
@@ -8,6 +9,7 @@ loop-layer-init c = record {
   shape = c.shape-shape.ensures.shape;
   above = omega arith;
   below = c.requires.down;
+  same = refl;
 }
 
 pub hang-requires-clause-outside : goal.hang-requires-clause-outside
@@ -56,8 +58,21 @@ loop-layer-preserved c =
           (at-shape c.args.tree.now.shape c.shape-shape.result c.args.tile l c.cell_at_level.result c.shape-shape.ensures.shape c.cell_at_level.ensures.cell)
           (at-shape c.args.tree.now.shape c.shape-shape.result c.args.tile (l + 1) c.cell_at_level-in-loop-layer.result c.shape-shape.ensures.shape
           c.cell_at_level-in-loop-layer.ensures.cell)
-          (subst (λ (k : ℕ). Sunk c.args.tree.now.shape c.args.tree.now c.loop-layer.tree c.args.tile c.args.from k) (sym one) c.loop-layer.invariant.so_far) c.in_ok-hang.ensures;
+          (subst (λ (k : ℕ). Sunk c.args.tree.now.shape c.args.tree.now c.loop-layer.tree c.args.tile c.args.from k) (sym one) c.loop-layer.invariant.so_far) c.in_ok-hang.ensures.grows;
       shape = c.loop-layer.invariant.shape;
       above = omega arith;
       below = omega arith;
+      same =
+          sinking-next c.args.tree.now.shape c.args.tile c.args.to (l - c.args.to) (c.loop-layer.layer - c.args.to) l c.loop-layer.tree c.hang.new.tree (omega arith) (omega arith)
+          (hung-named c.loop-layer.tree c.hang.new.tree c.cell_at_level.result c.cell_at_level-in-loop-layer.result _ _ c.in_ok-hang.ensures.nodes
+          (at-shape c.args.tree.now.shape c.shape-shape.result c.args.tile l c.cell_at_level.result c.shape-shape.ensures.shape c.cell_at_level.ensures.cell)
+          (at-shape c.args.tree.now.shape c.shape-shape.result c.args.tile (l + 1) c.cell_at_level-in-loop-layer.result c.shape-shape.ensures.shape
+          c.cell_at_level-in-loop-layer.ensures.cell))
+          ∙ c.loop-layer.invariant.same;
     }
+
+pub returns-clause-nodes : goal.returns-clause-nodes
+returns-clause-nodes c =
+    let end = c.loop-layer-test.false in
+    let below = c.loop-layer.invariant.below in
+    sinking-end c.args.tree.now.shape c.args.tile c.args.to (c.loop-layer.layer - c.args.to) c.loop-layer.tree (omega arith) ∙ c.loop-layer.invariant.same

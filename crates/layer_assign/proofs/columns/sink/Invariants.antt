@@ -1,4 +1,5 @@
-use Rattle.std.proofs.Common.{◌≡◌, ◌≤◌}
+use Rattle.std.proofs.Common.{◌≡◌, ◌-◌, ◌≤◌}
+use Rattle.layer_assign.specs.NodeOrder.{sinking}
 use Rattle.layer_assign.proofs.ColumnLemmas.{Sunk}
 use Rattle.layer_assign.proofs.columns.sink.Given as goal
 
@@ -8,4 +9,5 @@ invariant-loop-layer l = record {
   shape : l.shape ≡ l.fn.tree.shape;
   above : l.layer ≤ l.fn.from;
   below : l.fn.to ≤ l.layer;
+  same : sinking l.fn.tree.shape l.tile l.fn.to (l.layer - l.fn.to) l.tree ≡ sinking l.fn.tree.shape l.tile l.fn.to (l.fn.from - l.fn.to) l.fn.tree;
 }

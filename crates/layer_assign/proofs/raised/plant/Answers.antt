@@ -1,10 +1,11 @@
-use Rattle.std.proofs.Common.{◌≡◌, ℕ, ◌+◌, ◌*◌, ◌/◌, ◌%◌, sym, ap, subst, ◌∙◌}
-use Rattle.gr_base.specs.Trees.{TreeView}
+use Rattle.std.proofs.Common.{◌≡◌, ℕ, ◌+◌, ◌*◌, ◌/◌, ◌%◌, [], ◌∷◌, sym, ap, subst, ◌∙◌}
+use Rattle.gr_base.specs.Trees.{TreeView, node_of}
 use Rattle.gr_base.specs.declared.grid.Shape.{Shape}
 use Rattle.layer_assign.specs.declared.span.Span.{Span}
 use Rattle.layer_assign.specs.Assignments.{tile_count, tile_of}
 use Rattle.layer_assign.specs.Raised.{in_column, is_via_of, Grows}
 use Rattle.layer_assign.proofs.PlantLemmas.{planted-free, planted}
+use Rattle.layer_assign.specs.NodeOrder.{spreading}
 use Rattle.layer_assign.proofs.raised.plant.Goals as goal
 
 tiles-at : (g : Shape) (columns rows : ℕ) → columns ≡ g.columns → rows ≡ g.rows → columns * rows ≡ tile_count g
@@ -22,9 +23,19 @@ spread-requires-clause-free c = λ other apart lt.
     planted-free c.args.shape c.in_ok-tree.tree c.args.cell (c.args.cell % (c.columns.result * c.rows.result)) other c.in_ok-tree.ensures.tree (ap (λ (n : ℕ). c.args.cell % n) tiles)
     (λ same. apart (same ∙ sym (ap (λ (n : ℕ). c.args.cell / n) tiles)))
 
-pub returns : goal.returns
-returns c =
+pub returns-clause-column : goal.returns-clause-column
+returns-clause-column c =
     let tiles = tiles-at c.args.shape c.columns.result c.rows.result c.columns.ensures.columns c.rows.ensures.rows in
     planted c.args.shape c.in_ok-tree.tree c.spread.new.tree c.args.cell c.args.span c.in_ok-tree.ensures.tree c.requires.span
     (spread-at c.args.shape c.in_ok-tree.tree.shape c.in_ok-tree.tree c.spread.new.tree (c.args.cell % (c.columns.result * c.rows.result)) (tile_of c.args.shape c.args.cell) c.args.span
-    (ap (λ (t : TreeView). t.shape) c.in_ok-tree.ensures.tree) (ap (λ (n : ℕ). c.args.cell % n) tiles) c.in_ok-spread.ensures)
+    (ap (λ (t : TreeView). t.shape) c.in_ok-tree.ensures.tree) (ap (λ (n : ℕ). c.args.cell % n) tiles) c.in_ok-spread.ensures.grows)
+
+pub returns-clause-nodes : goal.returns-clause-nodes
+returns-clause-nodes c =
+    let g = c.args.shape in
+    let tiles = tiles-at g c.columns.result c.rows.result c.columns.ensures.columns c.rows.ensures.rows in
+    let tile = c.args.cell % (c.columns.result * c.rows.result) in
+    let level = c.args.cell / (c.columns.result * c.rows.result) in
+    c.in_ok-spread.ensures.nodes
+    ∙ ap (λ (t : TreeView). spreading t.shape tile level c.args.span t) c.in_ok-tree.ensures.tree
+    ∙ ap (λ (n : ℕ). spreading g (c.args.cell % n) (c.args.cell / n) c.args.span (record { shape = g; nodes = node_of c.args.cell 0 ∷ [] })) tiles

@@ -7,6 +7,8 @@ use Rattle.layer_assign.specs.Spans.{span_in}
 use Rattle.layer_assign.specs.Assignments.{cell_on, tile_at}
 use Rattle.layer_assign.specs.Raising.{end_of, is_done, IsEarly, IsRaised, AreEnds}
 use Rattle.layer_assign.proofs.RaisingLemmas.{column_of, raised-free, raised-up, done-set, done-kept, done-some, ends-more, grows-at}
+use Rattle.layer_assign.proofs.FlatLemmas.{parent-at}
+use Rattle.layer_assign.proofs.OrderLemmas.{visited-at, climbing-next, climbing-end}
 use Rattle.layer_assign.proofs.raised.raise_ancestors.Goals as goal
 
 -- a node before all that are done isn't done
@@ -65,6 +67,11 @@ loop-node-preserved c =
           (raised-up g t a spans (cell_at c.args.tree.now.nodes 0) old c.loop-node.node up (length c.visit.new.tree.nodes) c.loop-node.tree c.visit.new.tree
           c.loop-node.invariant.raised some inside early long c.loop-node.invariant.own
           (not_yet (is_done old) c.loop-node.node up early c.loop-node.invariant.only) grows);
+      same =
+          climbing-next g t a spans c.loop-node.node up c.loop-node.tree c.visit.new.tree c.parent-parent.ensures.tree (omega arith) inside
+          (parent-at t c.loop-node.node up c.parent-parent.ensures.parent)
+          (visited-at g c.loop-node.tree.shape t a spans c.loop-node.node c.loop-node.node up c.loop-node.tree c.visit.new.tree c.loop-node.invariant.raised.shape c.in_ok-visit.ensures.nodes)
+          ∙ c.loop-node.invariant.same;
       ends =
           subst (λ (xs : List ℕ). AreEnds g t spans xs c.visit.new.tree) (sym marked)
           (ends-more g t spans old up c.loop-node.tree c.visit.new.tree _ c.requires.flat c.parent-parent.ensures.tree long (omega arith) grows c.loop-node.invariant.ends);
@@ -76,3 +83,9 @@ returns-clause-raised c =
     let a : ℕ → ℕ = λ node. get_or c.args.layers.now node 0 in
     let zero_node : c.loop-node.node ≡ 0 = c.loop-node-test.false in
     subst (λ (n : ℕ). IsRaised g c.args.flat.now a (span_in c.args.spans.now) (cell_at c.args.tree.now.nodes 0) (is_done c.loop-node.ends.items) n c.loop-node.tree) zero_node c.loop-node.invariant.raised
+
+pub returns-clause-nodes : goal.returns-clause-nodes
+returns-clause-nodes c =
+    let zero_node : c.loop-node.node ≡ 0 = c.loop-node-test.false in
+    climbing-end c.args.tree.now.shape c.args.flat.now (λ node. get_or c.args.layers.now node 0) (span_in c.args.spans.now) c.loop-node.node c.loop-node.tree zero_node
+    ∙ c.loop-node.invariant.same

@@ -1,4 +1,4 @@
-use Rattle.std.proofs.Common.{◌≡◌, ◌≢◌, ℕ, zero, suc, ◌+◌, ◌*◌, ◌%◌, ◌<◌, inl, inr, true, false, List, length, replicate, set, get_or, Option, Some, refl, sym, ap, subst, ◌∙◌, arith}
+use Rattle.std.proofs.Common.{◌≡◌, ◌≢◌, ℕ, zero, suc, ◌+◌, ◌-◌, ◌*◌, ◌%◌, ◌<◌, inl, inr, true, false, List, length, replicate, set, get_or, Option, Some, refl, sym, ap, subst, ◌∙◌, arith}
 use Rattle.std.proofs.lemmas.Bool.{cases_eq, both_ways}
 use Rattle.std.proofs.lemmas.List.{length-replicate}
 use Rattle.std.proofs.lemmas.Nat.{mod_below}
@@ -13,6 +13,7 @@ use Rattle.layer_assign.proofs.FlatLemmas.{few, few_layers, some_tiles, tile-at}
 use Rattle.layer_assign.proofs.ColumnLemmas.{column-in, held-early}
 use Rattle.layer_assign.proofs.RaisingLemmas.{end-set, end-kept, done-set, done-kept}
 use Rattle.layer_assign.proofs.SpanLemmas.{raised-as, raised-column}
+use Rattle.layer_assign.proofs.OrderLemmas.{raised-by}
 use Rattle.layer_assign.proofs.raised.raise_from.Goals as goal
 
 tiles-at : (g : Shape) (columns rows : ℕ) → columns ≡ g.columns → rows ≡ g.rows → columns * rows ≡ tile_count g
@@ -144,7 +145,7 @@ raise_ancestors-requires-clause-first c =
     let planted =
     planted_by c.args.shape c.args.flat.now (λ node. get_or c.args.layers.now node 0) (span_in c.args.spans.now) c.args.cell c.columns.result c.rows.result c.node_at.result c.unwrap-start.result
     c.span_of_node.result c.in_ok-tree.tree c.refill.new.list.items c.len.result c.len-2.result c.requires.flat c.len.ensures.tree c.columns.ensures.columns c.rows.ensures.rows c.node_at.ensures.node
-    c.unwrap-start.ensures c.span_of_node.ensures c.in_ok-tree.ensures c.in_ok-refill.ensures c.len.ensures.len c.len-2.ensures.len c.len-2.ensures.tree.rooted in
+    c.unwrap-start.ensures c.span_of_node.ensures c.in_ok-tree.ensures.column c.in_ok-refill.ensures c.len.ensures.len c.len-2.ensures.len c.len-2.ensures.tree.rooted in
     planted.first
 
 pub raise_ancestors-requires-clause-only : goal.raise_ancestors-requires-clause-only
@@ -152,7 +153,7 @@ raise_ancestors-requires-clause-only c = λ node is.
     let planted =
     planted_by c.args.shape c.args.flat.now (λ node. get_or c.args.layers.now node 0) (span_in c.args.spans.now) c.args.cell c.columns.result c.rows.result c.node_at.result c.unwrap-start.result
     c.span_of_node.result c.in_ok-tree.tree c.refill.new.list.items c.len.result c.len-2.result c.requires.flat c.len.ensures.tree c.columns.ensures.columns c.rows.ensures.rows c.node_at.ensures.node
-    c.unwrap-start.ensures c.span_of_node.ensures c.in_ok-tree.ensures c.in_ok-refill.ensures c.len.ensures.len c.len-2.ensures.len c.len-2.ensures.tree.rooted in
+    c.unwrap-start.ensures c.span_of_node.ensures c.in_ok-tree.ensures.column c.in_ok-refill.ensures c.len.ensures.len c.len-2.ensures.len c.len-2.ensures.tree.rooted in
     elim (cases_eq node c.unwrap-start.result) [
       | inl same ↦ omega arith
       | inr other ↦ absurd (both_ways _ (planted.only node other) is)
@@ -163,18 +164,18 @@ raise_ancestors-requires-clause-ends c =
     let planted =
     planted_by c.args.shape c.args.flat.now (λ node. get_or c.args.layers.now node 0) (span_in c.args.spans.now) c.args.cell c.columns.result c.rows.result c.node_at.result c.unwrap-start.result
     c.span_of_node.result c.in_ok-tree.tree c.refill.new.list.items c.len.result c.len-2.result c.requires.flat c.len.ensures.tree c.columns.ensures.columns c.rows.ensures.rows c.node_at.ensures.node
-    c.unwrap-start.ensures c.span_of_node.ensures c.in_ok-tree.ensures c.in_ok-refill.ensures c.len.ensures.len c.len-2.ensures.len c.len-2.ensures.tree.rooted in
+    c.unwrap-start.ensures c.span_of_node.ensures c.in_ok-tree.ensures.column c.in_ok-refill.ensures c.len.ensures.len c.len-2.ensures.len c.len-2.ensures.tree.rooted in
     let ends = set c.refill.new.list.items c.unwrap-start.result c.len-2.result in
-    subst (λ (s : Shape). AreEnds s c.args.flat.now (span_in c.args.spans.now) ends c.in_ok-tree.tree) (sym c.in_ok-tree.ensures.shape) planted.are_ends
+    subst (λ (s : Shape). AreEnds s c.args.flat.now (span_in c.args.spans.now) ends c.in_ok-tree.tree) (sym c.in_ok-tree.ensures.column.shape) planted.are_ends
 
 pub raise_ancestors-requires-clause-raised : goal.raise_ancestors-requires-clause-raised
 raise_ancestors-requires-clause-raised c =
     let planted =
     planted_by c.args.shape c.args.flat.now (λ node. get_or c.args.layers.now node 0) (span_in c.args.spans.now) c.args.cell c.columns.result c.rows.result c.node_at.result c.unwrap-start.result
     c.span_of_node.result c.in_ok-tree.tree c.refill.new.list.items c.len.result c.len-2.result c.requires.flat c.len.ensures.tree c.columns.ensures.columns c.rows.ensures.rows c.node_at.ensures.node
-    c.unwrap-start.ensures c.span_of_node.ensures c.in_ok-tree.ensures c.in_ok-refill.ensures c.len.ensures.len c.len-2.ensures.len c.len-2.ensures.tree.rooted in
+    c.unwrap-start.ensures c.span_of_node.ensures c.in_ok-tree.ensures.column c.in_ok-refill.ensures c.len.ensures.len c.len-2.ensures.len c.len-2.ensures.tree.rooted in
     raised-as c.in_ok-tree.tree.shape c.args.shape c.args.flat.now (λ node. get_or c.args.layers.now node 0) (span_in c.args.spans.now) (cell_at c.in_ok-tree.tree.nodes 0) (Some c.args.cell)
-    (is_done (set c.refill.new.list.items c.unwrap-start.result c.len-2.result)) c.unwrap-start.result c.in_ok-tree.tree (sym c.in_ok-tree.ensures.shape) (sym c.in_ok-tree.ensures.starts) planted.raised
+    (is_done (set c.refill.new.list.items c.unwrap-start.result c.len-2.result)) c.unwrap-start.result c.in_ok-tree.tree (sym c.in_ok-tree.ensures.column.shape) (sym c.in_ok-tree.ensures.column.starts) planted.raised
 
 pub raise_others-requires-clause-ends : goal.raise_others-requires-clause-ends
 raise_others-requires-clause-ends c =
@@ -195,8 +196,23 @@ returns-clause-raised c =
     let g = c.args.shape in
     let t = c.args.flat.now in
     let a : ℕ → ℕ = λ node. get_or c.args.layers.now node 0 in
-    let column = c.in_ok-tree.ensures in
+    let column = c.in_ok-tree.ensures.column in
     let raised : IsRaised c.in_ok-tree.tree.shape t a (span_in c.args.spans.now) (cell_at c.in_ok-tree.tree.nodes 0) (is_done c.raise_ancestors.new.ends.items) 0 c.raise_ancestors.new.tree =
     c.in_ok-raise_ancestors.ensures.raised in
     raised-as g c.raise_ancestors.new.tree.shape t a (span_in c.args.spans.now) (Some c.args.cell) (cell_at c.raise_ancestors.new.tree.nodes 0)
-    (λ _. true) 0 c.raise_others.new.tree (raised.shape ∙ column.shape) (raised.starts ∙ column.starts) c.in_ok-raise_others.ensures
+    (λ _. true) 0 c.raise_others.new.tree (raised.shape ∙ column.shape) (raised.starts ∙ column.starts) c.in_ok-raise_others.ensures.raised
+
+pub returns-clause-nodes : goal.returns-clause-nodes
+returns-clause-nodes c =
+    let g = c.args.shape in
+    let t = c.args.flat.now in
+    let a : ℕ → ℕ = λ node. get_or c.args.layers.now node 0 in
+    let spans = span_in c.args.spans.now in
+    let start = c.unwrap-start.result in
+    let n = length t.nodes - 1 in
+    let column = c.in_ok-tree.ensures.column in
+    let raised : IsRaised c.in_ok-tree.tree.shape t a spans (cell_at c.in_ok-tree.tree.nodes 0) (is_done c.raise_ancestors.new.ends.items) 0 c.raise_ancestors.new.tree =
+    c.in_ok-raise_ancestors.ensures.raised in
+    let found = start_found t g c.args.cell start c.columns.result c.rows.result c.node_at.result c.columns.ensures.columns c.rows.ensures.rows c.node_at.ensures.node c.unwrap-start.ensures in
+    raised-by g t a spans c.args.cell start c.span_of_node.result c.in_ok-tree.tree c.raise_ancestors.new.tree c.raise_others.new.tree found c.span_of_node.ensures c.in_ok-tree.ensures.nodes column.shape
+    c.in_ok-raise_ancestors.ensures.nodes raised.shape c.in_ok-raise_others.ensures.nodes

@@ -1,4 +1,4 @@
-use Rattle.std.proofs.Common.{◌≡◌, ℕ, ◌<◌, ◌≤◌, inl, inr, true, false, nat_lt, List, length, set, get_or, Option, unwrap_or, refl, sym, ap, subst, ◌∙◌, arith}
+use Rattle.std.proofs.Common.{◌≡◌, ℕ, ◌+◌, ◌-◌, ◌<◌, ◌≤◌, inl, inr, true, false, nat_lt, List, length, set, get_or, Option, unwrap_or, refl, sym, ap, subst, ◌∙◌, arith}
 use Rattle.std.proofs.lemmas.Bool.{cases_eq}
 use Rattle.std.proofs.lemmas.Bool.Decides.{nat_tests}
 use Rattle.std.proofs.lemmas.List.{length-set}
@@ -9,7 +9,8 @@ use Rattle.layer_assign.specs.Spans.{span_in}
 use Rattle.layer_assign.specs.Assignments.{cell_on, tile_at}
 use Rattle.layer_assign.specs.Raising.{end_of, is_done, IsEarly, IsIn, IsRaised, AreEnds}
 use Rattle.layer_assign.proofs.FlatLemmas.{parent-at}
-use Rattle.layer_assign.proofs.RaisingLemmas.{column_of, raised-free, raised-down, raised-all, done-set, done-kept, done-some, ends-more, grows-at}
+use Rattle.layer_assign.proofs.RaisingLemmas.{column_of, raised-free, raised-on, raised-down, raised-all, done-set, done-kept, done-some, ends-more, grows-at}
+use Rattle.layer_assign.proofs.OrderLemmas.{visited-at, low-in, filling-kept, filling-next, filling-end}
 use Rattle.layer_assign.proofs.raised.raise_others.Goals as goal
 
 -- a tile without an end isn't done
@@ -59,6 +60,10 @@ yet_done ends node end below read some =
 
 pub loop-node-preserved-then-index-gt0 : goal.loop-node-preserved-then-index-gt0
 loop-node-preserved-then-index-gt0 c =
+    let g = c.args.tree.now.shape in
+    let t = c.args.flat.now in
+    let a : ℕ → ℕ = λ node. get_or c.args.layers.now node 0 in
+    let spans = span_in c.args.spans.now in
     let lt = c.loop-node-test.true in
     let size = c.len-node-end.ensures.len in
     let long : length c.loop-node.ends.items ≡ length c.args.flat.now.nodes = c.loop-node.invariant.marks in
@@ -72,6 +77,12 @@ loop-node-preserved-then-index-gt0 c =
             | inr apart ↦ c.loop-node.invariant.before u (omega arith)
           ];
       raised = c.loop-node.invariant.raised;
+      within = omega arith;
+      same =
+          filling-kept g t a spans c.loop-node.node (length t.nodes - (c.loop-node.node + 1)) (length t.nodes - c.loop-node.node) c.loop-node.tree (omega arith)
+          (raised-on g t a spans (cell_at c.args.tree.now.nodes 0) (is_done c.loop-node.ends.items) 0 c.loop-node.tree c.loop-node.node (spans c.loop-node.node).low c.requires.flat
+          c.len-node-end.ensures.tree c.loop-node.invariant.raised (omega arith) done (low-in g t a spans c.loop-node.node c.requires.spans (omega arith)))
+          ∙ c.loop-node.invariant.same;
       ends = c.loop-node.invariant.ends;
     }
 
@@ -105,13 +116,21 @@ loop-node-preserved c =
           subst (λ (xs : List ℕ). IsRaised g t a spans (cell_at c.args.tree.now.nodes 0) (is_done xs) 0 c.visit.new.tree) (sym marked)
           (raised-down g t a spans (cell_at c.args.tree.now.nodes 0) old node count c.loop-node.tree c.visit.new.tree
           c.loop-node.invariant.raised some later (omega arith) long open_is grows);
+      within = omega arith;
+      same =
+          filling-next g t a spans node c.parent-parent.result (length t.nodes - (node + 1)) (length t.nodes - node) c.loop-node.tree c.visit.new.tree (omega arith)
+          (raised-free g t a spans (cell_at c.args.tree.now.nodes 0) (is_done old) 0 c.loop-node.tree node (spans node).low c.requires.flat c.len-node-end.ensures.tree
+          c.loop-node.invariant.raised (omega arith) open_is)
+          (parent-at t node c.parent-parent.result c.parent-parent.ensures.parent)
+          (visited-at g c.loop-node.tree.shape t a spans node c.parent-parent.result node c.loop-node.tree c.visit.new.tree c.loop-node.invariant.raised.shape c.in_ok-visit.ensures.nodes)
+          ∙ c.loop-node.invariant.same;
       ends =
           subst (λ (xs : List ℕ). AreEnds g t spans xs c.visit.new.tree) (sym marked)
           (ends-more g t spans old node c.loop-node.tree c.visit.new.tree _ c.requires.flat c.len-node-end.ensures.tree long (omega arith) grows c.loop-node.invariant.ends);
     }
 
-pub returns : goal.returns
-returns c =
+pub returns-clause-raised : goal.returns-clause-raised
+returns-clause-raised c =
     let g = c.args.tree.now.shape in
     let t = c.args.flat.now in
     let a : ℕ → ℕ = λ node. get_or c.args.layers.now node 0 in
@@ -119,3 +138,11 @@ returns c =
     let long = c.len-node-end.ensures.len in
     raised-all g t a (span_in c.args.spans.now) (cell_at c.args.tree.now.nodes 0) (is_done c.loop-node.ends.items) c.loop-node.tree c.loop-node.invariant.raised
     (λ u lt. c.loop-node.invariant.before u (omega arith))
+
+pub returns-clause-nodes : goal.returns-clause-nodes
+returns-clause-nodes c =
+    let t = c.args.flat.now in
+    let end = c.loop-node-test.false in
+    let size = c.len-node-end.ensures.len in
+    filling-end c.args.tree.now.shape t (λ node. get_or c.args.layers.now node 0) (span_in c.args.spans.now) c.loop-node.node (length t.nodes - c.loop-node.node) c.loop-node.tree (omega arith)
+    ∙ c.loop-node.invariant.same

@@ -10,6 +10,7 @@ use Rattle.layer_assign.specs.Raised.{in_column, is_wire_of, is_via_of, Grows}
 use Rattle.layer_assign.specs.Raising.{Links}
 use Rattle.layer_assign.proofs.FlatLemmas.{tile-at}
 use Rattle.layer_assign.proofs.LinkLemmas.{link-near, link-wire}
+use Rattle.layer_assign.proofs.OrderLemmas.{visited-named}
 use Rattle.layer_assign.proofs.raised.visit.Goals as goal
 
 near-at : (g : Shape) (t : TreeView) (edge from to layer at_from at_to at_layer : ℕ) → at_layer ≡ layer → tile_at t to ≡ at_to → tile_at t from ≡ at_from →
@@ -55,4 +56,11 @@ returns-clause-grows c =
     visited c.args.tree.now.shape t (λ node. get_or c.args.layers.now node 0) c.args.tree.now c.enter.new.tree c.args.edge c.args.from c.args.to c.cell.result c.cell-2.result c.layer.result
     c.span_of_node.result (span_in c.args.spans.now c.args.to) c.requires.flat c.cell.ensures.tree c.requires.later c.requires.edge
     (c.requires.layers.below c.args.edge c.requires.later c.requires.edge) c.requires.links c.layer.ensures (tile-at t c.args.to c.cell-2.result c.cell-2.ensures.cell)
-    (tile-at t c.args.from c.cell.result c.cell.ensures.cell) (sym c.span_of_node.ensures) c.in_ok-enter.ensures
+    (tile-at t c.args.from c.cell.result c.cell.ensures.cell) (sym c.span_of_node.ensures) c.in_ok-enter.ensures.grows
+
+pub returns-clause-nodes : goal.returns-clause-nodes
+returns-clause-nodes c =
+    let t = c.args.flat.now in
+    visited-named c.args.tree.now.shape t (λ node. get_or c.args.layers.now node 0) (span_in c.args.spans.now) c.args.tree.now c.enter.new.tree c.args.edge c.args.from c.args.to
+    c.cell.result c.cell-2.result c.layer.result c.span_of_node.result c.in_ok-enter.ensures.nodes c.layer.ensures (tile-at t c.args.to c.cell-2.result c.cell-2.ensures.cell)
+    (tile-at t c.args.from c.cell.result c.cell.ensures.cell) c.span_of_node.ensures

@@ -13,9 +13,6 @@ returns g c =
     let trees = c.in_ok-routes.routes in
     let are = subst (λ (b : BookView). trees ≡ booked_routes b.capacity (take rounds.chosen b.history)) c.state-book.ensures c.in_ok-routes.ensures in
     record {
-      made = record { capacity = made.capacity; legal = made.legal; run = made.run; parted = made.parted };
-      least = made.least;
-      within = made.within;
-      booked = routes-booked d rounds.book.state.capacity h trees made.capacity made.stands are;
-      stands = made.stands;
+      rounds = made;
+      booked = routes-booked d rounds.book.state.capacity h trees made.made.capacity made.stands are;
     }

@@ -10,9 +10,9 @@ returns c =
     let h = take r.rounds.chosen r.rounds.book.state.history in
     let trees = c.in_ok-verdict.ensures.trees in
     record {
-      made = are.made;
+      made = are.rounds.made;
       routes = chosen-routes d c.args.options r are trees;
-      trees = routes-trees d h r.routes are.stands are.booked trees;
-      held = held-tree d h r.routes are.stands are.booked;
+      trees = routes-trees d h r.routes are.rounds.stands are.booked trees;
+      held = held-tree d h r.routes are.rounds.stands are.booked;
       judged = c.in_ok-verdict.ensures.verdict;
     }

@@ -22,7 +22,7 @@ pub evaluate_routes-requires-clause-routes : goal.evaluate_routes-requires-claus
 evaluate_routes-requires-clause-routes c =
     let r = c.args.booked.now in
     let are = c.requires.booked in
-    routes-routed c.args.design.now (take r.rounds.chosen r.rounds.book.state.history) r.routes are.stands are.booked
+    routes-routed c.args.design.now (take r.rounds.chosen r.rounds.book.state.history) r.routes are.rounds.stands are.booked
 
 pub evaluate_routes-requires-2-clause-loads : goal.evaluate_routes-requires-2-clause-loads
 evaluate_routes-requires-2-clause-loads c =
@@ -35,4 +35,4 @@ pub evaluate_routes-requires-2-clause-routes : goal.evaluate_routes-requires-2-c
 evaluate_routes-requires-2-clause-routes c =
     let r = c.args.booked.now in
     let are = c.requires.booked in
-    routes-routed c.args.design.now (take r.rounds.chosen r.rounds.book.state.history) r.routes are.stands are.booked
+    routes-routed c.args.design.now (take r.rounds.chosen r.rounds.book.state.history) r.routes are.rounds.stands are.booked

@@ -12,9 +12,9 @@ returns g c =
     let told = c.in_ok-told.ensures in
     let verdict = c.in_ok-told.told.0 in
     record {
-      made = are.made;
+      made = are.rounds.made;
       routes = chosen-routes d c.args.options r are told.trees;
-      trees = routes-trees d h r.routes are.stands are.booked told.trees;
+      trees = routes-trees d h r.routes are.rounds.stands are.booked told.trees;
       verdict = verdict;
       judged = told.verdict;
       plans = told.buffers.plans;

@@ -2,6 +2,7 @@ use Rattle.std.proofs.Common.{ℕ, [], ◌∷◌, map, nat_eq, string_bytes, IsT
 use Rattle.std.specs.List.{list_any}
 use Rattle.command_form.proofs.EndLemmas.{apart-status, by-status, ends-with}
 use Rattle.router_top.proofs.CommandLaws.{asked-lawful}
+use Rattle.router_top.proofs.RepeatingLemmas.{batches-decide}
 use Rattle.router_top.proofs.top.run.Goals as goal
 use Rattle.word_reader.specs.Orders.{order_of}
 
@@ -21,3 +22,6 @@ returns-clause-apart g c = λ apart. record {
       (apart-status _ (asked-lawful (order_of (map string_bytes c.args.words.now))) apart _ _ _ _ c.carry_out_words-left.result.end _ c.finish-status.result
       c.carry_out_words-left.ensures.leaves c.finish-status.ensures);
 }
+
+pub returns-clause-batches : goal.returns-clause-batches
+returns-clause-batches g c = batches-decide

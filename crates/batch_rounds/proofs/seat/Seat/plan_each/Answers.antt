@@ -6,8 +6,8 @@ use Rattle.batch_rounds.proofs.seat.Seat.plan_each.Goals as goal
 pub loop-at-preserved : goal.loop-at-preserved
 loop-at-preserved g c =
     let b = c.args.basis.now in
-    planned-more b.design.now b.rule.now.formula b.round b.loads.now c.args.nets.now c.args.first c.args.count c.loop-at.at _ _ c.loop-at.self.trees.items c.push.new.self.items c.in_ok-tree.tree refl
-    c.in_ok-push.ensures.items (slice_get-get_or c.args.nets.now c.loop-at.at 0 c.loop-at-test.true) c.in_ok-tree.ensures c.loop-at.invariant
+    planned-more b.design.now b.rule.now.formula b.round b.loads.now c.args.nets.now c.args.first c.args.count c.loop-at.at _ _ c.loop-at.self.plans.items c.push.new.self.items c.in_ok-plan.plan refl
+    c.in_ok-push.ensures.items (slice_get-get_or c.args.nets.now c.loop-at.at 0 c.loop-at-test.true) c.in_ok-plan.ensures c.loop-at.invariant
 
 pub returns : goal.returns
 returns g c =

@@ -1,10 +1,17 @@
-use Rattle.std.proofs.Common.{◌≡◌, ℕ, length, IsTrue, sym, ap, subst, ◌∙◌}
+use Rattle.std.proofs.Common.{◌≡◌, ℕ, length, IsTrue, sym, ap, subst, ◌∙◌, arith}
 use Rattle.round_core.specs.Worlds.{WorldView, tries_in, phase_replied, is_allowed, happens, IsStep}
 use Rattle.round_core.specs.WorldStore.{Keeps, seen}
 use Rattle.round_core.specs.declared.steps.Phase.{Phase}
 use Rattle.round_core.specs.declared.steps.Step.TheVariants.{Claim}
-use Rattle.round_core.proofs.WorldFields.{called_fields, claimed-view, claimed-keeps}
+use Rattle.round_core.proofs.WorldFields.{called_fields, claimed-view, claimed-keeps, claimed-tries}
 use Rattle.round_core.proofs.world.World.claim.Goals as goal
+
+pub phase_replied-requires : goal.phase_replied-requires
+phase_replied-requires c =
+    let step = subst (λ (v : WorldView). IsStep v (Claim c.args.worker c.args.claim)) (sym c.self.view_is) c.requires.step in
+    let allowed = subst (λ (v : WorldView). IsTrue (is_allowed v (Claim c.args.worker c.args.claim))) (sym c.self.view_is) c.requires.allowed in
+    let few = claimed-tries c.self.inside c.args.worker c.args.claim c.index.result.now c.self.invariant step.0 allowed c.index.ensures in
+    omega (arith, few, c.tries_of-tries.ensures)
 
 pub invariant_of-self-2 : goal.invariant_of-self-2
 invariant_of-self-2 c =

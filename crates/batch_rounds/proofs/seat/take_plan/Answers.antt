@@ -1,9 +1,9 @@
 use Rattle.std.proofs.Common.{◌/◌, ◌%◌, length, get_or, set, Option, refl, ap}
 use Rattle.std.proofs.lemmas.Nat.{mod_below}
 use Rattle.std.proofs.lemmas.Option.{slice_get-get_or}
-use Rattle.gr_base.specs.Trees.{TreeView}
+use Rattle.batch_rounds.specs.declared.seat.Planned.{Planned}
 use Rattle.batch_rounds.proofs.SeatSteps.{taken-others}
-use Rattle.batch_rounds.proofs.seat.take_tree.Goals as goal
+use Rattle.batch_rounds.proofs.seat.take_plan.Goals as goal
 
 pub returns-clause-others : goal.returns-clause-others
 returns-clause-others c =
@@ -15,5 +15,5 @@ returns-clause-others c =
       left = _;
       there = slice_get-get_or seats at seat (mod_below c.args.place (length seats) c.requires.some);
       after_is = refl;
-      trees = ap (λ (tree : Option TreeView). set (get_or seats at seat).trees.items (c.args.place / length seats) tree) c.take.ensures.after;
+      plans = ap (λ (plan : Option Planned). set (get_or seats at seat).plans.items (c.args.place / length seats) plan) c.take.ensures.after;
     })

@@ -1,4 +1,4 @@
--- Pattern plans by prices that are the same on the edges of the grid have the same edges.
+-- Pattern plans by prices that are the same on the edges of the grid are the same.
 use Rattle.std.proofs.Common.{◌≡◌, ℕ, zero, suc, ◌+◌, ◌<◌, ◌≤◌, inl, inr, Bool, true, false, nat_lt, List, [], ◌∷◌, ◌++◌, length, map, fold, All, Option, Some, None, unwrap_or, if◌then◌else◌, IfSome, IsTrue, refl, sym, ap, subst, ◌∙◌, arith}
 use Rattle.std.specs.List.{list_any, range_with_len, sum_by}
 use Rattle.std.specs.Option.{option_map, option_and_then}
@@ -8,7 +8,7 @@ use Rattle.std.proofs.lemmas.List.Elements.{All-nil, All-cons, All-head, All-tai
 use Rattle.std.proofs.lemmas.List.{get_or_past}
 use Rattle.gr_base.proofs.GridLemmas.{some_columns, some_rows, place-inside, number-below, edge_of-joins}
 use Rattle.gr_base.specs.Grid.{gap, cells_of, place_at, edge_of, has_edge, on_layer, IsInside, Joins}
-use Rattle.gr_base.specs.Trees.{TreeView, IsTree, edges_of, attached}
+use Rattle.gr_base.specs.Trees.{TreeView, IsTree, attached}
 use Rattle.gr_base.specs.declared.grid.Cell.{Cell}
 use Rattle.gr_base.specs.declared.grid.Edge.{Edge}
 use Rattle.gr_base.specs.declared.grid.Shape.{Shape}
@@ -237,9 +237,10 @@ pattern-kept g ways p q pins t same inside is = record {
   least = least-kept g ways p q same is.flat is.flat_tree is.is_flat.flattened pins is.layers is.assignment is.least;
   first = first-kept g ways p q same is.flat is.flat_tree is.is_flat.flattened pins is.layers is.assignment is.first;
   edges = is.edges;
+  nodes = is.nodes;
 }
 
-pub patterns-alike : (g : Shape) (ways : ℕ → Way → Bool) (p q : Edge → Option ℕ) (pins : List ℕ) (t u : TreeView) → AreSamePrices g p q → All (λ pin. pin < cells_of g) pins →
-    IsPatternTree g ways p pins t → IsPatternTree g ways q pins u → (e : Edge) → edges_of u e ≡ edges_of t e
-patterns-alike g ways p q pins t u same inside one other =
+pub patterns-same : (g : Shape) (ways : ℕ → Way → Bool) (p q : Edge → Option ℕ) (pins : List ℕ) (t u : TreeView) → AreSamePrices g p q → All (λ pin. pin < cells_of g) pins →
+    IsPatternTree g ways p pins t → IsPatternTree g ways q pins u → u ≡ t
+patterns-same g ways p q pins t u same inside one other =
     pattern-only g ways p pins t u one (pattern-kept g ways p q pins u same inside other)
