@@ -1,7 +1,6 @@
 -- The sites of edges, and what an edge costs a net by each formula.
 use Rattle.std.specs.Prelude.{ℕ, ◌+◌, ◌-◌, ◌*◌, ◌^◌, ◌≤◌, min}
 use Rattle.gr_base.specs.Limits.{most_capacity, most_width, most_marks}
-use Rattle.cost_rules.specs.declared.formula.TheConstants.{MOST_COST, VIA_COST}
 use Rattle.cost_rules.specs.declared.site.Site.{Site}
 use Rattle.cost_rules.specs.declared.site.Formula.{Formula}
 use Rattle.cost_rules.specs.declared.site.Formula.TheVariants.{First, Steep, Flat}
@@ -19,10 +18,10 @@ overflow_at site = site.demand + site.need - site.capacity
 
 -- the greatest cost of an edge, and what a via edge costs in plans
 abbrev pub most_cost : ℕ
-most_cost = MOST_COST
+most_cost = 1048576
 
 abbrev pub via_cost : ℕ
-via_cost = VIA_COST
+via_cost = 3
 
 -- what the edge costs the net by each formula
 abbrev pub cost_at : Formula → Site → ℕ

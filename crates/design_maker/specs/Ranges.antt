@@ -2,7 +2,17 @@
 use Rattle.std.specs.Prelude.{ℕ, ◌*◌, Bool, ◌&&◌, nat_le, IsTrue}
 use Rattle.gr_base.specs.Limits.{most_cells, most_layers}
 use Rattle.design_maker.specs.declared.made.Made.{Made}
-use Rattle.design_maker.specs.declared.made.TheConstants.{LEAST_SIDE, MOST_SIDE, MOST_MADE_NETS}
+
+-- the fewest and the most columns, and rows; the fewest layers are as many
+abbrev pub least_side : ℕ
+least_side = 2
+
+abbrev pub most_side : ℕ
+most_side = 2048
+
+-- the most nets of a made design
+abbrev pub most_made_nets : ℕ
+most_made_nets = 1000000
 
 -- from the least to the most, both included
 abbrev pub is_between : (n least most : ℕ) → Bool
@@ -10,11 +20,11 @@ is_between n least most = nat_le least n && nat_le n most
 
 abbrev pub is_made : Made → Bool
 is_made made =
-    is_between made.columns LEAST_SIDE MOST_SIDE &&
-    is_between made.rows LEAST_SIDE MOST_SIDE &&
-    is_between made.layers LEAST_SIDE most_layers &&
+    is_between made.columns least_side most_side &&
+    is_between made.rows least_side most_side &&
+    is_between made.layers least_side most_layers &&
     nat_le (made.columns * made.rows * made.layers) most_cells &&
-    nat_le made.nets MOST_MADE_NETS
+    nat_le made.nets most_made_nets
 
 -- a design can be made of the numbers
 abbrev pub IsMade : Made → Type 0

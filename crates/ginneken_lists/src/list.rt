@@ -85,6 +85,7 @@ impl OptionList {
             ≡ Some (candidate_of trail result) }
         ensures one { Contains self.now result }
         ensures steps { steps.new ≤ steps.old + length self.now + 1 }
+        ensures counted { steps.old < steps.new }
         ensures list { IsList self.now }
     {
         offering::best_driven(&self.pairs, r, steps).pair()

@@ -27,6 +27,7 @@ pub(crate) fn best_driven<L: Ledger>(pairs: &[Stored], r: u32, steps: &mut Steps
         ≡ Some (stored_candidate trail result) }
     ensures one { Contains pairs.now result }
     ensures steps { steps.new ≤ steps.old + length pairs.now + 1 }
+    ensures counted { steps.old < steps.new }
 {
     let least = driving_delay(r, read(pairs, 0, steps).load);
     let last = pairs.len() - 1;

@@ -21,7 +21,7 @@ pub use grid::{Cell, Edge, Shape, Way};
 pub use limits::{
     MOST_ADJUSTMENTS, MOST_BYTES, MOST_CAPACITY, MOST_CELLS, MOST_COORDINATE, MOST_ID, MOST_LAYERS,
     MOST_LOWER, MOST_MARKS, MOST_NETS, MOST_PINS, MOST_ROUNDS, MOST_ROUTED_PINS, MOST_TILE,
-    MOST_WIDTH,
+    MOST_WIDTH, MOST_WORKERS,
 };
 pub use name::Name;
 pub use node_index::NodeIndex;

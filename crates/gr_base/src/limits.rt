@@ -1,4 +1,4 @@
-//! The limits of designs and of orders, each said once. The specs of each crate cite them.
+//! The limits of designs and of orders, as the specs state them.
 
 /// The most layers of a grid.
 pub const MOST_LAYERS: u32 = 16;
@@ -44,3 +44,6 @@ pub const MOST_MARKS: u32 = 1_048_576;
 
 /// The most rounds of rip-up and reroute that may be asked for.
 pub const MOST_ROUNDS: u32 = 64;
+
+/// The most workers that may be asked for.
+pub const MOST_WORKERS: u32 = 16;

@@ -23,12 +23,14 @@ IsPolarPlan l None = HasNoLegal l
 IsPolarPlan l (Some plan) = IsLegalPlan l plan
 
 -- for a routed net its tree is there, and the plan is one for it; another net has none
-pub record IsNetPlan (d : DesignView) (lib : LibraryView) (trees : List (Option TreeView)) (net : ℕ) (plan : Option Plan) : Type 0 where
+pub record IsNetPlan (d : DesignView) (lib : LibraryView) (trees : List (Option TreeView)) (net : ℕ)
+    (plan : Option Plan) : Type 0 where
   pub routed : IsTrue (is_routed d net) → IsSomeAnd (tree_at trees net) (λ t. IsPolarPlan (loading_of d lib net t) plan)
   pub other : IsFalse (is_routed d net) → plan ≡ None
 
 -- plans of the nets from a number on, those that were made
-abbrev pub AreNetPlans : {E : Type 0} (first : ℕ) → DesignView → LibraryView → List (Option TreeView) → List (Result (Option Plan) E) → Type 0
+abbrev pub AreNetPlans : {E : Type 0} (first : ℕ) → DesignView → LibraryView → List (Option TreeView) →
+    List (Result (Option Plan) E) → Type 0
 AreNetPlans {E} first d lib trees planned = (k : ℕ) (default : Result (Option Plan) E) → k < length planned →
     IfOk (slice_index_or planned k default) (IsNetPlan d lib trees (first + k))
 

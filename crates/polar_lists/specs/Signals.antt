@@ -26,9 +26,11 @@ suits inverted sink = if inverted then sink.flipped else not sink.flipped
 abbrev pub suits_all : RcTree → ℕ → (inverted : Bool) → Bool
 suits_all t v inverted = list_all (suits inverted) (sinks_at t v)
 
--- what a kind makes at a node: a buffer over the candidate that it drives best, of those for the signal that it is driven by
+-- what a kind makes at a node: a buffer over the candidate that it drives best, of those for the signal that it is
+-- driven by
 abbrev pub made_by : LibraryView → ℕ → BySignal → (inverted : Bool) → (number : ℕ) → Option Candidate
-made_by lib node all inverted number = with_kind lib node (all (below_it (is_inverter lib (Some number)) inverted)) number
+made_by lib node all inverted number =
+    with_kind lib node (all (below_it (is_inverter lib (Some number)) inverted)) number
 
 -- what is offered at a node: what each kind makes, in the order of the kinds
 abbrev pub offers_by : LibraryView → ℕ → BySignal → BySignal
@@ -52,7 +54,8 @@ both_of_last zero s v inverted = if suits_all s.tree v inverted then leaf (sinks
 both_of_last (suc n) s v inverted =
     let node = s.tree.nodes - suc n in
     let before = both_of_last n s in
-    if v == s.tree.parent node then all_joined (before v inverted) (both_hanging s node (before node) inverted) else before v inverted
+    if v == s.tree.parent node then all_joined (before v inverted) (both_hanging s node (before node) inverted)
+    else before v inverted
 
 -- those for the plain signal below node 0, where all nodes are hung on their parents
 abbrev pub plain_candidates : LoadingView → List Candidate

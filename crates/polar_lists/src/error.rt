@@ -1,3 +1,4 @@
+//! Errors of plans.
 use std::alloc::AllocError;
 use thiserror::Error;
 

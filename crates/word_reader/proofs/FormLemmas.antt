@@ -4,7 +4,7 @@ use Rattle.std.proofs.lemmas.Bool.Decides.{nat_tests}
 use Rattle.std.proofs.lemmas.List.Folds.{list_all_at}
 use Rattle.word_reader.specs.Forms.{command_row, every_option, has, place}
 use Rattle.word_reader.specs.Kept.{most_positionals}
-use Rattle.word_reader.specs.Orders.{suits, has_all, fills, fits, order_by}
+use Rattle.word_reader.specs.Orders.{suits, has_all, go_together, fills, fits, order_by}
 use Rattle.word_reader.specs.Sorting.{Sorted}
 use Rattle.word_reader.specs.declared.form.Command.{Command}
 use Rattle.word_reader.specs.declared.form.Command.TheVariants.{Route}
@@ -34,7 +34,7 @@ pub too-many : (command : Command) (sorted : Sorted) → most_positionals < leng
 too-many command sorted more =
     let most = most-words command in
     let other : fills command sorted ≡ false = grind (arith, nat_tests) in
-    unfit command sorted (ap (λ (b : Bool). b && has_all command sorted) other)
+    unfit command sorted (ap (λ (b : Bool). b && has_all command sorted && go_together sorted) other)
 
 -- an option that stands twice
 pub twice : (command : Command) (sorted : Sorted) (option : OptionKind) → 1 < length (sorted.values option) →
@@ -53,6 +53,6 @@ twice command sorted option more = unfit command sorted (by (fills command sorte
         list_all_at (suits command sorted) every_option (place option) option (in-place option)
         (ap (suits command sorted) (at-place option) ∙ beyond)
 
-    by : (b : Bool) → (b && has_all command sorted) ≡ false
-    by true = none
+    by : (b : Bool) → (b && has_all command sorted && go_together sorted) ≡ false
+    by true = ap (λ (b : Bool). b && go_together sorted) none
     by false = refl

@@ -2,19 +2,19 @@
 use Rattle.std.specs.Prelude.{ℕ, Bool, ◌==◌, List, [], ◌∷◌, Option, Some, None, codes}
 use Rattle.std.specs.List.{find, list_any}
 use Rattle.std.specs.Str.{bytes_eq}
+use Rattle.gr_base.specs.Limits.{most_workers}
 use Rattle.word_reader.specs.Numbers.{most_number}
 use Rattle.word_reader.specs.declared.form.Command.{Command}
 use Rattle.word_reader.specs.declared.form.Command.TheVariants.{Route, Evaluate, Buffer, Make, Trial, Panels}
 use Rattle.word_reader.specs.declared.form.OptionKind.{OptionKind}
-use Rattle.word_reader.specs.declared.form.OptionKind.TheVariants.{Workers, ViaCost, Rule, Stop}
-use Rattle.word_reader.specs.declared.form.TheConstants.{MOST_WORKERS, MOST_VIA_COST}
+use Rattle.word_reader.specs.declared.form.OptionKind.TheVariants.{Workers, ViaCost, Batch, Rule, Stop}
 
--- the most workers, and the most wire edges as which a via edge may count in a report
-abbrev pub most_workers : ℕ
-most_workers = MOST_WORKERS
-
+-- the most wire edges as which a via edge may count in a report, and the most nets of a batch
 abbrev pub most_via_cost : ℕ
-most_via_cost = MOST_VIA_COST
+most_via_cost = 1000
+
+abbrev pub most_batch : ℕ
+most_batch = 65536
 
 -- what an option takes as its value
 pub data Takes : Type 0 where
@@ -25,33 +25,58 @@ pub data Takes : Type 0 where
   -- one of these words, or a number from the least to the most
   WordOrNumber : (words : List (List ℕ)) → (least most : ℕ) → Takes
 
--- an option's word, what it takes as its value, and the value that it has where none is given, if it then has one
+-- an option's word, what it takes as its value, the value that it has where none is given, if it then has one, and the
+-- option beside which it can't be given, if there is one
 pub record OptionRow : Type 0 where
   pub word : List ℕ
   pub takes : Takes
   pub default : Option (List ℕ)
+  pub excludes : Option OptionKind
 
 -- the row of each option
 abbrev pub option_row : OptionKind → OptionRow
-option_row Workers = record { word = codes "--workers"; takes = Number 1 most_workers; default = Some (codes "1") }
-option_row ViaCost = record { word = codes "--via-cost"; takes = Number 0 most_via_cost; default = Some (codes "1") }
+option_row Workers = record {
+  word = codes "--workers";
+  takes = Number 1 most_workers;
+  default = Some (codes "1");
+  excludes = None;
+}
+option_row ViaCost = record {
+  word = codes "--via-cost";
+  takes = Number 0 most_via_cost;
+  default = Some (codes "1");
+  excludes = None;
+}
+option_row Batch = record {
+  word = codes "--batch";
+  takes = Number 1 most_batch;
+  default = None;
+  excludes = Some Stop;
+}
 option_row Rule = record {
   word = codes "--rule";
   takes = Word (codes "first" ∷ codes "steep" ∷ codes "flat" ∷ []);
   default = Some (codes "first");
+  excludes = None;
 }
-option_row Stop = record { word = codes "--stop"; takes = WordOrNumber (codes "still" ∷ []) 0 most_number; default = None }
+option_row Stop = record {
+  word = codes "--stop";
+  takes = WordOrNumber (codes "still" ∷ []) 0 most_number;
+  default = None;
+  excludes = None;
+}
 
 -- the options, each once
 abbrev pub every_option : List OptionKind
-every_option = Workers ∷ ViaCost ∷ Rule ∷ Stop ∷ []
+every_option = Workers ∷ ViaCost ∷ Batch ∷ Rule ∷ Stop ∷ []
 
 -- the place of an option among them
 abbrev pub place : OptionKind → ℕ
 place Workers = 0
 place ViaCost = 1
-place Rule = 2
-place Stop = 3
+place Batch = 2
+place Rule = 3
+place Stop = 4
 
 -- two options are one
 abbrev pub is_option : OptionKind → OptionKind → Bool
@@ -69,7 +94,11 @@ pub record CommandRow : Type 0 where
 
 -- the row of each command
 abbrev pub command_row : Command → CommandRow
-command_row Route = record { word = codes "route"; positionals = 3; options = Workers ∷ ViaCost ∷ Rule ∷ Stop ∷ [] }
+command_row Route = record {
+  word = codes "route";
+  positionals = 3;
+  options = Workers ∷ ViaCost ∷ Batch ∷ Rule ∷ Stop ∷ [];
+}
 command_row Evaluate = record { word = codes "evaluate"; positionals = 2; options = ViaCost ∷ [] }
 command_row Buffer = record { word = codes "buffer"; positionals = 3; options = [] }
 command_row Make = record { word = codes "make"; positionals = 5; options = [] }

@@ -40,6 +40,7 @@ option_seen row = record {
   word = row.word.now;
   takes = takes_seen row.takes;
   default = option_map (λ (word : Bor (List ℕ)). word.now) row.default;
+  excludes = row.excludes;
 }
 
 abbrev pub command_seen : KeptCommand → CommandRow

@@ -2,11 +2,10 @@
 use Rattle.std.specs.Prelude.{ℕ, ◌-◌, ◌^◌, ◌&&◌, nat_le, List, Option, Some, None, if◌then◌else◌}
 use Rattle.std.specs.Option.{option_and_then}
 use Rattle.gr_text.specs.Numbers.{natural_in}
-use Rattle.word_reader.specs.declared.numbers.TheConstants.{MOST_DIGITS}
 
 -- the most digits of a number in words
 abbrev pub most_digits : ℕ
-most_digits = MOST_DIGITS
+most_digits = 20
 
 -- the greatest number in words, as a seed may be
 abbrev pub most_number : ℕ

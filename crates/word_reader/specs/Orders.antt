@@ -1,15 +1,15 @@
 -- The order that words give.
-use Rattle.std.specs.Prelude.{◌≡◌, ℕ, ◌≤◌, Bool, ◌&&◌, ◌==◌, nat_le, List, [], ◌∷◌, length, get_or, Option, Some, None, Result, Ok, Err, slice_get, if◌then◌else◌}
-use Rattle.std.specs.Option.{option_map, option_and_then}
+use Rattle.std.specs.Prelude.{◌≡◌, ℕ, ◌≤◌, Bool, ◌&&◌, ◌||◌, ◌==◌, true, nat_le, List, [], ◌∷◌, length, get_or, Option, Some, None, Result, Ok, Err, slice_get, IfSome, if◌then◌else◌}
+use Rattle.std.specs.Option.{option_map, option_map_or, option_and_then}
 use Rattle.std.specs.List.{list_all}
 use Rattle.cost_rules.specs.declared.site.Formula.{Formula}
 use Rattle.cost_rules.specs.declared.site.Formula.TheVariants.{First, Steep, Flat}
 use Rattle.design_maker.specs.Ranges.{is_made, IsMade}
 use Rattle.design_maker.specs.declared.made.Made.{Made}
-use Rattle.design_maker.specs.declared.made.TheConstants.{MOST_MADE_NETS, MOST_SIDE}
-use Rattle.gr_base.specs.Limits.{most_layers, most_rounds}
+use Rattle.design_maker.specs.Ranges.{most_made_nets, most_side}
+use Rattle.gr_base.specs.Limits.{most_layers, most_rounds, most_workers}
 use Rattle.gr_text.specs.Numbers.{natural_in}
-use Rattle.word_reader.specs.Forms.{command_of, command_row, has, every_option, most_via_cost, most_workers}
+use Rattle.word_reader.specs.Forms.{command_of, command_row, has, every_option, option_row, most_batch, most_via_cost}
 use Rattle.word_reader.specs.Numbers.{most_digits, most_number}
 use Rattle.word_reader.specs.Sorting.{Sorted, sorted}
 use Rattle.word_reader.specs.Values.{Value, Absent, Choice, Count, number_of, value_of}
@@ -18,7 +18,7 @@ use Rattle.word_reader.specs.declared.error.WordError.TheVariants.{Usage}
 use Rattle.word_reader.specs.declared.form.Command.{Command}
 use Rattle.word_reader.specs.declared.form.Command.TheVariants.{Route as Routes, Evaluate as Evaluates, Buffer as Buffers, Make as Makes, Trial as Tries, Panels as Tracks}
 use Rattle.word_reader.specs.declared.form.OptionKind.{OptionKind}
-use Rattle.word_reader.specs.declared.form.OptionKind.TheVariants.{Workers, ViaCost, Rule, Stop}
+use Rattle.word_reader.specs.declared.form.OptionKind.TheVariants.{Workers, ViaCost, Batch, Rule, Stop}
 use Rattle.word_reader.specs.declared.order.Options.{Options}
 use Rattle.word_reader.specs.declared.order.Order.{Order as Given}
 use Rattle.word_reader.specs.declared.order.Stopping.{Stopping}
@@ -53,13 +53,35 @@ suits command sorted option = nat_le (length (sorted.values option)) (most_times
 abbrev pub has_all : Command → Sorted → Bool
 has_all command sorted = list_all (suits command sorted) every_option
 
+-- an option isn't given
+abbrev pub is_absent : Sorted → OptionKind → Bool
+is_absent sorted option = length (sorted.values option) == 0
+
+-- an option isn't given beside the one that it excludes
+abbrev pub agrees : Sorted → OptionKind → Bool
+agrees sorted option =
+    option_map_or (λ other. is_absent sorted option || is_absent sorted other) (option_row option).excludes true
+
+-- no option is given beside one that it excludes
+abbrev pub go_together : Sorted → Bool
+go_together sorted = list_all (agrees sorted) every_option
+
 -- there are as many positionals as the command has
 abbrev pub fills : Command → Sorted → Bool
 fills command sorted = length sorted.positionals == (command_row command).positionals
 
--- the words are as many positionals as the command has, and options of its own
+-- the words are as many positionals as the command has, and options of its own that can be given beside each other
 abbrev pub fits : Command → Sorted → Bool
-fits command sorted = fills command sorted && has_all command sorted
+fits command sorted = fills command sorted && has_all command sorted && go_together sorted
+
+-- how many nets a batch has, if there are batches
+abbrev pub batch_as : Value → Option ℕ
+batch_as Absent = None
+batch_as (Choice place) = None
+batch_as (Count number) = Some number
+
+abbrev pub batch_of : Sorted → Option (Option ℕ)
+batch_of sorted = option_map batch_as (value_of Batch sorted)
 
 -- the rules, in the order of the words that name them
 abbrev pub every_rule : List Formula
@@ -89,9 +111,17 @@ options_of sorted place = do
   rounds ← natural_in most_digits most_rounds (positional sorted place)
   workers ← number_of Workers sorted
   via_cost ← number_of ViaCost sorted
+  batch ← batch_of sorted
   rule ← rule_of sorted
   stop ← stop_of sorted
-  Some (record { rounds = rounds; workers = workers; via_cost = via_cost; rule = rule; stop = stop })
+  Some (record {
+    rounds = rounds;
+    workers = workers;
+    via_cost = via_cost;
+    batch = batch;
+    rule = rule;
+    stop = stop;
+  })
 
 -- the numbers, if a design can be made of them
 abbrev pub in_range : Made → Option Made
@@ -101,10 +131,10 @@ in_range made = if is_made made then Some made else None
 unfoldable pub made_of : Sorted → Option Made
 made_of sorted = do
   seed ← natural_in most_digits most_number (positional sorted 0)
-  columns ← natural_in most_digits MOST_SIDE (positional sorted 1)
-  rows ← natural_in most_digits MOST_SIDE (positional sorted 2)
+  columns ← natural_in most_digits most_side (positional sorted 1)
+  rows ← natural_in most_digits most_side (positional sorted 2)
   layers ← natural_in most_digits most_layers (positional sorted 3)
-  nets ← natural_in most_digits MOST_MADE_NETS (positional sorted 4)
+  nets ← natural_in most_digits most_made_nets (positional sorted 4)
   in_range (record { seed = seed; columns = columns; rows = rows; layers = layers; nets = nets })
 
 -- how a made design is routed
@@ -157,6 +187,7 @@ pub record AreInRange (options : Options) : Type 0 where
   pub worker : 1 ≤ options.workers
   pub workers : options.workers ≤ most_workers
   pub via_cost : options.via_cost ≤ most_via_cost
+  pub batch : IfSome options.batch (λ batch. (1 ≤ batch) × (batch ≤ most_batch))
 
 -- the numbers of an order are in range
 abbrev pub AsksInRange : Given → Type 0

@@ -1,3 +1,4 @@
+//! Errors of words.
 use thiserror::Error;
 
 /// Why words give no order.

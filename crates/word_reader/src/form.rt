@@ -3,11 +3,13 @@ ghost use Rattle.std.specs.Prelude.{◌≡◌, ◌<◌};
 ghost use Rattle.word_reader.specs.Forms.{command_of, command_row, every_option, has, option_of, option_row, place};
 ghost use Rattle.word_reader.specs.Kept.{command_seen, option_count, option_seen};
 
-/// The most workers that may be asked for.
-pub const MOST_WORKERS: u32 = 16;
+use gr_base::MOST_WORKERS;
 
 /// The most wire edges as which a via edge may count in a report.
 pub const MOST_VIA_COST: u32 = 1_000;
+
+/// The most nets that a batch may have.
+pub const MOST_BATCH: u32 = 65_536;
 
 /// The commands.
 #[derive(Clone, Copy)]
@@ -35,6 +37,7 @@ pub(crate) struct CommandRow {
 pub(crate) enum OptionKind {
     Workers,
     ViaCost,
+    Batch,
     Rule,
     Stop,
 }
@@ -47,6 +50,8 @@ pub(crate) struct OptionRow {
     pub takes: Takes,
     /// What is taken for its value where none is given, if anything is.
     pub default: Option<&'static str>,
+    /// The option beside which it can't be given, if there is one.
+    pub excludes: Option<OptionKind>,
 }
 
 /// What an option takes as its value.
@@ -81,9 +86,10 @@ const EVERY_COMMAND: [Command; 6] = [
 ];
 
 /// The options, each once, in the order in which they are declared.
-pub(crate) const EVERY_OPTION: [OptionKind; 4] = [
+pub(crate) const EVERY_OPTION: [OptionKind; 5] = [
     OptionKind::Workers,
     OptionKind::ViaCost,
+    OptionKind::Batch,
     OptionKind::Rule,
     OptionKind::Stop,
 ];
@@ -123,6 +129,7 @@ impl Command {
                 options: &[
                     OptionKind::Workers,
                     OptionKind::ViaCost,
+                    OptionKind::Batch,
                     OptionKind::Rule,
                     OptionKind::Stop,
                 ],
@@ -176,6 +183,7 @@ impl OptionKind {
                     most: MOST_WORKERS as u64,
                 },
                 default: Some("1"),
+                excludes: None,
             },
             OptionKind::ViaCost => OptionRow {
                 word: "--via-cost",
@@ -184,11 +192,22 @@ impl OptionKind {
                     most: MOST_VIA_COST as u64,
                 },
                 default: Some("1"),
+                excludes: None,
+            },
+            OptionKind::Batch => OptionRow {
+                word: "--batch",
+                takes: Takes::Number {
+                    least: 1,
+                    most: MOST_BATCH as u64,
+                },
+                default: None,
+                excludes: Some(OptionKind::Stop),
             },
             OptionKind::Rule => OptionRow {
                 word: "--rule",
                 takes: Takes::Word(&["first", "steep", "flat"]),
                 default: Some("first"),
+                excludes: None,
             },
             OptionKind::Stop => OptionRow {
                 word: "--stop",
@@ -198,6 +217,7 @@ impl OptionKind {
                     most: u64::MAX,
                 },
                 default: None,
+                excludes: None,
             },
         }
     }

@@ -11,6 +11,6 @@ mod sorted;
 mod values;
 
 pub use error::WordError;
-pub use form::{MOST_VIA_COST, MOST_WORKERS};
+pub use form::{MOST_BATCH, MOST_VIA_COST};
 pub use order::{Options, Order, Stopping};
 pub use reader::read_words;

@@ -2,9 +2,9 @@
 ghost use Rattle.std.specs.Prelude.{◌≡◌, ◌<◌, ◌≤◌, Some, length, IfSome};
 ghost use Rattle.std.specs.Option.{option_map};
 ghost use Rattle.design_maker.specs.Ranges.{IsMade};
-ghost use Rattle.word_reader.specs.Forms.{command_row};
+ghost use Rattle.word_reader.specs.Forms.{command_row, most_batch};
 ghost use Rattle.word_reader.specs.Kept.{words_seen};
-ghost use Rattle.word_reader.specs.Orders.{named, options_of, in_range, made_of, order_as, rule_of, stop_of, trial_of, AreInRange, AsksInRange};
+ghost use Rattle.word_reader.specs.Orders.{named, batch_of, options_of, in_range, made_of, order_as, rule_of, stop_of, trial_of, AreInRange, AsksInRange};
 ghost use Rattle.word_reader.specs.declared.form.Command.TheVariants.{Route as Routes, Evaluate as Evaluates, Buffer as Buffers, Make as Makes, Trial as Tries, Panels as Tracks};
 
 use crate::form::{Command, OptionKind};
@@ -26,6 +26,9 @@ pub struct Options {
     /// As how many wire edges a via edge counts in the report, from 0 to 1,000; 1 where V isn't
     /// given.
     pub via_cost: u32,
+    /// How many nets are planned over one state of the demand, from 1 to 65,536, where rounds go in
+    /// batches; they do where B is given.
+    pub batch: Option<u32>,
     /// The rule of the edges' costs; the first where none is named.
     pub rule: Formula,
     /// When the rounds are to stop early; never where V isn't given.
@@ -48,8 +51,9 @@ const EVERY_RULE: [Formula; 3] = [Formula::First, Formula::Steep, Formula::Flat]
 /// What the words ask for, with the names of the texts that it needs.
 #[derive(Clone, Copy, Debug)]
 pub enum Order<'w> {
-    /// `route DESIGN LIBRARY ROUNDS [--workers N] [--via-cost V] [--rule NAME] [--stop V]` routes the
-    /// design. The library is that of its wires and buffers.
+    /// `route DESIGN LIBRARY ROUNDS [--workers N] [--via-cost V] [--batch B] [--rule NAME] [--stop V]`
+    /// routes the design. The library is that of its wires and buffers. B and a V that stops the rounds
+    /// can't be given both.
     Route {
         design: &'w str,
         library: &'w str,
@@ -128,15 +132,28 @@ fn options_of(sorted: &Sorted, place: usize) -> Option<Options>
     )?;
     let workers = number_of(OptionKind::Workers, sorted)?;
     let via_cost = number_of(OptionKind::ViaCost, sorted)?;
+    let batch = batch_of(sorted)?;
     let rule = rule_of(sorted)?;
     let stop = stop_of(sorted)?;
     Some(Options {
         rounds,
         workers: workers as u32,
         via_cost: via_cost as u32,
+        batch,
         rule,
         stop,
     })
+}
+
+/// How many nets a batch has, if there are batches.
+fn batch_of(sorted: &Sorted) -> Option<Option<u32>>
+    ensures batch { result ≡ batch_of (words_seen sorted.now) }
+    ensures range { IfSome result (λ batch. IfSome batch (λ nets. (1 ≤ nets) × (nets ≤ most_batch))) }
+{
+    match value_of(OptionKind::Batch, sorted)? {
+        Value::Absent | Value::Choice(_) => Some(None),
+        Value::Count(nets) => Some(Some(nets as u32)),
+    }
 }
 
 /// The rule that is named.

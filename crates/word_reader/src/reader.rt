@@ -3,7 +3,7 @@ ghost use Rattle.std.specs.Prelude.{◌≡◌, ℕ, List, map, string_bytes, IfO
 ghost use Rattle.std.specs.Option.{option_map};
 ghost use Rattle.word_reader.specs.Forms.{has};
 ghost use Rattle.word_reader.specs.Kept.{words_seen};
-ghost use Rattle.word_reader.specs.Orders.{named, fills, fits, has_all, suits, order_by, order_of, AsksInRange, Answers};
+ghost use Rattle.word_reader.specs.Orders.{named, agrees, fills, fits, go_together, has_all, suits, order_by, order_of, AsksInRange, Answers};
 ghost use Rattle.word_reader.specs.Sorting.{SortsByRule};
 
 use crate::error::WordError;
@@ -13,7 +13,7 @@ use crate::sorted::{Sorted, sort_words};
 
 /// The order that the words behind the program's name give. The first is a command's, and `Order`
 /// says which words come behind it: as many positionals as the command has, and options of its own,
-/// each at most once.
+/// each at most once and none beside one that it excludes.
 ///
 /// Each word behind the first one that is exactly `--` is a positional, and that word is dropped.
 /// Before it an option takes the next word as its value, or holds it behind `=`, and no other word
@@ -53,11 +53,12 @@ fn order_by<'w>(command: Command, sorted: &Sorted<'w>) -> Option<Order<'w>>
     }
 }
 
-/// Whether there are as many positionals as the command has, and no option that it lacks.
+/// Whether there are as many positionals as the command has, no option that it lacks, and none beside
+/// one that it excludes.
 fn fits(command: Command, sorted: &Sorted) -> bool
     ensures { result ≡ fits command (words_seen sorted.now) }
 {
-    fills(command, sorted) && has_all(command, sorted)
+    fills(command, sorted) && has_all(command, sorted) && go_together(sorted)
 }
 
 fn fills(command: Command, sorted: &Sorted) -> bool
@@ -79,4 +80,20 @@ fn suits(command: Command, sorted: &Sorted, option: OptionKind) -> bool
     ensures { result ≡ suits command (words_seen sorted.now) option }
 {
     command.has(option) || sorted.given(option).is_none()
+}
+
+/// Whether no option is given beside one that it excludes.
+fn go_together(sorted: &Sorted) -> bool
+    ensures { result ≡ go_together (words_seen sorted.now) }
+{
+    EVERY_OPTION.iter().all(|option| agrees(sorted, *option))
+}
+
+fn agrees(sorted: &Sorted, option: OptionKind) -> bool
+    ensures { result ≡ agrees (words_seen sorted.now) option }
+{
+    match option.row().excludes {
+        Some(other) => sorted.given(option).is_none() || sorted.given(other).is_none(),
+        None => true,
+    }
 }

@@ -40,6 +40,7 @@ loop-at-init g c =
       leads = leads-last c.args.r c.args.pairs.now c.read-best.result (length c.args.pairs.now - 1) (omega arith) c.read-best.ensures.pair;
       latest = c.driven_time-most.ensures;
       steps = omega (arith, c.read.ensures.steps, c.read-best.ensures.steps);
+      within = omega arith;
     }
 
 pub returns-then-is_later : goal.returns-then-is_later
@@ -65,6 +66,7 @@ returns-then-is_later g c =
       best = λ trail. leads-driven r items best trail c.requires.list.rising leads;
       one = leads.one;
       steps = omega (arith, c.read-pair.ensures.steps, c.loop-at.invariant.steps);
+      counted = omega (arith, c.read-pair.ensures.steps, c.loop-at.invariant.steps, c.loop-at.invariant.within);
     }
 
 pub loop-at-preserved-then-is_later-2 : goal.loop-at-preserved-then-is_later-2
@@ -79,6 +81,7 @@ loop-at-preserved-then-is_later-2 g c =
           c.read-pair.ensures.pair later;
       latest = c.loop-at.invariant.latest;
       steps = omega (arith, c.read-pair.ensures.steps, c.loop-at.invariant.steps);
+      within = let within = c.loop-at.invariant.within in omega arith;
     }
 
 pub loop-at-preserved : goal.loop-at-preserved
@@ -93,6 +96,7 @@ loop-at-preserved g c =
           c.loop-at.invariant.leads (omega arith) (omega arith) c.read-pair.ensures.pair early;
       latest = c.driven_time-time.ensures;
       steps = omega (arith, c.read-pair.ensures.steps, c.loop-at.invariant.steps);
+      within = let within = c.loop-at.invariant.within in omega arith;
     }
 
 pub returns : goal.returns
@@ -105,4 +109,5 @@ returns g c =
       best = λ trail. leads-driven c.args.r items c.loop-at.best trail c.requires.list.rising leads;
       one = leads.one;
       steps = omega (arith, c.loop-at.invariant.steps);
+      counted = omega (arith, c.loop-at.invariant.steps, none);
     }

@@ -9,4 +9,5 @@ returns-clause-range c = record {
   worker = c.in_ok-workers.ensures.range.0;
   workers = c.in_ok-workers.ensures.range.1;
   via_cost = c.in_ok-via_cost.ensures.range.1;
+  batch = c.in_ok-batch.ensures.range;
 }
