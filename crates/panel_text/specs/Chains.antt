@@ -30,7 +30,8 @@ pub record AreInGrid (g : Shape) (s : Starts) : Type 0 where
 
 -- each cell's chain
 abbrev pub HaveChains : (chains : ℕ → List (ℕ × ℕ)) → Starts → Type 0
-HaveChains chains s = (cell : ℕ) → cell < length s.firsts.items → IsChain s.runs.items (first_at s.firsts.items cell) (chains cell)
+HaveChains chains s = (cell : ℕ) → cell < length s.firsts.items →
+    IsChain s.runs.items (first_at s.firsts.items cell) (chains cell)
 
 -- the chains with one more run, and with more
 abbrev pub with_run : (net : ℕ) → Run → (ℕ → List (ℕ × ℕ)) → ℕ → List (ℕ × ℕ)

@@ -31,7 +31,8 @@ with_panels d sets told places = fold (with_panel d sets) told places
 -- what is told, behind its numbers
 abbrev pub told_text : Told → List ℕ
 told_text told =
-    codes "panels " ++ decimal told.panels ++ codes "\n" ++ codes "tracks " ++ decimal told.tracks ++ codes "\n" ++ told.lines
+    codes "panels " ++ decimal told.panels ++ codes "\n"
+    ++ codes "tracks " ++ decimal told.tracks ++ codes "\n" ++ told.lines
 
 -- these panels were told, of sets whose runs these are
 abbrev pub Tell : DesignView → Way → Starts → List Place → (old new : Told) → Type 0

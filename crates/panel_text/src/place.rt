@@ -1,3 +1,4 @@
+//! Panels by way, layer and line.
 use gr_base::Way;
 
 /// A panel: a row of a layer for runs that go East, or a column of one for runs that go North. Layers,

@@ -1,3 +1,5 @@
+//! The runs of all nets by the cells in which they begin.
+
 /// A run that begins in a cell: its net, the cell in which it ends, and the number of the next of those
 /// that begin there.
 #[derive(Clone, Copy)]

@@ -65,7 +65,8 @@ fn put_way(
 ) -> Result<(), AllocError>
     requires starts { AreOfSome design.now way starts.now }
     requires room { IsWithin (2 ^ 28) told.old }
-    ensures told { OnOk result (Tell design.now way starts.now (places_along design.now.frame.shape way) told.old told.new) }
+    ensures told { OnOk result (Tell design.now way starts.now (places_along design.now.frame.shape way)
+        told.old told.new) }
     ensures room { OnOk result ((count : ℕ) → IsWithin count told.old → IsWithin (count + 16 * 2 ^ 23) told.new) }
 {
     let mut pieces = Vec::new(alloc);
@@ -88,7 +89,8 @@ fn put_layer(
     requires starts { AreOfSome design.now way starts.now }
     requires layer { layer < design.now.frame.shape.layers }
     requires room { IsWithin (2 ^ 29) told.old }
-    ensures told { OnOk result (Tell design.now way starts.now (places_on design.now.frame.shape way layer) told.old told.new) }
+    ensures told { OnOk result (Tell design.now way starts.now (places_on design.now.frame.shape way layer)
+        told.old told.new) }
     ensures room { OnOk result ((count : ℕ) → IsWithin count told.old → IsWithin (count + 2 ^ 23) told.new) }
 {
     for line in 0..lines(design.frame().shape, way) {

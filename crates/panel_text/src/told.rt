@@ -1,3 +1,4 @@
+//! The text of panels while it is put together.
 use gr_text::Text;
 
 /// What is told of panels: their lines, how many panels have a piece, and how many tracks these have

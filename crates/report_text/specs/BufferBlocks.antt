@@ -11,11 +11,13 @@ abbrev pub block_start : DesignView → (size at : ℕ) → ℕ
 block_start d size at = min (length d.nets) (at * size)
 
 -- the text of a block, where there is one, has the lines of its nets
-abbrev pub IsBlock : DesignView → LibraryView → List (Option TreeView) → List (Option Plan) → (size at : ℕ) → Option (List ℕ) → Type 0
+abbrev pub IsBlock : DesignView → LibraryView → List (Option TreeView) → List (Option Plan) → (size at : ℕ) →
+    Option (List ℕ) → Type 0
 IsBlock d lib trees plans size at block = IfSome block
     (λ text. text ≡ net_lines d lib trees plans (block_start d size at) (block_start d size (at + 1)))
 
 -- each has those of its nets
-abbrev pub AreBlocks : DesignView → LibraryView → List (Option TreeView) → List (Option Plan) → (size : ℕ) → List (Option (List ℕ)) → Type 0
+abbrev pub AreBlocks : DesignView → LibraryView → List (Option TreeView) → List (Option Plan) → (size : ℕ) →
+    List (Option (List ℕ)) → Type 0
 AreBlocks d lib trees plans size blocks = (at : ℕ) → (text : Option (List ℕ)) → at < length blocks →
     IsBlock d lib trees plans size at (slice_index_or blocks at text)

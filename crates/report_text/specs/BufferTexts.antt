@@ -58,7 +58,8 @@ net_buffers d lib trees plans net =
     if is_routed d net then plan_text d.frame lib (slice_get d.nets net) (tree_at trees net) (plan_at plans net) else []
 
 -- the lines of the routed nets from the first number on, below the last
-abbrev pub net_lines : DesignView → LibraryView → List (Option TreeView) → List (Option Plan) → (first last : ℕ) → List ℕ
+abbrev pub net_lines : DesignView → LibraryView → List (Option TreeView) → List (Option Plan) →
+    (first last : ℕ) → List ℕ
 net_lines d lib trees plans first last = flat_map (net_buffers d lib trees plans) (range_with_len first (last - first))
 
 -- how many buffers a plan has, if there is one

@@ -3,7 +3,7 @@ ghost use Rattle.std.specs.Prelude.{◌≡◌, ◌+◌, ◌*◌, ◌<◌, ◌≤
 ghost use Rattle.report_text.specs.BufferTexts.{ArePlanned, AreSomePlanned, buffers_text, net_lines};
 ghost use Rattle.report_text.specs.BufferBlocks.{block_start, IsBlock, AreBlocks};
 
-use crate::buffer_text::{polar_text, put_nets, put_total};
+use crate::buffer_text::{Told, polar_text, put_nets, put_total};
 use elmore_delay::Plans;
 use gr_base::{Design, Routes};
 use gr_text::Text;
@@ -47,12 +47,18 @@ pub fn polar_text_by<R: Threads + Sync>(
     if workers == 1 {
         return polar_text(alloc, design, library, routes, plans);
     }
+    let told = Told {
+        design,
+        library,
+        routes,
+        plans,
+    };
     let size = design.nets() / workers + 1;
     let mut blocks = no_blocks(alloc, workers)?;
-    make_blocks(rt, alloc, design, library, routes, plans, size, &mut blocks);
+    make_blocks(rt, alloc, &told, size, &mut blocks);
     let mut text = Text::new(alloc);
     put_total(&mut text, design, plans)?;
-    put_blocks(&mut text, design, library, routes, plans, size, &blocks)?;
+    put_blocks(&mut text, &told, size, &blocks)?;
     Ok(text)
 }
 
@@ -72,17 +78,15 @@ fn no_blocks(alloc: Global, count: u32) -> Result<Vec<Option<Text>>, AllocError>
 fn make_blocks<R: Threads + Sync>(
     rt: &R,
     alloc: Global,
-    design: &Design,
-    library: &Library,
-    routes: &Routes,
-    plans: &Plans,
+    told: &Told<'_>,
     size: u32,
     blocks: &mut Vec<Option<Text>>,
 )
-    requires plans { AreSomePlanned design.now library.now routes.now plans.now }
+    requires plans { AreSomePlanned told.now.design.now told.now.library.now told.now.routes.now told.now.plans.now }
     requires some { 0 < length blocks.old.items }
     ensures long { length blocks.new.items ≡ length blocks.old.items }
-    ensures made { AreBlocks design.now library.now routes.now plans.now size blocks.new.items }
+    ensures made { AreBlocks told.now.design.now told.now.library.now told.now.routes.now told.now.plans.now
+        size blocks.new.items }
 {
     let threads = blocks.len();
     for_each_mut(
@@ -90,33 +94,24 @@ fn make_blocks<R: Threads + Sync>(
         blocks.as_mut_slice(),
         threads,
         &|at, block: &mut Option<Text>|
-            requires { AreSomePlanned design.now library.now routes.now plans.now }
-            ensures { IsBlock design.entry.now library.entry.now routes.entry.now plans.entry.now size at block.exit.now }
+            requires { AreSomePlanned told.now.design.now told.now.library.now told.now.routes.now told.now.plans.now }
+            ensures { let told = told.entry.now in
+                IsBlock told.design.now told.library.now told.routes.now told.plans.now size at block.exit.now }
         {
-            *block = block_of(alloc, design, library, routes, plans, size, at);
+            *block = block_of(alloc, told, size, at);
         },
     );
 }
 
 /// The text of a block. None where memory runs out.
-fn block_of(
-    alloc: Global,
-    design: &Design,
-    library: &Library,
-    routes: &Routes,
-    plans: &Plans,
-    size: u32,
-    at: usize,
-) -> Option<Text>
-    requires plans { AreSomePlanned design.now library.now routes.now plans.now }
-    ensures { IsBlock design.now library.now routes.now plans.now size at result }
+fn block_of(alloc: Global, told: &Told<'_>, size: u32, at: usize) -> Option<Text>
+    requires plans { AreSomePlanned told.now.design.now told.now.library.now told.now.routes.now told.now.plans.now }
+    ensures { IsBlock told.now.design.now told.now.library.now told.now.routes.now told.now.plans.now size at result }
 {
-    let first = start_of(design, size, at);
-    let last = design.nets().min(first.saturating_add(size));
+    let first = start_of(told.design, size, at);
+    let last = told.design.nets().min(first.saturating_add(size));
     let mut text = Text::new(alloc);
-    match put_nets(
-        &mut text, alloc, design, library, routes, plans, first, last,
-    ) {
+    match put_nets(&mut text, alloc, told, first, last) {
         Ok(()) => Some(text),
         Err(_) => None,
     }
@@ -134,17 +129,15 @@ fn start_of(design: &Design, size: u32, at: usize) -> u32
 /// were made.
 fn put_blocks(
     text: &mut Text,
-    design: &Design,
-    library: &Library,
-    routes: &Routes,
-    plans: &Plans,
+    told: &Told<'_>,
     size: u32,
     blocks: &[Option<Text>],
 ) -> Result<(), AllocError>
-    requires made { AreBlocks design.now library.now routes.now plans.now size blocks.now }
-    requires all { length design.now.nets ≤ length blocks.now * size }
-    ensures { OnOk result
-        (text.new ≡ text.old ++ net_lines design.now library.now routes.now plans.now 0 (length design.now.nets)) }
+    requires made { AreBlocks told.now.design.now told.now.library.now told.now.routes.now told.now.plans.now
+        size blocks.now }
+    requires all { length told.now.design.now.nets ≤ length blocks.now * size }
+    ensures { OnOk result (text.new ≡ text.old ++ net_lines told.now.design.now told.now.library.now
+        told.now.routes.now told.now.plans.now 0 (length told.now.design.now.nets)) }
 {
     for block in blocks {
         let Some(lines) = block else {

@@ -16,6 +16,15 @@ use gr_text::Text;
 use rc_library::Library;
 use std::alloc::{AllocError, Global};
 
+/// Plans of buffers on a design's routes, with the library that names their kinds.
+#[derive(Clone, Copy)]
+pub(crate) struct Told<'a> {
+    pub design: &'a Design,
+    pub library: &'a Library,
+    pub routes: &'a Routes,
+    pub plans: &'a Plans,
+}
+
 /// A buffer: the number of its cell, and the number of its kind.
 #[derive(Clone, Copy)]
 pub(crate) struct Buffered {
@@ -52,18 +61,15 @@ pub fn polar_text(
     requires plans { AreSomePlanned design.now library.now routes.now plans.now }
     ensures { IfOk result (λ text. text ≡ buffers_text design.now library.now routes.now plans.now) }
 {
-    let mut text = Text::new(alloc);
-    put_total(&mut text, design, plans)?;
-    put_nets(
-        &mut text,
-        alloc,
+    let told = Told {
         design,
         library,
         routes,
         plans,
-        0,
-        design.nets(),
-    )?;
+    };
+    let mut text = Text::new(alloc);
+    put_total(&mut text, design, plans)?;
+    put_nets(&mut text, alloc, &told, 0, design.nets())?;
     Ok(text)
 }
 
@@ -78,22 +84,19 @@ pub(crate) fn put_total(text: &mut Text, design: &Design, plans: &Plans) -> Resu
 pub(crate) fn put_nets(
     text: &mut Text,
     alloc: Global,
-    design: &Design,
-    library: &Library,
-    routes: &Routes,
-    plans: &Plans,
+    told: &Told<'_>,
     first: u32,
     last: u32,
 ) -> Result<(), AllocError>
-    requires plans { AreSomePlanned design.now library.now routes.now plans.now }
+    requires plans { AreSomePlanned told.now.design.now told.now.library.now told.now.routes.now told.now.plans.now }
     requires first { first ≤ last }
-    requires last { last ≤ length design.now.nets }
-    ensures { OnOk result
-        (text.new ≡ text.old ++ net_lines design.now library.now routes.now plans.now first last) }
+    requires last { last ≤ length told.now.design.now.nets }
+    ensures { OnOk result (text.new ≡ text.old ++ net_lines told.now.design.now told.now.library.now
+        told.now.routes.now told.now.plans.now first last) }
 {
     let mut found = Vec::new(alloc);
     for net in first..last {
-        put_net(text, &mut found, design, library, routes, plans, net)?;
+        put_net(text, &mut found, told, net)?;
     }
     Ok(())
 }
@@ -127,24 +130,21 @@ fn count(plans: &Plans, net: u32) -> u64
 fn put_net(
     text: &mut Text,
     found: &mut Vec<Buffered>,
-    design: &Design,
-    library: &Library,
-    routes: &Routes,
-    plans: &Plans,
+    told: &Told<'_>,
     net: u32,
 ) -> Result<(), AllocError>
-    requires plans { AreSomePlanned design.now library.now routes.now plans.now }
-    requires net { net < length design.now.nets }
-    ensures { OnOk result
-        (text.new ≡ text.old ++ net_buffers design.now library.now routes.now plans.now net) }
+    requires plans { AreSomePlanned told.now.design.now told.now.library.now told.now.routes.now told.now.plans.now }
+    requires net { net < length told.now.design.now.nets }
+    ensures { OnOk result (text.new ≡ text.old ++ net_buffers told.now.design.now told.now.library.now
+        told.now.routes.now told.now.plans.now net) }
 {
-    if !design.routed(net) {
+    if !told.design.routed(net) {
         return Ok(());
     }
-    let tree = routes.get(net).unwrap();
-    match plans.get(net) {
-        None => put_no_legal_line(text, design.net(net)),
-        Some(plan) => put_plan(text, found, design, library, design.net(net), tree, plan),
+    let tree = told.routes.get(net).unwrap();
+    match told.plans.get(net) {
+        None => put_no_legal_line(text, told.design.net(net)),
+        Some(plan) => put_plan(text, found, told, told.design.net(net), tree, plan),
     }
 }
 
@@ -152,19 +152,18 @@ fn put_net(
 fn put_plan(
     text: &mut Text,
     found: &mut Vec<Buffered>,
-    design: &Design,
-    library: &Library,
+    told: &Told<'_>,
     net: &Net,
     tree: &RouteTree,
     plan: &Plan,
 ) -> Result<(), AllocError>
-    requires { IsPlanFor design.now library.now tree.now plan.now }
+    requires { IsPlanFor told.now.design.now told.now.library.now tree.now plan.now }
     ensures { OnOk result (text.new ≡ text.old ++ (plan_line net.now plan.now
-        ++ placement_text design.now.frame library.now tree.now plan.now.placement)) }
+        ++ placement_text told.now.design.now.frame told.now.library.now tree.now plan.now.placement)) }
 {
     put_plan_line(text, net, plan)?;
     gather(found, tree, &plan.placement)?;
-    put_buffers(text, design, library, found)?;
+    put_buffers(text, told.design, told.library, found)?;
     Ok(())
 }
 

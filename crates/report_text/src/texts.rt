@@ -1,3 +1,4 @@
+//! The texts of a verdict.
 ghost use Rattle.std.specs.Prelude.{◌≡◌, ◌<◌, length, All, IfOk};
 ghost use Rattle.report_text.specs.Texts.{report_text, unjoined_text};
 

@@ -7,33 +7,46 @@ use std::thread::Threads;
 /// For how many turns a worker waits at most.
 const MOST_TURNS: u32 = 5_000_000;
 
+/// Who is held.
+#[derive(Clone, Copy)]
+pub(crate) enum Whom {
+    /// The worker of this number, at its first search.
+    Worker(u64),
+    /// Whoever comes to this search of all, from 0.
+    Search(u64),
+}
+
 /// What a gate has seen.
 #[derive(Clone, Copy, Drop)]
 struct Seen {
     /// The worker that is held, or was.
     held: Option<u64>,
+    searches: u64,
     /// How many claims the others have come to.
     claims: u64,
     /// Whether these became enough while it waited.
     met: bool,
 }
 
-/// Holds a worker at its first search until the others have come to so many claims.
+/// Holds a worker at a search until the others have come to so many claims.
 #[derive(Drop)]
 pub(crate) struct HoldingGate {
-    /// Which worker is held: the first that comes, or the one of this number.
-    worker: Option<u64>,
+    whom: Whom,
     claims: u64,
+    may_wait: bool,
     seen: Mutex<Seen>,
 }
 
 impl HoldingGate {
-    pub(crate) fn new(worker: Option<u64>, claims: u64) -> HoldingGate {
+    /// A gate that says so of waiting.
+    pub(crate) fn new(whom: Whom, claims: u64, may_wait: bool) -> HoldingGate {
         HoldingGate {
-            worker,
+            whom,
             claims,
+            may_wait,
             seen: Mutex::new(Seen {
                 held: None,
+                searches: 0,
                 claims: 0,
                 met: false,
             }),
@@ -41,29 +54,37 @@ impl HoldingGate {
     }
 
     /// Whether the others came to enough claims, and no worker waited for them in vain, once all
-    /// workers are gone.
+    /// workers are gone. The worker of a number may have had nothing to do; a search is always held.
     pub(crate) fn is_passed(self) -> bool {
         let claims = self.claims;
+        let whom = self.whom;
         let seen = self.seen.into_inner();
-        if seen.held.is_some() {
-            seen.met
-        } else {
-            seen.claims >= claims
+        match whom {
+            Whom::Worker(_) if seen.held.is_none() => seen.claims >= claims,
+            _ => seen.met,
         }
     }
 
     /// Counts a claim of another worker than the one that is held.
     fn count<R: Wait>(&self, rt: &R, worker: u64) {
         let mut seen = self.seen.lock(rt);
-        if self.worker != Some(worker) && seen.held != Some(worker) {
+        let is_others = match self.whom {
+            Whom::Worker(number) => number != worker,
+            Whom::Search(_) => seen.held.is_some() && seen.held != Some(worker),
+        };
+        if is_others {
             seen.claims = seen.claims.saturating_add(1);
         }
     }
 
-    /// Whether the worker is to be held: it is the wanted one, at its first search.
+    /// Whether the worker is to be held at this search.
     fn holds<R: Wait>(&self, rt: &R, worker: u64) -> bool {
         let mut seen = self.seen.lock(rt);
-        let wanted = self.worker.unwrap_or(worker) == worker;
+        let wanted = match self.whom {
+            Whom::Worker(number) => number == worker,
+            Whom::Search(number) => number == seen.searches,
+        };
+        seen.searches = seen.searches.saturating_add(1);
         if !wanted || seen.held.is_some() {
             return false;
         }
@@ -95,5 +116,9 @@ impl Gate for HoldingGate {
                 }
             }
         }
+    }
+
+    fn may_wait(&self) -> bool {
+        self.may_wait
     }
 }

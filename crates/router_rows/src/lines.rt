@@ -1,7 +1,7 @@
 //! The lines of standard input, and what each asks for.
 use crate::bench::{Bench, Left};
 use crate::devices::Devices;
-use crate::gates::HoldingGate;
+use crate::gates::{HoldingGate, Whom};
 use crate::told;
 use cost_rules::Rules;
 use gr_text::Text;
@@ -34,7 +34,7 @@ pub(crate) fn carry_out<R: AllocGlobal + Threads + Wait + Sync>(
             bench.devices = Devices::ample();
             Ok(())
         }
-        "run" | "brief" | "hold" | "each" | "cut" => {
+        "run" | "brief" | "hold" | "keep" | "each" | "cut" => {
             put_line(told, line)?;
             put_runs(rt, bench, rules, command, rest, told)
         }
@@ -103,7 +103,7 @@ fn put_runs<R: AllocGlobal + Threads + Wait + Sync>(
             let steps = 0..bench.size_of(name).saturating_add(1);
             put_sweep(rt, bench, rules, rest, Sweep::Cut(name), steps, told)
         }
-        "hold" => put_held(rt, bench, rules, rest, told),
+        "hold" | "keep" => put_held(rt, bench, rules, rest, command == "hold", told),
         _ => {
             let words = words_of(rt.alloc(), rest)?;
             put_run(rt, bench, rules, &words, command == "brief", told)
@@ -128,19 +128,25 @@ fn put_run<R: AllocGlobal + Threads + Wait + Sync>(
     }
 }
 
-/// What is told of a run in which a worker, 0 for the first that comes, waits at its first search for
-/// so many claims of the others.
+/// What is told of a run in which a worker waits at a search for so many claims of the others. Where it
+/// says that it may wait, it is named by its number, 0 for the first that comes, and else by its search.
 fn put_held<R: AllocGlobal + Threads + Wait + Sync>(
     rt: &R,
     bench: &Bench,
     rules: &Rules,
     rest: &str,
+    may_wait: bool,
     told: &mut Text,
 ) -> Result<(), AllocError> {
-    let (worker, rest) = number_in(rest);
+    let (number, rest) = number_in(rest);
     let (claims, rest) = number_in(rest);
     let words = words_of(rt.alloc(), rest)?;
-    let gate = HoldingGate::new(if worker == 0 { None } else { Some(worker) }, claims);
+    let whom = if may_wait && number > 0 {
+        Whom::Worker(number)
+    } else {
+        Whom::Search(number)
+    };
+    let gate = HoldingGate::new(whom, claims, may_wait);
     let left = bench.run(rt, &gate, rules, bench.devices, None, &words)?;
     told::put_meeting(told, &left, gate.is_passed())
 }

@@ -68,8 +68,8 @@ pub record IsFullest (count tile : ℕ) (pieces : List Piece) : Type 0 where
   pub least : (other : ℕ) → other < tile → covering other pieces < count
   pub most : (other : ℕ) → covering other pieces ≤ count
 
--- the left-edge numbering of the pieces. It is valid, its tracks are just those below their number, as many pieces cover
--- the point, and no valid numbering uses fewer
+-- the left-edge numbering of the pieces. It is valid, its tracks are just those below their number, as many pieces
+-- cover the point, and no valid numbering uses fewer
 pub record IsPanel (pieces : List Piece) (panel : PanelView) : Type 0 where
   pub numbers : panel.numbers ≡ left_edge pieces
   pub tracks : panel.tracks ≡ tracks_of pieces

@@ -1,3 +1,4 @@
+//! The numbering of a panel's pieces.
 ghost use Rattle.std.specs.Prelude.{◌≡◌, ◌<◌, length, slice_get, Some};
 
 use std::marker::Model;

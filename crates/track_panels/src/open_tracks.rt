@@ -1,3 +1,4 @@
+//! Tracks that are taken and free, by two heaps.
 ghost use Rattle.std.specs.BinaryHeap.{IsHeap, heap_items};
 ghost use Rattle.std.proofs.Props.{props};
 ghost use Rattle.track_panels.specs.Orders.{by_end, by_track};

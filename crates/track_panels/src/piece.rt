@@ -1,3 +1,5 @@
+//! Pieces of panels.
+
 /// A straight piece of a net's wires in a panel, which is a row or a column of tiles of one layer. It
 /// covers the tiles of its two ends and all between.
 #[derive(Clone, Copy, Debug, PartialEq, Eq)]

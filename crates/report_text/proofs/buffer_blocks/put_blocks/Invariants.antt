@@ -6,4 +6,4 @@ use Rattle.report_text.proofs.buffer_blocks.put_blocks.Given as goal
 -- the texts of the blocks so far
 abbrev pub invariant-loop-block : goal.invariant-loop-block
 invariant-loop-block l =
-    l.text ≡ l.fn.text ++ net_lines l.design l.library l.routes l.plans 0 (block_start l.design l.size l.block-index)
+    l.text ≡ l.fn.text ++ net_lines l.told.design.now l.told.library.now l.told.routes.now l.told.plans.now 0 (block_start l.told.design.now l.size l.block-index)
