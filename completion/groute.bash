@@ -6,7 +6,7 @@ _groute() {
         return
     fi
     case ${COMP_WORDS[1]} in
-    route) options="--workers --via-cost --rule --stop" ;;
+    route) options="--workers --via-cost --batch --rule --stop" ;;
     evaluate) options="--via-cost" ;;
     buffer) options="" ;;
     make) options="" ;;

@@ -1,10 +1,10 @@
 #!/usr/bin/env python3
 """Compares a router with the slow one on random small texts: reference/compare.py [--program PATH] [SEED [COUNT]]
 
-For each seed a design is routed with a library, by a rule and with an end of the rounds that are drawn too, and then
-its routes are judged and buffered; in some cases a place of one of the texts was changed. Status, standard output and
-standard error are compared byte for byte. Texts on which the two differ are kept in the working folder under the names
-of their seed.
+For each seed a design is routed with a library, by a rule and with an end of the rounds or in batches that are drawn
+too, and then its routes are judged and buffered; in some cases a place of one of the texts was changed. Status,
+standard output and standard error are compared byte for byte. Texts on which the two differ are kept in the working
+folder under the names of their seed.
 """
 import argparse
 import os
@@ -147,18 +147,35 @@ def at_times(rng, share, text, odd):
     return changed(rng, text, odd) if rng.random() < share else text
 
 
-def rules(rng, d):
-    """How many rounds, by which rule, and what ends them, with the words for the last two. A number that ends them is
-    the overflow at a mark, or 1 less."""
-    rule, stop = rng.choice(list(route.FORMULAS)), rng.choice([None, "still", "still", "goal", "goal"])
+def ends(rng, d, rule):
+    """How many rounds, and what ends them. A number that ends them is the overflow at a mark, or 1 less."""
+    stop = rng.choice([None, "still", "still", "goal", "goal"])
     # What `still` gives up shows where a round after it would leave less.
     rounds = 8 if stop == "still" else rng.randint(0, 4)
     if stop == "goal":
         overflows, _ = route.route(d, rounds, rule, None)
         stop = max(0, rng.choice(overflows) - rng.randint(0, 1))
-    words = [["--rule", rule], [f"--rule={rule}"]] + [[]] * (rule == "first")
-    ends = [[]] if stop is None else [["--stop", f"{stop}"], [f"--stop={stop}"]]
-    return rounds, rule, stop, rng.choice(words) + rng.choice(ends)
+    return rounds, stop
+
+
+def option(rng, name, value):
+    """The words of an option, in one of their two forms."""
+    return rng.choice([[name, f"{value}"], [f"{name}={value}"]])
+
+
+def rules(rng, d):
+    """How many rounds, by which rule, what ends them or how many nets a batch has, and the words for the last three.
+    Batches are routed by 1, 2 or 4 workers."""
+    rule = rng.choice(list(route.FORMULAS))
+    rounds, stop = ends(rng, d, rule)
+    batch = rng.randint(1, 9) if rng.random() < 0.4 else None
+    words = [] if rule == "first" and rng.random() < 0.5 else option(rng, "--rule", rule)
+    if batch is not None:
+        words += option(rng, "--batch", batch) + option(rng, "--workers", rng.choice([1, 2, 4]))
+        return rounds, rule, None, batch, words
+    if stop is not None:
+        words += option(rng, "--stop", stop)
+    return rounds, rule, stop, None, words
 
 
 class Case:
@@ -198,9 +215,9 @@ def tried(program, seed):
     text = at_times(rng, 0.1, text, NUMBERS)
     via_cost = rng.choice([0, 1, 1, 3, 1000])
     options = ["--via-cost", str(via_cost)]
-    rounds, rule, stop, words = rules(rng, d)
+    rounds, rule, stop, batch, words = rules(rng, d)
     path = case.put("ispd", text)
-    wanted = route.route_command(text, rc, rounds, via_cost, rule, stop)
+    wanted = route.route_command(text, rc, rounds, via_cost, rule, stop, batch)
     rc_path = case.put("library", rc)
     case.compare(wanted, "route", path, rc_path, str(rounds), *options, *words)
     twice = rng.random() < 0.05

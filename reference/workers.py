@@ -1,10 +1,11 @@
 #!/usr/bin/env python3
-"""Routes designs by several workers, again and again: reference/workers.py [--times N] [DESIGN LIBRARY ROUNDS ...]
+"""Routes designs by several workers, again and again:
+reference/workers.py [--program PATH] [--times N] [--batch B] [DESIGN LIBRARY ROUNDS ...]
 
 Each design (made ones where none is named) is routed by 1, 2, 4, 8 and 16 workers, each N times (20 where nothing is
 said). What each run wrote is judged by `evaluate`: no net may be left unjoined, and the five numbers of its report must
-be those that the run told. The runs by one worker must give the same bytes each time. The least and the greatest
-overflow of each number of workers are printed.
+be those that the run told. The runs by one worker must give the same bytes each time, and in batches of B nets the runs
+by any number of workers. The least and the greatest overflow of each number of workers are printed.
 """
 import argparse
 import os
@@ -20,9 +21,9 @@ MADE = (("7 32 32 6 2000", 3), ("11 24 24 4 6000", 8))
 NUMBERS = 5
 
 
-def run(*words):
-    """Status, standard output and standard error of the router."""
-    done = subprocess.run([ROUTER, *words], capture_output=True, check=False)
+def run(program, *words):
+    """Status, standard output and standard error of a router."""
+    done = subprocess.run([program, *words], capture_output=True, check=False)
     return done.returncode, done.stdout, done.stderr
 
 
@@ -32,10 +33,10 @@ def library(layers):
     return f"library 1\n{wires}via 10 10\ndriver 100\nsink 10 0\nkind mid 10 100 20000\nend\n"
 
 
-def made(folder):
+def made(program, folder):
     """The made designs with their libraries and rounds."""
     for words, rounds in MADE:
-        _, text, _ = run("make", *words.split())
+        _, text, _ = run(program, "make", *words.split())
         design = os.path.join(folder, words.replace(" ", "_"))
         with open(design, "wb") as file:
             file.write(text)
@@ -44,7 +45,7 @@ def made(folder):
         yield design, design + ".library", str(rounds)
 
 
-def fault(design, solution, route):
+def fault(program, design, solution, route):
     """What is wrong with a run's routes, or None; and its overflow."""
     status, out, err = route
     if status != 0:
@@ -52,7 +53,7 @@ def fault(design, solution, route):
     with open(solution, "wb") as file:
         file.write(out)
     told = err.split(b"\n")[:NUMBERS]
-    status, judged, _ = run("evaluate", design, solution)
+    status, judged, _ = run(program, "evaluate", design, solution)
     lines = judged.split(b"\n")
     if status != 0 or lines[NUMBERS] != b"unjoined 0":
         return "a net is left unjoined", None
@@ -61,17 +62,18 @@ def fault(design, solution, route):
     return None, int(told[1].split()[1])
 
 
-def tried(folder, design, paths, rounds, times):
+def tried(asked, folder, design, paths, rounds):
     """Routes a design by each number of workers, and prints what came of it. The answer is the count of faults."""
-    faults = 0
+    faults, first = 0, None
+    batches = [] if asked.batch is None else ["--batch", asked.batch]
     for workers in WORKERS:
-        first, overflows = None, []
-        for _ in range(times):
-            route = run("route", design, paths, rounds, "--workers", str(workers))
-            wrong, overflow = fault(design, os.path.join(folder, "solution"), route)
-            if wrong is None and workers == 1 and route != (first or route):
-                wrong = "one worker gave other bytes than before"
+        overflows = []
+        for _ in range(asked.times):
+            route = run(asked.program, "route", design, paths, rounds, "--workers", str(workers), *batches)
             first = first or route
+            wrong, overflow = fault(asked.program, design, os.path.join(folder, "solution"), route)
+            if wrong is None and (workers == 1 or batches) and route != first:
+                wrong = "other bytes than before"
             if wrong is None:
                 overflows.append(overflow)
             else:
@@ -84,16 +86,18 @@ def tried(folder, design, paths, rounds, times):
 
 def main():
     parser = argparse.ArgumentParser(description=__doc__, formatter_class=argparse.RawDescriptionHelpFormatter)
+    parser.add_argument("--program", default=ROUTER, type=os.path.abspath)
     parser.add_argument("--times", type=int, default=20)
+    parser.add_argument("--batch", metavar="B", help="route in batches of so many nets")
     parser.add_argument("names", nargs="*", help="DESIGN LIBRARY ROUNDS, again and again")
-    words = parser.parse_args()
-    if len(words.names) % 3:
+    asked = parser.parse_args()
+    if len(asked.names) % 3:
         parser.error("DESIGN LIBRARY ROUNDS stand together")
     faults = 0
     with tempfile.TemporaryDirectory() as folder:
-        named = [tuple(words.names[at : at + 3]) for at in range(0, len(words.names), 3)]
-        for design, paths, rounds in named or made(folder):
-            faults += tried(folder, design, paths, rounds, words.times)
+        named = [tuple(asked.names[at : at + 3]) for at in range(0, len(asked.names), 3)]
+        for design, paths, rounds in named or made(asked.program, folder):
+            faults += tried(asked, folder, design, paths, rounds)
     print(f"{faults} faults")
     return 1 if faults else 0
 

@@ -1,13 +1,13 @@
 #!/usr/bin/env python3
-"""Proves and builds the program: tools/build.py [--note]
+"""Proves and builds a program: tools/build.py [--note] [PROGRAM], else groute
 
-What crates/groute stands on is proved, and nothing else: lowest crates first, as many side by side as there are
+What the program's crate stands on is proved, and nothing else: lowest crates first, as many side by side as there are
 processors and memory for, those first that the longest chain of crates waits for. What is proved stays, so that a
 build that was stopped goes on where it was. A second build waits for the first. On a terminal it tells how far it is.
 The prover's words go to build.log. The status is 0 where the program is there.
 
---note says that the program that lies in crates/groute/out was proved and built from the sources as they stand, as
-after `rt ci`; then ./groute takes it as it is.
+--note says that the program that lies in its crate's folder out was proved and built from the sources as they stand,
+as after `rt ci`; then ./groute or ./grbound takes it as it is.
 """
 import argparse
 import fcntl
@@ -21,13 +21,21 @@ import time
 
 ROOT = os.path.dirname(os.path.dirname(os.path.abspath(__file__)))
 LOG = os.path.join(ROOT, "build.log")
-PROGRAM = os.path.join(ROOT, "crates", "groute", "out", "groute")
-NOTE = PROGRAM + ".sources"
-TOP = "groute"
+PROGRAMS = ["groute", "grbound"]
 GIGABYTES = 3       # what a proof takes of memory, but for few
 
 
-def crates():
+def path_of(program):
+    """Where the program lies once it is built."""
+    return os.path.join(ROOT, "crates", program, "out", program)
+
+
+def note_path(program):
+    """Where it is noted what the program was built from."""
+    return path_of(program) + ".sources"
+
+
+def crates(program):
     """By name the crates of this repository that the program stands on, and itself: what each one uses of these."""
     uses = {}
     with open(os.path.join(ROOT, "crates.txt"), encoding="utf-8") as file:
@@ -35,7 +43,7 @@ def crates():
             name, _, rest = line.partition("#")[0].partition(":")
             if name.split():
                 uses[name.split()[0]] = rest.split()
-    found, new = set(), [TOP]
+    found, new = set(), [program]
     while new:
         name = new.pop()
         if name in uses and name not in found:
@@ -63,26 +71,26 @@ def sum_of(paths):
     return made.hexdigest()
 
 
-def note_of(uses):
+def note_of(program, uses):
     """What a note says of the sources and of the program."""
     paths = [os.path.join(ROOT, "crates.txt"), os.path.join(ROOT, "HANDLES")]
     paths += [path for name in sorted(uses) for path in sources(name)]
-    return f"{sum_of(paths)}\n{sum_of([PROGRAM])}\n"
+    return f"{sum_of(paths)}\n{sum_of([path_of(program)])}\n"
 
 
-def is_current(uses):
+def is_current(program, uses):
     """Whether the program is noted as that of the sources."""
-    if not os.path.exists(PROGRAM) or not os.path.exists(NOTE):
+    if not os.path.exists(path_of(program)) or not os.path.exists(note_path(program)):
         return False
-    with open(NOTE, encoding="utf-8") as file:
-        return file.read() == note_of(uses)
+    with open(note_path(program), encoding="utf-8") as file:
+        return file.read() == note_of(program, uses)
 
 
-def note(uses):
+def note(program, uses):
     """Notes that the program is that of the sources."""
-    with open(NOTE, "w", encoding="utf-8") as file:
-        file.write(note_of(uses))
-    os.utime(PROGRAM)
+    with open(note_path(program), "w", encoding="utf-8") as file:
+        file.write(note_of(program, uses))
+    os.utime(path_of(program))
 
 
 def heights(uses):
@@ -109,8 +117,8 @@ def most_at_once():
 class Build:
     """The proofs of crates, side by side."""
 
-    def __init__(self, uses, log):
-        self.uses, self.log, self.begun = uses, log, time.time()
+    def __init__(self, program, uses, log):
+        self.program, self.uses, self.log, self.begun = program, uses, log, time.time()
         self.heights = heights(uses)
         self.proved, self.running, self.waiting, self.failed = set(), set(), set(uses), []
         self.changed = threading.Condition()
@@ -119,7 +127,7 @@ class Build:
         """Tells how far it is, on a terminal."""
         if sys.stderr.isatty():
             minutes, seconds = divmod(int(time.time() - self.begun), 60)
-            print(f"groute: {minutes}:{seconds:02} {text}", file=sys.stderr, flush=True)
+            print(f"{self.program}: {minutes}:{seconds:02} {text}", file=sys.stderr, flush=True)
 
     def ready(self):
         """The crates that can be proved now, those first that most waits for."""
@@ -128,14 +136,14 @@ class Build:
 
     def prove(self, name, jobs):
         """Proves a crate by so many jobs, and tells it. Without words the program ends at once."""
-        words = ["run", "--jobs", str(jobs), "--", "usage"] if name == TOP else ["lib", "--jobs", str(jobs)]
+        words = ["run", "--jobs", str(jobs), "--", "usage"] if name == self.program else ["lib", "--jobs", str(jobs)]
         done = subprocess.run(["rt", *words], cwd=os.path.join(ROOT, "crates", name), check=False, text=True,
                               stdin=subprocess.DEVNULL, stdout=subprocess.PIPE, stderr=subprocess.STDOUT)
         with self.changed:
             self.log.write(f"==== {name}\n{done.stdout}")
             self.log.flush()
             self.running.remove(name)
-            is_there = os.path.exists(PROGRAM) if name == TOP else done.returncode == 0
+            is_there = os.path.exists(path_of(name)) if name == self.program else done.returncode == 0
             if is_there:
                 self.proved.add(name)
                 self.say(f"{name} is proved, {len(self.proved)} of {len(self.uses)}")
@@ -164,35 +172,37 @@ class Build:
         return not self.failed
 
 
-def build(uses):
+def build(program, uses):
     """Whether the program was built."""
     with open(LOG, "a+", encoding="utf-8") as log:
         try:
             fcntl.flock(log, fcntl.LOCK_EX | fcntl.LOCK_NB)
         except BlockingIOError:
-            print("groute: another build goes on here; this one waits for it", file=sys.stderr)
+            print(f"{program}: another build goes on here; this one waits for it", file=sys.stderr)
             fcntl.flock(log, fcntl.LOCK_EX)
-            if is_current(uses):
+            if is_current(program, uses):
                 return True
         log.truncate(0)
-        made = Build(uses, log)
+        made = Build(program, uses, log)
         if made.run():
-            note(uses)
+            note(program, uses)
             return True
         for name, line in made.failed:
-            print(f"groute: {name} isn't proved: {line.group() if line else 'see build.log'}", file=sys.stderr)
+            print(f"{program}: {name} isn't proved: {line.group() if line else 'see build.log'}", file=sys.stderr)
         return False
 
 
 def main():
     words = argparse.ArgumentParser(description=__doc__, formatter_class=argparse.RawDescriptionHelpFormatter)
     words.add_argument("--note", action="store_true", help="note that the program that is there is that of the sources")
-    asked, uses = words.parse_args(), crates()
+    words.add_argument("program", nargs="?", choices=PROGRAMS, default=PROGRAMS[0], help="else groute")
+    asked = words.parse_args()
+    uses = crates(asked.program)
     if asked.note:
-        note(uses)
-    elif is_current(uses):
-        os.utime(PROGRAM)
-    elif not build(uses):
+        note(asked.program, uses)
+    elif is_current(asked.program, uses):
+        os.utime(path_of(asked.program))
+    elif not build(asked.program, uses):
         return 1
     return 0
 

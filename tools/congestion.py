@@ -11,6 +11,8 @@ a line for each wire edge that is used; columns and rows count from 0, layers fr
 beside those that it holds: its least capacity along it over the layer's minimum width and spacing. One of more tracks
 than it holds can't be routed in detail as it is.
 
+--bound draws the fullest walls of what `grbound` wrote of the design: those that need more than they hold in orange.
+
 Pictures want Debian's python3-numpy and python3-matplotlib. Tables and totals do without, but are slower then.
 """
 import csv
@@ -53,14 +55,15 @@ def words():
     parser.add_argument("--worst", type=int, default=0, metavar="N", help="frame the N worst regions of hotspots.py")
     parser.add_argument("--net", metavar="NAME", help="draw this net")
     parser.add_argument("--buffers", metavar="REPORT", help="draw the buffers that a report tells of")
+    parser.add_argument("--bound", metavar="BOUNDS", help="draw the fullest walls that grbound tells of")
     parser.add_argument("--tracks", metavar="PANELS", help="print the tracks of rows and columns beside what they hold")
     command.add_names(parser)
     asked = parser.parse_args()
     if asked.output and os.path.splitext(asked.output)[1] not in (".png", ".svg", ".csv"):
         parser.error("the output ends in .png, .svg or .csv")
-    of_tiles = [asked.direction, asked.region, asked.worst, asked.net, asked.buffers]
+    of_tiles = [asked.direction, asked.region, asked.worst, asked.net, asked.buffers, asked.bound]
     if any(of_tiles) and (asked.edges or not asked.output or asked.output.endswith(".csv")):
-        parser.error("--direction, --region, --worst, --net and --buffers are of pictures of tiles")
+        parser.error("--direction, --region, --worst, --net, --buffers and --bound are of pictures of tiles")
     return asked
 
 
@@ -85,6 +88,17 @@ def buffers(asked, design):
     return [buffer_of(design, *pair)[0] for some in tokens for pair in zip(some[::2], some[1::2])]
 
 
+def walls(path):
+    """The walls of a text of bounds: each its word, its numbers, and whether more is needed than it holds."""
+    with open(path, encoding="ascii", errors="replace") as file:
+        for line in file:
+            place, needs, rest = line.partition(" needs ")
+            if needs:
+                kind, *numbers = place.split()
+                needed, _, held = rest.split()
+                yield kind, [int(number) for number in numbers], int(needed) > int(held)
+
+
 def main():
     """Prints the totals and writes the file."""
     asked = words()
@@ -100,6 +114,7 @@ def main():
         write_picture(edges, asked.output, asked.layer, name, terms)
     elif asked.output:
         from tile_map import write_picture      # as above
+        asked.bound = list(walls(asked.bound)) if asked.bound else []
         write_picture(edges, asked.output, asked, name, terms, asked.buffers and buffers(asked, design))
     sys.stdout.write(command.totals(edges))
     if asked.tracks:

@@ -1,9 +1,9 @@
 #!/usr/bin/env python3
-"""Writes docs/DEFINITIONS.md, the table of what the program's contract is made of: tools/definitions.py
+"""Writes docs/DEFINITIONS.md, the table of what the programs' contracts are made of: tools/definitions.py
 
-Each file of definitions, crates/CRATE/specs/NAME.antt, that the contract of `run` cites, or another such file, or that
-defines a name of docs/PROVED.md, is listed with the first sentence of the comment that it begins with, up to its colon or comma,
-lowest crates first. Files ..Store.antt, of what fields keep, are left out.
+Each file of definitions, crates/CRATE/specs/NAME.antt, that the contract of `run` or of `bound` cites, or another such
+file, or that defines a name of docs/PROVED.md, is listed by its crate, lowest crates first. Files ..Store.antt, of what
+fields keep, are left out. Each file has to begin with a comment that says what it defines.
 """
 import argparse
 import glob
@@ -15,13 +15,13 @@ ROOT = os.path.dirname(os.path.dirname(os.path.abspath(__file__)))
 DOCUMENT = os.path.join(ROOT, "docs", "DEFINITIONS.md")
 HEAD = """# Where each word is defined
 
-The definitions that the contract of `run` cites, themselves or by one another, and those of the other names in `docs/PROVED.md`. `gr_base/Grid` is `crates/gr_base/specs/Grid.antt`; the words begin its first sentence. `grep -rnw NAME crates/*/specs` finds any name. `tools/definitions.py` writes this page.
+The files of definitions that the contracts of `run` and `bound` cite, themselves or by one another, and those of the other names in `docs/PROVED.md`: Grid of gr_base is `crates/gr_base/specs/Grid.antt`. `head -n 1 crates/*/specs/*.antt` says what each defines, and `grep -rnw NAME crates/*/specs` finds any name. `tools/definitions.py` writes this page.
 
-| file | defines |
+| crate | files |
 |---|---|
 """
+TOPS = [("router_top", "top"), ("bound_top", "top")]     # the crates and files of the programs' calls
 USE = re.compile(r"use Rattle\.(\w+)\.specs\.(\w+)\.\{([^}]*)\}")
-LEAST_WORDS = 3     # of what stands before a colon that ends a row
 DEFINED = re.compile(r"^(?:abbrev|unfoldable|pub) (?:pub |record |data )?(\w+)", re.MULTILINE)
 PUBLIC = re.compile(r"^( *)pub (?:const )?fn .*?(?=^\1\{)|^pub (?:trait|struct|enum) .*?^\}", re.MULTILINE | re.DOTALL)
 
@@ -45,11 +45,13 @@ def specs():
     return {(path.split(os.sep)[-3], os.path.basename(path)[:-len(".antt")]): read(path) for path in paths}
 
 
-def of_run(texts):
-    """The files that the contract of `run` cites, and those that these cite."""
-    code = read(os.path.join(ROOT, "crates", "router_top", "src", "top.rt"))
-    words = {word for public in PUBLIC.finditer(code) for word in re.findall(r"\w+", public.group())}
-    found = {file for name, file in cited(code) if name in words}
+def of_calls(texts):
+    """The files that the contracts of the programs' calls cite, and those that these cite."""
+    found = set()
+    for crate, file in TOPS:
+        code = read(os.path.join(ROOT, "crates", crate, "src", f"{file}.rt"))
+        words = {word for public in PUBLIC.finditer(code) for word in re.findall(r"\w+", public.group())}
+        found |= {file for name, file in cited(code) if name in words}
     waiting = list(found)
     while waiting:
         new = {file for _, file in cited(texts.get(waiting.pop(), ""))} - found
@@ -68,43 +70,35 @@ def of_rows(texts, proved):
 
 
 def of_contracts(texts):
-    """The files that the contract of `run` is made of, and those that define the names in docs/PROVED.md."""
+    """The files that the calls' contracts are made of, and those that define the names in docs/PROVED.md."""
     proved = read(os.path.join(ROOT, "docs", "PROVED.md"))
-    found = of_run(texts).union(of_rows(texts, proved))
+    found = of_calls(texts).union(of_rows(texts, proved))
     names = set(re.findall(r"`([A-Z]\w+)`", proved))
     names -= {name for file in found for name in DEFINED.findall(texts[file])}
     return found | {file for file, text in texts.items() if names & set(DEFINED.findall(text))}
 
 
-def subject_of(text):
-    """The first sentence of the comment that a text begins with, up to a colon behind enough words or a comma; or nothing."""
-    comment = re.match(r"(?:-- .*\n)*", text).group()
-    sentence = re.match(r"(?:[^.]|\.(?! |$))*\.?", " ".join(comment.replace("-- ", " ").split())).group()
-    subject = sentence.partition(":")[0]
-    words = (sentence if len(subject.split()) < LEAST_WORDS else subject).partition(",")[0]
-    words = words.removeprefix("The ").removesuffix(".")
-    return words[:1].upper() + words[1:]
-
-
-def rows():
-    """The file of each row, and what it defines, lowest crates first."""
+def files():
+    """The crate and the name of each file that is listed, lowest crates first, with its text."""
     texts = specs()
-    files = of_contracts(texts)
     crates = [line.split()[0].rstrip(":") for line in read(os.path.join(ROOT, "crates.txt")).splitlines() if line]
-    for crate, name in sorted(files, key=lambda file: (crates.index(file[0]), file[1])):
+    for crate, name in sorted(of_contracts(texts), key=lambda file: (crates.index(file[0]), file[1])):
         if name != "Lib" and not name.endswith("Store"):
-            yield f"{crate}/{name}", subject_of(texts[crate, name])
+            yield crate, name, texts[crate, name]
 
 
 def document():
     """The text of the document."""
-    return HEAD + "".join(f"| {file} | {says} |\n" for file, says in rows())
+    names = {}
+    for crate, name, _ in files():
+        names.setdefault(crate, []).append(name)
+    return HEAD + "".join(f"| {crate} | {', '.join(of_crate)} |\n" for crate, of_crate in names.items())
 
 
 def main():
     """Writes the document. The answer is the status: 1 where a file begins with no comment."""
     argparse.ArgumentParser(description=__doc__, formatter_class=argparse.RawDescriptionHelpFormatter).parse_args()
-    silent = [file for file, says in rows() if not says]
+    silent = [f"{crate}/{name}" for crate, name, text in files() if not text.startswith("-- ")]
     if silent:
         print(f"definitions: no first line in {', '.join(silent)}", file=sys.stderr)
         return 1

@@ -2,9 +2,9 @@
 # Installs the proved program: see --help.
 usage="tools/install.sh FOLDER
 
-Puts the proved program with its tools, man pages, completion and documents into FOLDER/bin, lib/groute, share/groute,
-share/man, share/doc/groute and so on. Where the program isn't built yet, ./groute proves and builds it first.
-PROVED_WITH among the documents has the sums of the toolchain, of the sources and of the program. It wants git, gzip and
+Puts the proved programs with their tools, man pages, completion and documents into FOLDER/bin, lib/groute, share/groute,
+share/man, share/doc/groute and so on. Where a program isn't built yet, ./groute or ./grbound proves and builds it
+first. PROVED_WITH among the documents has the sums of the toolchain, of the sources and of the programs. It wants git, gzip and
 python3."
 
 case ${1:--} in
@@ -25,7 +25,13 @@ if [ "$status" -ne 2 ]; then
     echo "install: ./groute couldn't build the program (status $status): see build.log" >&2
     exit 1
 fi
+./grbound >/dev/null 2>&1 || status=$?
+if [ "$status" -ne 2 ]; then
+    echo "install: ./grbound couldn't build the program (status $status): see build.log" >&2
+    exit 1
+fi
 program=crates/groute/out/groute
+bounds=crates/grbound/out/grbound
 share=$root/share
 doc=$share/doc/groute
 
@@ -35,7 +41,7 @@ proved_with() {
     echo "sources $(git describe --always --dirty --abbrev=40)"
     (cd "$(dirname "$(rt doc)")" && sha256sum KIT-ID bin/*)
     git ls-files -z 'crates/*.rt' 'crates/*.antt' crates.txt HANDLES | xargs -0 sha256sum
-    sha256sum "$program"
+    sha256sum "$program" "$bounds"
 }
 
 # Tools that are commands of their own; others are what these are made of.
@@ -62,8 +68,11 @@ put_tools() {
 
 install -D -m 755 "$program" "$root/lib/groute/groute"
 install -D -m 755 packaging/groute.sh "$root/bin/groute"
+install -D -m 755 "$bounds" "$root/bin/grbound"
 put_tools
-gzip -9nc man/groute.1 >"$share/man/man1/groute.1.gz"
+for page in groute grbound; do
+    gzip -9nc "man/$page.1" >"$share/man/man1/$page.1.gz"
+done
 install -D -m 644 completion/groute.bash "$share/bash-completion/completions/groute"
 install -D -m 644 completion/_groute "$share/zsh/vendor-completions/_groute"
 mkdir -p "$doc"

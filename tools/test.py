@@ -1,7 +1,7 @@
 #!/usr/bin/env python3
 """Tests of the tools, and of the samples in the documents: tools/test.py --program PATH [NAME ..]
 
-PATH is a built groute. The samples of README.md and of docs/*.md, lines that begin with `$`, are run as they are
+PATH is a built groute, and one of grbound with --bounds. The samples of README.md and of docs/*.md, lines that begin with `$`, are run as they are
 written, with that program as ./groute. NAMEs pick tests, as in unittest. What wants numpy and matplotlib, klayout,
 chromium, or for docs/FLOW.md Debian's qflow-tech-osu035, is left out by name where that isn't there.
 """
@@ -34,6 +34,7 @@ NAME = 32   # the token of examples/small.ispd that may be any: its net's name
 # Samples that want numpy, and what stands on a text of theirs.
 WANTS_NUMPY = re.compile(r"\.png\b|tools/(hotspots|slowest|report|adjust|flow)\.py|/less\.ispd|/flow/adder")
 program = None      # the path of groute
+bounds = None       # the path of grbound, where it is named
 
 
 class Samples(unittest.TestCase):
@@ -42,14 +43,17 @@ class Samples(unittest.TestCase):
     def test_samples(self):
         path = {**os.environ, "PATH": os.path.dirname(sys.executable) + os.pathsep + os.environ["PATH"]}
         with tempfile.TemporaryDirectory() as folder:
-            with open(f"{folder}/groute", "w", encoding="utf-8") as file:
-                file.write(f'#!/bin/sh\nexec {shlex.quote(program)} "$@"\n')
-            os.chmod(f"{folder}/groute", 0o755)
+            for name, path_of in (("groute", program), ("grbound", bounds)):
+                with open(f"{folder}/{name}", "w", encoding="utf-8") as file:
+                    file.write(f'#!/bin/sh\nexec {shlex.quote(path_of or "false")} "$@"\n')
+                os.chmod(f"{folder}/{name}", 0o755)
             for name in ("examples", "tools", "docs"):
                 os.symlink(f"{ROOT}/{name}", f"{folder}/{name}")
             for document in DOCUMENTS:
                 for command, wanted in samples(document):
                     with self.subTest(document=document, command=command):
+                        if "./grbound" in command and not bounds:
+                            self.skipTest("grbound is not named")
                         if WANTS_NUMPY.search(command) and not PICTURES:
                             self.skipTest("numpy and matplotlib are not there")
                         done = subprocess.run(["sh", "-c", command], cwd=folder, check=False, text=True, env=path,
@@ -261,12 +265,14 @@ class Congestion(InFolder):
 
 def main():
     """Runs the tests. The answer is the status."""
-    global program
+    global program, bounds
     parser = argparse.ArgumentParser(description=__doc__, formatter_class=argparse.RawDescriptionHelpFormatter)
     parser.add_argument("--program", required=True, metavar="PATH", help="a built groute")
+    parser.add_argument("--bounds", metavar="PATH", help="a built grbound")
     parser.add_argument("names", nargs="*", metavar="NAME", help="of a test, as Where or Congestion.test_table")
     asked = parser.parse_args()
     program = os.environ["GROUTE"] = os.path.abspath(asked.program)
+    bounds = asked.bounds and os.path.abspath(asked.bounds)
     result = unittest.main(argv=[sys.argv[0], *asked.names], verbosity=1, exit=False).result
     for test, reason in result.skipped:
         print(f"left out: {test.id().removeprefix('__main__.')}: {reason}", file=sys.stderr)

@@ -371,8 +371,9 @@ class Pictures(InFolder):
         words = SMALL, self.put("solution", solution)
         report = self.put("report", report.replace("buffers 0", "buffers 1") + "(15,5,1) mid\n")
         plain = self.picture(*words)
+        bounds = self.put("bounds", "column cuts 0\ncolumn 1 needs 2 holds 8\nbox 0 0 0 0 needs 3 holds 2\n")
         for more in (("--net", "a"), ("--buffers", report), ("--region", "1", "0", "2", "1"), ("--direction", "v"),
-                     ("--layer", "2"), ("--edges",), ("--names", self.put("names", NAMES))):
+                     ("--bound", bounds), ("--layer", "2"), ("--edges",), ("--names", self.put("names", NAMES))):
             other = self.picture(*words, *more)
             self.assertFalse(other.shape == plain.shape and (other == plain).all(), more)
         crowd = CROWD, self.routed(CROWD, 1)

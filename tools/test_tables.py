@@ -23,9 +23,11 @@ class Words(unittest.TestCase):
     def setUp(self):
         with open(f"{ROOT}/crates/word_reader/src/form.rt", encoding="utf-8") as file:
             self.form = file.read()
+        with open(f"{ROOT}/crates/gr_base/src/limits.rt", encoding="utf-8") as file:
+            self.limits = file.read()
         self.options = {name: (word, takes, default) for name, word, takes, default in re.findall(
             r'OptionKind::(\w+) => OptionRow \{\s*word: "([^"]+)",\s*takes: (.*?),\s*'
-            r'default: (?:None|Some\("([^"]+)"\)),\s*\}', self.form, re.DOTALL)}
+            r'default: (?:None|Some\("([^"]+)"\)),\s*excludes: [^}]*\}', self.form, re.DOTALL)}
         self.commands = [(word, int(count), re.findall(r"OptionKind::(\w+)", options)) for word, count, options in
                          re.findall(r'word: "([^"]+)",\s*positionals: ([0-9]+),\s*options: &\[([^\]]*)\]', self.form)]
 
@@ -34,7 +36,7 @@ class Words(unittest.TestCase):
         text = text.removesuffix(" as u64")
         if text == "u64::MAX":
             return "2^64 - 1"
-        constant = re.search(rf"const {re.escape(text)}: u32 = ([0-9_]+);", self.form)
+        constant = re.search(rf"const {re.escape(text)}: u32 = ([0-9_]+);", self.form + self.limits)
         return (constant.group(1) if constant else text).replace("_", "")
 
     def values(self, takes):

@@ -50,7 +50,8 @@ class Tables(unittest.TestCase):
     def test_bash(self):
         self.assertEqual(self.completed("groute", ""), ["route", "evaluate", "buffer", "make", "trial", "panels"])
         self.assertEqual(self.completed("groute", "e"), ["evaluate"])
-        self.assertEqual(self.completed("groute", "route", "--"), ["--workers", "--via-cost", "--rule", "--stop"])
+        self.assertEqual(self.completed("groute", "route", "--"),
+                         ["--workers", "--via-cost", "--batch", "--rule", "--stop"])
         self.assertEqual(self.completed("groute", "make", "--"), [])
         self.assertEqual(sorted(self.completed("groute", "buffer", "small")),
                          ["small.ispd", "small.library", "small.solution"])

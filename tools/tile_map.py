@@ -96,6 +96,20 @@ class TileMap:
         return axes.plot(*zip(*points), "^", color="black", markerfacecolor="white", markersize=7, label="buffer",
                          linestyle="none") if points else []
 
+    def draw_walls(self, axes, walls):
+        """Walls, as congestion.py reads them; the answer is what the legend says of them."""
+        for kind, numbers, is_over in walls:
+            style = {"edgecolor" if kind == "box" else "color": OVER[1] if is_over else "black", "linestyle": "--"}
+            if kind == "column":
+                axes.axvline(self.place(numbers[0] + 1, 0)[0], **style)
+            elif kind == "row":
+                axes.axhline(self.place(0, numbers[0] + 1)[1], **style)
+            else:
+                low, high = self.place(*numbers[:2]), self.place(numbers[2] + 1, numbers[3] + 1)
+                axes.add_patch(Rectangle(low, high[0] - low[0], high[1] - low[1], fill=False, **style))
+        return [Line2D([], [], linestyle="--", color=OVER[1] if any(is_over for *_, is_over in walls) else "black",
+                       label="fullest walls")] if walls else []
+
     def legend(self, axes, name, side, marks):
         """The totals and what colours and marks mean."""
         said(axes, self.loads, name)
@@ -124,6 +138,7 @@ def write_picture(edges, path, asked, name, terms, buffers):
                 marks.extend(picture.draw_net(axes, asked.net))
             if buffers is not None:
                 marks.extend(picture.draw_buffers(axes, buffers))
+            marks.extend(picture.draw_walls(axes, asked.bound))
         return side
 
     (left, low), (right, top) = (picture.place(*corner) for corner in (
