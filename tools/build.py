@@ -2,9 +2,10 @@
 """Proves and builds a program: tools/build.py [--note] [PROGRAM], else groute
 
 What the program's crate stands on is proved, and nothing else: lowest crates first, as many side by side as there are
-processors and memory for, those first that the longest chain of crates waits for. What is proved stays, so that a
-build that was stopped goes on where it was. A second build waits for the first. On a terminal it tells how far it is.
-The prover's words go to build.log. The status is 0 where the program is there.
+processors and memory for, those first that the longest chain of crates waits for. Each is proved in a folder of its own
+beside the repository, since of two runs of rt that share a crate one waits. What is proved stays, so that a build that
+was stopped goes on where it was. A second build waits for the first. On a terminal it tells how far it is. The prover's
+words go to build.log. The status is 0 where the program is there.
 
 --note says that the program that lies in its crate's folder out was proved and built from the sources as they stand,
 as after `rt ci`; then ./groute or ./grbound takes it as it is.
@@ -14,20 +15,28 @@ import fcntl
 import hashlib
 import os
 import re
+import shutil
 import subprocess
 import sys
+import tempfile
 import threading
 import time
 
 ROOT = os.path.dirname(os.path.dirname(os.path.abspath(__file__)))
 LOG = os.path.join(ROOT, "build.log")
 PROGRAMS = ["groute", "grbound"]
+PARTS = ["src", "specs", "proofs"]
 GIGABYTES = 3       # what a proof takes of memory, but for few
+
+
+def folder_of(name, root=ROOT):
+    """Where a crate lies."""
+    return os.path.join(root, "crates", name)
 
 
 def path_of(program):
     """Where the program lies once it is built."""
-    return os.path.join(ROOT, "crates", program, "out", program)
+    return os.path.join(folder_of(program), "out", program)
 
 
 def note_path(program):
@@ -35,14 +44,20 @@ def note_path(program):
     return path_of(program) + ".sources"
 
 
-def crates(program):
-    """By name the crates of this repository that the program stands on, and itself: what each one uses of these."""
-    uses = {}
+def rows():
+    """By name the lines of crates.txt, and what each crate uses."""
+    found = {}
     with open(os.path.join(ROOT, "crates.txt"), encoding="utf-8") as file:
         for line in file:
             name, _, rest = line.partition("#")[0].partition(":")
             if name.split():
-                uses[name.split()[0]] = rest.split()
+                found[name.split()[0]] = line, rest.split()
+    return found
+
+
+def crates(program):
+    """By name the crates of this repository that the program stands on, and itself: what each one uses of these."""
+    uses = {name: lower for name, (_, lower) in rows().items()}
     found, new = set(), [program]
     while new:
         name = new.pop()
@@ -54,8 +69,8 @@ def crates(program):
 
 def sources(name):
     """The paths of a crate's files that a proof reads."""
-    for part in ("src", "specs", "proofs"):
-        for folder, folders, files in os.walk(os.path.join(ROOT, "crates", name, part)):
+    for part in PARTS:
+        for folder, folders, files in os.walk(os.path.join(folder_of(name), part)):
             folders.sort()
             for file in sorted(files):
                 if file.endswith((".rt", ".antt")):
@@ -107,6 +122,49 @@ def heights(uses):
     return {name: height(name) for name in uses}
 
 
+def move(folder, target):
+    """Moves a folder into another, where there is such a folder."""
+    if os.path.isdir(folder):
+        shutil.move(folder, target)
+
+
+def set_apart(name, lower):
+    """Lays out a crate and those that it stands on, by hard links, in a folder beside the repository, and moves what was
+    kept of its proof there. The answer is that folder, or None where there can't be one."""
+    root = None
+    try:
+        root = tempfile.mkdtemp(prefix=f".{name}-", dir=os.path.dirname(ROOT))
+        with open(os.path.join(root, "crates.txt"), "w", encoding="utf-8") as file:
+            file.writelines(line for crate, (line, _) in rows().items() if crate in [name, *lower])
+        for crate, parts in [(name, PARTS)] + [(low, [*PARTS, os.path.join("out", "rlib")]) for low in lower]:
+            for part in parts:
+                folder = os.path.join(folder_of(crate), part)
+                if os.path.isdir(folder):
+                    shutil.copytree(folder, os.path.join(folder_of(crate, root), part), copy_function=os.link)
+    except (OSError, shutil.Error):
+        shutil.rmtree(root or "", ignore_errors=True)
+        return None
+    move(os.path.join(folder_of(name), "out"), folder_of(name, root))
+    return root
+
+
+def bring_back(name, root):
+    """Moves what was made of a crate back from its folder, which goes."""
+    move(os.path.join(folder_of(name, root), "out"), folder_of(name))
+    shutil.rmtree(root)
+
+
+def below(name, uses):
+    """All crates that a crate stands on."""
+    found, new = set(), list(uses[name])
+    while new:
+        low = new.pop()
+        if low not in found:
+            found.add(low)
+            new += uses[low]
+    return sorted(found)
+
+
 def most_at_once():
     """How many proofs at once there are processors and memory for."""
     with open("/proc/meminfo", encoding="ascii") as file:
@@ -137,8 +195,11 @@ class Build:
     def prove(self, name, jobs):
         """Proves a crate by so many jobs, and tells it. Without words the program ends at once."""
         words = ["run", "--jobs", str(jobs), "--", "usage"] if name == self.program else ["lib", "--jobs", str(jobs)]
-        done = subprocess.run(["rt", *words], cwd=os.path.join(ROOT, "crates", name), check=False, text=True,
+        root = set_apart(name, below(name, self.uses))
+        done = subprocess.run(["rt", *words], cwd=folder_of(name, root or ROOT), check=False, text=True,
                               stdin=subprocess.DEVNULL, stdout=subprocess.PIPE, stderr=subprocess.STDOUT)
+        if root:
+            bring_back(name, root)
         with self.changed:
             self.log.write(f"==== {name}\n{done.stdout}")
             self.log.flush()

@@ -2,7 +2,7 @@
 use Rattle.std.proofs.Common.{◌≡◌, ℕ, zero, suc, ◌+◌, ◌<◌, Bool, true, false, ◌&&◌, nat_lt, List, [], ◌∷◌, length, take, drop, All, Option, Some, None, slice_get, if◌then◌else◌, refl, sym, ap, subst, ◌∙◌, arith}
 use Rattle.std.proofs.lemmas.Bool.{both_ways}
 use Rattle.std.proofs.lemmas.List.Elements.{All-nil}
-use Rattle.cost_rules.specs.Formulas.{cost_at, via_cost}
+use Rattle.cost_rules.specs.Formulas.{cost_at, via_price}
 use Rattle.cost_rules.specs.declared.site.Formula.{Formula}
 use Rattle.cost_rules.specs.declared.site.Site.{Site}
 use Rattle.gr_base.specs.Designs.{DesignView, IsDesign, pins_in, pins_at}
@@ -41,7 +41,7 @@ prices-same c h l m formula net one other e edge = ap (λ (n : ℕ). if usable_a
     site : ℕ → ℕ → Site
     site demand marks = record { demand = demand; capacity = capacity_at c e; need = need_at c net e; marks = marks }
 
-    by : (b : Bool) → is_wire e ≡ b → (if b then cost_at formula (site_of c l net e) else via_cost) ≡ (if b then cost_at formula (site_of c m net e) else via_cost)
+    by : (b : Bool) → is_wire e ≡ b → (if b then cost_at formula (site_of c l net e) else via_price) ≡ (if b then cost_at formula (site_of c m net e) else via_price)
     by false is = refl
     by true is =
         ap (λ (n : ℕ). cost_at formula (site n (marks_at l e))) (one.demand e edge is ∙ sym (other.demand e edge is))

@@ -56,7 +56,7 @@ share_of-most c net tree e tables =
     ]
 
 -- no demand is great
-pub demand-most : (c : CapacityView) (h : List Entry) (e : Edge) → IsCapacity c → nets_of c ≤ most_nets → demand c h e ≤ 2 ^ 62
+pub demand-most : (c : CapacityView) (h : List Entry) (e : Edge) → IsCapacity c → nets_of c ≤ most_nets → demand c h e ≤ 2 ^ 47
 unfolding demand
 demand-most c h e tables few =
     let all = sum-most (share_after c h e) 0 (nets_of c) (2 * most_width) (λ net. share_of-most c net (booked h net) e tables) in

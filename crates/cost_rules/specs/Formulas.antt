@@ -20,8 +20,8 @@ overflow_at site = site.demand + site.need - site.capacity
 abbrev pub most_cost : ℕ
 most_cost = 1048576
 
-abbrev pub via_cost : ℕ
-via_cost = 3
+abbrev pub via_price : ℕ
+via_price = 3
 
 -- what the edge costs the net by each formula
 abbrev pub cost_at : Formula → Site → ℕ

@@ -9,7 +9,7 @@ use crate::site::Site;
 pub const MOST_COST: u64 = 1_048_576;
 
 /// What a via edge costs where routes are planned. Wire edges cost from 1 on.
-pub const VIA_COST: u64 = 3;
+pub const VIA_PRICE: u64 = 3;
 
 /// The cost by the first formula: 1, the marks, and 8 for each unit of overflow.
 pub fn first_cost(site: Site) -> u64

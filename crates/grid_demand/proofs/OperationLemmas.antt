@@ -150,8 +150,8 @@ below-added most c net t l tables below =
     let more = share-most c net t wire tables in
     omega (arith, old, more))
 
--- where no demand is above 2^62, any tree has room
-pub room-below : (most : ℕ) (t : TreeView) (l : LoadsView) → most ≤ 2 ^ 62 → AreBelow most l → HasRoom l t
+-- where no demand is above 2^47, any tree has room
+pub room-below : (most : ℕ) (t : TreeView) (l : LoadsView) → most ≤ 2 ^ 47 → AreBelow most l → HasRoom l t
 room-below most t l few below = λ e inside wire.
     let demand = index-most most l.demands (wire_number e) below in omega (arith, demand, few)
 

@@ -38,7 +38,7 @@ changed_by Lose demand need = demand - need
 
 -- the demand has room for the need, or has it
 abbrev pub Fits : Change → ℕ → ℕ → Type 0
-Fits Gain demand need = demand ≤ 2 ^ 62
+Fits Gain demand need = demand ≤ 2 ^ 47
 Fits Lose demand need = need ≤ demand
 
 -- one edge gains the net's need
@@ -80,9 +80,9 @@ marked c l = record {
   marks = map (λ e. mark_of (demand_at l e) (capacity_at c e) (marks_at l e)) (wires_from_cells l.shape);
 }
 
--- no wire edge of the tree has a demand above 2^62
+-- no wire edge of the tree has a demand above 2^47
 abbrev pub HasRoom : LoadsView → TreeView → Type 0
-HasRoom l t = (e : Edge) → IsTrue (edges_of t e) → IsTrue (is_wire e) → demand_at l e ≤ 2 ^ 62
+HasRoom l t = (e : Edge) → IsTrue (edges_of t e) → IsTrue (is_wire e) → demand_at l e ≤ 2 ^ 47
 
 -- each wire edge of the tree has at least the net's need of demand
 abbrev pub HasShare : CapacityView → ℕ → TreeView → LoadsView → Type 0

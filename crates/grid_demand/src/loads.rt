@@ -99,7 +99,7 @@ impl Loads {
         requires capacity { capacity.now.shape ≡ self.old.shape }
         requires edge { IsTrue (has_edge self.old.shape e) }
         requires wire { IsTrue (is_wire e) }
-        requires room { demand_at self.old e ≤ 2 ^ 62 }
+        requires room { demand_at self.old e ≤ 2 ^ 47 }
         ensures loads { self.new ≡ charged capacity.now net e self.old }
         ensures whole { AreLoads self.new }
     {
@@ -237,7 +237,9 @@ fn change_along(
 fn changed(change: Change, demand: u64, need: u64) -> u64
     requires fits { Fits change demand need }
     requires need { need ≤ 2 * most_width }
-    ensures { result ≡ changed_by change demand need }
+    requires small { demand < 2 ^ 48 }
+    ensures value { result ≡ changed_by change demand need }
+    ensures small { result < 2 ^ 48 }
 {
     match change {
         Change::Gain => demand + need,

@@ -1,18 +1,18 @@
 //! A number for each wire edge.
-ghost use Rattle.std.specs.Prelude.{◌≡◌, ℕ, ◌<◌, ◌≤◌, false, length, replicate, slice_index, slice_set, IfOk, IfSome};
+ghost use Rattle.std.specs.Prelude.{◌≡◌, ℕ, ◌^◌, ◌<◌, ◌≤◌, false, length, replicate, slice_index, slice_set, IfOk, IfSome};
 ghost use Rattle.grid_demand.specs.Runs.{IsPart};
 ghost use Rattle.std.specs.Vec.{vec_capacity};
 
 use std::alloc::{AllocError, Global};
 use std::marker::Model;
 
-/// A number for each wire edge, by place: two bytes an edge, and beside it how many times 65,536 it is.
-/// That second list is empty until a number is so great, which for demands takes thousands of nets of
-/// usual width. Its memory is taken before, so that `put` needs none, and isn't touched until then.
+/// A number for each wire edge, by place: two bytes an edge, and beside it in four how many times 65,536
+/// it is. That second list is empty until a number is so great, which for demands takes thousands of nets
+/// of usual width. Its memory is taken before, so that `put` needs none, and isn't touched until then.
 #[derive(Debug, Drop)]
 pub(crate) struct Numbers {
     low: Vec<u16>,
-    high: Vec<u64>,
+    high: Vec<u32>,
 }
 
 impl Model for Numbers {
@@ -50,10 +50,12 @@ impl Numbers {
     #[inline(always)]
     pub(crate) fn at(&self, place: usize) -> u64
         requires { place < length self.now }
-        ensures { result ≡ slice_index self.now place }
+        ensures value { result ≡ slice_index self.now place }
+        ensures small { result < 2 ^ 48 }
     {
         let high = self.high.get(place).copied().unwrap_or(0);
-        u64::from(self.low[place]) + 65536 * high
+        let low = u64::from(self.low[place]);
+        low + 65536 * u64::from(high)
     }
 
     /// The numbers from a place to below another. None where some number may have a part in the second
@@ -83,12 +85,14 @@ impl Numbers {
     /// Puts another number for the wire edge at a place.
     #[inline(always)]
     pub(crate) fn put(&mut self, place: usize, number: u64)
-        requires { place < length self.old }
+        requires place { place < length self.old }
+        requires small { number < 2 ^ 48 }
         ensures { self.new ≡ slice_set self.old place number }
     {
         self.low[place] = (number % 65536) as u16;
         if number >= 65536 || !self.high.is_empty() {
-            put_high(&mut self.high, self.low.len(), place, number / 65536);
+            let times = (number / 65536) as u32;
+            put_high(&mut self.high, self.low.len(), place, times);
         }
     }
 }
@@ -117,7 +121,7 @@ fn any_above(numbers: &[u16], bounds: &[u32], from: usize, to: usize) -> bool
 }
 
 /// Puts a number into a list that is filled up with zeros to a length that it has room for.
-fn put_high(high: &mut Vec<u64>, wires: usize, place: usize, times: u64)
+fn put_high(high: &mut Vec<u32>, wires: usize, place: usize, times: u32)
     requires room { wires ≤ vec_capacity high.old }
     requires few { length high.old.items ≤ wires }
     requires place { place < wires }

@@ -2,7 +2,7 @@
 -- layer.
 use Rattle.std.specs.Prelude.{◌≡◌, ◌⊎◌, ℕ, zero, suc, ◌+◌, ◌<◌, ◌≤◌, Bool, ◌&&◌, ◌==◌, not, is_none, nat_lt, Option, None, IfSome, IsSomeAnd}
 use Rattle.std.specs.Option.{option_map}
-use Rattle.cost_rules.specs.Formulas.{via_cost}
+use Rattle.cost_rules.specs.Formulas.{via_price}
 use Rattle.layer_assign.specs.declared.span.Best.{Best}
 use Rattle.layer_assign.specs.declared.span.Span.{Span}
 use Rattle.layer_assign.specs.Spans.{widened, climb}
@@ -24,7 +24,7 @@ offer_from limbs from layer =
 
 -- an offer as the next layer sees it, with one climb more
 abbrev pub a_climb_more : Option Best → Option Best
-a_climb_more offer = option_map (λ b. record { layer = b.layer; cost = b.cost + via_cost }) offer
+a_climb_more offer = option_map (λ b. record { layer = b.layer; cost = b.cost + via_price }) offer
 
 -- the best of so many layers, as the last of them sees it
 unfoldable pub best_up_to : (ℕ → Option ℕ) → ℕ → Option Best

@@ -1,7 +1,7 @@
 -- Spans of layers, their numbers in a table, and the spans to which the tiles of a tree grow.
 use Rattle.std.specs.Prelude.{ℕ, zero, suc, ◌+◌, ◌-◌, ◌*◌, ◌<◌, ◌≤◌, ◌==◌, min, max, nat_lt, Bool, List, fold, Option, Some, None, unwrap_or, slice_get, if◌then◌else◌}
 use Rattle.std.specs.Option.{option_and_then}
-use Rattle.cost_rules.specs.Formulas.{via_cost}
+use Rattle.cost_rules.specs.Formulas.{via_price}
 use Rattle.layer_assign.specs.declared.span.Span.{Span}
 
 -- the span with one more layer, where there is one so far
@@ -29,7 +29,7 @@ span_in spans node = unwrap_or (slice_get spans node) (record { low = 0; high = 
 -- a climb by one layer costs as much as a via edge
 abbrev pub climb : Option Span → ℕ
 climb None = 0
-climb (Some s) = via_cost * (s.high - s.low)
+climb (Some s) = via_price * (s.high - s.low)
 
 -- the span is one of layers of a grid
 pub record IsSpan (layers : ℕ) (s : Span) : Type 0 where

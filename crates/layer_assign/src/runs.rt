@@ -13,7 +13,7 @@ use crate::limbs::{limb_of, run_costs};
 use crate::span::{Best, Span, Workings};
 use crate::spans::widened;
 use crate::tables::{better_of, write_best};
-use cost_rules::{Costs, VIA_COST};
+use cost_rules::{Costs, VIA_PRICE};
 use gr_base::{RouteTree, Shape};
 
 /// Whether a tile is on a run: the next node is the first to join it, and it has no pins and isn't
@@ -107,6 +107,6 @@ pub(crate) fn a_climb_more(offer: Option<Best>) -> Option<Best>
     let best = offer?;
     Some(Best {
         layer: best.layer,
-        cost: best.cost + VIA_COST,
+        cost: best.cost + VIA_PRICE,
     })
 }

@@ -2,7 +2,7 @@ ghost use Rattle.std.specs.Prelude.{◌≡◌, ◌<◌, ◌≤◌, IfSome};
 ghost use Rattle.layer_assign.specs.Spans.{widened, climb, IsWithin, span_number, spans_of, next_span};
 
 use crate::span::Span;
-use cost_rules::VIA_COST;
+use cost_rules::VIA_PRICE;
 use gr_base::Shape;
 
 /// A tile's span with one more layer.
@@ -28,7 +28,7 @@ pub(crate) fn climb(span: Option<Span>) -> u64
 {
     match span {
         None => 0,
-        Some(span) => VIA_COST * u64::from(span.high - span.low),
+        Some(span) => VIA_PRICE * u64::from(span.high - span.low),
     }
 }
 

@@ -1,6 +1,6 @@
 -- A net's prices are prices.
 use Rattle.std.proofs.Common.{◌≡◌, ℕ, ◌+◌, ◌*◌, ◌<◌, ◌≤◌, ◌↔◌, Bool, true, false, Option, Some, None, IsSome, IfSome, IsTrue, slice_get, if◌then◌else◌, min, refl, subst, sym, ap, ◌∙◌, arith}
-use Rattle.cost_rules.specs.Formulas.{cost_at, most_cost, overflow_at, via_cost}
+use Rattle.cost_rules.specs.Formulas.{cost_at, most_cost, overflow_at, via_price}
 use Rattle.cost_rules.specs.Prices.{layer_of, ArePrices, IsBelowVias}
 use Rattle.cost_rules.specs.declared.site.Formula.{Formula}
 use Rattle.cost_rules.specs.declared.site.Formula.TheVariants.{First, Steep, Flat}
@@ -51,11 +51,11 @@ prices-of_net c l f net = record {
 }
 
 -- each via edge has the cost of a via
-pub vias-of_net : (c : CapacityView) (l : LoadsView) (f : Formula) (net : ℕ) → IsBelowVias c.shape (price_of c l f net) via_cost
+pub vias-of_net : (c : CapacityView) (l : LoadsView) (f : Formula) (net : ℕ) → IsBelowVias c.shape (price_of c l f net) via_price
 vias-of_net c l f net e edge up =
-    let no_wire : (if is_wire e then cost_at f (site_of c l net e) else via_cost) ≡ via_cost =
-    ap (λ (way : Way). if is_wire_way way then cost_at f (site_of c l net e) else via_cost) up in
-    if-paid (usable_at c e) _ (λ n. via_cost ≤ n) (omega (arith, no_wire))
+    let no_wire : (if is_wire e then cost_at f (site_of c l net e) else via_price) ≡ via_price =
+    ap (λ (way : Way). if is_wire_way way then cost_at f (site_of c l net e) else via_price) up in
+    if-paid (usable_at c e) _ (λ n. via_price ≤ n) (omega (arith, no_wire))
 
 -- where a net fits and there is no mark each formula gives 1
 pub cost-free : (f : Formula) (site : Site) → site.marks ≡ 0 → site.demand + site.need ≤ site.capacity → 1 ≡ cost_at f site
@@ -84,8 +84,8 @@ side-price c l f net from count place site beside below demand capacity need mar
     let usable : usable_at c e ≡ true = ap (λ (n : ℕ). usable_along from.way (slice_get c.layers n)) level ∙ beside.goes in
     let wire : is_wire e ≡ true = beside.wire in
     let same : site ≡ site_of c l net e = same-site site (site_of c l net e) demand capacity (need ∙ sym needs) marks in
-    ap (λ (s : Site). Some (cost_at f s)) same ∙ sym (ap (λ b. Some (if b then cost_at f (site_of c l net e) else via_cost)) wire)
-    ∙ sym (ap (λ b. if b then Some (if is_wire e then cost_at f (site_of c l net e) else via_cost) else None) usable)
+    ap (λ (s : Site). Some (cost_at f s)) same ∙ sym (ap (λ b. Some (if b then cost_at f (site_of c l net e) else via_price)) wire)
+    ∙ sym (ap (λ b. if b then Some (if is_wire e then cost_at f (site_of c l net e) else via_price) else None) usable)
 
 -- the first of them is an edge of the grid
 pub first-edge : (g : Shape) (ways : ℕ → Way → Bool) (from : Edge) (count : ℕ) → AreSideBySide g ways from count → 0 < count → IsTrue (has_edge g from)

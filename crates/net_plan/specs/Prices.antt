@@ -1,6 +1,6 @@
 -- What edges cost a net over given loads.
 use Rattle.std.specs.Prelude.{◌≡◌, ℕ, ◌^◌, ◌≤◌, ◌↔◌, Bool, Option, Some, None, slice_get, if◌then◌else◌, IsTrue, IsSome, IfSome, refl}
-use Rattle.cost_rules.specs.Formulas.{cost_at, most_cost, via_cost}
+use Rattle.cost_rules.specs.Formulas.{cost_at, most_cost, via_price}
 use Rattle.cost_rules.specs.Prices.{layer_of, ArePrices}
 use Rattle.cost_rules.specs.declared.site.Formula.{Formula}
 use Rattle.cost_rules.specs.declared.site.Site.{Site}
@@ -22,7 +22,7 @@ site_of c l net e =
 -- where it isn't usable
 abbrev pub price_of : CapacityView → LoadsView → Formula → ℕ → Edge → Option ℕ
 price_of c l formula net e =
-    if usable_at c e then Some (if is_wire e then cost_at formula (site_of c l net e) else via_cost) else None
+    if usable_at c e then Some (if is_wire e then cost_at formula (site_of c l net e) else via_price) else None
 
 -- a layer goes a way where it states a capacity for it; each layer goes up
 abbrev pub ways_of : CapacityView → ℕ → Way → Bool

@@ -5,7 +5,7 @@ ghost use Rattle.grid_demand.specs.Tables.{capacity_of};
 ghost use Rattle.net_plan.specs.Prices.{HasBoundedDemand, HasNetPrices, kept_prices, site_of, price_of, ways_of};
 
 use crate::site_run::SiteRun;
-use cost_rules::{CostRule, Costs, Site, VIA_COST};
+use cost_rules::{CostRule, Costs, Site, VIA_PRICE};
 use gr_base::{Design, Edge, Frame, Way};
 use grid_demand::{Capacity, Loads};
 use maze_route::{RunCosts, price_each};
@@ -107,13 +107,13 @@ impl Costs for NetCosts<'_> {
             return None;
         }
         if e.way == Way::Up {
-            return Some(VIA_COST);
+            return Some(VIA_PRICE);
         }
         Some(self.cost_at(self.site(e)))
     }
 
     fn least_via(&self) -> u64 {
-        VIA_COST
+        VIA_PRICE
     }
 }
 

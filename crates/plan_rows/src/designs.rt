@@ -25,7 +25,9 @@ pub(crate) fn tell<R: Print>(
         return println!(rt; "no net");
     }
     match command {
-        "capacity" | "charge" | "loads" => loads::tell(rt, alloc, &design, command, numbers),
+        "capacity" | "charge" | "marks" | "loads" => {
+            loads::tell(rt, alloc, &design, command, numbers)
+        }
         _ => plans::tell(rt, alloc, &design, command, at(numbers, 0)),
     }
 }

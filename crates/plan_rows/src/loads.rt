@@ -26,6 +26,7 @@ pub(crate) fn tell<R: Print>(
     match command {
         "capacity" => tell_capacity(rt, &capacity, e),
         "charge" => tell_charge(rt, alloc, &capacity, e),
+        "marks" => tell_marks(rt, alloc, &capacity, e, at(numbers, 2)),
         _ => tell_loads(rt, alloc, &capacity, e, from(numbers, 2)),
     }
 }
@@ -70,6 +71,25 @@ fn tell_charge<R: Print>(rt: &R, alloc: Global, capacity: &Capacity, e: Edge) ->
         loads.demand(e),
         loads.over_total(capacity)
     )
+}
+
+/// Prints the marks of an edge that one net is charged for, once its loads were marked so often.
+fn tell_marks<R: Print>(
+    rt: &R,
+    alloc: Global,
+    capacity: &Capacity,
+    e: Edge,
+    times: u32,
+) -> io::Result<()>
+    requires edge { IsTrue (has_edge capacity.now.shape e) }
+    requires wire { IsTrue (is_wire e) }
+{
+    let mut loads = Loads::new(alloc, capacity)?;
+    loads.charge(capacity, 0, e);
+    for _ in 0..times {
+        loads.mark(capacity);
+    }
+    println!(rt; "marks {}", loads.marks(e))
 }
 
 /// Prints loads with the tree of the numbers, and without it.

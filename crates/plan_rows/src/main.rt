@@ -18,7 +18,8 @@
 //! - `queue [KEY CELL] ..` puts pairs into a queue and prints the keys that it gives;
 //! - `topology [COLUMN ROW] ..` prints the topology of these tiles;
 //! - `design TEXT` gives the design, of one net, of the rows that follow: `capacity CELL CELL` and
-//!   `charge CELL CELL` of an edge, `loads CELL CELL START [CELL PARENT] ..` of an edge and a tree,
+//!   `charge CELL CELL` of an edge, `marks CELL CELL TIMES` of an edge that is charged once and marked so
+//!   often, `loads CELL CELL START [CELL PARENT] ..` of an edge and a tree,
 //!   `pattern`, `search MARGIN` and `own MARGIN` of the net's pattern plan and its maze plans by the
 //!   first formula and by a flat one of the caller's;
 //! - `topologies COUNT`, `walks SIDE COUNT` and `mazes SIDE COUNT` plan many nets and print a sum, so
@@ -65,7 +66,7 @@ fn carry_out<R: Print>(rt: &R, alloc: Global, design: &mut String, line: &str) -
     }
     let numbers = numbers(alloc, rest)?;
     match command {
-        "capacity" | "charge" | "loads" | "pattern" | "search" | "own" => {
+        "capacity" | "charge" | "marks" | "loads" | "pattern" | "search" | "own" => {
             designs::tell(rt, alloc, design, command, &numbers)
         }
         "topologies" | "walks" | "mazes" => sums::tell(rt, alloc, command, &numbers),

@@ -2,7 +2,7 @@
 use Rattle.std.proofs.Common.{◌≡◌, ℕ, ◌+◌, ◌*◌, ◌≤◌, Bool, true, false, ◌&&◌, min, List, Some, None, if◌then◌else◌, IsTrue, refl, sym, ap, subst, ◌∙◌, arith}
 use Rattle.std.proofs.Math.Nat.{le-min, min-le_left, min-le_right, mul-le-mul_left}
 use Rattle.std.proofs.lemmas.Option.{same_Some}
-use Rattle.cost_rules.specs.Formulas.{cost_at, overflow_at, most_cost, via_cost}
+use Rattle.cost_rules.specs.Formulas.{cost_at, overflow_at, most_cost, via_price}
 use Rattle.cost_rules.specs.declared.site.Formula.{Formula}
 use Rattle.cost_rules.specs.declared.site.Formula.TheVariants.{First, Steep, Flat}
 use Rattle.cost_rules.specs.declared.site.Site.{Site}
@@ -48,7 +48,7 @@ price-same : (c : CapacityView) (l m : LoadsView) (formula : Formula) (net : ℕ
     (IsTrue (is_wire e) → (over_with c net e (demand_at l e) ≡ over_with c net e (demand_at m e)) × (marks_at l e ≡ marks_at m e)) → price_of c l formula net e ≡ price_of c m formula net e
 price-same c l m formula net e same = ap (λ (n : ℕ). if usable_at c e then Some n else None) (by_way (is_wire e) refl)
   where
-    by_way : (b : Bool) → is_wire e ≡ b → (if b then cost_at formula (site_of c l net e) else via_cost) ≡ (if b then cost_at formula (site_of c m net e) else via_cost)
+    by_way : (b : Bool) → is_wire e ≡ b → (if b then cost_at formula (site_of c l net e) else via_price) ≡ (if b then cost_at formula (site_of c m net e) else via_price)
     by_way false is = refl
     by_way true is = let two = same is in cost-same formula (site_of c l net e) (site_of c m net e) two.0 two.1
 
@@ -56,11 +56,11 @@ price-rises : (c : CapacityView) (l m : LoadsView) (formula : Formula) (net : �
     (IsTrue (is_wire e) → (over_with c net e (demand_at l e) ≤ over_with c net e (demand_at m e)) × (marks_at l e ≡ marks_at m e)) → price_of c m formula net e ≡ Some b →
     (a : ℕ) × ((price_of c l formula net e ≡ Some a) × (a ≤ b))
 price-rises c l m formula net e b rises is =
-    let cost : LoadsView → ℕ = λ v. if is_wire e then cost_at formula (site_of c v net e) else via_cost in
+    let cost : LoadsView → ℕ = λ v. if is_wire e then cost_at formula (site_of c v net e) else via_price in
     let two = chosen-some (usable_at c e) (Some (cost m)) b is in
     (cost l, (ap (λ u. if u then Some (cost l) else None) two.0, subst (λ (n : ℕ). cost l ≤ n) (same_Some (cost m) b two.1) (by_way (is_wire e) refl)))
   where
-    by_way : (w : Bool) → is_wire e ≡ w → (if w then cost_at formula (site_of c l net e) else via_cost) ≤ (if w then cost_at formula (site_of c m net e) else via_cost)
+    by_way : (w : Bool) → is_wire e ≡ w → (if w then cost_at formula (site_of c l net e) else via_price) ≤ (if w then cost_at formula (site_of c m net e) else via_price)
     by_way false is = omega arith
     by_way true is = let two = rises is in cost-rises formula (site_of c l net e) (site_of c m net e) two.0 two.1
 

@@ -87,7 +87,7 @@ share-most d sets e design net = part (sets net e) (need-most (capacity_of d) ne
     part false most = omega arith
 
 pub demand-room : (d : DesignView) (sets : ℕ → Edges) (k : ℕ) (e : Edge) → IsDesign d → k < length d.nets →
-    sum_before d k (λ net. if sets net e then need d net e else 0) ≤ 2 ^ 62
+    sum_before d k (λ net. if sets net e then need d net e else 0) ≤ 2 ^ 47
 demand-room d sets k e design below =
     let most = sum-most d (λ net. if sets net e then need d net e else 0) (2 * most_width) k (share-most d sets e design) in
     let few = design.few_nets in

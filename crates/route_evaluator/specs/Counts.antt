@@ -58,7 +58,7 @@ pub record HasRoomFor (nets_in wires_in vias_in : ℕ) (c : NetCount) : Type 0 w
 
 -- each wire edge has room for the need of one more net
 abbrev pub HasRoom : LoadsView → Type 0
-HasRoom l = (e : Edge) → IsTrue (has_edge l.shape e) → IsTrue (is_wire e) → demand_at l e ≤ 2 ^ 62
+HasRoom l = (e : Edge) → IsTrue (has_edge l.shape e) → IsTrue (is_wire e) → demand_at l e ≤ 2 ^ 47
 
 -- each wire edge of the set gained the net's need, and no other edge anything
 abbrev pub IsCharged : CapacityView → ℕ → Edges → (old new : LoadsView) → Type 0

@@ -48,13 +48,13 @@ changed-requires-clause-fits c =
     let t = here c.args.tree.now c.loop-node.node c.len-node-end.result c.args.change (by_number 0 c.args.demands.now) c.loop-node.demands (need_at c.args.capacity.now c.args.net)
     c.in-Some.e c.len.result c.place-at.result c.wire_to_parent.result c.loop-node.invariant.0 c.len-node-end.ensures.len c.len-node-end.ensures.tree c.loop-node-test.true
     c.wire_to_parent.ensures.edge c.in-Some.is c.len.ensures c.place-at.ensures in
-    let read = c.at-demand.ensures ∙ t.before in
+    let read = c.at-demand.ensures.value ∙ t.before in
     let P : ℕ → Type 0 = λ n. Fits c.args.change n c.need_on_layer-layer.result.need in
     let Q : ℕ → Type 0 = λ n. Fits c.args.change (slice_index (by_number 0 c.args.demands.now) (wire_number c.in-Some.e)) n in
     subst P (sym read) (subst Q (sym (c.need_on_layer-layer.ensures.value ∙ ap (λ (w : ℕ). need_along c.in-Some.e.way w (slice_get c.args.capacity.now.layers (place_at c.args.capacity.now.shape c.in-Some.e.low).layer)) c.width-width.ensures.width)) (c.requires.fits c.in-Some.e t.next.inside t.next.wire))
 
-pub put-requires : goal.put-requires
-put-requires c =
+pub put-requires-clause-place : goal.put-requires-clause-place
+put-requires-clause-place c =
     let t = here c.args.tree.now c.loop-node.node c.len-node-end.result c.args.change (by_number 0 c.args.demands.now) c.loop-node.demands (need_at c.args.capacity.now c.args.net)
     c.in-Some.e c.len.result c.place-at.result c.wire_to_parent.result c.loop-node.invariant.0 c.len-node-end.ensures.len c.len-node-end.ensures.tree c.loop-node-test.true
     c.wire_to_parent.ensures.edge c.in-Some.is c.len.ensures c.place-at.ensures in
@@ -76,7 +76,7 @@ loop-node-preserved c =
       ap (λ (xs : List ℕ). by_number 0 xs) c.put.ensures
           ∙ turn-written c.args.tree.now c.loop-node.node (changed_by c.args.change) (by_number 0 c.args.demands.now) c.loop-node.demands (need_at c.args.capacity.now c.args.net)
           c.in-Some.e c.place-at.result c.at-demand.result c.need_on_layer-layer.result.need c.changed.result (adds c.args.change) c.loop-node.invariant.0 t
-          c.at-demand.ensures (c.need_on_layer-layer.ensures.value ∙ ap (λ (w : ℕ). need_along c.in-Some.e.way w (slice_get c.args.capacity.now.layers (place_at c.args.capacity.now.shape c.in-Some.e.low).layer)) c.width-width.ensures.width) c.changed.ensures,
+          c.at-demand.ensures.value (c.need_on_layer-layer.ensures.value ∙ ap (λ (w : ℕ). need_along c.in-Some.e.way w (slice_get c.args.capacity.now.layers (place_at c.args.capacity.now.shape c.in-Some.e.low).layer)) c.width-width.ensures.width) c.changed.ensures.value,
       c.need_on_layer-layer.ensures.layer,
     )
 

@@ -8,7 +8,7 @@ loop-at-preserved c =
     let is = c.loop-at.invariant in
     let more = most-more c.args.demands.now c.args.capacities.now c.loop-at.at in
     let next : c.max-most.result ≡ max c.loop-at.most c.saturating_sub.result = grind (arith, common_steps) in
-    omega (arith, is, more, next, c.saturating_sub.ensures, c.at.ensures, c.from.ensures)
+    omega (arith, is, more, next, c.saturating_sub.ensures, c.at.ensures.value, c.from.ensures)
 
 pub returns : goal.returns
 returns c =

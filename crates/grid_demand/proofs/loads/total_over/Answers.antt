@@ -9,7 +9,7 @@ loop-at-preserved c =
     let more = excess-more c.args.demands.now c.args.capacities.now c.loop-at.at in
     let is = c.from-total.ensures ∙ c.saturating_sub.ensures in
     record {
-      sum = omega (arith, sum, more, is, c.at.ensures, c.from.ensures);
+      sum = omega (arith, sum, more, is, c.at.ensures.value, c.from.ensures);
       few = omega (arith, few, c.from-total.ensures, c.saturating_sub.type_inv);
     }
 

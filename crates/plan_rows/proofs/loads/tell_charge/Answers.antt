@@ -9,6 +9,6 @@ pub charge-requires-clause-room : goal.charge-requires-clause-room
 charge-requires-clause-room g c =
     let shape = c.args.capacity.now.shape in
     let at = wire_number c.args.e in
-    let P : LoadsView → Type 0 = λ l. demand_at l c.args.e ≤ 2 ^ 62 in
+    let P : LoadsView → Type 0 = λ l. demand_at l c.args.e ≤ 2 ^ 47 in
     let none : slice_index (no_loads shape).demands at ≤ 0 = index-most 0 (no_loads shape).demands at (below-none shape) in
     subst P (sym c.in_ok-loads.ensures) (omega (arith, none))

@@ -1,4 +1,4 @@
-use Rattle.std.proofs.Common.{ℕ, ◌+◌, List, length, refl, sym, ap, subst, ◌∙◌, arith}
+use Rattle.std.proofs.Common.{ℕ, ◌+◌, List, length, refl, ap, subst, ◌∙◌, arith}
 use Rattle.gr_base.specs.Grid.{cells_of}
 use Rattle.gr_base.specs.Sums.{wire_number}
 use Rattle.grid_demand.specs.CapacityStore.{seen}

@@ -19,14 +19,21 @@ pub overflow_add-demand : goal.overflow_add-demand
 overflow_add-demand c =
     let here = demand-place (seen c.self.inside) c.args.self.now c.self.inside.demands c.len.result c.args.e c.place-at.result
     c.self.invariant.loads c.self.view_is refl c.requires.edge c.len.ensures c.place-at.ensures in
-    let read = c.at-demand.ensures ∙ here.value ∙ ap (λ (l : LoadsView). demand_at l c.args.e) c.self.view_is in
+    let read = c.at-demand.ensures.value ∙ here.value ∙ ap (λ (l : LoadsView). demand_at l c.args.e) c.self.view_is in
     omega (arith, read, c.requires.room, c.need-need.ensures.most)
 
-pub put-requires : goal.put-requires
-put-requires c =
+pub put-requires-clause-place : goal.put-requires-clause-place
+put-requires-clause-place c =
     let here = demand-place (seen c.self.inside) c.args.self.now c.self.inside.demands c.len.result c.args.e c.place-at.result
     c.self.invariant.loads c.self.view_is refl c.requires.edge c.len.ensures c.place-at.ensures in
     here.below
+
+pub put-requires-clause-small : goal.put-requires-clause-small
+put-requires-clause-small c =
+    let here = demand-place (seen c.self.inside) c.args.self.now c.self.inside.demands c.len.result c.args.e c.place-at.result
+    c.self.invariant.loads c.self.view_is refl c.requires.edge c.len.ensures c.place-at.ensures in
+    let read = c.at-demand.ensures.value ∙ here.value ∙ ap (λ (l : LoadsView). demand_at l c.args.e) c.self.view_is in
+    omega (arith, read, c.requires.room, c.need-need.ensures.most)
 
 -- what is written
 sum : (c : goal.After-put) → by_number 0 c.put.new.self
@@ -39,7 +46,7 @@ sum c =
     ap (λ (xs : List ℕ). by_number 0 xs) c.put.ensures
     ∙ written xs (cells_of c.self.inside.shape) (wire_number c.args.e) c.place-at.result c.at-demand.result c.need-need.result
     (need_at c.args.capacity.now c.args.net c.args.e) (demands-long (seen c.self.inside) xs c.self.invariant.loads refl) here
-    c.at-demand.ensures c.need-need.ensures.value
+    c.at-demand.ensures.value c.need-need.ensures.value
 
 pub invariant_of-self : goal.invariant_of-self
 invariant_of-self c = record {

@@ -14,4 +14,4 @@ pub returns-clause-demand : goal.returns-clause-demand
 returns-clause-demand c =
     let here = demand-place (seen c.self.inside) c.args.self.now c.self.inside.demands c.len.result c.args.e c.place.result
     c.self.invariant.loads c.self.view_is refl c.requires.edge c.len.ensures c.place.ensures in
-    c.at.ensures ∙ here.value ∙ ap (λ (l : LoadsView). demand_at l c.args.e) c.self.view_is
+    c.at.ensures.value ∙ here.value ∙ ap (λ (l : LoadsView). demand_at l c.args.e) c.self.view_is

@@ -1,4 +1,4 @@
-use Rattle.std.proofs.Common.{ℕ, ◌+◌, ◌*◌, List, length, Option, Some, None, IfSome, refl, sym, ap, subst, ◌∙◌, arith}
+use Rattle.std.proofs.Common.{ℕ, refl, ap, ◌∙◌}
 use Rattle.gr_base.specs.Grid.{cells_of}
 use Rattle.gr_base.specs.Sums.{wire_number}
 use Rattle.grid_demand.specs.LoadSums.{demand_at}

@@ -21,7 +21,7 @@ pub returns-clause-marks : goal.returns-clause-marks
 returns-clause-marks c =
     let here = marks-place (seen c.self.inside) c.args.self.now c.self.inside.demands c.self.inside.marks c.len.result c.args.e c.place.result
     c.self.invariant.loads c.self.view_is refl refl c.requires.edge c.len.ensures c.place.ensures in
-    c.at.ensures ∙ here.value ∙ ap (λ (l : LoadsView). marks_at l c.args.e) c.self.view_is
+    c.at.ensures.value ∙ here.value ∙ ap (λ (l : LoadsView). marks_at l c.args.e) c.self.view_is
 
 pub returns-clause-most : goal.returns-clause-most
 returns-clause-most c =
@@ -34,6 +34,6 @@ pub overflow_cast-result : goal.overflow_cast-result
 overflow_cast-result c =
     let here = marks-place (seen c.self.inside) c.args.self.now c.self.inside.demands c.self.inside.marks c.len.result c.args.e c.place.result
     c.self.invariant.loads c.self.view_is refl refl c.requires.edge c.len.ensures c.place.ensures in
-    let marks = c.at.ensures ∙ here.value in
+    let marks = c.at.ensures.value ∙ here.value in
     let few = index-most most_marks (seen c.self.inside).marks (wire_number c.args.e) c.self.invariant.loads.most in
     omega (arith, marks, few)

@@ -8,11 +8,11 @@ index-requires c =
     let inside = within-low 65536 c.self.inside.low.items c.self.inside.high.items c.args.self.now c.args.place c.self.view_is c.requires in
     omega (arith, inside, c.self.inside.low.ok.0)
 
-pub returns : goal.returns
-returns c =
+pub returns-clause-value : goal.returns-clause-value
+returns-clause-value c =
     let inside = within-low 65536 c.self.inside.low.items c.self.inside.high.items c.args.self.now c.args.place c.self.view_is c.requires in
     let sum = together-read 65536 c.self.inside.low.items c.self.inside.high.items c.args.self.now c.args.place c.self.view_is c.requires in
     let low = get_or_read c.self.inside.low.items c.args.place c.index.result.now inside c.index.ensures 0 in
     let high = c.unwrap_or-high.ensures ∙ ap (λ (o : Option ℕ). unwrap_or o 0) c.copied.ensures ∙ c.get.ensures.lookup.4 (omega arith) 0
     ∙ ap (λ (xs : _). slice_index xs c.args.place) c.deref.ensures.value in
-    omega (arith, sum, low, high, c.from.ensures)
+    omega (arith, sum, low, high, c.from-low.ensures, c.from.ensures)

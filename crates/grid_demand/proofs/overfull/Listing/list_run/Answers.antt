@@ -12,10 +12,10 @@ loop-at-preserved c = elim c.if-demand-capacity.branch [
       (subst (λ (places : List ℕ). Lists c.args.demands.now c.args.capacities.now over places (c.loop-at.self.total + w.from.result) (c.loop-at.at + 1)) (sym w.in_ok-push.ensures.items)
       (lists-above c.args.demands.now c.args.capacities.now c.loop-at.self.over.items c.loop-at.self.places.items c.loop-at.self.total c.loop-at.at w.from.result c.loop-at.invariant
       (omega (arith, c.loop-at-test.true, c.requires.inside, c.loop-at.auto.at-end))
-      (omega (arith, w.if-demand-capacity.true, c.from-capacity.ensures, c.at-demand.ensures)) (omega (arith, w.from.ensures, c.from-capacity.ensures, c.at-demand.ensures))
-      (omega (arith, c.at-demand.ensures, c.at-demand.type_inv))))
+      (omega (arith, w.if-demand-capacity.true, c.from-capacity.ensures, c.at-demand.ensures.value)) (omega (arith, w.from.ensures, c.from-capacity.ensures, c.at-demand.ensures.value))
+      (omega (arith, c.at-demand.ensures.value, c.at-demand.type_inv))))
   | else-demand-capacity w ↦
       rw w.self-is
       (lists-within c.args.demands.now c.args.capacities.now c.loop-at.self.over.items c.loop-at.self.places.items c.loop-at.self.total c.loop-at.at c.loop-at.invariant
-      (omega (arith, w.if-demand-capacity.false, c.from-capacity.ensures, c.at-demand.ensures)))
+      (omega (arith, w.if-demand-capacity.false, c.from-capacity.ensures, c.at-demand.ensures.value)))
 ]

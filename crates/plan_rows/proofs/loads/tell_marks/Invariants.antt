@@ -1,0 +1,5 @@
+use Rattle.std.proofs.Common.{◌≡◌}
+use Rattle.plan_rows.proofs.loads.tell_marks.Given as goal
+
+abbrev pub invariant-loop : goal.invariant-loop
+invariant-loop l = l.loads.shape ≡ l.capacity.shape
