@@ -146,7 +146,7 @@ fn plant(
 
 /// Adds a tile to the tree, with the wire edge on a layer that leads to it from another tile, whose
 /// cells are among the first `end` nodes.
-fn enter(
+fn enter_tile(
     tree: &mut RouteTree,
     end: u32,
     from: u32,
@@ -220,7 +220,7 @@ fn visit(
         (span_in spans.now) edge from to tree.old) }
     ensures ends { OnOk result (ends.new.items ≡ slice_set ends.old.items to (length tree.new.nodes)) }
 {
-    enter(
+    enter_tile(
         tree,
         ends[from as usize],
         flat.cell(from),

@@ -1,5 +1,5 @@
 -- Steps to the neighbours of a cell, as code computes them.
-use Rattle.std.proofs.Common.{◌≡◌, ℕ, ◌+◌, ◌-◌, ◌*◌, ◌<◌, ◌≤◌, Bool, false, length, Option, Some, None, if◌then◌else◌, IsTrue, sym, ap, subst, ◌∙◌, arith}
+use Rattle.std.proofs.Common.{◌≡◌, ℕ, ◌+◌, ◌-◌, ◌*◌, ◌<◌, ◌≤◌, Bool, false, length, Option, Some, None, IfSome, Result, OnOk, if◌then◌else◌, IsTrue, sym, ap, subst, ◌∙◌, arith}
 use Rattle.std.specs.Option.{option_map}
 use Rattle.gr_base.specs.Limits.{most_cells}
 use Rattle.gr_base.specs.declared.grid.Cell.{Cell}
@@ -9,12 +9,15 @@ use Rattle.gr_base.specs.declared.grid.Way.{Way}
 use Rattle.gr_base.specs.Grid.{place_at, IsInside, beyond, stride, has_room, edge_at}
 use Rattle.gr_base.proofs.GridLemmas.{place-inside, some_columns, some_rows, few_cells}
 use Rattle.std.proofs.Math.Nat.{le-mul_of_pos_right}
-use Rattle.maze_route.specs.Steps.{size_of, cell_in, pane_step, step_to, made_step, ahead_of, behind_of, has_room_behind, before, least_to, rest_of, FitsIn, IsSpot}
+use Rattle.maze_route.specs.Steps.{size_of, cell_in, pane_step, step_to, made_step, ahead_of, behind_of, has_room_behind, before, least_to, rest_of, FitsIn, IsGuide, Covers, step_of, IsSpot}
+use Rattle.maze_route.specs.Handing.{IsReach}
+use Rattle.maze_route.specs.declared.front.Front.{Front}
+use Rattle.maze_route.specs.declared.pane.Neighbour.{Neighbour}
 use Rattle.maze_route.specs.declared.pane.Pane.{Pane}
 use Rattle.maze_route.specs.declared.pane.Spot.{Spot}
 use Rattle.maze_route.specs.declared.pane.Step.{Step}
 use Rattle.maze_route.specs.declared.pane.Aim.{Aim}
-use Rattle.maze_route.proofs.StepLemmas.{IsNext, IsBehind, next-ahead, next-behind, step-ahead, step-behind, ahead-is, behind-is, before-is}
+use Rattle.maze_route.proofs.StepLemmas.{IsNext, IsBehind, next-ahead, next-behind, step-ahead, step-behind, ahead-is, behind-is, before-is, step-fits}
 
 pub spot-inside : (p : Pane) (spot : Spot) → IsSpot p spot → IsInside p.shape spot.place
 spot-inside p spot is =
@@ -121,3 +124,29 @@ made p aim to cell cost rest o some same tiles whole is =
 
 pub unmade : (p : Pane) (aim : Aim) (to : ℕ) (o : Option ℕ) → o ≡ None → (whole : Option Step) → option_map (made_step p aim to) o ≡ whole → None ≡ whole
 unmade p aim to o none whole is = ap (λ (k : Option ℕ). option_map (made_step p aim to) k) (sym none) ∙ is
+
+-- the bound covers the place of each cell
+pub covers-at : (p : Pane) (aim : Aim) (n : ℕ) (place : Cell) → FitsIn p aim → n < size_of p → place ≡ place_at p.shape n → Covers aim place
+covers-at p aim n place fits below same = let bounds = fits-at p aim n place fits below same in record { column = bounds.0; row = bounds.1 }
+
+pub inside-at : (p : Pane) (n : ℕ) (place : Cell) → n < size_of p → place ≡ place_at p.shape n → IsInside p.shape place
+inside-at p n place below same = let P : Cell → Type 0 = λ q. IsInside p.shape q in subst P (sym same) (place-inside p.shape n below)
+
+covers-inside : (p : Pane) (aim : Aim) (place : Cell) → FitsIn p aim → IsInside p.shape place → Covers aim place
+covers-inside p aim place fits inside = record { column = omega (arith, inside.column, fits.columns); row = omega (arith, inside.row, fits.rows) }
+
+pub neighbour-covered : (p : Pane) (aim : Aim) (o : Option Neighbour) → FitsIn p aim → IfSome o (λ n. IsInside p.shape n.place) → IfSome o (λ n. Covers aim n.place)
+neighbour-covered p aim None fits inside = tt
+neighbour-covered p aim (Some n) fits inside = covers-inside p aim n.place fits inside
+
+-- what a neighbour must be to be reached
+pub neighbour-fits : (p : Pane) (price : Edge → Option ℕ) (aim : Aim) → IsGuide p price aim → (n from last size : ℕ) (o : Option ℕ) (found : Option Neighbour) →
+    option_map (step_of aim) found ≡ step_to p price aim n o → size ≡ size_of p → last ≤ from + rest_of p aim n →
+    (IfSome found (λ m. m.cell < size)) × (IfSome found (λ m. last ≤ from + m.cost + least_to aim m.place))
+neighbour-fits p price aim guide n from last size o None is all low = (tt, tt)
+neighbour-fits p price aim guide n from last size o (Some m) is all low = step-fits p price aim guide n from last size o (Some (step_of aim m)) is all low
+
+-- what reaches by one step reaches by an equal one
+pub on-step : {E : Type 0} (done : Result Unit E) (from : ℕ) (one other : Option Step) (before after : Front) → one ≡ other → OnOk done (IsReach from one before after) →
+    OnOk done (IsReach from other before after)
+on-step done from one other before after same reach = let P : Option Step → Type 0 = λ s. OnOk done (IsReach from s before after) in subst P same reach

@@ -13,6 +13,7 @@ use Rattle.maze_route.specs.Positions.{at}
 use Rattle.maze_route.specs.Walks.{Graph}
 use Rattle.maze_route.specs.Windows.{window_step}
 use Rattle.maze_route.specs.declared.pane.Aim.{Aim}
+use Rattle.maze_route.specs.declared.pane.Neighbour.{Neighbour}
 use Rattle.maze_route.specs.declared.pane.Pane.{Pane}
 use Rattle.maze_route.specs.declared.pane.Spot.{Spot}
 use Rattle.maze_route.specs.declared.pane.Step.{Step}
@@ -79,6 +80,15 @@ least_to aim cell = at aim.columns.items cell.x + at aim.rows.items cell.y + (ce
 
 abbrev pub rest_of : Pane → Aim → ℕ → ℕ
 rest_of p aim n = least_to aim (place_at p.shape n)
+
+-- the step to a neighbour, with what the rest of a walk from there costs at least
+abbrev pub step_of : Aim → Neighbour → Step
+step_of aim n = record { cell = n.cell; cost = n.cost; rest = least_to aim n.place }
+
+-- the bound has a part for a place's column and row
+pub record Covers (aim : Aim) (place : Cell) : Type 0 where
+  pub column : place.x < length aim.columns.items
+  pub row : place.y < length aim.rows.items
 
 -- the bound has a part for each column and each row of the window
 pub record FitsIn (p : Pane) (aim : Aim) : Type 0 where

@@ -40,6 +40,17 @@ pub(crate) struct Spot {
     pub(crate) place: Cell,
 }
 
+/// A neighbour of a cell of a window.
+#[derive(Clone, Copy)]
+pub(crate) struct Neighbour {
+    /// Its number in the window.
+    pub(crate) cell: u32,
+    /// What the step to it costs.
+    pub(crate) cost: u64,
+    /// Its place, counted from the window's first column and row.
+    pub(crate) place: Cell,
+}
+
 /// A step to a cell of a window.
 #[derive(Clone, Copy)]
 pub(crate) struct Step {

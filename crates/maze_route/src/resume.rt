@@ -8,7 +8,7 @@ ghost use Rattle.maze_route.specs.Steps.{size_of, rest_of, FitsIn, pane_graph};
 ghost use Rattle.maze_route.specs.Windows.{TreeLiesIn};
 
 use crate::front::Front;
-use crate::pane::{Aim, Pane, Step};
+use crate::pane::{Aim, Neighbour, Pane};
 use crate::search::reach;
 use crate::steps::distance_to;
 use gr_base::RouteTree;
@@ -77,12 +77,12 @@ fn seed(pane: Pane, aim: &Aim, tree: &RouteTree, front: &mut Front) -> Result<()
 {
     for node in 0..tree.len() {
         let spot = pane.spot(pane.local(tree.cell(node)));
-        let start = Step {
+        let start = Neighbour {
             cell: spot.local,
             cost: 0,
-            rest: distance_to(aim, spot.place),
+            place: spot.place,
         };
-        reach(front, 0, Some(start))?;
+        reach(aim, front, 0, Some(start))?;
     }
     Ok(())
 }

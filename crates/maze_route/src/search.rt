@@ -1,19 +1,20 @@
 ghost use Rattle.std.specs.Prelude.{◌≡◌, ℕ, ◌+◌, ◌^◌, ◌<◌, ◌≤◌, true, length, Option, Some, IfSome, OnOk, IsTrue, if◌then◌else◌};
+ghost use Rattle.std.specs.Option.{option_map};
 ghost use Rattle.cost_rules.specs.Formulas.{most_cost};
 ghost use Rattle.gr_base.specs.declared.grid.Edge.{Edge};
 ghost use Rattle.maze_route.specs.Fields.{IsPriced};
 ghost use Rattle.maze_route.specs.Labels.{label_at};
-ghost use Rattle.maze_route.specs.Steps.{size_of, rest_of, IsGuide, IsSpot, pane_graph, beside, step_to};
+ghost use Rattle.maze_route.specs.Steps.{size_of, rest_of, IsGuide, IsSpot, Covers, least_to, step_of, pane_graph, beside, step_to};
 ghost use Rattle.maze_route.specs.Kept.{IsKept};
 ghost use Rattle.maze_route.specs.Search.{most_distance, is_above, HasSources, IsSearching, is_marked, HasGoal, CanReach, Finds};
 ghost use Rattle.maze_route.specs.Handing.{IsReach, HandsOn};
 
 use crate::field::Field;
 use crate::front::Front;
-use crate::pane::{Aim, Spot, Step};
+use crate::pane::{Aim, Neighbour, Spot};
 use crate::side::Side;
 use crate::side::Side::{Ahead, Behind};
-use crate::steps::{distance_to, step_beside};
+use crate::steps::{distance_to, neighbour_on};
 use cost_rules::Costs;
 use gr_base::{RouteTree, Way};
 use std::alloc::AllocError;
@@ -21,35 +22,42 @@ use std::alloc::AllocError;
 /// The greatest distance. Walks that cost more are not looked for.
 const MOST_DISTANCE: u64 = 1_152_921_504_606_846_976;
 
-/// Gives the end of a step from a cell with this label a label of its own, if that is lower.
+/// Gives a neighbour of a cell with this label a label of its own, if that is lower.
 #[inline(always)]
-pub(crate) fn reach(front: &mut Front, from: u64, step: Option<Step>) -> Result<(), AllocError>
+pub(crate) fn reach(
+    aim: &Aim,
+    front: &mut Front,
+    from: u64,
+    neighbour: Option<Neighbour>,
+) -> Result<(), AllocError>
     requires from { from ≤ most_distance }
-    requires small { IfSome step (λ s. s.cost ≤ most_cost) }
-    requires rest { IfSome step (λ s. s.rest < 2 ^ 53) }
-    requires inside { IfSome step (λ s. s.cell < length front.old.labels.costs.items) }
-    requires keys { IfSome step (λ s. front.old.queue.last ≤ from + s.cost + s.rest) }
-    ensures done { OnOk result (IsReach from step front.old front.new) }
+    requires small { IfSome neighbour (λ n. n.cost ≤ most_cost) }
+    requires covered { IfSome neighbour (λ n. Covers aim.now n.place) }
+    requires inside { IfSome neighbour (λ n. n.cell < length front.old.labels.costs.items) }
+    requires keys { IfSome neighbour (λ n. front.old.queue.last ≤ from + n.cost + least_to aim.now n.place) }
+    ensures done { OnOk result (IsReach from (option_map (step_of aim.now) neighbour) front.old front.new) }
     ensures size { length front.new.labels.costs.items ≡ length front.old.labels.costs.items }
     ensures last { front.new.queue.last ≡ front.old.queue.last }
 {
-    let Some(step) = step else {
+    let Some(neighbour) = neighbour else {
         return Ok(());
     };
-    let cost = from + step.cost;
+    let cost = from + neighbour.cost;
     if cost > MOST_DISTANCE {
         return Ok(());
     }
-    if !front.labels.lower(step.cell, cost) {
+    if !front.labels.lower(neighbour.cell, cost) {
         return Ok(());
     }
-    front.queue.push(cost + step.rest, step.cell)?;
+    // Most neighbours have a label as low: the bound is looked up where a cell is to wait.
+    let rest = distance_to(aim, neighbour.place);
+    front.queue.push(cost + rest, neighbour.cell)?;
     Ok(())
 }
 
 /// Hands a cell's label on to the neighbour on a side.
 #[inline(always)]
-fn hand<C: Costs>(
+fn reach_beside<C: Costs>(
     costs: &C,
     field: &Field,
     aim: &Aim,
@@ -70,7 +78,7 @@ fn hand<C: Costs>(
     ensures size { length front.new.labels.costs.items ≡ length front.old.labels.costs.items }
     ensures last { front.new.queue.last ≡ front.old.queue.last }
 {
-    reach(front, from, step_beside(costs, field, aim, spot, side))
+    reach(aim, front, from, neighbour_on(costs, field, spot, side))
 }
 
 /// Hands a cell's label on to its neighbours.
@@ -91,12 +99,12 @@ fn settle<C: Costs>(
     requires key { front.old.queue.last ≤ from + rest_of field.now.pane aim.now spot.local }
     ensures { OnOk result (HandsOn field.now.pane (C.price costs.now) aim.now spot.local from front.old front.new) }
 {
-    hand(costs, field, aim, front, spot, from, Behind(Way::Up))?;
-    hand(costs, field, aim, front, spot, from, Behind(Way::North))?;
-    hand(costs, field, aim, front, spot, from, Behind(Way::East))?;
-    hand(costs, field, aim, front, spot, from, Ahead(Way::East))?;
-    hand(costs, field, aim, front, spot, from, Ahead(Way::North))?;
-    hand(costs, field, aim, front, spot, from, Ahead(Way::Up))?;
+    reach_beside(costs, field, aim, front, spot, from, Behind(Way::Up))?;
+    reach_beside(costs, field, aim, front, spot, from, Behind(Way::North))?;
+    reach_beside(costs, field, aim, front, spot, from, Behind(Way::East))?;
+    reach_beside(costs, field, aim, front, spot, from, Ahead(Way::East))?;
+    reach_beside(costs, field, aim, front, spot, from, Ahead(Way::North))?;
+    reach_beside(costs, field, aim, front, spot, from, Ahead(Way::Up))?;
     Ok(())
 }
 

@@ -1,12 +1,13 @@
 ghost use Rattle.std.specs.Prelude.{◌≡◌, ◌^◌, ◌<◌, ◌≤◌, length, IsTrue, IfSome};
+ghost use Rattle.std.specs.Option.{option_map};
 ghost use Rattle.cost_rules.specs.Formulas.{most_cost};
 ghost use Rattle.gr_base.specs.Grid.{IsInside, beyond, has_room};
 ghost use Rattle.gr_base.specs.Limits.{most_cells};
 ghost use Rattle.maze_route.specs.Fields.{IsPriced};
-ghost use Rattle.maze_route.specs.Steps.{IsSpot, has_room_behind, before, ahead_of, behind_of, beside, size_of, FitsIn, least_to, step_to};
+ghost use Rattle.maze_route.specs.Steps.{IsSpot, has_room_behind, before, ahead_of, behind_of, beside, size_of, FitsIn, Covers, least_to, step_of, step_to};
 
 use crate::field::Field;
-use crate::pane::{Aim, Pane, Spot, Step};
+use crate::pane::{Aim, Neighbour, Spot, Step};
 use crate::side::Side;
 use cost_rules::Costs;
 use gr_base::{Cell, Edge, Shape, Way};
@@ -81,8 +82,7 @@ fn one_back(place: Cell, way: Way) -> Cell
 /// What a walk between a place and the box of an aim costs at least.
 #[inline(always)]
 pub(crate) fn distance_to(aim: &Aim, place: Cell) -> u64
-    requires column { place.x < length aim.now.columns.items }
-    requires row { place.y < length aim.now.rows.items }
+    requires { Covers aim.now place }
     ensures least { result ≡ least_to aim.now place }
     ensures small { result < 2 ^ 53 }
 {
@@ -90,16 +90,16 @@ pub(crate) fn distance_to(aim: &Aim, place: Cell) -> u64
     aim.columns[place.x as usize] + aim.rows[place.y as usize] + layers * aim.via
 }
 
-/// The step to the next cell along the way, if there is one.
+/// The next cell along the way, if an edge leads there.
 #[inline(always)]
-fn ahead<C: Costs>(costs: &C, field: &Field, aim: &Aim, spot: Spot, way: Way) -> Option<Step>
+fn ahead<C: Costs>(costs: &C, field: &Field, spot: Spot, way: Way) -> Option<Neighbour>
     requires grid { C.grid costs.now ≡ field.now.pane.grid }
     requires priced { IsPriced (C.price costs.now) field.now }
-    requires aim { FitsIn field.now.pane aim.now }
     requires spot { IsSpot field.now.pane spot }
-    ensures step { result ≡ step_to field.now.pane (C.price costs.now) aim.now spot.local (ahead_of field.now.pane.shape spot.local way) }
-    ensures cost { IfSome result (λ s. s.cost ≤ most_cost) }
-    ensures rest { IfSome result (λ s. s.rest < 2 ^ 53) }
+    ensures step { (aim : Aim) → option_map (step_of aim) result ≡
+        step_to field.now.pane (C.price costs.now) aim spot.local (ahead_of field.now.pane.shape spot.local way) }
+    ensures cost { IfSome result (λ n. n.cost ≤ most_cost) }
+    ensures inside { IfSome result (λ n. IsInside field.now.pane.shape n.place) }
 {
     if !has_ahead(field.pane.shape, spot.place, way) {
         return None;
@@ -108,24 +108,23 @@ fn ahead<C: Costs>(costs: &C, field: &Field, aim: &Aim, spot: Spot, way: Way) ->
     let Some(cost) = field.cost(costs, spot.local, Edge { low, way }) else {
         return None;
     };
-    let cell = spot.local + field.pane.shape.stride(way);
-    Some(Step {
-        cell,
+    Some(Neighbour {
+        cell: spot.local + field.pane.shape.stride(way),
         cost,
-        rest: distance_to(aim, one_on(spot.place, way)),
+        place: one_on(spot.place, way),
     })
 }
 
-/// The step to the next cell against the way, if there is one.
+/// The next cell against the way, if an edge leads there.
 #[inline(always)]
-fn behind<C: Costs>(costs: &C, field: &Field, aim: &Aim, spot: Spot, way: Way) -> Option<Step>
+fn behind<C: Costs>(costs: &C, field: &Field, spot: Spot, way: Way) -> Option<Neighbour>
     requires grid { C.grid costs.now ≡ field.now.pane.grid }
     requires priced { IsPriced (C.price costs.now) field.now }
-    requires aim { FitsIn field.now.pane aim.now }
     requires spot { IsSpot field.now.pane spot }
-    ensures step { result ≡ step_to field.now.pane (C.price costs.now) aim.now spot.local (behind_of field.now.pane.shape spot.local way) }
-    ensures cost { IfSome result (λ s. s.cost ≤ most_cost) }
-    ensures rest { IfSome result (λ s. s.rest < 2 ^ 53) }
+    ensures step { (aim : Aim) → option_map (step_of aim) result ≡
+        step_to field.now.pane (C.price costs.now) aim spot.local (behind_of field.now.pane.shape spot.local way) }
+    ensures cost { IfSome result (λ n. n.cost ≤ most_cost) }
+    ensures inside { IfSome result (λ n. IsInside field.now.pane.shape n.place) }
 {
     if !has_behind(spot.place, way) {
         return None;
@@ -135,15 +134,36 @@ fn behind<C: Costs>(costs: &C, field: &Field, aim: &Aim, spot: Spot, way: Way) -
     let Some(cost) = field.cost(costs, cell, Edge { low, way }) else {
         return None;
     };
-    Some(Step {
+    Some(Neighbour {
         cell,
         cost,
-        rest: distance_to(aim, one_back(spot.place, way)),
+        place: one_back(spot.place, way),
     })
 }
 
-/// The step to the neighbour on a side, if there is one.
+/// The neighbour on a side, if an edge leads there.
 #[inline(always)]
+pub(crate) fn neighbour_on<C: Costs>(
+    costs: &C,
+    field: &Field,
+    spot: Spot,
+    side: Side,
+) -> Option<Neighbour>
+    requires grid { C.grid costs.now ≡ field.now.pane.grid }
+    requires priced { IsPriced (C.price costs.now) field.now }
+    requires spot { IsSpot field.now.pane spot }
+    ensures step { (aim : Aim) → option_map (step_of aim) result ≡
+        step_to field.now.pane (C.price costs.now) aim spot.local (beside field.now.pane.shape spot.local side) }
+    ensures cost { IfSome result (λ n. n.cost ≤ most_cost) }
+    ensures inside { IfSome result (λ n. IsInside field.now.pane.shape n.place) }
+{
+    match side {
+        Side::Behind(way) => behind(costs, field, spot, way),
+        Side::Ahead(way) => ahead(costs, field, spot, way),
+    }
+}
+
+/// The step to the neighbour on a side, if there is one.
 pub(crate) fn step_beside<C: Costs>(
     costs: &C,
     field: &Field,
@@ -155,12 +175,12 @@ pub(crate) fn step_beside<C: Costs>(
     requires priced { IsPriced (C.price costs.now) field.now }
     requires aim { FitsIn field.now.pane aim.now }
     requires spot { IsSpot field.now.pane spot }
-    ensures step { result ≡ step_to field.now.pane (C.price costs.now) aim.now spot.local (beside field.now.pane.shape spot.local side) }
-    ensures cost { IfSome result (λ s. s.cost ≤ most_cost) }
-    ensures rest { IfSome result (λ s. s.rest < 2 ^ 53) }
+    ensures { result ≡ step_to field.now.pane (C.price costs.now) aim.now spot.local (beside field.now.pane.shape spot.local side) }
 {
-    match side {
-        Side::Behind(way) => behind(costs, field, aim, spot, way),
-        Side::Ahead(way) => ahead(costs, field, aim, spot, way),
-    }
+    let neighbour = neighbour_on(costs, field, spot, side)?;
+    Some(Step {
+        cell: neighbour.cell,
+        cost: neighbour.cost,
+        rest: distance_to(aim, neighbour.place),
+    })
 }

@@ -5,7 +5,7 @@ ghost use Rattle.grid_demand.specs.Tables.{capacity_of};
 ghost use Rattle.net_plan.specs.Prices.{HasBoundedDemand, HasNetPrices, kept_prices, site_of, price_of, ways_of};
 
 use crate::site_run::SiteRun;
-use cost_rules::{CostRule, Costs, Site, VIA_PRICE};
+use cost_rules::{CostRule, Costs, Formula, Site, VIA_PRICE};
 use gr_base::{Design, Edge, Frame, Way};
 use grid_demand::{Capacity, Loads};
 use maze_route::{RunCosts, price_each};
@@ -139,6 +139,10 @@ impl RunCosts for NetCosts<'_> {
             capacities,
             need,
         };
-        self.price_sites(from, &sites, first, prices);
+        match self.rule.formula() {
+            Formula::First => self.price_sites(Formula::First, from, &sites, first, prices),
+            Formula::Steep => self.price_sites(Formula::Steep, from, &sites, first, prices),
+            Formula::Flat => self.price_sites(Formula::Flat, from, &sites, first, prices),
+        }
     }
 }

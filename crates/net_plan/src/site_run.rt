@@ -1,6 +1,6 @@
 //! Prices of wire edges that lie side by side.
 ghost use Rattle.std.specs.Prelude.{◌≡◌, ◌+◌, ◌*◌, ◌≤◌, Some, length};
-ghost use Rattle.cost_rules.specs.Formulas.{IsInRange, cost_at as cost_of};
+ghost use Rattle.cost_rules.specs.Formulas.{IsInRange, cost_at, most_cost};
 ghost use Rattle.cost_rules.specs.Prices.{layer_of};
 ghost use Rattle.gr_base.specs.Limits.{most_width};
 ghost use Rattle.grid_demand.specs.LoadSums.{demand_at, marks_at};
@@ -10,7 +10,7 @@ ghost use Rattle.maze_route.specs.Runs.{price_from, AreSideBySide, IsRun};
 ghost use Rattle.net_plan.specs.Prices.{price_of, ways_of};
 
 use crate::net_costs::NetCosts;
-use cost_rules::Site;
+use cost_rules::{Formula, Site, first_cost, flat_cost, steep_cost};
 use gr_base::Edge;
 
 /// The sites of a net at wire edges that lie side by side on a layer. The net takes the same of each.
@@ -23,14 +23,18 @@ pub(crate) struct SiteRun<'a> {
 }
 
 impl NetCosts<'_> {
-    /// Puts the prices of the edges from one on, which have these sites, into a list from a place on.
+    /// Puts the prices of the edges from one on, which have these sites, into a list from a place on. The
+    /// formula is the rule's: where it is written as such, the loop is made for it alone.
+    #[inline(always)]
     pub(crate) fn price_sites(
         &self,
+        formula: Formula,
         from: Edge,
         sites: &SiteRun<'_>,
         first: usize,
         prices: &mut Vec<u32>,
     )
+        requires formula { self.now.rule.now.formula ≡ formula }
         requires edges { AreSideBySide self.now.capacity.now.shape (ways_of self.now.capacity.now) from
             (length sites.now.demands.now) }
         requires tables { IsCapacity self.now.capacity.now }
@@ -51,16 +55,30 @@ impl NetCosts<'_> {
                 need: sites.need,
                 marks: u32::from(sites.marks[place]),
             };
-            prices[first + place] = self.site_price(site);
+            prices[first + place] = site_price(formula, site);
         }
     }
+}
 
-    /// What a site costs, as a list of prices holds it.
-    #[inline(always)]
-    fn site_price(&self, site: Site) -> u32
-        requires { IsInRange site }
-        ensures { price_from (Some result) ≡ Some (cost_of self.now.rule.now.formula site) }
-    {
-        self.cost_at(site) as u32
+/// What a site costs by a formula, as a list of prices holds it.
+#[inline(always)]
+fn site_price(formula: Formula, site: Site) -> u32
+    requires { IsInRange site }
+    ensures { price_from (Some result) ≡ Some (cost_at formula site) }
+{
+    cost_by(formula, site) as u32
+}
+
+/// What a site costs by a formula.
+#[inline(always)]
+fn cost_by(formula: Formula, site: Site) -> u64
+    requires { IsInRange site }
+    ensures cost { result ≡ cost_at formula site }
+    ensures most { result ≤ most_cost }
+{
+    match formula {
+        Formula::First => first_cost(site),
+        Formula::Steep => steep_cost(site),
+        Formula::Flat => flat_cost(site),
     }
 }

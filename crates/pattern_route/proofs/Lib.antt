@@ -1,3 +1,4 @@
+pub mod Prefixes
 pub mod StepLemmas
 pub mod CostLemmas
 pub mod LineLemmas

@@ -1,4 +1,5 @@
 ghost use Rattle.std.specs.Prelude.{◌≡◌, ◌≢◌, ◌+◌, ◌++◌, OnOk, if◌then◌else◌, nat_lt};
+ghost use mathlib.Core.List.{IsPrefix};
 ghost use Rattle.gr_base.specs.Grid.{gap};
 ghost use Rattle.gr_base.specs.declared.grid.Cell.{Cell};
 ghost use Rattle.pattern_route.specs.Steps.{toward};
@@ -226,7 +227,8 @@ pub(crate) fn least_with<C: Costs>(costs: &C, shape: Shape, found: Crossing, spa
     least_after(costs, shape, sweep, cheaper_at(costs, shape, found, sweep))
 }
 
-/// Puts the walk by a crossing in place of what a list holds. The only error is want of memory.
+/// Puts the walk by a crossing in place of what a list holds. The only error is want of memory, and leaves
+/// the list with the first cells of the walk.
 pub(crate) fn put_walk(
     cells: &mut Vec<u32>,
     shape: Shape,
@@ -234,7 +236,8 @@ pub(crate) fn put_walk(
 ) -> Result<(), AllocError>
     requires fits { SpanFits shape crossing.span }
     requires between { IsBetween crossing.span.start crossing.at crossing.span.end }
-    ensures { OnOk result (cells.new.items ≡ walk_at shape crossing) }
+    ensures all { OnOk result (cells.new.items ≡ walk_at shape crossing) }
+    ensures part { IsPrefix cells.new.items (walk_at shape crossing) }
 {
     let span = crossing.span;
     cells.clear();

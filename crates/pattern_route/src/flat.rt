@@ -1,4 +1,5 @@
 ghost use Rattle.std.specs.Prelude.{◌≡◌, ◌<◌, OnOk};
+ghost use mathlib.Core.List.{IsPrefix};
 ghost use Rattle.gr_base.specs.Grid.{IsInside, cells_of, place_at};
 ghost use Rattle.pattern_route.specs.Walks.{IsFlat, walk_cost, flat_walks, flat_walk, first_least, IsFirstLeast, IsDirect};
 ghost use Rattle.pattern_route.specs.Lines.{IsCrossing, walk_at};
@@ -14,7 +15,8 @@ use std::alloc::AllocError;
 /// The walks go along the first tile's row to a column, along it to the second tile's row, and
 /// along that row to the second tile, by each column from the first tile's to the second's; and
 /// then likewise by each row. Of them all the first of least cost is taken, and put in place of
-/// what the list `cells` holds. The only error is want of memory.
+/// what the list `cells` holds. The only error is want of memory, and leaves the list with the first
+/// cells of the walk.
 ///
 /// After Kastner, Bozorgzadeh and Sarrafzadeh, "Pattern routing: use and theory for increasing
 /// predictability and avoiding coupling", 2002. The time is linear in the product of the sides of
@@ -31,6 +33,7 @@ pub fn pattern<C: Costs>(
     requires a { a < cells_of shape }
     requires b { b < cells_of shape }
     ensures walk { OnOk result (cells.new.items ≡ flat_walk shape (C.price costs.now) a b) }
+    ensures part { IsPrefix cells.new.items (flat_walk shape (C.price costs.now) a b) }
     ensures first { let walks = flat_walks shape (place_at shape a) (place_at shape b) in
         OnOk result (IsFirstLeast (walk_cost shape (C.price costs.now)) walks cells.new.items) }
     ensures direct { OnOk result (IsDirect shape a b cells.new.items) }

@@ -1,4 +1,5 @@
 ghost use Rattle.std.specs.Prelude.{◌≡◌, ◌≢◌, ◌+◌, ◌*◌, ◌≤◌, ◌++◌, OnOk, unwrap_or};
+ghost use mathlib.Core.List.{IsPrefix};
 ghost use Rattle.cost_rules.specs.Formulas.{most_cost};
 ghost use Rattle.gr_base.specs.Grid.{IsInside, gap, number_of};
 ghost use Rattle.pattern_route.specs.Steps.{toward};
@@ -90,7 +91,8 @@ pub(crate) fn push_along(
 ) -> Result<(), AllocError>
     requires from { IsOn shape line from }
     requires to { IsOn shape line to }
-    ensures { OnOk result (cells.new.items ≡ cells.old.items ++ along shape line from to) }
+    ensures all { OnOk result (cells.new.items ≡ cells.old.items ++ along shape line from to) }
+    ensures part { IsPrefix cells.new.items (cells.old.items ++ along shape line from to) }
 {
     let mut at = from;
     while at != to {

@@ -43,8 +43,8 @@ visited g t a old new edge from to at_from at_to at_layer s span flat tree later
       nodes = all.nodes;
     }
 
-pub enter-requires-clause-near : goal.enter-requires-clause-near
-enter-requires-clause-near c =
+pub enter_tile-requires-clause-near : goal.enter_tile-requires-clause-near
+enter_tile-requires-clause-near c =
     near-at c.args.tree.now.shape c.args.flat.now c.args.edge c.args.from c.args.to (get_or c.args.layers.now c.args.edge 0) c.cell.result c.cell-2.result c.layer.result c.layer.ensures
     (tile-at c.args.flat.now c.args.to c.cell-2.result c.cell-2.ensures.cell) (tile-at c.args.flat.now c.args.from c.cell.result c.cell.ensures.cell)
     (link-near c.args.tree.now.shape c.args.flat.now c.args.edge c.args.from c.args.to (get_or c.args.layers.now c.args.edge 0) c.requires.flat c.cell.ensures.tree c.requires.later c.requires.edge
@@ -53,14 +53,14 @@ enter-requires-clause-near c =
 pub returns-clause-grows : goal.returns-clause-grows
 returns-clause-grows c =
     let t = c.args.flat.now in
-    visited c.args.tree.now.shape t (λ node. get_or c.args.layers.now node 0) c.args.tree.now c.enter.new.tree c.args.edge c.args.from c.args.to c.cell.result c.cell-2.result c.layer.result
+    visited c.args.tree.now.shape t (λ node. get_or c.args.layers.now node 0) c.args.tree.now c.enter_tile.new.tree c.args.edge c.args.from c.args.to c.cell.result c.cell-2.result c.layer.result
     c.span_of_node.result (span_in c.args.spans.now c.args.to) c.requires.flat c.cell.ensures.tree c.requires.later c.requires.edge
     (c.requires.layers.below c.args.edge c.requires.later c.requires.edge) c.requires.links c.layer.ensures (tile-at t c.args.to c.cell-2.result c.cell-2.ensures.cell)
-    (tile-at t c.args.from c.cell.result c.cell.ensures.cell) (sym c.span_of_node.ensures) c.in_ok-enter.ensures.grows
+    (tile-at t c.args.from c.cell.result c.cell.ensures.cell) (sym c.span_of_node.ensures) c.in_ok-enter_tile.ensures.grows
 
 pub returns-clause-nodes : goal.returns-clause-nodes
 returns-clause-nodes c =
     let t = c.args.flat.now in
-    visited-named c.args.tree.now.shape t (λ node. get_or c.args.layers.now node 0) (span_in c.args.spans.now) c.args.tree.now c.enter.new.tree c.args.edge c.args.from c.args.to
-    c.cell.result c.cell-2.result c.layer.result c.span_of_node.result c.in_ok-enter.ensures.nodes c.layer.ensures (tile-at t c.args.to c.cell-2.result c.cell-2.ensures.cell)
+    visited-named c.args.tree.now.shape t (λ node. get_or c.args.layers.now node 0) (span_in c.args.spans.now) c.args.tree.now c.enter_tile.new.tree c.args.edge c.args.from c.args.to
+    c.cell.result c.cell-2.result c.layer.result c.span_of_node.result c.in_ok-enter_tile.ensures.nodes c.layer.ensures (tile-at t c.args.to c.cell-2.result c.cell-2.ensures.cell)
     (tile-at t c.args.from c.cell.result c.cell.ensures.cell) c.span_of_node.ensures

@@ -1,9 +1,9 @@
 use Rattle.std.proofs.Common.{ℕ, ◌+◌, refl, sym, ap, ◌∙◌, arith}
-use Rattle.maze_route.specs.Steps.{cell_in}
+use Rattle.maze_route.specs.Steps.{cell_in, least_to}
 use Rattle.maze_route.specs.declared.pane.Step.{Step}
 use Rattle.maze_route.specs.Labels.{label_at}
 use Rattle.maze_route.proofs.SeedLemmas.{seed-turn, seeded-turn, seed-done, tree-window}
-use Rattle.maze_route.proofs.SpotLemmas.{fits-at}
+use Rattle.maze_route.proofs.SpotLemmas.{covers-at}
 use Rattle.maze_route.proofs.resume.seed.Goals as goal
 
 pub loop-node-init : goal.loop-node-init
@@ -17,24 +17,20 @@ loop-node-init c = record {
 pub local-requires : goal.local-requires
 local-requires c = tree-window c.args.pane c.args.tree.now c.loop-node.node c.cell.result c.requires.grid c.requires.tree c.cell.ensures.only
 
-pub distance_to-requires : goal.distance_to-requires
-distance_to-requires c =
-    let spot = c.spot-spot.ensures.spot in
-    let bounds = fits-at c.args.pane c.args.aim.now c.spot-spot.result.local c.spot-spot.result.place c.requires.aim spot.inside spot.place in
-    record { column = bounds.0; row = bounds.1 }
-
 pub reach-requires : goal.reach-requires
-reach-requires c = record {
-  from = omega arith;
-  small = omega arith;
-  rest = c.distance_to.ensures.small;
-  inside = omega (arith, c.loop-node.invariant.size, c.spot-spot.ensures.local, c.local.ensures.inside);
-  keys = omega (arith, c.loop-node.invariant.last);
-}
+reach-requires c =
+    let spot = c.spot-spot.ensures.spot in
+    record {
+      from = omega arith;
+      small = omega arith;
+      covered = covers-at c.args.pane c.args.aim.now c.spot-spot.result.local c.spot-spot.result.place c.requires.aim spot.inside spot.place;
+      inside = omega (arith, c.loop-node.invariant.size, c.spot-spot.ensures.local, c.local.ensures.inside);
+      keys = omega (arith, c.loop-node.invariant.last);
+    }
 
 pub loop-node-preserved : goal.loop-node-preserved
 loop-node-preserved c =
-    let step : Step = record { cell = c.spot-spot.result.local; cost = 0; rest = c.distance_to.result } in
+    let step : Step = record { cell = c.spot-spot.result.local; cost = 0; rest = least_to c.args.aim.now c.spot-spot.result.place } in
     let back = ap (λ (n : ℕ). cell_in c.args.pane n) (sym c.local.ensures.local) ∙ c.local.ensures.cell in
     record {
       size = c.reach.ensures.size ∙ c.loop-node.invariant.size;
@@ -43,7 +39,7 @@ loop-node-preserved c =
           refl c.cell.ensures.cell c.spot-spot.ensures.spot (c.spot-spot.ensures.local ∙ c.local.ensures.local) refl refl c.loop-node.invariant.size c.in_ok-reach.ensures.done
           c.loop-node.invariant.seeded;
       searching = λ price begun. seed-turn c.args.pane c.args.tree.now price c.args.aim.now c.loop-node.node c.cell.result c.spot-spot.result step c.loop-node.front c.reach.new.front
-          c.cell.ensures.only c.spot-spot.ensures.spot (c.spot-spot.ensures.local ∙ c.local.ensures.local) back refl refl c.distance_to.ensures.least c.loop-node.invariant.size
+          c.cell.ensures.only c.spot-spot.ensures.spot (c.spot-spot.ensures.local ∙ c.local.ensures.local) back refl refl refl c.loop-node.invariant.size
           c.in_ok-reach.ensures.done (c.loop-node.invariant.searching price begun);
     }
 

@@ -8,7 +8,7 @@ use Rattle.maze_route.specs.Queues.{QueueView}
 use Rattle.maze_route.specs.Search.{IsSearching}
 use Rattle.maze_route.proofs.KeptLemmas.{search-again}
 use Rattle.maze_route.proofs.SearchLemmas.{labels_of}
-use Rattle.maze_route.proofs.SpotLemmas.{fits-at}
+use Rattle.maze_route.proofs.SpotLemmas.{covers-at}
 use Rattle.maze_route.proofs.TurnLemmas.{taken-has, is-some, stale-turn, settled-turn, stop-turn, end-turn, spot-rest}
 use Rattle.maze_route.proofs.search.search.Goals as goal
 
@@ -43,8 +43,7 @@ overflow_add-label g c =
 pub distance_to-requires : goal.distance_to-requires
 distance_to-requires g c =
     let spot = c.spot-spot.ensures.spot in
-    let bounds = fits-at c.args.field.now.pane c.args.aim.now c.spot-spot.result.local c.spot-spot.result.place c.requires.guide.fits spot.inside spot.place in
-    record { column = bounds.0; row = bounds.1 }
+    covers-at c.args.field.now.pane c.args.aim.now c.spot-spot.result.local c.spot-spot.result.place c.requires.guide.fits spot.inside spot.place
 
 pub settle-requires : goal.settle-requires
 settle-requires g c =

@@ -1,7 +1,7 @@
-use Rattle.std.proofs.Common.{◌≡◌, ℕ, ◌-◌, ◌<◌, IsTrue, sym, subst, ◌∙◌, arith}
+use Rattle.std.proofs.Common.{◌≡◌, ℕ, ◌-◌, ◌<◌, IsTrue, refl, sym, subst, ◌∙◌, arith}
 use Rattle.gr_base.specs.Grid.{place_at, stride, has_room}
-use Rattle.maze_route.proofs.SpotLemmas.{spot-behind, no-behind, step-back, place-back, rest-at, fits-at, made, unmade}
-use Rattle.maze_route.specs.Steps.{size_of, cell_in}
+use Rattle.maze_route.proofs.SpotLemmas.{spot-behind, no-behind, step-back, place-back, rest-at, inside-at, made, unmade}
+use Rattle.maze_route.specs.Steps.{size_of, cell_in, least_to}
 use Rattle.maze_route.proofs.StepLemmas.{next-room}
 use Rattle.maze_route.proofs.steps.behind.Goals as goal
 
@@ -22,16 +22,16 @@ cost-requires g c =
     record { grid = c.requires.grid; priced = c.requires.priced; inside = all.0; low = all.1.0; room = all.1.1 }
 
 pub returns-then-not-has_behind-clause-step : goal.returns-then-not-has_behind-clause-step
-returns-then-not-has_behind-clause-step g c =
-    no-behind c.args.field.now.pane (g.C.Costs.price c.args.costs.now) c.args.aim.now c.args.spot c.args.way c.requires.spot (sym c.has_behind.ensures ∙ c.if-not-has_behind.true)
+returns-then-not-has_behind-clause-step g c aim =
+    no-behind c.args.field.now.pane (g.C.Costs.price c.args.costs.now) aim c.args.spot c.args.way c.requires.spot (sym c.has_behind.ensures ∙ c.if-not-has_behind.true)
 
 pub returns-in_default-clause-step : goal.returns-in_default-clause-step
-returns-in_default-clause-step g c =
+returns-in_default-clause-step g c aim =
     let to = c.args.spot.local - stride c.args.field.now.pane.shape c.args.way in
     let back = spot-behind c.args.field.now.pane c.args.spot c.args.way c.requires.spot (sym c.has_behind.ensures ∙ c.if-not-has_behind.false) in
     let low : c.args.spot.cell - c.stride.result ≡ cell_in c.args.field.now.pane to = omega (arith, c.stride.ensures, back.next.high, c.requires.spot.cell) in
-    unmade c.args.field.now.pane c.args.aim.now to c.cost.result c.in_default.is _
-    (step-back c.args.field.now.pane (g.C.Costs.price c.args.costs.now) c.args.aim.now c.args.spot c.args.way to (c.args.spot.cell - c.stride.result) c.cost.result c.requires.spot back.next low c.cost.ensures.price)
+    unmade c.args.field.now.pane aim to c.cost.result c.in_default.is _
+    (step-back c.args.field.now.pane (g.C.Costs.price c.args.costs.now) aim c.args.spot c.args.way to (c.args.spot.cell - c.stride.result) c.cost.result c.requires.spot back.next low c.cost.ensures.price)
 
 pub overflow_sub-cell : goal.overflow_sub-cell
 overflow_sub-cell g c =
@@ -41,18 +41,17 @@ overflow_sub-cell g c =
 pub one_back-requires : goal.one_back-requires
 one_back-requires g c = sym c.has_behind.ensures ∙ c.if-not-has_behind.false
 
-pub distance_to-requires : goal.distance_to-requires
-distance_to-requires g c =
-    let to = c.args.spot.local - stride c.args.field.now.pane.shape c.args.way in
-    let back = spot-behind c.args.field.now.pane c.args.spot c.args.way c.requires.spot (sym c.has_behind.ensures ∙ c.if-not-has_behind.false) in
-    let bounds = fits-at c.args.field.now.pane c.args.aim.now to c.one_back.result c.requires.aim back.next.low_inside (place-back c.args.field.now.pane c.args.spot c.args.way to c.one_back.result c.requires.spot back.next c.one_back.ensures) in
-    record { column = bounds.0; row = bounds.1 }
-
 pub returns-clause-step : goal.returns-clause-step
-returns-clause-step g c =
+returns-clause-step g c aim =
     let to = c.args.spot.local - stride c.args.field.now.pane.shape c.args.way in
     let back = spot-behind c.args.field.now.pane c.args.spot c.args.way c.requires.spot (sym c.has_behind.ensures ∙ c.if-not-has_behind.false) in
     let low : c.args.spot.cell - c.stride.result ≡ cell_in c.args.field.now.pane to = omega (arith, c.stride.ensures, back.next.high, c.requires.spot.cell) in
-    let rest = rest-at c.args.field.now.pane c.args.aim.now to c.distance_to.result c.one_back.result (place-back c.args.field.now.pane c.args.spot c.args.way to c.one_back.result c.requires.spot back.next c.one_back.ensures) c.distance_to.ensures.least in
-    made c.args.field.now.pane c.args.aim.now to (c.args.spot.local - c.stride-2.result) c.in-Some.cost c.distance_to.result c.cost.result c.in-Some.is (omega (arith, c.stride-2.ensures)) rest _
-    (step-back c.args.field.now.pane (g.C.Costs.price c.args.costs.now) c.args.aim.now c.args.spot c.args.way to (c.args.spot.cell - c.stride.result) c.cost.result c.requires.spot back.next low c.cost.ensures.price)
+    let rest = rest-at c.args.field.now.pane aim to (least_to aim c.one_back.result) c.one_back.result (place-back c.args.field.now.pane c.args.spot c.args.way to c.one_back.result c.requires.spot back.next c.one_back.ensures) refl in
+    made c.args.field.now.pane aim to (c.args.spot.local - c.stride-2.result) c.in-Some.cost (least_to aim c.one_back.result) c.cost.result c.in-Some.is (omega (arith, c.stride-2.ensures)) rest _
+    (step-back c.args.field.now.pane (g.C.Costs.price c.args.costs.now) aim c.args.spot c.args.way to (c.args.spot.cell - c.stride.result) c.cost.result c.requires.spot back.next low c.cost.ensures.price)
+
+pub returns-clause-inside : goal.returns-clause-inside
+returns-clause-inside g c =
+    let to = c.args.spot.local - stride c.args.field.now.pane.shape c.args.way in
+    let back = spot-behind c.args.field.now.pane c.args.spot c.args.way c.requires.spot (sym c.has_behind.ensures ∙ c.if-not-has_behind.false) in
+    inside-at c.args.field.now.pane to c.one_back.result back.next.low_inside (place-back c.args.field.now.pane c.args.spot c.args.way to c.one_back.result c.requires.spot back.next c.one_back.ensures)

@@ -1,5 +1,6 @@
 use Rattle.std.proofs.Common.{◌≡◌, ℕ, List, ◌∷◌, ◌++◌, map, Option, Result, Ok, Err, refl, sym, ap, subst, ◌∙◌}
 use Rattle.std.specs.Prelude.{OnOk}
+use mathlib.Core.List.{IsPrefix}
 use Rattle.gr_base.specs.declared.grid.Cell.{Cell}
 use Rattle.gr_base.specs.declared.grid.Edge.{Edge}
 use Rattle.gr_base.specs.declared.grid.Shape.{Shape}
@@ -27,7 +28,17 @@ returns-clause-walk g c =
     let price = g.C.Costs.price c.args.costs.now in
     such c.args.shape price c.args.a c.args.b c.place_of.result c.place_of-2.result (walk_at c.args.shape c.best_crossing-crossing.result) c.put_walk.new.cells.items
     c.put_walk.result (λ cells. cells ≡ flat_walk c.args.shape price c.args.a c.args.b) c.place_of.ensures.place c.place_of-2.ensures.place
-    c.best_crossing-crossing.ensures.first refl c.put_walk.ensures
+    c.best_crossing-crossing.ensures.first refl c.put_walk.ensures.all
+
+pub returns-clause-part : goal.returns-clause-part
+returns-clause-part g c =
+    let shape = c.args.shape in
+    let price = g.C.Costs.price c.args.costs.now in
+    let cost : List ℕ → ℕ = walk_cost shape price in
+    let begins : List ℕ → Type 0 = λ walk. IsPrefix c.put_walk.new.cells.items walk in
+    let from : Cell → List ℕ = λ a. first_least cost (flat_walks shape a c.place_of-2.result) in
+    let to : Cell → List ℕ = λ b. first_least cost (flat_walks shape (place_at shape c.args.a) b) in
+    subst begins (c.best_crossing-crossing.ensures.first ∙ ap from c.place_of.ensures.place ∙ ap to c.place_of-2.ensures.place) c.put_walk.ensures.part
 
 pub returns-clause-first : goal.returns-clause-first
 returns-clause-first g c =
@@ -39,7 +50,7 @@ returns-clause-first g c =
     let rest = map (by_column shape a b) (onward a.x b.x) ++ map (by_row shape a b) (a.y ∷ onward a.y b.y) in
     such shape price c.args.a c.args.b c.place_of.result c.place_of-2.result (walk_at shape c.best_crossing-crossing.result) c.put_walk.new.cells.items
     c.put_walk.result (λ cells. IsFirstLeast cost (flat_walks shape a b) cells) c.place_of.ensures.place c.place_of-2.ensures.place
-    c.best_crossing-crossing.ensures.first (first_least-first cost (by_column shape a b a.x) rest) c.put_walk.ensures
+    c.best_crossing-crossing.ensures.first (first_least-first cost (by_column shape a b a.x) rest) c.put_walk.ensures.all
 
 pub returns-clause-direct : goal.returns-clause-direct
 returns-clause-direct g c =
@@ -47,4 +58,4 @@ returns-clause-direct g c =
     let price = g.C.Costs.price c.args.costs.now in
     such shape price c.args.a c.args.b c.place_of.result c.place_of-2.result (walk_at shape c.best_crossing-crossing.result) c.put_walk.new.cells.items
     c.put_walk.result (λ cells. IsDirect shape c.args.a c.args.b cells) c.place_of.ensures.place c.place_of-2.ensures.place
-    c.best_crossing-crossing.ensures.first (flat_walk-direct shape price c.args.a c.args.b c.requires.flat.level c.requires.a c.requires.b) c.put_walk.ensures
+    c.best_crossing-crossing.ensures.first (flat_walk-direct shape price c.args.a c.args.b c.requires.flat.level c.requires.a c.requires.b) c.put_walk.ensures.all

@@ -30,7 +30,15 @@ loop-at-preserved c = (
       (c.in_ok-push.ensures.items ∙ ap (λ cell. c.loop-at.cells.items ++ cell ∷ []) c.cell.ensures),
 )
 
-pub returns : goal.returns
-returns c =
+pub returns-clause-all : goal.returns-clause-all
+returns-clause-all c =
     pushed-all c.args.shape c.args.line c.loop-at.at c.args.to c.loop-at.cells.items
     (c.args.cells.now.items ++ along c.args.shape c.args.line c.args.from c.args.to) c.loop-at-test.false (c.loop-at.invariant.1)
+
+pub returns-clause-part : goal.returns-clause-part
+returns-clause-part c = (along c.args.shape c.args.line c.loop-at.at c.args.to, c.loop-at.invariant.1)
+
+pub returns-in_err-push-clause-part : goal.returns-in_err-push-clause-part
+returns-in_err-push-clause-part c =
+    let rest = along c.args.shape c.args.line c.loop-at.at c.args.to in
+    (rest, ap (λ (xs : List ℕ). xs ++ rest) c.in_err-push.ensures.items ∙ c.loop-at.invariant.1)

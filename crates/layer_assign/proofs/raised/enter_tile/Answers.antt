@@ -9,7 +9,7 @@ use Rattle.layer_assign.proofs.ColumnLemmas.{on_ok-one}
 use Rattle.layer_assign.proofs.LinkLemmas.{entered, enter-free}
 use Rattle.layer_assign.specs.NodeOrder.{spreading}
 use Rattle.layer_assign.proofs.OrderLemmas.{hung-named}
-use Rattle.layer_assign.proofs.raised.enter.Goals as goal
+use Rattle.layer_assign.proofs.raised.enter_tile.Goals as goal
 
 -- the growth by one cell, with the cells as they are named
 named : (old mid : TreeView) (h : Shape) (tile from layer up at : ℕ) → h ≡ old.shape → up ≡ cell_on h tile layer → at ≡ cell_on h from layer →
