@@ -1,5 +1,5 @@
 #!/usr/bin/env python3
-"""Replays the histories of rounds: reference/replay.py [--times N] [--share N] [DESIGN LIBRARY ROUNDS ..]
+"""Replays the histories of rounds: reference/replay.py [--times N] [--share N] [--batch B] [DESIGN LIBRARY ROUNDS ..]
 
 Each design (made ones where none is named) is routed by 1, 2, 4, 8 and 16 workers, each N times (20 where nothing is
 said), by each rule and with each end of the rounds in turn: none, `still`, and as enough the overflow at the middle
@@ -17,6 +17,10 @@ by entry with a book and plans that were written apart from the proved code:
   `--stop` waits for: at most the number that it names, or, for `still`, no less than at the mark before;
 - the chosen part of the history ends with the first mark of least overflow, and the routes that were written are
   those that are booked there.
+
+With --batch B the rounds go in batches of B nets, by each rule, and each entry is the one that is due: the nets of a
+batch are released in the design's order and then claimed in it, for plans over what was there at the first claim; one
+that finds no room is claimed for its plan then, and at last with any demand.
 """
 import argparse
 import itertools
@@ -28,7 +32,7 @@ import tempfile
 
 import compare
 from design import cell, edge, place, read_design, way
-from route import FORMULAS, Book, maze_plan, pattern_plan, stops
+from route import FORMULAS, Book, cut, maze_plan, pattern_plan, stops
 from solution import solution_text
 from workers import WORKERS, library, run
 
@@ -52,15 +56,17 @@ def check(holds, what):
 
 
 class Asked:
-    """How a design is to be routed: what ends the rounds is None, `still` or an overflow that is enough."""
+    """How a design is to be routed: what ends the rounds is None, `still` or an overflow that is enough, and batches
+    have so many nets, or None."""
 
-    def __init__(self, rounds, workers, rule, stop):
-        self.rounds, self.workers, self.rule, self.stop = rounds, workers, rule, stop
+    def __init__(self, rounds, workers, rule, stop, batch):
+        self.rounds, self.workers, self.rule, self.stop, self.batch = rounds, workers, rule, stop, batch
 
     def words(self):
         rule = [] if self.rule == "first" else ["--rule", self.rule]
         stop = [] if self.stop is None else ["--stop", str(self.stop)]
-        return [str(self.rounds), "--workers", str(self.workers), *rule, *stop]
+        batch = [] if self.batch is None else ["--batch", str(self.batch)]
+        return [str(self.rounds), "--workers", str(self.workers), *rule, *stop, *batch]
 
 
 class Entry:
@@ -203,9 +209,12 @@ class Rounds:
 
     def mark(self, entry):
         check(entry.number == 0, "the number of a mark")
-        check(not self.due and not self.trying, "a round ends before all its nets are done")
+        check(self.is_done(), "a round ends before all its nets are done")
         self.overflows.append(entry.told)
         self.lengths.append(len(self.replay.done) + 1)
+
+    def is_done(self):
+        return not self.due and not self.trying
 
     def begin_round(self):
         self.due = set(self.replay.book.victims())
@@ -233,6 +242,9 @@ class Rounds:
             if entry.reply == "full":
                 self.trying[entry.number] = net, tries + 1
         check(self.own.get(entry.number, 0) <= entry.front <= at, "a front")
+        self.plan(at, entry)
+
+    def plan(self, at, entry):
         self.met += entry.front < at
         check_tree(self.d, entry)
         if at % self.share == 0:
@@ -245,6 +257,53 @@ class Rounds:
         while len(self.replay.done) > chosen:
             self.replay.back()
         check(solution_text(self.d, self.replay.book.booked) == routes, "the routes")
+
+
+class Batches(Rounds):
+    """The rules of rounds in batches, by which it is known which entry comes next."""
+
+    def __init__(self, d, asked, share):
+        super().__init__(d, asked, share)
+        self.calls, self.reply = self.round_calls(), None
+
+    def round_calls(self):
+        """The calls of a round, one after another: each its net and, of a claim, its margin, slack and front. The
+        reply to each is sent in."""
+        for nets in cut(sorted(self.due), self.asked.batch):
+            for net in nets if self.round else ():
+                yield "release", net
+            front, margin = len(self.replay.done), MARGIN * self.round or None
+            for net in nets:
+                reply = yield "claim", net, margin, 0 if self.round else None, front
+                if reply == "full":
+                    again = len(self.replay.done)
+                    reply = yield "claim", net, margin, 0, again
+                if reply == "full":
+                    yield "claim", net, margin, None, again + 1
+
+    def next_call(self):
+        """The call that is due, or None at the end of a round."""
+        try:
+            return self.calls.send(self.reply)
+        except StopIteration:
+            return None
+
+    def is_done(self):
+        return self.next_call() is None
+
+    def begin_round(self):
+        super().begin_round()
+        self.calls, self.reply = self.round_calls(), None
+
+    def release(self, entry):
+        check(entry.number == 1 and self.next_call() == ("release", entry.net), "a release out of turn")
+        self.reply = entry.reply
+
+    def claim(self, at, entry):
+        call = "claim", entry.net, entry.margin, entry.slack, entry.front
+        check(entry.number == 1 and self.next_call() == call, "a claim out of turn")
+        self.reply = entry.reply
+        self.plan(at, entry)
 
 
 def told(program, design, paths, asked):
@@ -264,7 +323,7 @@ def replayed(program, design, paths, asked, share):
     with open(design, "rb") as file:
         d = read_design(file.read())
     routes, lines, chosen = told(program, design, paths, asked)
-    rounds = Rounds(d, asked, share)
+    rounds = (Rounds if asked.batch is None else Batches)(d, asked, share)
     for at, line in enumerate(lines):
         rounds.go(at, Entry(d, line))
     rounds.end(chosen, routes)
@@ -294,13 +353,13 @@ def random_designs(folder, count):
         yield *put(folder, f"random_{seed}", compare.design(random.Random(seed))), "4"
 
 
-def tried(program, design, paths, rounds, times, share, orders):
+def tried(program, design, paths, rounds, times, share, orders, batch):
     """Replays runs by each number of workers; the count of those that break a rule."""
     faults, enough = 0, 0
     for workers in WORKERS:
         entries, met, stopped, overflows = 0, 0, 0, []
         for rule, end in itertools.islice(orders, times):
-            asked = Asked(int(rounds), workers, rule, enough if end == "goal" else end)
+            asked = Asked(int(rounds), workers, rule, enough if end == "goal" else end, batch)
             try:
                 replay = replayed(program, design, paths, asked, share)
             except Wrong as wrong:
@@ -323,18 +382,19 @@ def main():
     parser.add_argument("--times", type=int, default=20)
     parser.add_argument("--share", type=int, default=50)
     parser.add_argument("--random", type=int, default=20, help="how many random designs")
+    parser.add_argument("--batch", type=int, metavar="B", help="rounds in batches of B nets")
     parser.add_argument("names", nargs="*", help="DESIGN LIBRARY ROUNDS, again and again")
     words = parser.parse_args()
     if len(words.names) % 3:
         parser.error("DESIGN LIBRARY ROUNDS stand together")
-    orders = itertools.cycle(itertools.product(FORMULAS, ENDS))
+    orders = itertools.cycle(itertools.product(FORMULAS, ENDS if words.batch is None else (None,)))
     faults = 0
     with tempfile.TemporaryDirectory() as folder:
         named = [tuple(words.names[at : at + 3]) for at in range(0, len(words.names), 3)]
         for design, paths, rounds in named or made(folder):
-            faults += tried(words.program, design, paths, rounds, words.times, words.share, orders)
+            faults += tried(words.program, design, paths, rounds, words.times, words.share, orders, words.batch)
         for design, paths, rounds in () if named else random_designs(folder, words.random):
-            faults += tried(words.program, design, paths, rounds, 1, 1, orders)
+            faults += tried(words.program, design, paths, rounds, 1, 1, orders, words.batch)
     print(f"{faults} faults")
     return 1 if faults else 0
 

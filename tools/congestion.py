@@ -21,7 +21,7 @@ import sys
 
 import command
 from names import Terms
-from texts import EAST, Design, Fault, Netlist, Tokens, buffer_of, buffered
+from texts import EAST, Design, Fault, Netlist, Tokens, bounds_in, buffer_of, buffered
 
 try:
     from edges_numpy import Edges
@@ -88,17 +88,6 @@ def buffers(asked, design):
     return [buffer_of(design, *pair)[0] for some in tokens for pair in zip(some[::2], some[1::2])]
 
 
-def walls(path):
-    """The walls of a text of bounds: each its word, its numbers, and whether more is needed than it holds."""
-    with open(path, encoding="ascii", errors="replace") as file:
-        for line in file:
-            place, needs, rest = line.partition(" needs ")
-            if needs:
-                kind, *numbers = place.split()
-                needed, _, held = rest.split()
-                yield kind, [int(number) for number in numbers], int(needed) > int(held)
-
-
 def main():
     """Prints the totals and writes the file."""
     asked = words()
@@ -114,7 +103,7 @@ def main():
         write_picture(edges, asked.output, asked.layer, name, terms)
     elif asked.output:
         from tile_map import write_picture      # as above
-        asked.bound = list(walls(asked.bound)) if asked.bound else []
+        asked.bound = bounds_in(asked.bound)[1] if asked.bound else []
         write_picture(edges, asked.output, asked, name, terms, asked.buffers and buffers(asked, design))
     sys.stdout.write(command.totals(edges))
     if asked.tracks:

@@ -61,7 +61,8 @@ def steps(asked):
     """Goes through all steps; the answer is the verdict."""
     os.makedirs(asked.output, exist_ok=True)
     paths = {name: os.path.join(asked.output, name) for name in (
-        "design.ispd", "design.ispd.names", "design.library", "routes.solution", "report.txt", "routes.guide")}
+        "design.ispd", "design.ispd.names", "design.library", "routes.solution", "report.txt", "routes.guide",
+        "bounds.txt")}
     words = [asked.placed, asked.lef[0], paths["design.ispd"], paths["design.library"], "--scale", str(asked.scale)]
     words += [word for lef in asked.lef[1:] for word in ("--lef", lef)]
     words += [word for liberty in asked.liberty for word in ("--liberty", liberty)] + asked.passed
@@ -93,8 +94,18 @@ def judged(asked, paths):
     with open(os.path.join(asked.output, "hotspots.txt"), "w", encoding="utf-8", errors="surrogateescape") as file:
         file.write(told("hotspots.py", *routes, *names))
     page = os.path.join(asked.output, "index.html")
-    return told("report.py", *routes, paths["design.library"], paths["report.txt"], *names, "--scale",
-                str(asked.scale), "-o", page).strip()
+    return told("report.py", *routes, paths["design.library"], paths["report.txt"], *names, *bound(asked, paths),
+                "--scale", str(asked.scale), "-o", page).strip()
+
+
+def bound(asked, paths):
+    """The words for what no routes can be below, where grbound stands beside groute."""
+    program = os.path.join(os.path.dirname(groute(asked)), "grbound")
+    if not os.access(program, os.X_OK):
+        return []
+    with open(paths["bounds.txt"], "wb") as file:
+        step("grbound", [program, paths["design.ispd"]], stdout=file)
+    return ["--bound", paths["bounds.txt"]]
 
 
 def words():

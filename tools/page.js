@@ -160,6 +160,13 @@ function toRegion(row) {
   go({ region: row + 1, net: -1, at: null, view: picture.viewOf(region.low, region.high) }, true);
 }
 
+function toWall(row) {
+  const { kind, numbers: [first, ...others] } = data.walls[row], last = [data.columns - 1, data.rows - 1];
+  const ends = { column: [[first, 0], [first + 1, last[1]]], row: [[0, first], [last[0], first + 1]],
+    box: [[first, others[0]], others.slice(1)] };
+  go({ at: null, view: picture.viewOf(...ends[kind]) }, true);
+}
+
 function toNet(net) {
   const columns = [], rows = [], note = (cell) => {
     columns.push(cell % data.columns);
@@ -281,6 +288,7 @@ async function begin() {
   ["all", ...data.layers].forEach((name, at) => byId("layer").append(new Option(name, at)));
   fillLayers();
   fillRegions();
+  if (data.least !== null) fillWalls();
   fillNets();
   picture = new Picture(byId("map"));
   listen();

@@ -146,6 +146,21 @@ function fillRegions() {
   regionsTable.order();
 }
 
+// The fullest walls, if a text of bounds was given.
+function fillWalls() {
+  const of = (key) => (row) => data.walls[row][key];
+  const counted = (head) => ({ head, value: of(head), isNumber: true });
+  const place = ({ kind, numbers }) => [kind, ...numbers].join(" ");
+  const use = ({ needs, holds }) => 100 * needs / holds;
+  const columns = [{ head: "wall", value: (row) => row, text: (row) => place(data.walls[row]) },
+    counted("needs"), counted("holds"), { head: "needs, %", value: (row) => use(data.walls[row]),
+      text: (row) => of("holds")(row) ? fixed(use(data.walls[row]), 1) : "-", isNumber: true }];
+  byId("walls").hidden = byId("bound").hidden = false;
+  byId("bound").textContent = `Overflow: at least ${number(data.least)} in any routes, `
+    + `${number(data.totals.overflow)} in these`;
+  new Table(byId("walls"), "Fullest walls", columns, [...data.walls.keys()], toWall).order();
+}
+
 function fillNets() {
   const of = (key) => (row) => data[key][row];
   const columns = [{ head: "net", value: (row) => data.names[row] }];

@@ -3,9 +3,10 @@
 
 Its first screen has the verdict in a line, ACE, the table by layer, a map to zoom and pan, and the worst regions with
 their nets; a net is drawn with its pins, layers and buffers. LIBRARY and REPORT add required times and buffers; reports
-of earlier rounds, from round 0 on, add the overflow by round. What is shown stands in the address, so that a link shows
-it again. Of designs with more than 100,000 nets, or where the page would pass 20 MB, it holds only the nets of the
-worst regions and the slowest ones, and says so.
+of earlier rounds, from round 0 on, add the overflow by round, and a text of grbound the overflow that any routes have,
+and the fullest walls. What is shown stands in the address, so that a link shows it again. Of designs with more than
+100,000 nets, or where the page would pass 20 MB, it holds only the nets of the worst regions and the slowest ones, and
+says so.
 
 Times are in picoseconds. Of a library that def_to_ispd.py made with --scale N say --scale N here too.
 """
@@ -19,7 +20,7 @@ import zlib
 
 import command
 from names import Terms
-from texts import EAST, NORTH, Fault, Library, Netlist, Tokens, buffered, overflow_of
+from texts import EAST, NORTH, Fault, Library, Netlist, Tokens, bounds_in, buffered, overflow_of
 
 HERE = os.path.dirname(os.path.realpath(__file__))
 SCRIPTS = ("page_tables.js", "page_map.js", "page.js")  # the last one begins
@@ -67,6 +68,7 @@ class Routes:
         self.loads = Loads(self.edges)
         self.regions = self.loads.regions(REGIONS)
         self.half = HALVES * asked.scale ** 2
+        self.least, self.walls = bounds_in(asked.bound) if asked.bound else (None, [])
         self.kinds, self.required, self.buffers = [], {}, {}
         if asked.report:
             self.kinds = Library(Tokens(asked.library)).kinds
@@ -121,6 +123,7 @@ def head(routes, ids, asked):
         "hasTimes": bool(routes.required), "allNets": len(design.ids), "kinds": routes.kinds,
         "table": [vars(line) | {"use": line.use()} for line in routes.loads.table(terms.layers)],
         "ways": [WAYS[EAST], WAYS[NORTH]], "grades": GRADES,
+        "least": routes.least, "walls": [vars(wall) for wall in routes.walls],
         "regions": [{"low": region.low, "high": region.high, "overflow": region.overflow, "over": region.over,
                      "closed": region.closed, "nets": [place[id_] for id_, _ in region.nets],
                      "counts": [count for _, count in region.nets]} for region in routes.regions],
@@ -208,6 +211,7 @@ def words():
                         help="what `route` wrote on standard error, or `buffer` on output")
     parser.add_argument("--before", nargs="+", default=[], metavar="REPORT",
                         help="reports of earlier rounds, from 0 on")
+    parser.add_argument("--bound", metavar="BOUNDS", help="what grbound wrote of the design")
     parser.add_argument("--scale", type=int, default=1, metavar="N", help="of the library's numbers; else 1")
     parser.add_argument("-o", "--output", metavar="FILE", required=True, help="the page, .html")
     command.add_names(parser)

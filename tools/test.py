@@ -1,9 +1,10 @@
 #!/usr/bin/env python3
 """Tests of the tools, and of the samples in the documents: tools/test.py --program PATH [NAME ..]
 
-PATH is a built groute, and one of grbound with --bounds. The samples of README.md and of docs/*.md, lines that begin with `$`, are run as they are
-written, with that program as ./groute. NAMEs pick tests, as in unittest. What wants numpy and matplotlib, klayout,
-chromium, or for docs/FLOW.md Debian's qflow-tech-osu035, is left out by name where that isn't there.
+PATH is a built groute, and one of grbound with --bounds. The samples of README.md and of docs/*.md, lines that begin
+with `$`, are run as they are written, with that program as ./groute. NAMEs pick tests, as in unittest. What wants
+numpy and matplotlib, klayout, chromium, or for docs/FLOW.md Debian's qflow-tech-osu035, is left out by name where that
+isn't there.
 """
 import argparse
 import glob

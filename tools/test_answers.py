@@ -371,7 +371,7 @@ class Pictures(InFolder):
         words = SMALL, self.put("solution", solution)
         report = self.put("report", report.replace("buffers 0", "buffers 1") + "(15,5,1) mid\n")
         plain = self.picture(*words)
-        bounds = self.put("bounds", "column cuts 0\ncolumn 1 needs 2 holds 8\nbox 0 0 0 0 needs 3 holds 2\n")
+        bounds = self.put("bounds", testing.BOUNDS)
         for more in (("--net", "a"), ("--buffers", report), ("--region", "1", "0", "2", "1"), ("--direction", "v"),
                      ("--bound", bounds), ("--layer", "2"), ("--edges",), ("--names", self.put("names", NAMES))):
             other = self.picture(*words, *more)
@@ -383,7 +383,8 @@ class Pictures(InFolder):
         solution = self.put("solution", "")
         path = os.path.join(self.folder.name, "out.png")
         for words, says in ((("--net", "b"), "no net b"), (("--region", "0", "0", "3", "1"), "tiles 0 0 to 2 1"),
-                            (("--region", "2", "0", "1", "1"), "tiles"), (("--edges", "--worst", "1"), "of tiles")):
+                            (("--region", "2", "0", "1", "1"), "tiles"), (("--edges", "--worst", "1"), "of tiles"),
+                            (("--bound", SMALL), "grbound")):
             status, _, err = tool("congestion.py", SMALL, solution, "-o", path, *words)
             self.assertNotEqual(status, 0)
             self.assertIn(says, err)

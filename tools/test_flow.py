@@ -1,7 +1,8 @@
 """Tests of flow.py: all steps in one command."""
 import os
+import shlex
 
-from testing import PICTURES, ROOT, InFolder, program, run, tool
+from testing import BOUNDS, PICTURES, ROOT, InFolder, program, run, tool
 
 SKY = [f"{ROOT}/examples/sky/{name}" for name in ("adder.def", "tech.lef", "cells.lef", "cells.lib")]
 FILES = ["design.ispd", "design.ispd.names", "design.library", "report.txt", "routes.guide", "routes.solution"]
@@ -10,11 +11,18 @@ FILES = ["design.ispd", "design.ispd.names", "design.library", "report.txt", "ro
 class Flow(InFolder):
     """flow.py on a small placement."""
 
+    def script(self, name, line):
+        """The path of a program that does this."""
+        path = self.put(name, f"#!/bin/sh\n{line}\n")
+        os.chmod(path, 0o755)
+        return path
+
     def made(self, placed, *words):
         """Status, what was printed, what was told, and the folder."""
         folder = os.path.join(self.folder.name, "out")
-        status, out, err = tool("flow.py", placed, "--lef", SKY[1], "--lef", SKY[2], "--program", program(),
-                                "-o", folder, *words)
+        groute = self.script("groute", f'exec {shlex.quote(program())} "$@"')
+        status, out, err = tool("flow.py", placed, "--lef", SKY[1], "--lef", SKY[2], "--program", groute, "-o", folder,
+                                *words)
         return status, out, err, folder
 
     def test_all_steps(self):
@@ -31,6 +39,12 @@ class Flow(InFolder):
             if PICTURES:
                 with open(os.path.join(folder, name), encoding="utf-8") as file:
                     self.assertIn(says.lower(), file.read().lower())
+
+    def test_bound(self):
+        """What grbound writes, where it stands beside groute, comes to the page."""
+        self.script("grbound", f"cat <<E\n{BOUNDS}E")
+        status, _, err, folder = self.made(SKY[0], "--layers", "met1-met5", "--rounds", "0")
+        self.assertEqual((status, "bounds.txt" in os.listdir(folder)), (0, PICTURES), err)
 
     def test_overflow(self):
         status, out, _, _ = self.made(SKY[0], "--layers", "met1-met5", "--rounds", "0",

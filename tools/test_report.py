@@ -87,6 +87,17 @@ class Report(InFolder):
                 self.assertEqual(int(arrays["pins"].sum()), len(arrays["pinValues"]))
                 self.assertEqual(head["allNets"], len(names))
 
+    def test_bound(self):
+        """What grbound wrote is in the data, and nothing of it where it isn't given."""
+        words = f"{ROOT}/examples/small.ispd", f"{ROOT}/examples/small.solution"
+        head, _ = self.data(self.page(*words, "--bound", self.put("bounds", testing.BOUNDS))[1])
+        self.assertEqual((head["least"], [list(wall.values()) for wall in head["walls"]]), (
+            1, [["box", [0, 0, 0, 0], 3, 2], ["column", [1], 2, 8]]))
+        head, _ = self.data(self.page(*words)[1])
+        self.assertEqual((head["least"], head["walls"]), (None, []))
+        status, _, err = tool("report.py", *words, "--bound", words[0], "-o", self.put("page", ""))
+        self.assertEqual((status, err), (1, f"report: {words[0]}: it isn't what grbound writes\n"))
+
     def test_most_nets(self):
         """Of a larger design, and where the page is too large, the nets of regions and the slowest alone are there."""
         report = importlib.import_module("report")

@@ -86,8 +86,9 @@ class Guides(InFolder):
             text = compare.design(random.Random(seed)).decode()
             design, layers = self.put("design", text), int(text.split()[3])
             chip = Tiled(design, None)
+            named = "".join(f"layer {at} m{at}\n" for at in range(1, layers + 1))
             names = self.put("names", f"units 1\ndie {chip.xs[0]} {chip.ys[0]} {chip.xs[-1]} {chip.ys[-1]}\n"
-                                      "origin 0 0\ntile 1 1\n" + "".join(f"layer {at} m{at}\n" for at in range(1, layers + 1)))
+                                      f"origin 0 0\ntile 1 1\n{named}")
             solution = self.routed(design, layers)
             self.assert_guides(design, solution, ("--names", names))
 

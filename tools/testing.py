@@ -9,6 +9,15 @@ import unittest
 HERE = os.path.dirname(os.path.abspath(__file__))
 ROOT = os.path.dirname(HERE)
 PICTURES = all(importlib.util.find_spec(name) for name in ("numpy", "matplotlib"))
+BOUNDS = """overflow at least 1
+wirelength at least 3
+usable wirelength at least 5
+column cuts 0
+row cuts 0
+boxes 1
+box 0 0 0 0 needs 3 holds 2
+column 1 needs 2 holds 8
+"""     # as grbound writes them
 LIBRARY = "library 1\n%svia 10 10\ndriver 100\nsink 10 0\nend\n"
 
 

@@ -292,6 +292,27 @@ def overflow_of(path):
         return tokens.numbers(1)[0]
 
 
+class Wall:
+    """A wall that grbound tells of: `column`, `row` or `box`, its numbers, what is needed of it, and what it holds."""
+
+    def __init__(self, kind, numbers, needs, holds):
+        self.kind, self.numbers, self.needs, self.holds = kind, numbers, needs, holds
+
+
+def bounds_in(path):
+    """What overflow is at least, by what grbound wrote of a design, and the fullest walls."""
+    with open(path, encoding="ascii", errors="replace") as file:
+        lines = [line.split() for line in file]
+    try:
+        (*words, least), walls = lines[0], lines[6:]
+        if words != ["overflow", "at", "least"]:
+            raise ValueError
+        return int(least), [Wall(kind, [*map(int, numbers)], int(needs), int(holds))
+                            for kind, *numbers, _, needs, _, holds in walls]
+    except (IndexError, ValueError):
+        raise Fault(f"{path}: it isn't what grbound writes") from None
+
+
 def buffered(design, path):
     """Of each net in a report's or a buffers' text: its id, its required time in half femtoseconds, and two tokens for
     each of its buffers, which `buffer_of` reads."""

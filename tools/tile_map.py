@@ -97,18 +97,19 @@ class TileMap:
                          linestyle="none") if points else []
 
     def draw_walls(self, axes, walls):
-        """Walls, as congestion.py reads them; the answer is what the legend says of them."""
-        for kind, numbers, is_over in walls:
-            style = {"edgecolor" if kind == "box" else "color": OVER[1] if is_over else "black", "linestyle": "--"}
-            if kind == "column":
-                axes.axvline(self.place(numbers[0] + 1, 0)[0], **style)
-            elif kind == "row":
-                axes.axhline(self.place(0, numbers[0] + 1)[1], **style)
+        """Walls; the answer is what the legend says of them."""
+        for wall in walls:
+            colour = OVER[1] if wall.needs > wall.holds else "black"
+            style = {"edgecolor" if wall.kind == "box" else "color": colour, "linestyle": "--"}
+            if wall.kind == "column":
+                axes.axvline(self.place(wall.numbers[0] + 1, 0)[0], **style)
+            elif wall.kind == "row":
+                axes.axhline(self.place(0, wall.numbers[0] + 1)[1], **style)
             else:
-                low, high = self.place(*numbers[:2]), self.place(numbers[2] + 1, numbers[3] + 1)
+                low, high = self.place(*wall.numbers[:2]), self.place(wall.numbers[2] + 1, wall.numbers[3] + 1)
                 axes.add_patch(Rectangle(low, high[0] - low[0], high[1] - low[1], fill=False, **style))
-        return [Line2D([], [], linestyle="--", color=OVER[1] if any(is_over for *_, is_over in walls) else "black",
-                       label="fullest walls")] if walls else []
+        return [Line2D([], [], linestyle="--", label="fullest walls",
+                       color=OVER[1] if any(wall.needs > wall.holds for wall in walls) else "black")] if walls else []
 
     def legend(self, axes, name, side, marks):
         """The totals and what colours and marks mean."""
