@@ -3,9 +3,9 @@
 
 What the program's crate stands on is proved, and nothing else: lowest crates first, as many side by side as there are
 processors and memory for, those first that the longest chain of crates waits for. Each is proved in a folder of its own
-beside the repository, since of two runs of rt that share a crate one waits. What is proved stays, so that a build that
-was stopped goes on where it was. A second build waits for the first. On a terminal it tells how far it is. The prover's
-words go to build.log. The status is 0 where the program is there.
+below one beside the repository that has its name and .build, since of two runs of rt that share a crate one waits. What
+is proved stays, so that a build that was stopped goes on where it was. A second build waits for the first. On a terminal
+it tells how far it is. The prover's words go to build.log. The status is 0 where the program is there.
 
 --note says that the program that lies in its crate's folder out was proved and built from the sources as they stand,
 as after `rt ci`; then ./groute or ./grbound takes it as it is.
@@ -18,12 +18,12 @@ import re
 import shutil
 import subprocess
 import sys
-import tempfile
 import threading
 import time
 
 ROOT = os.path.dirname(os.path.dirname(os.path.abspath(__file__)))
 LOG = os.path.join(ROOT, "build.log")
+APART = f"{ROOT}.build"
 PROGRAMS = ["groute", "grbound"]
 PARTS = ["src", "specs", "proofs"]
 GIGABYTES = 3       # what a proof takes of memory, but for few
@@ -129,11 +129,11 @@ def move(folder, target):
 
 
 def set_apart(name, lower):
-    """Lays out a crate and those that it stands on, by hard links, in a folder beside the repository, and moves what was
-    kept of its proof there. The answer is that folder, or None where there can't be one."""
-    root = None
+    """Lays out a crate and those that it stands on, by hard links, in a folder of its own, and moves what was kept of its
+    proof there. The answer is where it then lies: where it was, if there can't be such a folder."""
+    root = os.path.join(APART, name)
     try:
-        root = tempfile.mkdtemp(prefix=f".{name}-", dir=os.path.dirname(ROOT))
+        os.makedirs(root)
         with open(os.path.join(root, "crates.txt"), "w", encoding="utf-8") as file:
             file.writelines(line for crate, (line, _) in rows().items() if crate in [name, *lower])
         for crate, parts in [(name, PARTS)] + [(low, [*PARTS, os.path.join("out", "rlib")]) for low in lower]:
@@ -142,16 +142,19 @@ def set_apart(name, lower):
                 if os.path.isdir(folder):
                     shutil.copytree(folder, os.path.join(folder_of(crate, root), part), copy_function=os.link)
     except (OSError, shutil.Error):
-        shutil.rmtree(root or "", ignore_errors=True)
-        return None
+        shutil.rmtree(root, ignore_errors=True)
+        return folder_of(name)
     move(os.path.join(folder_of(name), "out"), folder_of(name, root))
-    return root
+    return folder_of(name, root)
 
 
-def bring_back(name, root):
-    """Moves what was made of a crate back from its folder, which goes."""
-    move(os.path.join(folder_of(name, root), "out"), folder_of(name))
-    shutil.rmtree(root)
+def bring_back(name):
+    """Moves what was made of a crate back from its folder, if it has one, which goes."""
+    root = os.path.join(APART, name)
+    if os.path.isdir(root):
+        shutil.rmtree(os.path.join(folder_of(name), "out"), ignore_errors=True)
+        move(os.path.join(folder_of(name, root), "out"), folder_of(name))
+        shutil.rmtree(root)
 
 
 def below(name, uses):
@@ -195,11 +198,10 @@ class Build:
     def prove(self, name, jobs):
         """Proves a crate by so many jobs, and tells it. Without words the program ends at once."""
         words = ["run", "--jobs", str(jobs), "--", "usage"] if name == self.program else ["lib", "--jobs", str(jobs)]
-        root = set_apart(name, below(name, self.uses))
-        done = subprocess.run(["rt", *words], cwd=folder_of(name, root or ROOT), check=False, text=True,
+        folder = set_apart(name, below(name, self.uses))
+        done = subprocess.run(["rt", *words], cwd=folder, check=False, text=True,
                               stdin=subprocess.DEVNULL, stdout=subprocess.PIPE, stderr=subprocess.STDOUT)
-        if root:
-            bring_back(name, root)
+        bring_back(name)
         with self.changed:
             self.log.write(f"==== {name}\n{done.stdout}")
             self.log.flush()
@@ -230,6 +232,7 @@ class Build:
                 threads[-1].start()
         for thread in threads:
             thread.join()
+        shutil.rmtree(APART, ignore_errors=True)
         return not self.failed
 
 
@@ -244,6 +247,9 @@ def build(program, uses):
             if is_current(program, uses):
                 return True
         log.truncate(0)
+        # What a build that was killed has left.
+        for name in os.listdir(APART) if os.path.isdir(APART) else []:
+            bring_back(name)
         made = Build(program, uses, log)
         if made.run():
             note(program, uses)
