@@ -1,4 +1,4 @@
-use Rattle.std.proofs.Common.{ℕ, List, length, sym, ap, subst, ◌∙◌, arith}
+use Rattle.std.proofs.Common.{List, length, sym, ap, subst, ◌∙◌, arith}
 use Rattle.std.proofs.lemmas.Bool.{not-true, not-false}
 use Rattle.std.proofs.lemmas.List.{length-map}
 use Rattle.ginneken_lists.specs.Candidates.{no_later}
@@ -21,20 +21,20 @@ loop-before-init g c =
       choice_room = omega (arith, c.requires.choice_room);
     }
 
-pub push_both-requires-clause-room : goal.push_both-requires-clause-room
-push_both-requires-clause-room g c =
+pub push_both-mark-requires-clause-room : goal.push_both-mark-requires-clause-room
+push_both-mark-requires-clause-room g c =
     let going = c.loop-before.invariant.going in
     omega (arith, c.loop-before.invariant.choice_room, c.loop-before-test.true, c.if-beside-right.false, going.inside)
 
-pub push_both-requires-clause-left : goal.push_both-requires-clause-left
-push_both-requires-clause-left g c =
+pub push_both-mark-requires-clause-left : goal.push_both-mark-requires-clause-left
+push_both-mark-requires-clause-left g c =
     let longer = c.loop-before.invariant.going.are.keeps.longer in
     let mark = read-mark (length (trail_of c.args.choices.now.items)) c.args.left.now c.loop-before.before c.read-first.result c.requires.left_marks
     c.loop-before-test.true c.read-first.ensures.pair in
     omega (arith, longer, mark)
 
-pub push_both-requires-clause-right : goal.push_both-requires-clause-right
-push_both-requires-clause-right g c =
+pub push_both-mark-requires-clause-right : goal.push_both-mark-requires-clause-right
+push_both-mark-requires-clause-right g c =
     let going = c.loop-before.invariant.going in
     let longer = going.are.keeps.longer in
     let mark = read-mark (length (trail_of c.args.choices.now.items)) c.args.right.now c.loop-before.beside c.read-second.result c.requires.right_marks
@@ -50,47 +50,47 @@ pub loop-before-preserved-then-is_later : goal.loop-before-preserved-then-is_lat
 loop-before-preserved-then-is_later g c =
     let now = c.loop-before in
     record {
-      going = goes-second (trail_of c.args.choices.now.items) (trail_of now.choices.items) (trail_of c.push_both.new.choices.items) c.args.left.now c.args.right.now now.merged.items
-          c.push_reserved.new.self.items now.before now.beside c.args.steps.now c.read-first.result c.read-second.result c.joined.result c.push_both.result now.steps
+      going = goes-second (trail_of c.args.choices.now.items) (trail_of now.choices.items) (trail_of c.push_both-mark.new.choices.items) c.args.left.now c.args.right.now now.merged.items
+          c.push_reserved.new.self.items now.before now.beside c.args.steps.now c.read-first.result c.read-second.result c.joined.result c.push_both-mark.result now.steps
           c.read-second.new.steps now.invariant.going
           (are-read c.loop-before-test.true c.if-beside-right.false c.read-first.ensures.pair c.read-second.ensures.pair c.requires.left_marks c.requires.right_marks
-          c.push_both.ensures.kept c.push_both.ensures.both c.push_both.ensures.mark c.joined.ensures.seen c.joined.ensures.mark c.read-first.ensures.steps c.read-second.ensures.steps)
+          c.push_both-mark.ensures.kept c.push_both-mark.ensures.both c.push_both-mark.ensures.mark c.joined.ensures.seen c.joined.ensures.mark c.read-first.ensures.steps c.read-second.ensures.steps)
           c.push_reserved.ensures.items (not-true (no_later (sight c.read-first.result).time (sight c.read-second.result).time) (sym c.is_later.ensures ∙ c.if-is_later.true));
-      choices = c.push_both.ensures.choices;
+      choices = c.push_both-mark.ensures.choices;
       room = omega (arith, now.invariant.room, c.push_reserved.ensures.len, c.push_reserved.ensures.capacity);
-      choice_room = omega (arith, now.invariant.choice_room, c.push_both.ensures.len, c.push_both.ensures.capacity);
+      choice_room = omega (arith, now.invariant.choice_room, c.push_both-mark.ensures.len, c.push_both-mark.ensures.capacity);
     }
 
 pub loop-before-preserved-then-is_later-2 : goal.loop-before-preserved-then-is_later-2
 loop-before-preserved-then-is_later-2 g c =
     let now = c.loop-before in
     record {
-      going = goes-first (trail_of c.args.choices.now.items) (trail_of now.choices.items) (trail_of c.push_both.new.choices.items) c.args.left.now c.args.right.now now.merged.items
-          c.push_reserved.new.self.items now.before now.beside c.args.steps.now c.read-first.result c.read-second.result c.joined.result c.push_both.result now.steps
+      going = goes-first (trail_of c.args.choices.now.items) (trail_of now.choices.items) (trail_of c.push_both-mark.new.choices.items) c.args.left.now c.args.right.now now.merged.items
+          c.push_reserved.new.self.items now.before now.beside c.args.steps.now c.read-first.result c.read-second.result c.joined.result c.push_both-mark.result now.steps
           c.read-second.new.steps now.invariant.going
           (are-read c.loop-before-test.true c.if-beside-right.false c.read-first.ensures.pair c.read-second.ensures.pair c.requires.left_marks c.requires.right_marks
-          c.push_both.ensures.kept c.push_both.ensures.both c.push_both.ensures.mark c.joined.ensures.seen c.joined.ensures.mark c.read-first.ensures.steps c.read-second.ensures.steps)
+          c.push_both-mark.ensures.kept c.push_both-mark.ensures.both c.push_both-mark.ensures.mark c.joined.ensures.seen c.joined.ensures.mark c.read-first.ensures.steps c.read-second.ensures.steps)
           c.push_reserved.ensures.items (not-false (no_later (sight c.read-first.result).time (sight c.read-second.result).time) (sym c.is_later.ensures ∙ c.if-is_later.false))
           (not-true (no_later (sight c.read-second.result).time (sight c.read-first.result).time) (sym c.is_later-in-loop-before.ensures ∙ c.if-is_later-2.true));
-      choices = c.push_both.ensures.choices;
+      choices = c.push_both-mark.ensures.choices;
       room = omega (arith, now.invariant.room, c.push_reserved.ensures.len, c.push_reserved.ensures.capacity);
-      choice_room = omega (arith, now.invariant.choice_room, c.push_both.ensures.len, c.push_both.ensures.capacity);
+      choice_room = omega (arith, now.invariant.choice_room, c.push_both-mark.ensures.len, c.push_both-mark.ensures.capacity);
     }
 
 pub loop-before-preserved : goal.loop-before-preserved
 loop-before-preserved g c =
     let now = c.loop-before in
     record {
-      going = goes-both (trail_of c.args.choices.now.items) (trail_of now.choices.items) (trail_of c.push_both.new.choices.items) c.args.left.now c.args.right.now now.merged.items
-          c.push_reserved.new.self.items now.before now.beside c.args.steps.now c.read-first.result c.read-second.result c.joined.result c.push_both.result now.steps
+      going = goes-both (trail_of c.args.choices.now.items) (trail_of now.choices.items) (trail_of c.push_both-mark.new.choices.items) c.args.left.now c.args.right.now now.merged.items
+          c.push_reserved.new.self.items now.before now.beside c.args.steps.now c.read-first.result c.read-second.result c.joined.result c.push_both-mark.result now.steps
           c.read-second.new.steps now.invariant.going
           (are-read c.loop-before-test.true c.if-beside-right.false c.read-first.ensures.pair c.read-second.ensures.pair c.requires.left_marks c.requires.right_marks
-          c.push_both.ensures.kept c.push_both.ensures.both c.push_both.ensures.mark c.joined.ensures.seen c.joined.ensures.mark c.read-first.ensures.steps c.read-second.ensures.steps)
+          c.push_both-mark.ensures.kept c.push_both-mark.ensures.both c.push_both-mark.ensures.mark c.joined.ensures.seen c.joined.ensures.mark c.read-first.ensures.steps c.read-second.ensures.steps)
           c.push_reserved.ensures.items (not-false (no_later (sight c.read-first.result).time (sight c.read-second.result).time) (sym c.is_later.ensures ∙ c.if-is_later.false))
           (not-false (no_later (sight c.read-second.result).time (sight c.read-first.result).time) (sym c.is_later-in-loop-before.ensures ∙ c.if-is_later-2.false));
-      choices = c.push_both.ensures.choices;
+      choices = c.push_both-mark.ensures.choices;
       room = omega (arith, now.invariant.room, c.push_reserved.ensures.len, c.push_reserved.ensures.capacity);
-      choice_room = omega (arith, now.invariant.choice_room, c.push_both.ensures.len, c.push_both.ensures.capacity);
+      choice_room = omega (arith, now.invariant.choice_room, c.push_both-mark.ensures.len, c.push_both-mark.ensures.capacity);
     }
 
 pub returns-then-beside-right : goal.returns-then-beside-right

@@ -1,6 +1,5 @@
 use Rattle.std.proofs.Common.{◌≡◌, List, [], ◌∷◌, ◌++◌, length, sym, ap, subst, arith}
 use Rattle.std.proofs.lemmas.List.{length_push}
-use Rattle.ginneken_lists.specs.Trails.{trail_of}
 use Rattle.ginneken_lists.specs.TrailStore.{AreChoices}
 use Rattle.ginneken_lists.specs.declared.choice.Choice.{Choice}
 use Rattle.ginneken_lists.specs.declared.choice.Choice.TheVariants.{Both as Branches}

@@ -7,8 +7,8 @@ use Rattle.ginneken_lists.proofs.WiringLemmas.{read-old, wired-first, wired-late
 use Rattle.ginneken_lists.proofs.wiring.wire.Goals as goal
 use Rattle.ginneken_lists.proofs.wiring.wire.Goals.{then-is_later, else-is_later}
 
-pub along-requires-clause-range : goal.along-requires-clause-range
-along-requires-clause-range g c =
+pub along-last-requires-clause-range : goal.along-last-requires-clause-range
+along-last-requires-clause-range g c =
     let some = c.requires.list.some in
     let long = length-map c.args.pairs.now.items pair_of in
     in-range c.args.pairs.now.items 0 c.read.result c.requires.range (omega arith)
@@ -28,10 +28,10 @@ loop-at-init g c =
     let some = c.requires.list.some in
     let long = length-map c.args.pairs.now.items pair_of in
     record {
-      wired = wired-first c.args.wire c.args.pairs.now.items c.read.result c.along.result c.requires.list.rising (omega arith)
-          (c.read.ensures.pair ∙ ap (λ (xs : List Stored). get_or xs 0 c.read.result) c.deref.ensures.value) c.along.ensures.seen c.along.ensures.mark;
+      wired = wired-first c.args.wire c.args.pairs.now.items c.read.result c.along-last.result c.requires.list.rising (omega arith)
+          (c.read.ensures.pair ∙ ap (λ (xs : List Stored). get_or xs 0 c.read.result) c.deref.ensures.value) c.along-last.ensures.seen c.along-last.ensures.mark;
       some = omega arith;
-      last = sym (get_or-set_same c.args.pairs.now.items 0 c.along.result c.along.result (omega arith));
+      last = sym (get_or-set_same c.args.pairs.now.items 0 c.along-last.result c.along-last.result (omega arith));
       steps = c.read.ensures.steps;
     }
 

@@ -1,4 +1,4 @@
-use Rattle.std.proofs.Common.{◌≡◌, ◌≤◌, List, length, All, sym, ap, subst, ◌∙◌, arith}
+use Rattle.std.proofs.Common.{◌≡◌, ◌≤◌, List, length, All, sym, ap, subst, ◌∙◌}
 use Rattle.ginneken_lists.specs.Candidates.{Chosen, all_joined}
 use Rattle.ginneken_lists.specs.Trails.{trail_of, Keeps}
 use Rattle.ginneken_lists.specs.TrailStore.{AreChoices}
