@@ -1,18 +1,19 @@
 -- How many candidates there are at a node.
-use Rattle.std.proofs.Common.{◌≡◌, ◌≢◌, ℕ, zero, suc, ◌+◌, ◌-◌, ◌*◌, ◌<◌, ◌≤◌, inl, inr, Bool, true, false, List, [], ◌∷◌, ◌++◌, length, map, filter, filter_map, sum_by, Option, Some, None, if◌then◌else◌, refl, sym, ap, subst, ◌∙◌, arith}
+use Rattle.std.proofs.Common.{◌≡◌, ◌≢◌, ℕ, zero, suc, ◌+◌, ◌-◌, ◌*◌, ◌<◌, ◌≤◌, inl, inr, Bool, true, false, List, [], ◌∷◌, ◌++◌, length, map, flat_map, filter_map, sum_by, Option, Some, None, if◌then◌else◌, refl, sym, ap, subst, ◌∙◌, arith}
 use Rattle.std.specs.List.{range_with_len, cons_option}
 use Rattle.std.proofs.lemmas.Bool.{cases_eq, cases_Bool, cond-true, cond-false}
 use Rattle.std.proofs.lemmas.List.{length-append, length-map}
 use Rattle.std.proofs.lemmas.List.FromFn.{length-range_with_len}
 use Rattle.std.proofs.lemmas.List.Sums.{sum_by-cons}
 use Rattle.elmore_delay.specs.BelowNodes.{lies_below, is_within, nodes_below}
+use Rattle.elmore_delay.specs.FromLeaves.{sinks_seen}
 use Rattle.elmore_delay.specs.Loadings.{LoadingView, IsLoading, rc_of}
 use Rattle.elmore_delay.specs.RcTrees.{IsRcTree}
 use Rattle.elmore_delay.proofs.BelowLemmas.{within-more, within-itself, within-below}
 use Rattle.elmore_delay.proofs.RcLemmas.{rc-tree}
 use Rattle.elmore_delay.proofs.Ranges.{sums, only, sums-same, sums-none, sum-passing}
 use Rattle.rc_library.specs.Libraries.{LibraryView}
-use Rattle.ginneken_lists.specs.Candidates.{Candidate, thinned, along_edge, with_kind, offers, with_offers}
+use Rattle.ginneken_lists.specs.Candidates.{Candidate, Nothing, along_edge, joined_with, all_joined, with_kind, offers, with_offers}
 use Rattle.ginneken_lists.specs.Thinning.{AreRising}
 use Rattle.ginneken_lists.proofs.Serving.{pairs-one}
 use Rattle.ginneken_lists.proofs.Thinned.{Before, thinned-rising}
@@ -21,11 +22,15 @@ use Rattle.buffer_plan.specs.Picked.{Sites, sites_of, all_above, all_hanging, ca
 use Rattle.buffer_plan.proofs.Complete.{complete}
 use Rattle.buffer_plan.proofs.HungLemmas.{candidates-hung, candidates-other}
 
+joined-rising : (left right : List Candidate) → AreRising (all_joined left right)
+joined-rising left right = thinned-rising (flat_map (λ o. map (joined_with o) right) left)
+
 -- the lists of nodes rise
 rising-of_last : (n k v : ℕ) (s : Sites) → k + n ≡ s.tree.nodes → AreRising (candidates_of_last n s v)
-rising-of_last zero k v s at = pairs-one Before _
+rising-of_last zero k v s at = pairs-one Before (record { seen = sinks_seen s.tree v; chosen = Nothing })
 rising-of_last (suc n) k v s at = elim (cases_eq v (s.tree.parent k)) [
-  | inl same ↦ subst AreRising (sym (candidates-hung n k v s at same)) (thinned-rising _)
+  | inl same ↦ subst AreRising (sym (candidates-hung n k v s at same))
+      (joined-rising (candidates_of_last n s v) (all_hanging s k (candidates_of_last n s k)))
   | inr other ↦ subst AreRising (sym (candidates-other n k v s at other)) (rising-of_last n (suc k) v s (omega arith))
 ]
 
@@ -40,13 +45,13 @@ some-of_last n k v s at =
     omega arith
 
 -- at most one offer for each kind
+length-cons_option : {B : Type 0} (o : Option B) (ys : List B) (n : ℕ) → length ys ≤ n → length (cons_option o ys) ≤ suc n
+length-cons_option None ys n few = omega arith
+length-cons_option (Some y) ys n few = omega arith
+
 length-filter_map : {A B : Type 0} (h : A → Option B) (xs : List A) → length (filter_map h xs) ≤ length xs
 length-filter_map h [] = omega arith
-length-filter_map {B = B} h (x ∷ xs) = by (h x)
-  where
-    by : (o : Option B) → length (cons_option o (filter_map h xs)) ≤ suc (length xs)
-    by None = let rest = length-filter_map h xs in omega arith
-    by (Some y) = let rest = length-filter_map h xs in omega arith
+length-filter_map h (x ∷ xs) = length-cons_option (h x) (filter_map h xs) (length xs) (length-filter_map h xs)
 
 offers-few : (lib : LibraryView) (node : ℕ) (all : List Candidate) → length (with_offers lib node all) ≤ length all + length lib.kinds
 offers-few lib node all =
@@ -71,8 +76,8 @@ hanging-few s node all =
     let above = above-few s node all in
     omega arith
 
-hanging-some : (s : Sites) (node : ℕ) (all : List Candidate) → AreRising (all_hanging s node all)
-hanging-some s node all = thinned-rising _
+hanging-rising : (s : Sites) (node : ℕ) (all : List Candidate) → AreRising (all_hanging s node all)
+hanging-rising s node all = thinned-rising (map (along_edge (s.tree.wire node)) (all_above s node all))
 
 -- how many candidates a node has beyond one, where so many last nodes are hung
 abbrev more : ℕ → Sites → ℕ → ℕ
@@ -85,7 +90,7 @@ more-hung n k s at =
     let below = some-of_last n (suc k) k s (omega arith) in
     let hung = hanging-few s k (candidates_of_last n s k) in
     let joined = length-joined (candidates_of_last n s q) (all_hanging s k (candidates_of_last n s k))
-    (rising-of_last n (suc k) q s (omega arith)) (hanging-some s k (candidates_of_last n s k)) own in
+    (rising-of_last n (suc k) q s (omega arith)) (hanging-rising s k (candidates_of_last n s k)) own in
     let same = ap (λ (os : List Candidate). length os) (candidates-hung n k q s at refl) in
     omega arith
 
@@ -112,13 +117,14 @@ few-within : (n k v : ℕ) (s : Sites) → IsRcTree s.tree → v < k → k + n �
     sums (only (is_within s.tree v) (more n s)) k + length s.library.kinds * sums (only (lies_below s.tree v) one) k
     ≤ length s.library.kinds * sums (only (lies_below s.tree v) one) s.tree.nodes
 few-within zero k v s tree later at =
-    let none = sums-none (only (is_within s.tree v) (more zero s)) k (λ u lt. nothing (is_within s.tree v u)) in
+    let none : sums (only (is_within s.tree v) (more zero s)) k ≡ 0 =
+    sums-none (only (is_within s.tree v) (more zero s)) k (λ u lt. nothing (is_within s.tree v u) (more zero s u) (omega arith)) in
     let same = ap (λ (m : ℕ). length s.library.kinds * sums (only (lies_below s.tree v) one) m) (let e : k ≡ s.tree.nodes = omega arith in e) in
     omega (arith, none, same)
   where
-    nothing : (p : Bool) → (if p then 0 else 0) ≡ 0
-    nothing true = refl
-    nothing false = refl
+    nothing : (p : Bool) (n : ℕ) → n ≡ 0 → (if p then n else 0) ≡ 0
+    nothing true n none = none
+    nothing false n none = refl
 few-within (suc n) k v s tree later at =
     let q = s.tree.parent k in
     let kinds : ℕ = length s.library.kinds in

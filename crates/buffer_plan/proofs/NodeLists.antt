@@ -1,5 +1,5 @@
 -- The candidates at each node are complete and real.
-use Rattle.std.proofs.Common.{◌≡◌, ℕ, zero, suc, ◌+◌, ◌-◌, ◌<◌, ◌≤◌, inl, inr, Bool, true, false, ◌==◌, List, length, slice_index_or, All, Contains, Option, None, IfSome, option_and_then, if◌then◌else◌, refl, sym, ap, subst, ◌∙◌, arith}
+use Rattle.std.proofs.Common.{◌≡◌, ℕ, zero, suc, ◌+◌, ◌-◌, ◌<◌, ◌≤◌, inl, inr, Bool, true, false, ◌==◌, List, length, slice_index_or, Contains, Option, None, IfSome, option_and_then, if◌then◌else◌, refl, sym, ap, subst, ◌∙◌, arith}
 use Rattle.std.specs.List.{list_any}
 use Rattle.std.proofs.lemmas.Bool.{cases_eq, cases_lt, cases_Bool, cond-true, cond-false}
 use Rattle.std.proofs.lemmas.List.FromFn.{length-map-range_with_len}
@@ -18,12 +18,12 @@ use Rattle.elmore_delay.proofs.Loads.{seen-other}
 use Rattle.elmore_delay.proofs.RcLemmas.{rc-tree}
 use Rattle.elmore_delay.proofs.SeenFromLeaves.{seen-last}
 use Rattle.ginneken_lists.specs.Candidates.{Chosen, Candidate, serves, chosen_at}
-use Rattle.buffer_plan.specs.CandidatesBelow.{IsAllowedBelow, seen_with, AreComplete, IsRealAt, AreReal}
+use Rattle.buffer_plan.specs.CandidatesBelow.{seen_with, AreComplete, IsRealAt, AreReal}
 use Rattle.buffer_plan.specs.Picked.{sites_of, candidates_of_last, candidates_at, placement_of}
 use Rattle.buffer_plan.proofs.Apart.{chosen-below}
 use Rattle.buffer_plan.proofs.BestLemmas.{held-may, may-named, may-none, placement-at, placement-past}
 use Rattle.buffer_plan.proofs.Complete.{complete}
-use Rattle.buffer_plan.proofs.HungLemmas.{Held, if-same, if-other, buffers_by, seen-hung, choice_of_last}
+use Rattle.buffer_plan.proofs.HungLemmas.{if-same, if-other, buffers_by, seen-hung}
 use Rattle.buffer_plan.proofs.Real.{IsReal, real}
 
 any-has : {A : Type 0} (p : A → Bool) (xs : List A) (x : A) → Contains xs x → p x ≡ true → list_any p xs ≡ true
@@ -56,32 +56,30 @@ seen-within (suc n) k v t b c tree later at each =
     ]
 
 -- a selection of candidates with a given one at v
-module _ (l : LoadingView) (v : ℕ) (loading : IsLoading l) (inside : v < length l.tree.nodes) (o : Candidate) (among : Contains (candidates_at l v) o) where
-  last : ℕ
-  last = length l.tree.nodes - suc v
-
-  any_at : (u : ℕ) → (x : Candidate) × Contains (candidates_of_last last (sites_of l) u) x
+module _ (l : LoadingView) (v n : ℕ) (loading : IsLoading l) (at : suc v + n ≡ length l.tree.nodes) (o : Candidate)
+    (among : Contains (candidates_of_last n (sites_of l) v) o) where
+  abbrev any_at : (u : ℕ) → (x : Candidate) × Contains (candidates_of_last n (sites_of l) u) x
   any_at u =
-      let served = complete last (suc v) u (sites_of l) (λ node. None) (omega arith) (λ node. tt) in
+      let served = complete n (suc v) u (sites_of l) (λ node. None) at (λ node. tt) in
       (served.by, served.among)
 
-  selected : ℕ → Candidate
+  abbrev selected : ℕ → Candidate
   selected u = if u == v then o else (any_at u).0
 
   selected-v : selected v ≡ o
   selected-v = if-same v v o (any_at v).0 refl
 
-  selected-each : (u : ℕ) → u < suc v → Contains (candidates_of_last last (sites_of l) u) (selected u)
+  selected-each : (u : ℕ) → u < suc v → Contains (candidates_of_last n (sites_of l) u) (selected u)
   selected-each u below = elim (cases_eq u v) [
     | inl same ↦
-        subst (λ (x : Candidate). Contains (candidates_of_last last (sites_of l) u) x) (sym (if-same u v o (any_at u).0 same))
-        (subst (λ (w : ℕ). Contains (candidates_of_last last (sites_of l) w) o) (sym same) among)
+        subst (λ (x : Candidate). Contains (candidates_of_last n (sites_of l) u) x) (sym (if-same u v o (any_at u).0 same))
+        (subst (λ (w : ℕ). Contains (candidates_of_last n (sites_of l) w) o) (sym same) among)
     | inr other ↦
-        subst (λ (x : Candidate). Contains (candidates_of_last last (sites_of l) u) x) (sym (if-other u v o (any_at u).0 other)) (any_at u).1
+        subst (λ (x : Candidate). Contains (candidates_of_last n (sites_of l) u) x) (sym (if-other u v o (any_at u).0 other)) (any_at u).1
   ]
 
-  found : IsReal last (suc v) (sites_of l) selected
-  found = real last (suc v) (sites_of l) selected (rc-tree l loading) (omega arith) (omega arith) selected-each
+  found : IsReal n (suc v) (sites_of l) selected
+  found = real n (suc v) (sites_of l) selected (rc-tree l loading) (omega arith) at selected-each
 
   -- the named placement holds below v what is found, and else nothing
   named-at : (node : ℕ) (d : Option ℕ) → node < length l.tree.nodes →
@@ -89,7 +87,7 @@ module _ (l : LoadingView) (v : ℕ) (loading : IsLoading l) (inside : v < lengt
   named-at node d within =
       placement-at l o.chosen node d within
       ∙ ap (λ (c : Chosen). chosen_at c node) (sym (found.chosen v (omega arith) ∙ ap (λ (x : Candidate). x.chosen) selected-v))
-      ∙ chosen-below last v node (rc_of l) found.held (rc-tree l loading) (omega arith) within
+      ∙ chosen-below n v node (rc_of l) found.held (rc-tree l loading) at within
 
   named-below : (node : ℕ) (d : Option ℕ) → node < length l.tree.nodes → lies_below (rc_of l) v node ≡ true →
       slice_index_or (placement_of l o.chosen) node d ≡ found.held node
@@ -127,8 +125,8 @@ module _ (l : LoadingView) (v : ℕ) (loading : IsLoading l) (inside : v < lengt
       let t = rc_of l in
       let b = buffers_of l.library (placement_of l o.chosen) in
       let c = buffers_by l.library found.held in
-      seen-last last v t b (rc-tree l loading) (omega arith)
-      ∙ seen-within last (suc v) v t b c (rc-tree l loading) (omega arith) (omega arith)
+      seen-last n v t b (rc-tree l loading) at
+      ∙ seen-within n (suc v) v t b c (rc-tree l loading) (omega arith) at
       (λ node le lt under. ap (λ (m : Option ℕ). option_and_then (kind_of l.library) m) (named-below node None lt under))
       ∙ found.seen v (omega arith)
       ∙ ap (λ (x : Candidate). x.seen) selected-v
@@ -148,4 +146,4 @@ module _ (l : LoadingView) (v : ℕ) (loading : IsLoading l) (inside : v < lengt
 
 pub real-at : (l : LoadingView) (v : ℕ) → IsLoading l → v < length l.tree.nodes → AreReal l v (candidates_at l v)
 real-at l v loading inside k d below =
-    named-real l v loading inside (slice_index_or (candidates_at l v) k d) (All-contains_itself (candidates_at l v) k d below)
+    named-real l v (length l.tree.nodes - suc v) loading (omega arith) (slice_index_or (candidates_at l v) k d) (All-contains_itself (candidates_at l v) k d below)
