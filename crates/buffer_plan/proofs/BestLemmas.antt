@@ -9,7 +9,7 @@ use Rattle.rc_library.specs.Libraries.{kind_of}
 use Rattle.elmore_delay.specs.RcTrees.{Sink, RcTree, Buffers, slack, soonest, required_time}
 use Rattle.elmore_delay.specs.FromLeaves.{seen_whole, at_driver}
 use Rattle.elmore_delay.specs.Loadings.{LoadingView, IsLoading, rc_of, is_free, sink_at, sinks_of}
-use Rattle.elmore_delay.specs.Placements.{placed_at, buffers_of}
+use Rattle.elmore_delay.specs.Placements.{placed_at, NamesKinds, buffers_of}
 use Rattle.elmore_delay.specs.declared.seen.Seen.{Seen}
 use Rattle.elmore_delay.proofs.RequiredFromLeaves.{required-from_leaves}
 use Rattle.elmore_delay.proofs.RcLemmas.{rc-tree, no-root_buffer}
@@ -33,17 +33,21 @@ placed-inside p node number is = elim (cases_lt node (length p)) [
   | inr past ↦ let none : placed_at p node ≡ None = get_or_past p node None past in absurd (grind arith)
 ]
 
-pub allowed-may : (l : LoadingView) (p : List (Option ℕ)) → IsAllowed l p → AllMay (sites_of l) (placed_at p)
-allowed-may l p allowed node = may (placed_at p node) refl
+pub held-may : (l : LoadingView) (p : List (Option ℕ)) → NamesKinds l.library p → ((node : ℕ) → is_free l node ≡ false → placed_at p node ≡ None) →
+    AllMay (sites_of l) (placed_at p)
+held-may l p kinds free node = may (placed_at p node) refl
   where
     may : (o : Option ℕ) → placed_at p node ≡ o → MayHold (sites_of l) node o
     may None is = tt
     may (Some number) is =
-        let named = subst (λ (o : Option ℕ). IfSome o (λ m. m < length l.library.kinds)) is (allowed.kinds node None (placed-inside p node number is)) in
+        let named = subst (λ (o : Option ℕ). IfSome o (λ m. m < length l.library.kinds)) is (kinds node None (placed-inside p node number is)) in
         elim (cases_Bool (is_free l node)) [
-          | inl free ↦ (free, named)
-          | inr blocked ↦ let none = allowed.free node blocked in absurd (grind arith)
+          | inl stands ↦ (stands, named)
+          | inr blocked ↦ let none = free node blocked in absurd (grind arith)
         ]
+
+pub allowed-may : (l : LoadingView) (p : List (Option ℕ)) → IsAllowed l p → AllMay (sites_of l) (placed_at p)
+allowed-may l p allowed = held-may l p allowed.kinds allowed.free
 
 pub may-named : (s : Sites) (node : ℕ) (o : Option ℕ) → MayHold s node o → IfSome o (λ m. m < length s.library.kinds)
 may-named s node None may = tt
@@ -58,7 +62,7 @@ pub placement-at : (l : LoadingView) (chosen : Chosen) (node : ℕ) (d : Option 
     slice_index_or (placement_of l chosen) node d ≡ chosen_at chosen node
 placement-at l chosen node d inside = get_or-map-range_with_len (chosen_at chosen) 0 (length l.tree.nodes) node node d inside (omega arith)
 
-placement-past : (l : LoadingView) (chosen : Chosen) (node : ℕ) → length l.tree.nodes ≤ node → placed_at (placement_of l chosen) node ≡ None
+pub placement-past : (l : LoadingView) (chosen : Chosen) (node : ℕ) → length l.tree.nodes ≤ node → placed_at (placement_of l chosen) node ≡ None
 placement-past l chosen node past =
     let long = length-map-range_with_len (chosen_at chosen) 0 (length l.tree.nodes) in
     get_or_past (placement_of l chosen) node None (omega arith)

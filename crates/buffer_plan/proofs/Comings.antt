@@ -1,5 +1,5 @@
 -- Where the candidates of a list come from.
-use Rattle.std.proofs.Common.{◌≡◌, ℕ, ◌<◌, Bool, true, false, inl, inr, List, ◌++◌, length, map, flat_map, Contains, Option, Some, None, option_and_then, option_map, refl, sym, ap, ◌∙◌, if◌then◌else◌, arith}
+use Rattle.std.proofs.Common.{◌≡◌, ℕ, Bool, true, false, inl, inr, List, ◌++◌, length, map, flat_map, Contains, Option, Some, None, option_and_then, option_map, refl, sym, ap, ◌∙◌, if◌then◌else◌, arith}
 use Rattle.std.specs.List.{range_with_len}
 use Rattle.std.proofs.lemmas.List.Elements.{All-contains, Contains-append_cases}
 use Rattle.rc_library.specs.Libraries.{kind_of}

@@ -9,6 +9,8 @@ pub mod Real
 pub mod Apart
 pub mod TimeKnown
 pub mod BestLemmas
+pub mod NodeLists
+pub mod FewCandidates
 pub mod Small
 pub mod Gathering
 pub mod TakenLemmas

@@ -12,7 +12,7 @@ use Rattle.buffer_plan.proofs.Members.{contains-cases}
 use Rattle.buffer_plan.proofs.Served.{MayHold, seen_above}
 use Rattle.buffer_plan.proofs.HungLemmas.{Held, buffers_by, if-same, if-other, seen-hung, candidates-hung, candidates-other, over, choice_of_last, choice-hung, choice-other, seen-same, choice-same}
 use Rattle.buffer_plan.proofs.Complete.{AllMay, bare}
-use Rattle.buffer_plan.proofs.Comings.{IsJoined, joined-comes, IsHanging, hanging-comes}
+use Rattle.buffer_plan.proofs.Comings.{joined-comes, hanging-comes}
 
 -- what is held, with which each selected candidate is seen and chosen
 pub record IsReal (n k : ℕ) (s : Sites) (o : ℕ → Candidate) : Type 0 where

@@ -1,5 +1,5 @@
 -- Candidates, and those above nodes and at the upper ends of edges, are in range.
-use Rattle.std.proofs.Common.{◌≡◌, ℕ, ◌+◌, ◌*◌, ◌^◌, ◌<◌, ◌≤◌, ℤ, ◌==◌, List, [], ◌∷◌, length, get_or, All, Contains, Option, Some, None, IfSome, option_and_then, unsigned_abs, if◌then◌else◌, mul-le-mul, inl, inr, refl, sym, ap, subst, ◌∙◌, arith}
+use Rattle.std.proofs.Common.{◌≡◌, ℕ, ◌+◌, ◌*◌, ◌^◌, ◌<◌, ◌≤◌, ℤ, ◌==◌, List, [], ◌∷◌, length, get_or, All, Contains, Option, Some, None, IfSome, option_and_then, unsigned_abs, if◌then◌else◌, mul-le-mul, inl, inr, refl, sym, subst, arith}
 use Rattle.std.proofs.lemmas.Int.{ints}
 use Rattle.std.proofs.lemmas.List.{get_or-map, length-map}
 use Rattle.std.proofs.lemmas.Bool.{cases_eq}
@@ -8,7 +8,7 @@ use Rattle.rc_library.specs.Libraries.{IsKind, IsWire, kind_of}
 use Rattle.rc_library.specs.declared.parts.Kind.{Kind}
 use Rattle.rc_library.specs.declared.parts.Wire.{Wire}
 use Rattle.elmore_delay.specs.RcTrees.{buffer_delay, edge_delay}
-use Rattle.elmore_delay.specs.FromLeaves.{less, along, behind, seen_of_last}
+use Rattle.elmore_delay.specs.FromLeaves.{less, along, behind}
 use Rattle.elmore_delay.specs.Loadings.{LoadingView, IsLoading, rc_of, wire_at}
 use Rattle.elmore_delay.specs.Ranges.{most_load, IsSmall, IsSeen, IsTime}
 use Rattle.elmore_delay.specs.declared.seen.Seen.{Seen}

@@ -1,5 +1,6 @@
 pub mod Best
 pub mod Picked
+pub mod CandidatesBelow
 pub mod Gathered
 pub mod Following
 pub mod Plans

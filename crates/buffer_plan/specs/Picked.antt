@@ -34,9 +34,12 @@ candidates_of_last (suc n) s v =
     let before = candidates_of_last n s in
     if v == s.tree.parent node then all_joined (before v) (all_hanging s node (before node)) else before v
 
--- below node 0, where all nodes are hung on their parents
+-- below a node, where all later nodes are hung on their parents, and so below node 0
+abbrev pub candidates_at : LoadingView → ℕ → List Candidate
+candidates_at l v = candidates_of_last (length l.tree.nodes - suc v) (sites_of l) v
+
 abbrev pub candidates : LoadingView → List Candidate
-candidates l = candidates_of_last (length l.tree.nodes - 1) (sites_of l) 0
+candidates l = candidates_at l 0
 
 -- the candidate that the driver drives best
 abbrev pub picked_candidate : LoadingView → Option Candidate

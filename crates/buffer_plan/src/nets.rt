@@ -19,9 +19,10 @@ use std::marker::Brand;
 use std::sync::ledger::{Blank, Ledger};
 use std::thread::{Threads, for_each_chunk_mut};
 
-/// The plan of each routed net: the picked placement of buffers in its tree, with which the required
-/// time at the driver is the greatest, and that time. The nets are parted into blocks, at most one
-/// for each worker, which are planned side by side. The only error is want of memory.
+/// The plans of exactly the routed nets: for each the picked placement of buffers in its tree, with
+/// which the required time at the driver is the greatest, and that time. The nets are parted into
+/// blocks, at most one for each worker, which are planned side by side. The only error is want of
+/// memory.
 pub fn plan_all<R: Threads + Sync>(
     rt: &R,
     alloc: Global,

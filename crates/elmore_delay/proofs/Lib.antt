@@ -1,7 +1,9 @@
 pub mod Ranges
 pub mod Paths
+pub mod BelowLemmas
 pub mod Loads
 pub mod RequiredFromLeaves
+pub mod SeenFromLeaves
 pub mod LibraryRanges
 pub mod SinkLemmas
 pub mod LoadingLemmas

@@ -41,25 +41,30 @@ pub behind-time : (o : Option Kind) (s : Seen) → (behind o s).time ≡ less (b
 behind-time None s = sym (less-none s.time)
 behind-time (Some kind) s = refl
 
--- the time that a node's parent sees of it, less the delay to the parent, is what is seen at the node less the delay to it
-hanging-time : (n k : ℕ) (t : RcTree) (b : Buffers) → IsRcTree t → 0 < k → suc k + n ≡ t.nodes →
-    less (delay_to t b (t.parent k)) (hanging t b k (seen_of_last n t b k)).time ≡ less (delay_to t b k) (seen_of_last n t b k).time
-hanging-time n k t b tree later at =
+-- the time that a node's parent sees of it, less a delay to the parent, is what is seen at the node less the delay to it
+pub hanging-later : (n k upper lower : ℕ) (t : RcTree) (b : Buffers) → IsRcTree t → suc k + n ≡ t.nodes → lower ≡ upper + node_delay t b k →
+    less upper (hanging t b k (seen_of_last n t b k)).time ≡ less lower (seen_of_last n t b k).time
+hanging-later n k upper lower t b tree at path =
     let s = seen_of_last n t b k in
     let load : below t b k ≡ s.load = load-below_last n k t b tree at in
     let edge = edge_delay (t.wire k) (behind (b k) s).load in
     let own = buffer_delay (b k) s.load in
-    let upper : edge + own ≡ node_delay t b k =
+    let added : edge + own ≡ node_delay t b k =
     ap (λ (m : ℕ). edge_delay (t.wire k) m + own) (behind-load (b k) s)
     ∙ ap (λ (m : ℕ). edge_delay (t.wire k) (load_above (b k) m) + buffer_delay (b k) m) (sym load) in
-    let path : delay_to t b k ≡ delay_to t b (t.parent k) + node_delay t b k =
-    ap (λ (nodes : List ℕ). 2 * t.driver * below t b 0 + sum_by (node_delay t b) (k ∷ nodes)) (above-more t k tree later (omega arith))
+    ap (λ (o : Option ℤ). less upper (less edge o)) (behind-time (b k) s)
+    ∙ ap (λ (o : Option ℤ). less upper o) (less-twice own edge s.time)
+    ∙ less-twice (edge + own) upper s.time
+    ∙ ap (λ (m : ℕ). less m s.time) (ap (λ (m : ℕ). upper + m) added ∙ sym path)
+
+-- the same with the delays from the driver
+hanging-time : (n k : ℕ) (t : RcTree) (b : Buffers) → IsRcTree t → 0 < k → suc k + n ≡ t.nodes →
+    less (delay_to t b (t.parent k)) (hanging t b k (seen_of_last n t b k)).time ≡ less (delay_to t b k) (seen_of_last n t b k).time
+hanging-time n k t b tree later at =
+    hanging-later n k (delay_to t b (t.parent k)) (delay_to t b k) t b tree at
+    (ap (λ (nodes : List ℕ). 2 * t.driver * below t b 0 + sum_by (node_delay t b) (k ∷ nodes)) (above-more t k tree later (omega arith))
     ∙ ap (λ (m : ℕ). 2 * t.driver * below t b 0 + m) (sum_by-cons (node_delay t b) k (path_to t (t.parent k)))
-    ∙ omega arith in
-    ap (λ (o : Option ℤ). less (delay_to t b (t.parent k)) (less edge o)) (behind-time (b k) s)
-    ∙ ap (λ (o : Option ℤ). less (delay_to t b (t.parent k)) o) (less-twice own edge s.time)
-    ∙ less-twice (edge + own) (delay_to t b (t.parent k)) s.time
-    ∙ ap (λ (m : ℕ). less m s.time) (ap (λ (m : ℕ). delay_to t b (t.parent k) + m) upper ∙ sym path)
+    ∙ omega arith)
 
 -- the least slack is the least over the nodes that aren't hung on their parents yet
 slacks-seen : (n k : ℕ) (t : RcTree) (b : Buffers) → IsRcTree t → 0 < k → k + n ≡ t.nodes →

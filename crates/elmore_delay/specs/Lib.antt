@@ -1,5 +1,6 @@
 pub mod RcTrees
 pub mod FromLeaves
+pub mod BelowNodes
 pub mod Ranges
 pub mod Wishes
 pub mod Placements

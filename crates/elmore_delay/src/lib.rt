@@ -12,7 +12,7 @@ mod times;
 mod wants;
 
 pub use delay::delay_to;
-pub use laws::required_from_leaves;
+pub use laws::{required_from_leaves, seen_from_leaves};
 pub use loading::Loading;
 pub use placement::Placement;
 pub use plans::{Plan, Plans};

@@ -4,7 +4,9 @@ pub mod Thinned
 pub mod ThinnedAgain
 pub mod Walk
 pub mod Unique
+pub mod FirstKept
 pub mod WalkThins
+pub mod FewKept
 pub mod TrailLemmas
 pub mod StoredLemmas
 pub mod WiringLemmas

@@ -204,7 +204,7 @@ are-read ahead apart first second left_marks right_marks grows named fits seen m
   mark_is = mark_is;
 }
 
-read-mark : (most : ℕ) (xs : List Stored) (k : ℕ) (x : Stored) → All (λ (s : Stored). s.mark ≤ most) xs → k < length xs → x ≡ get_or xs k x → x.mark ≤ most
+pub read-mark : (most : ℕ) (xs : List Stored) (k : ℕ) (x : Stored) → All (λ (s : Stored). s.mark ≤ most) xs → k < length xs → x ≡ get_or xs k x → x.mark ≤ most
 read-mark most xs k x marks inside is = subst (λ (s : Stored). s.mark ≤ most) (sym is) (marks k x inside)
 
 -- a step forward, by one or two pairs

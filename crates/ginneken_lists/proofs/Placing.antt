@@ -4,11 +4,11 @@ use Rattle.std.proofs.lemmas.Bool.{cases_Bool, cases_eq, cond-true, cond-false, 
 use Rattle.std.proofs.lemmas.List.{drop_more, drop_all, take_at, drop_at, take-append-drop, get_or-drop, length-append, length-drop, length-map, length-take-le}
 use Rattle.std.proofs.lemmas.List.Elements.{All-cons, All-head, All-tail, All-weaker, All-append, All-take, All-drop, All-filter}
 use Rattle.gr_base.proofs.General.{filter-yes, filter-no}
-use Rattle.ginneken_lists.specs.Candidates.{Chosen, Candidate, serves, with_one}
+use Rattle.ginneken_lists.specs.Candidates.{Chosen, Candidate, serves, unserved, with_one}
 use Rattle.ginneken_lists.specs.Thinning.{Precedes, IsRising, AreRising}
 use Rattle.ginneken_lists.specs.Pairs.{IsList}
 use Rattle.ginneken_lists.specs.StoredPairs.{pair_of, pairs_of, stored_candidate}
-use Rattle.ginneken_lists.specs.Offering.{unserved, place_of, without_served}
+use Rattle.ginneken_lists.specs.Offering.{place_of, without_served}
 use Rattle.ginneken_lists.specs.declared.stored.Stored.{Stored}
 use Rattle.ginneken_lists.proofs.Serving.{unserved-earlier, later-unserved, pairs-head, pairs-tail, pairs-back}
 use Rattle.ginneken_lists.proofs.Thinned.{with_one-rising}

@@ -3,9 +3,9 @@ use Rattle.std.proofs.Common.{◌≡◌, ◌<◌, ◌≤◌, inl, inr, Bool, tru
 use Rattle.std.proofs.lemmas.Bool.{cond_both, ltb-true, ltb-false, not-true, not-false, or_left, or_right, or_cases}
 use Rattle.std.proofs.lemmas.List.Elements.{All-nil, All-cons, All-head, All-tail, All-weaker, All-filter, filter_passes, All-contains_itself}
 use Rattle.std.proofs.lemmas.List.Kept.{AllPairs-cons, AllPairs-filter}
-use Rattle.ginneken_lists.specs.Candidates.{Candidate, serves, with_one, thinned}
-use Rattle.ginneken_lists.specs.Thinning.{Precedes, AreRising, is_served, IsThinned}
-use Rattle.ginneken_lists.specs.Offering.{unserved, with_all}
+use Rattle.ginneken_lists.specs.Candidates.{Candidate, serves, unserved, with_one, thinned}
+use Rattle.ginneken_lists.specs.Thinning.{Precedes, AreRising, is_served}
+use Rattle.ginneken_lists.specs.Offering.{with_all}
 use Rattle.ginneken_lists.proofs.Serving.{serves-itself, serves-through, unserved-precedes, apart-precedes, pairs-none, pairs-one, pairs-head, pairs-tail}
 
 abbrev pub Before : Candidate → Candidate → Type 0
@@ -126,5 +126,12 @@ thinned-complete all = with_all-itself all []
 pub thinned-real : (all : List Candidate) → All (Contains all) (thinned all)
 thinned-real all = thinned-all (Contains all) all (All-contains_itself all)
 
-pub thinned-is : (all : List Candidate) → IsThinned (thinned all) all
-thinned-is all = record { rising = thinned-rising all; real = thinned-real all; complete = thinned-complete all }
+-- those that are kept rise, each is one of all, and each of all is served as well by one that is kept; of equal ones any
+-- may be kept
+pub record Thins (kept all : List Candidate) : Type 0 where
+  pub rising : AreRising kept
+  pub real : All (Contains all) kept
+  pub complete : All (λ o. is_served o kept ≡ true) all
+
+pub thinned-thins : (all : List Candidate) → Thins (thinned all) all
+thinned-thins all = record { rising = thinned-rising all; real = thinned-real all; complete = thinned-complete all }

@@ -3,9 +3,9 @@ use Rattle.std.proofs.Common.{◌≡◌, ℕ, ◌+◌, ◌<◌, ◌≤◌, inl, 
 use Rattle.std.proofs.lemmas.Bool.{cases_Bool, cond-true, cond-false, lt-ltb, le-ltb}
 use Rattle.std.proofs.lemmas.List.{append-nil}
 use Rattle.std.proofs.lemmas.List.Elements.{All-head, All-tail}
-use Rattle.ginneken_lists.specs.Candidates.{Candidate, Nothing, serves, with_one, thinned, leaf, joined_with, all_joined}
+use Rattle.ginneken_lists.specs.Candidates.{Candidate, Nothing, serves, unserved, with_one, thinned, leaf, joined_with, all_joined}
 use Rattle.ginneken_lists.specs.Thinning.{Precedes, AreRising}
-use Rattle.ginneken_lists.specs.Offering.{unserved, with_all}
+use Rattle.ginneken_lists.specs.Offering.{with_all}
 use Rattle.ginneken_lists.proofs.Serving.{precedes-unserved, pairs-before}
 use Rattle.ginneken_lists.proofs.Thinned.{Before}
 

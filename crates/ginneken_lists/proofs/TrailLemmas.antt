@@ -1,11 +1,11 @@
 -- What the marks of a trail name.
-use Rattle.std.proofs.Common.{◌≡◌, ℕ, zero, suc, ◌+◌, ◌<◌, ◌≤◌, inl, inr, false, List, [], ◌∷◌, ◌++◌, length, get_or, fold, refl, sym, ap, subst, ◌∙◌, arith}
+use Rattle.std.proofs.Common.{◌≡◌, ℕ, zero, suc, ◌+◌, ◌<◌, ◌≤◌, inl, inr, false, List, [], ◌∷◌, ◌++◌, length, get_or, fold, All, refl, sym, ap, subst, ◌∙◌, arith}
 use Rattle.std.proofs.lemmas.Bool.{cases_lt}
 use Rattle.std.proofs.lemmas.List.{get_or_default, get_or_append_left, get_or_push, length-append, length_push}
 use Rattle.std.proofs.lemmas.List.Sums.{fold_push}
 use Rattle.ginneken_lists.specs.Candidates.{Chosen, Nothing, Buffered, Both, is_nothing, both}
-use Rattle.ginneken_lists.specs.Trails.{chosen_of, chosen_by, trail_of, IsBelow, IsTrail, Keeps}
-use Rattle.ginneken_lists.specs.TrailStore.{HasBuffer, IsChoiceAt, AreChoices}
+use Rattle.ginneken_lists.specs.Trails.{chosen_of, chosen_by, trail_of, HasBuffer, IsBelow, Keeps}
+use Rattle.ginneken_lists.specs.TrailStore.{IsChoiceAt, AreChoices}
 use Rattle.ginneken_lists.specs.declared.choice.Choice.{Choice}
 use Rattle.ginneken_lists.specs.declared.choice.Choice.TheVariants.{Empty, Buffer, Both as Branches}
 
@@ -102,6 +102,9 @@ below-choice choices at mark d are next within =
     let place : at + 1 ≡ mark = omega arith in
     subst (λ (m : ℕ). IsBelow m (get_or choices at d)) place (are at d within).below
 
+pub some-choice : (choices : List Choice) (at : ℕ) (d : Choice) → AreChoices choices → at < length choices → HasBuffer (get_or choices at d)
+some-choice choices at d are within = (are at d within).some
+
 -- one more choice
 pub AreChoices-push : (choices : List Choice) (choice : Choice) → AreChoices choices → HasBuffer choice → IsBelow (length choices + 1) choice →
     AreChoices (choices ++ choice ∷ [])
@@ -124,7 +127,10 @@ chosen-something Empty trail some = absurd some
 chosen-something (Buffer node kind below) trail some = refl
 chosen-something (Branches left right) trail some = refl
 
-pub trail-is : (choices : List Choice) → AreChoices choices → IsTrail (trail_of choices)
+abbrev IsTrail : List Chosen → Type 0
+IsTrail trail = All (λ chosen. is_nothing chosen ≡ false) trail
+
+trail-is : (choices : List Choice) → AreChoices choices → IsTrail (trail_of choices)
 trail-is choices are at d within =
     let long = length-trail choices in
     let inside : at < length choices = omega arith in
@@ -133,7 +139,7 @@ trail-is choices are at d within =
     ap is_nothing named ∙ chosen-something (get_or choices at Empty) (trail_of choices) (are at Empty inside).some
 
 -- two marks on two branches, where neither is 0
-pub both-branches : (trail : List Chosen) (left right : ℕ) → IsTrail trail → 0 < left → 0 < right → left ≤ length trail → right ≤ length trail →
+both-branches : (trail : List Chosen) (left right : ℕ) → IsTrail trail → 0 < left → 0 < right → left ≤ length trail → right ≤ length trail →
     both (chosen_of trail left) (chosen_of trail right) ≡ Both (chosen_of trail left) (chosen_of trail right)
 both-branches trail zero right is first second within inside = absurd (omega arith)
 both-branches trail (suc at) zero is first second within inside = absurd (omega arith)

@@ -5,9 +5,9 @@ use Rattle.std.proofs.lemmas.List.{get_or_default}
 use Rattle.std.proofs.lemmas.List.Elements.{All-nil, All-cons, All-contains, All-contains_itself, Contains-append_cases}
 use Rattle.std.proofs.lemmas.List.Folds.{Any-from_list_any}
 use Rattle.ginneken_lists.specs.Candidates.{Candidate, serves}
-use Rattle.ginneken_lists.specs.Thinning.{AreRising, is_served, IsThinned}
+use Rattle.ginneken_lists.specs.Thinning.{AreRising, is_served}
 use Rattle.ginneken_lists.proofs.Serving.{serves-through, serves-same, precedes-unserved, precedes-unserving, pairs-head, pairs-tail}
-use Rattle.ginneken_lists.proofs.Thinned.{Before}
+use Rattle.ginneken_lists.proofs.Thinned.{Before, Thins}
 
 -- an element of a list is its head or one of its tail
 pub contains-cases : {A : Type 0} (y : A) (ys : List A) (x : A) → Contains (y ∷ ys) x → (y ≡ x) ⊎ Contains ys x
@@ -92,7 +92,7 @@ server xs x served =
     record { other = found.1; one = (found.0, found.2, found.3); serves_x = found.4 }
 
 -- what serves as well as one that is kept is seen as that one is
-pub kept-survives : (kept all : List Candidate) (k z : Candidate) → IsThinned kept all → Contains kept k → Contains all z → serves z.seen k.seen ≡ true →
+pub kept-survives : (kept all : List Candidate) (k z : Candidate) → Thins kept all → Contains kept k → Contains all z → serves z.seen k.seen ≡ true →
     serves k.seen z.seen ≡ true
 kept-survives kept all k z thin one other served =
     let s = server kept z (All-contains (λ o. is_served o kept ≡ true) all z thin.complete other) in
@@ -104,7 +104,7 @@ abbrev pub SeenApart : List Candidate → Type 0
 SeenApart all = (x y : Candidate) → Contains all x → Contains all y → x.seen ≡ y.seen →
     ((z : Candidate) → Contains all z → serves z.seen x.seen ≡ true → serves x.seen z.seen ≡ true) → x ≡ y
 
-kept-in : (ks ls all : List Candidate) → IsThinned ks all → IsThinned ls all → SeenApart all → All (Contains ls) ks
+kept-in : (ks ls all : List Candidate) → Thins ks all → Thins ls all → SeenApart all → All (Contains ls) ks
 kept-in ks ls all thin other apart i d inside =
     let k : Candidate = get_or ks i d in
     let one : Contains ks k = All-contains_itself ks i d inside in
@@ -116,6 +116,6 @@ kept-in ks ls all thin other apart i d inside =
     (λ z z_of_all served. kept-survives ks all k z thin one z_of_all served) in
     subst (λ (o : Candidate). Contains ls o) (sym same) s.one
 
-pub thinned-unique : (ks ls all : List Candidate) → IsThinned ks all → IsThinned ls all → SeenApart all → ks ≡ ls
+pub thinned-unique : (ks ls all : List Candidate) → Thins ks all → Thins ls all → SeenApart all → ks ≡ ls
 thinned-unique ks ls all thin other apart =
     same-elements ks ls thin.rising other.rising (kept-in ks ls all thin other apart) (kept-in ls ks all other thin apart)

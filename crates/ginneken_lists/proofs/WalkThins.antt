@@ -5,11 +5,11 @@ use Rattle.std.proofs.lemmas.List.Elements.{All-nil, All-cons, All-head, All-tai
 use Rattle.std.specs.List.{flat_map}
 use Rattle.elmore_delay.specs.declared.seen.Seen.{Seen}
 use Rattle.ginneken_lists.specs.Candidates.{Candidate, no_later, serves, joined_with, all_joined}
-use Rattle.ginneken_lists.specs.Thinning.{AreRising, is_served, IsThinned}
+use Rattle.ginneken_lists.specs.Thinning.{AreRising, is_served}
 use Rattle.ginneken_lists.specs.Merging.{walk}
 use Rattle.ginneken_lists.proofs.TimeOrder.{sooner-first, sooner-second, sooner-greatest}
 use Rattle.ginneken_lists.proofs.Serving.{serves-says, serves-from}
-use Rattle.ginneken_lists.proofs.Thinned.{thinned-is}
+use Rattle.ginneken_lists.proofs.Thinned.{Thins, thinned-thins}
 use Rattle.ginneken_lists.proofs.Walk.{walk-all, walk-rising, walk-complete}
 use Rattle.ginneken_lists.proofs.Unique.{rising-cases, rising-load, SeenApart, thinned-unique}
 
@@ -102,7 +102,7 @@ combined-apart left right rising rising_right c c' one other alike survives =
       ]
     ]
 
-walk-thins : (left right : List Candidate) → AreRising left → AreRising right → IsThinned (walk left right) (combined left right)
+walk-thins : (left right : List Candidate) → AreRising left → AreRising right → Thins (walk left right) (combined left right)
 walk-thins left right rising rising_right = record {
   rising = walk-rising left right rising rising_right;
   real = walk-all (Contains (combined left right)) left right (combined-each left right);
@@ -112,4 +112,4 @@ walk-thins left right rising rising_right = record {
 pub walk-joins : (left right : List Candidate) → AreRising left → AreRising right → walk left right ≡ all_joined left right
 walk-joins left right rising rising_right =
     thinned-unique (walk left right) (all_joined left right) (combined left right) (walk-thins left right rising rising_right)
-    (thinned-is (combined left right)) (combined-apart left right rising rising_right)
+    (thinned-thins (combined left right)) (combined-apart left right rising rising_right)

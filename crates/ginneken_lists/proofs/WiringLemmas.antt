@@ -1,7 +1,7 @@
 -- Pairs along an edge: one is kept where its time is later than that of the last one that was kept.
 use Rattle.std.proofs.Common.{◌≡◌, ℕ, ◌+◌, ◌-◌, ◌<◌, ◌≤◌, inl, inr, Bool, true, false, not, List, [], ◌∷◌, ◌++◌, length, get_or, set, take, drop, map, All, refl, sym, ap, subst, ◌∙◌, arith}
 use Rattle.std.proofs.lemmas.Bool.{cases_eq, not-true, not-false}
-use Rattle.std.proofs.lemmas.List.{take_more, take_more_set, drop-set-lt, drop-drop, get_or-take, get_or-drop, get_or_default, get_or_append_left, get_or_at, length-append, length-map, length-set, length-take-le, map_push, take_all}
+use Rattle.std.proofs.lemmas.List.{take_more, take_more_set, drop-set-lt, drop-drop, get_or-take, get_or-drop, get_or-set_same, get_or_default, get_or_append_left, get_or_at, length-append, length-map, length-set, length-take-le, map_push, take_all}
 use Rattle.std.proofs.lemmas.List.Elements.{All-nil, All-push, All-map}
 use Rattle.std.proofs.lemmas.List.Sums.{fold_push}
 use Rattle.rc_library.specs.declared.parts.Wire.{Wire}
@@ -213,6 +213,23 @@ pub wired-first : (wire : Wire) (old : List Stored) (p m : Stored) → IsRising 
     sight m ≡ along wire (sight p) → m.mark ≡ p.mark → AreWired wire old (set old 0 m) 1 1
 wired-first wire old p m rising some is seen named =
     wired-keeps wire old old 0 0 p m (stored-rising old rising) (wired-none wire old) some is seen named (λ none. absurd (omega arith))
+
+-- the last pair that was kept
+pub last-later : (items new : List Stored) (kept next : ℕ) (m last : Stored) → new ≡ set items kept m → next ≡ kept + 1 → last ≡ m → kept < length items →
+    last ≡ get_or new (next - 1) last
+last-later items new kept next m last new_is next_is last_is inside =
+    let place : kept ≡ next - 1 = omega arith in
+    last_is ∙ sym (get_or-set_same items kept m last inside)
+    ∙ ap (λ (k : ℕ). get_or (set items kept m) k last) place
+    ∙ ap (λ (xs : List Stored). get_or xs (next - 1) last) (sym new_is)
+
+pub last-stays : (items new : List Stored) (kept next : ℕ) (before last : Stored) → new ≡ items → next ≡ kept → last ≡ before →
+    before ≡ get_or items (kept - 1) before → last ≡ get_or new (next - 1) last
+last-stays items new kept next before last new_is next_is last_is is =
+    last_is ∙ is
+    ∙ ap (λ (d : Stored). get_or items (kept - 1) d) (sym last_is)
+    ∙ ap (λ (k : ℕ). get_or items (k - 1) last) (sym next_is)
+    ∙ ap (λ (xs : List Stored). get_or xs (next - 1) last) (sym new_is)
 
 -- pairs that were taken along an edge are a list
 pub along-list : (wire : Wire) (old new : List Stored) → 0 < length new → all_of [] new ≡ all_along wire (all_of [] old) → IsList (pairs_of new)

@@ -46,6 +46,10 @@ no_later (Some time) (Some other) = int_le time other
 abbrev pub serves : Seen → Seen → Bool
 serves s other = nat_le s.load other.load && no_later other.time s.time
 
+-- those that a candidate doesn't serve as well as
+abbrev pub unserved : Candidate → List Candidate → List Candidate
+unserved o all = filter (λ other. not (serves o.seen other.seen)) all
+
 -- one more candidate among those of a list that rises in load and time: it is dropped where one of them serves as well;
 -- else it stands behind those of smaller load, and the others that it serves as well as are dropped
 abbrev pub with_one : Candidate → List Candidate → List Candidate
@@ -53,7 +57,7 @@ with_one o [] = o ∷ []
 with_one o (first ∷ rest) =
     if serves first.seen o.seen then first ∷ rest
     else (if nat_lt first.seen.load o.seen.load then first ∷ with_one o rest
-    else o ∷ filter (λ other. not (serves o.seen other.seen)) (first ∷ rest))
+    else o ∷ unserved o (first ∷ rest))
 
 -- the candidates without those that another one serves as well as, of equal ones the first, rising in load and time
 abbrev pub thinned : List Candidate → List Candidate

@@ -11,10 +11,6 @@ use Rattle.ginneken_lists.specs.declared.stored.Stored.{Stored}
 abbrev pub with_all : List Candidate → List Candidate → List Candidate
 with_all kept all = fold (λ before o. with_one o before) kept all
 
--- those that a candidate doesn't serve as well as
-abbrev pub unserved : Candidate → List Candidate → List Candidate
-unserved o all = filter (λ other. not (serves o.seen other.seen)) all
-
 -- the candidate with a buffer of a kind at a node over what the mark of a stored pair names
 abbrev pub buffer_over : List Chosen → (node number : ℕ) → Stored → Candidate
 buffer_over trail node number stored = buffer_of trail node number (pair_of stored)

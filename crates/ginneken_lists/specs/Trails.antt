@@ -1,7 +1,7 @@
 -- Trails: the choices of buffers that marks name, each made of earlier ones.
-use Rattle.std.specs.Prelude.{◌≡◌, ℕ, zero, suc, ◌<◌, ◌≤◌, List, [], ◌∷◌, ◌++◌, length, slice_index_or, All, false, ⊤}
+use Rattle.std.specs.Prelude.{◌≡◌, ℕ, zero, suc, ◌<◌, ◌≤◌, List, [], ◌∷◌, ◌++◌, length, slice_index_or, ⊤}
 use Rattle.std.specs.List.{fold}
-use Rattle.ginneken_lists.specs.Candidates.{Chosen, Nothing, Buffered, Both, is_nothing}
+use Rattle.ginneken_lists.specs.Candidates.{Chosen, Nothing, Buffered, Both}
 use Rattle.ginneken_lists.specs.declared.choice.Choice.{Choice}
 use Rattle.ginneken_lists.specs.declared.choice.Choice.TheVariants.{Empty, Buffer, Both as Branches}
 
@@ -20,15 +20,17 @@ chosen_by trail (Branches left right) = Both (chosen_of trail left) (chosen_of t
 abbrev pub trail_of : List Choice → List Chosen
 trail_of choices = fold (λ trail choice. trail ++ chosen_by trail choice ∷ []) [] choices
 
+-- a choice has a buffer
+abbrev pub HasBuffer : Choice → Type 0
+HasBuffer Empty = ⊥
+HasBuffer (Buffer node kind below) = ⊤
+HasBuffer (Branches left right) = ⊤
+
 -- the marks of a choice are lower than a mark
 abbrev pub IsBelow : ℕ → Choice → Type 0
 IsBelow mark Empty = ⊤
 IsBelow mark (Buffer node kind below) = below < mark
 IsBelow mark (Branches left right) = (left < mark) × (right < mark)
-
--- a trail names no choice without buffers, which mark 0 does
-abbrev pub IsTrail : List Chosen → Type 0
-IsTrail trail = All (λ chosen. is_nothing chosen ≡ false) trail
 
 -- marks of a trail name in another one what they name there
 pub record Keeps (trail other : List Chosen) : Type 0 where

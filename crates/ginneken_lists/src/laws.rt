@@ -3,8 +3,9 @@ ghost use Rattle.std.specs.Prelude.{◌≡◌, List, None};
 ghost use Rattle.ginneken_lists.specs.Candidates.{Candidate, thinned, leaf, all_joined};
 ghost use Rattle.ginneken_lists.specs.Thinning.{AreRising, IsThinned};
 
-/// Thinned candidates rise in load and time, each is one of those that were thinned, and each of
-/// these is served as well by one that is kept. The function itself does nothing.
+/// Thinned candidates rise in load and time, each is one of those that were thinned and the first of
+/// those that are equal to it in load and time, and each of these is served as well by one that is
+/// kept. The function itself does nothing.
 pub fn thinning()
     ensures { (all : List Candidate) → IsThinned (thinned all) all }
 {}

@@ -3,7 +3,7 @@ ghost use Rattle.std.specs.Prelude.{◌≡◌, ℕ, ◌+◌, ◌*◌, ◌<◌, �
 ghost use Rattle.rc_library.specs.Libraries.{IsWire, IsKind, IsLibrary};
 ghost use Rattle.ginneken_lists.specs.Candidates.{Chosen, all_along, all_joined, best_driven, with_buffer, with_one, with_offers};
 ghost use Rattle.ginneken_lists.specs.Pairs.{candidate_of, buffer_of, candidates, AreMarked, IsList, IsTime, IsInRange};
-ghost use Rattle.ginneken_lists.specs.Trails.{IsTrail, Keeps};
+ghost use Rattle.ginneken_lists.specs.Trails.{Keeps};
 
 use crate::offer::Offer;
 use crate::pair::Pair;
@@ -11,7 +11,7 @@ use crate::pool::ListPool;
 use crate::steps::Steps;
 use crate::stored::{Stored, read};
 use crate::trail::Trail;
-use crate::{merging, offering, wiring};
+use crate::{offering, wiring};
 use rc_library::{Kind, Library, Wire};
 use std::alloc::{AllocError, Global};
 use std::marker::Model;
@@ -50,11 +50,11 @@ impl OptionList {
         ensures { IfOk result (λ list. list ≡ record { load = load; time = time; mark = 0 } ∷ []) }
     {
         let mut pairs = pool.empty(alloc, 1)?;
-        pairs.push(Stored::new(load, time, 0))?;
+        pairs.push_reserved(Stored::new(load, time, 0));
         Ok(OptionList { pairs })
     }
 
-    /// Gives the list up. The pool keeps its memory for others.
+    /// Gives the list up. The pool keeps its memory for others where it has room, and takes none.
     pub fn give_up(self, pool: &mut ListPool) {
         pool.keep(self.pairs);
     }
@@ -149,7 +149,8 @@ impl OptionList {
         }
     }
 
-    /// The list of one buffer of a kind at a node. The only error is want of memory.
+    /// The list of one buffer of a kind at a node. On an error, which is want of memory, the trail stays
+    /// as it is.
     pub fn of_offer(
         alloc: Global,
         node: u32,
@@ -161,16 +162,17 @@ impl OptionList {
         requires mark { offer.now.mark ≤ length trail.old }
         ensures one { IfOk result (λ list. candidates trail.new list ≡ buffer_of trail.old node kind offer.now ∷ []) }
         ensures marks { IfOk result (AreMarked trail.new) }
+        ensures err_trail { OnErr result (trail.new ≡ trail.old) }
         ensures kept { Keeps trail.old trail.new }
     {
         let mut pairs = pool.empty(alloc, 1)?;
         let mark = trail.buffer(node, kind, offer.pair.mark)?;
-        pairs.push(offer.pair.marked(mark))?;
+        pairs.push_reserved(offer.pair.marked(mark));
         Ok(OptionList { pairs })
     }
 
-    /// Offers one buffer of a kind at a node. On an error, which is want of memory, the list stays as
-    /// it is.
+    /// Offers one buffer of a kind at a node. On an error, which is want of memory, the list and the
+    /// trail stay as they are.
     pub fn add<L: Ledger>(
         &mut self,
         node: u32,
@@ -183,6 +185,8 @@ impl OptionList {
         requires mark { offer.now.mark ≤ length trail.old }
         ensures added { OnOk result (candidates trail.new self.new
             ≡ with_one (buffer_of trail.old node kind offer.now) (candidates trail.old self.old)) }
+        ensures err { OnErr result (self.new ≡ self.old) }
+        ensures err_trail { OnErr result (trail.new ≡ trail.old) }
         ensures kept { Keeps trail.old trail.new }
         ensures marks { AreMarked trail.new self.new }
         ensures short { length self.new ≤ length self.old + 1 }
@@ -194,8 +198,8 @@ impl OptionList {
         Ok(())
     }
 
-    /// Joins the lists of two branches. The only error is want of memory, and then both lists are
-    /// given up.
+    /// Joins the lists of two branches. On an error, which is want of memory, both lists are given up,
+    /// and the trail stays as it is.
     pub fn merge<L: Ledger>(
         alloc: Global,
         left: OptionList,
@@ -212,10 +216,12 @@ impl OptionList {
             ≡ all_joined (candidates trail.old left) (candidates trail.old right)) }
         ensures marks { IfOk result (AreMarked trail.new) }
         ensures short { IfOk result (λ merged. length merged + 1 ≤ length left + length right) }
+        ensures err_trail { OnErr result (trail.new ≡ trail.old) }
         ensures kept { Keeps trail.old trail.new }
         ensures steps { steps.new ≤ steps.old + 2 * (length left + length right) }
     {
-        let pairs = merging::merge(alloc, &left.pairs, &right.pairs, trail, pool, steps)?;
+        let mut pairs = pool.empty(alloc, left.pairs.len() + right.pairs.len())?;
+        trail.merge(&left.pairs, &right.pairs, &mut pairs, steps)?;
         left.give_up(pool);
         right.give_up(pool);
         Ok(OptionList { pairs })

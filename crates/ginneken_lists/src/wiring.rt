@@ -24,13 +24,15 @@ pub(crate) fn wire<L: Ledger>(pairs: &mut Vec<Stored>, wire: Wire, steps: &mut S
     ensures short { length pairs.new.items ≤ length pairs.old.items }
     ensures steps { steps.new ≡ steps.old + length pairs.old.items }
 {
-    pairs[0] = read(pairs, 0, steps).along(wire);
+    let mut last = read(pairs, 0, steps).along(wire);
+    pairs[0] = last;
     let mut kept = 1;
     for at in 1..pairs.len() {
         let pair = read(pairs, at, steps).along(wire);
-        if pair.time.is_later(pairs[kept - 1].time) {
+        if pair.time.is_later(last.time) {
             pairs[kept] = pair;
             kept += 1;
+            last = pair;
         }
     }
     pairs.truncate(kept);

@@ -34,6 +34,6 @@ abbrev pub AreNetPlans : {E : Type 0} (first : ℕ) → DesignView → LibraryVi
 AreNetPlans {E} first d lib trees planned = (k : ℕ) (default : Result (Option Plan) E) → k < length planned →
     IfOk (slice_index_or planned k default) (IsNetPlan d lib trees (first + k))
 
--- each routed net has a tree, and a plan for it exactly where a placement is legal; other nets have no plans
+-- each routed net has a tree, and a plan for it exactly where a placement is legal; no other net has a plan
 abbrev pub ArePolarPlans : DesignView → LibraryView → List (Option TreeView) → List (Option Plan) → Type 0
-ArePolarPlans d lib trees plans = (net : ℕ) → net < length d.nets → IsNetPlan d lib trees net (plan_at plans net)
+ArePolarPlans d lib trees plans = (net : ℕ) → IsNetPlan d lib trees net (plan_at plans net)

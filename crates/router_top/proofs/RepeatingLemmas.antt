@@ -1,5 +1,5 @@
 -- Routing in batches is decided by what is asked for.
-use Rattle.std.proofs.Common.{◌≡◌, ℕ, ℤ, ◌-◌, ◌<◌, Bool, true, false, nat_lt, inl, inr, List, [], ◌++◌, length, slice_get, take, Option, Some, None, IsSomeAnd, if◌then◌else◌, codes, refl, sym, ap, subst, ◌∙◌}
+use Rattle.std.proofs.Common.{◌≡◌, ℕ, ℤ, ◌-◌, Bool, true, false, nat_lt, inl, inr, List, [], ◌++◌, length, slice_get, take, Option, Some, None, IsSomeAnd, if◌then◌else◌, codes, refl, sym, ap, subst, ◌∙◌}
 use Rattle.std.proofs.Math.Path.{fun_ext}
 use Rattle.std.proofs.lemmas.Bool.{cases_Bool}
 use Rattle.std.proofs.lemmas.Option.{same_Some}
@@ -22,7 +22,6 @@ use Rattle.polar_lists.specs.PolarPlans.{IsPolarPlan}
 use Rattle.rc_library.specs.Libraries.{LibraryView}
 use Rattle.report_text.specs.BufferTexts.{buffers_in, buffers_text, net_buffers, net_lines, plan_text, total_line}
 use Rattle.report_text.specs.Texts.{number_line, report_text}
-use Rattle.route_evaluator.proofs.CountedLemmas.{routed-below}
 use Rattle.route_evaluator.specs.Verdicts.{IsVerdict}
 use Rattle.route_evaluator.specs.declared.verdict.Verdict.{Verdict}
 use Rattle.solution_text.specs.Cover.{cover}
@@ -91,9 +90,6 @@ module _ (d : DesignView) (lib : LibraryView) (trees others : List (Option TreeV
   plan-same : AreBestPlans d lib trees plans → AreBestPlans d lib others more → (net : ℕ) → is_routed d net ≡ true → plan_at plans net ≡ plan_at more net
   plan-same planned planned_too net routed = by (nat_lt lib.version 3) planned planned_too
     where
-      below : net < length d.nets
-      below = routed-below d net routed
-
       there : (P : TreeView → Option Plan → Type 0) → IsSomeAnd (tree_at others net) (λ t. P t (plan_at more net)) →
           IsSomeAnd (tree_at trees net) (λ t. P t (plan_at more net))
       there P is = subst (λ (tree : Option TreeView). IsSomeAnd tree (λ t. P t (plan_at more net))) (sym (same net)) is
@@ -101,10 +97,10 @@ module _ (d : DesignView) (lib : LibraryView) (trees others : List (Option TreeV
       by : (keeps_signals : Bool) → ArePlansBy keeps_signals d lib trees plans → ArePlansBy keeps_signals d lib others more → plan_at plans net ≡ plan_at more net
       by true one other =
           by-tree (λ t o. IsSomeAnd o (IsPlan (loading_of d lib net t))) (λ t. best-only (loading_of d lib net t)) (tree_at trees net) (plan_at plans net)
-          (plan_at more net) (one net below routed) (there (λ t o. IsSomeAnd o (IsPlan (loading_of d lib net t))) (other net below routed))
+          (plan_at more net) ((one net).routed routed) (there (λ t o. IsSomeAnd o (IsPlan (loading_of d lib net t))) ((other net).routed routed))
       by false one other =
           by-tree (λ t o. IsPolarPlan (loading_of d lib net t) o) (λ t. polar-only (loading_of d lib net t)) (tree_at trees net) (plan_at plans net)
-          (plan_at more net) ((one net below).routed routed) (there (λ t o. IsPolarPlan (loading_of d lib net t) o) ((other net below).routed routed))
+          (plan_at more net) ((one net).routed routed) (there (λ t o. IsPolarPlan (loading_of d lib net t) o) ((other net).routed routed))
 
   module _ (each : (net : ℕ) → is_routed d net ≡ true → plan_at plans net ≡ plan_at more net) where
     total-same : total_line d plans ≡ total_line d more

@@ -1,7 +1,6 @@
 -- The plans of routed nets are plans for their trees.
 use Rattle.std.proofs.Common.{List, Option, Some, None}
 use Rattle.std.specs.Option.{IfSome, IsSomeAnd}
-use Rattle.std.proofs.lemmas.Option.{slice_get_within}
 use Rattle.gr_base.specs.Designs.{DesignView}
 use Rattle.gr_base.specs.Trees.{TreeView, tree_at}
 use Rattle.rc_library.specs.Libraries.{LibraryView}
@@ -16,7 +15,7 @@ use Rattle.round_core.proofs.TurnLemmas.{IsNetOf, routed-net}
 pub planned-for : (d : DesignView) (lib : LibraryView) (trees : List (Option TreeView)) (plans : List (Option Plan)) →
     AreRoutesOf d trees → ArePlans d lib trees plans → ArePlanned d lib trees plans
 planned-for d lib trees plans routes are net routed =
-    by (tree_at trees net) (plan_at plans net) (routes net routed) (are net (slice_get_within d.nets net one.net one.there) routed)
+    by (tree_at trees net) (plan_at plans net) (routes net routed) ((are net).routed routed)
   where
     one : IsNetOf d net
     one = routed-net d net routed
@@ -35,7 +34,7 @@ planned-for d lib trees plans routes are net routed =
 pub polar-planned : (d : DesignView) (lib : LibraryView) (trees : List (Option TreeView)) (plans : List (Option Plan)) →
     AreRoutesOf d trees → ArePolarPlans d lib trees plans → AreSomePlanned d lib trees plans
 polar-planned d lib trees plans routes are net routed =
-    by (tree_at trees net) (plan_at plans net) (routes net routed) ((are net (slice_get_within d.nets net one.net one.there)).routed routed)
+    by (tree_at trees net) (plan_at plans net) (routes net routed) ((are net).routed routed)
   where
     one : IsNetOf d net
     one = routed-net d net routed

@@ -11,6 +11,9 @@ returns-in-Ok-plan-clause-plan g c =
     let lib = c.args.library.now in
     let net = c.args.net in
     let plan = c.in-Ok-plan.plan in
-    subst (λ (o : Option TreeView). IsSomeAnd o (λ t. IsPlan (loading_of d lib net t) plan)) (sym c.in_ok-tree.ensures.tree)
-    (plan-is c.in-Ok.loading (loading_of d lib net c.in_ok-tree.tree.now) plan c.in-Ok.ensures.loading c.in-Ok-plan.ensures.picked
-    c.in-Ok-plan.ensures.best c.in-Ok-plan.ensures.required)
+    record {
+      routed = c.in_ok-tree.ensures.routed;
+      planned = subst (λ (o : Option TreeView). IsSomeAnd o (λ t. IsPlan (loading_of d lib net t) plan)) (sym c.in_ok-tree.ensures.tree)
+          (plan-is c.in-Ok.loading (loading_of d lib net c.in_ok-tree.tree.now) plan c.in-Ok.ensures.loading c.in-Ok-plan.ensures.picked
+          c.in-Ok-plan.ensures.best c.in-Ok-plan.ensures.required);
+    }

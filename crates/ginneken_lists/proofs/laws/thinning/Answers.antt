@@ -1,4 +1,4 @@
-use Rattle.ginneken_lists.proofs.Thinned.{thinned-is}
+use Rattle.ginneken_lists.proofs.FirstKept.{thinned-is}
 use Rattle.ginneken_lists.proofs.laws.thinning.Goals as goal
 
 pub returns : goal.returns

@@ -1,14 +1,14 @@
 use Rattle.std.proofs.Common.{◌≡◌, ℕ, ◌+◌, ◌<◌, ◌≤◌, List, length, get_or, set, take, Vec, Global, All, sym, ap, subst, ◌∙◌, arith}
-use Rattle.std.proofs.lemmas.List.{length-map, length-take-le}
+use Rattle.std.proofs.lemmas.List.{length-map, length-take-le, get_or-set_same}
 use Rattle.ginneken_lists.specs.StoredPairs.{pair_of}
 use Rattle.ginneken_lists.specs.declared.stored.Stored.{Stored}
 use Rattle.ginneken_lists.proofs.StoredLemmas.{all_of, in-range}
-use Rattle.ginneken_lists.proofs.WiringLemmas.{read-old, wired-first, wired-later, wired-earlier, wired-all, AreWired}
+use Rattle.ginneken_lists.proofs.WiringLemmas.{read-old, wired-first, wired-later, wired-earlier, wired-all, last-later, last-stays, AreWired}
 use Rattle.ginneken_lists.proofs.wiring.wire.Goals as goal
 use Rattle.ginneken_lists.proofs.wiring.wire.Goals.{then-is_later, else-is_later}
 
-pub along-requires-clause-range : goal.along-requires-clause-range
-along-requires-clause-range g c =
+pub along-last-requires-clause-range : goal.along-last-requires-clause-range
+along-last-requires-clause-range g c =
     let some = c.requires.list.some in
     let long = length-map c.args.pairs.now.items pair_of in
     in-range c.args.pairs.now.items 0 c.read.result c.requires.range (omega arith)
@@ -28,9 +28,10 @@ loop-at-init g c =
     let some = c.requires.list.some in
     let long = length-map c.args.pairs.now.items pair_of in
     record {
-      wired = wired-first c.args.wire c.args.pairs.now.items c.read.result c.along.result c.requires.list.rising (omega arith)
-          (c.read.ensures.pair ∙ ap (λ (xs : List Stored). get_or xs 0 c.read.result) c.deref.ensures.value) c.along.ensures.seen c.along.ensures.mark;
+      wired = wired-first c.args.wire c.args.pairs.now.items c.read.result c.along-last.result c.requires.list.rising (omega arith)
+          (c.read.ensures.pair ∙ ap (λ (xs : List Stored). get_or xs 0 c.read.result) c.deref.ensures.value) c.along-last.ensures.seen c.along-last.ensures.mark;
       some = omega arith;
+      last = sym (get_or-set_same c.args.pairs.now.items 0 c.along-last.result c.along-last.result (omega arith));
       steps = c.read.ensures.steps;
     }
 
@@ -44,7 +45,10 @@ loop-at-preserved g c =
     let steps : c.read-in-loop-at.new.steps ≡ c.args.steps.now + (at + 1) = omega (arith, c.read-in-loop-at.ensures.steps, c.loop-at.invariant.steps) in
     let p = c.read-in-loop-at.result in
     let m = c.along-pair.result in
-    let last = c.index.result.now in
+    let last = c.loop-at.last in
+    let last_is = c.loop-at.invariant.last in
+    let behind = c.loop-at.invariant.wired.behind in
+    let long = c.loop-at.invariant.wired.long in
     let kept = c.loop-at.kept in
     let wired = c.loop-at.invariant.wired in
     elim c.if-is_later.branch [
@@ -55,8 +59,10 @@ loop-at-preserved g c =
             wired = subst (λ (xs : List Stored). AreWired c.args.wire old xs c.if-is_later.kept (at + 1)) (sym items)
                 (subst (λ (n : ℕ). AreWired c.args.wire old (set c.loop-at.pairs.items kept m) n (at + 1)) more
                 (wired-later c.args.wire old c.loop-at.pairs.items kept at p m last c.is_later.result c.requires.list.rising wired inside read
-                c.along-pair.ensures.seen c.along-pair.ensures.mark c.index.ensures c.is_later.ensures w.if-is_later.true));
+                c.along-pair.ensures.seen c.along-pair.ensures.mark last_is c.is_later.ensures w.if-is_later.true));
             some = omega (arith, more);
+            last = last-later c.loop-at.pairs.items c.if-is_later.pairs.items kept c.if-is_later.kept m c.if-is_later.last items (sym more) w.last-is
+                (omega (arith, behind, long, inside));
             steps = steps;
           }
       | else-is_later w ↦
@@ -66,8 +72,9 @@ loop-at-preserved g c =
             wired = subst (λ (xs : List Stored). AreWired c.args.wire old xs c.if-is_later.kept (at + 1)) (sym items)
                 (subst (λ (n : ℕ). AreWired c.args.wire old c.loop-at.pairs.items n (at + 1)) same
                 (wired-earlier c.args.wire old c.loop-at.pairs.items kept at p m last c.is_later.result c.requires.list.rising wired inside read
-                c.along-pair.ensures.seen c.along-pair.ensures.mark c.index.ensures some c.is_later.ensures w.if-is_later.false));
+                c.along-pair.ensures.seen c.along-pair.ensures.mark last_is some c.is_later.ensures w.if-is_later.false));
             some = omega (arith, same);
+            last = last-stays c.loop-at.pairs.items c.if-is_later.pairs.items kept c.if-is_later.kept last c.if-is_later.last items (sym same) w.last-is last_is;
             steps = steps;
           }
     ]

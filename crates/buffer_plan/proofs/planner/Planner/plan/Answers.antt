@@ -1,7 +1,6 @@
-use Rattle.std.proofs.Common.{ℕ, ◌^◌, length, sym, ap, subst, ◌∙◌}
+use Rattle.std.proofs.Common.{ℕ, length, ap, subst}
 use Rattle.gr_base.specs.Trees.{TreeView}
 use Rattle.ginneken_lists.specs.Pairs.{candidate_of}
-use Rattle.ginneken_lists.specs.Trails.{chosen_of}
 use Rattle.buffer_plan.specs.Gathered.{IsWithin}
 use Rattle.buffer_plan.proofs.BestLemmas.{picked-real}
 use Rattle.buffer_plan.proofs.PlanLemmas.{real-in_range, real-within, plan-is_picked, plan-best, plan-time}

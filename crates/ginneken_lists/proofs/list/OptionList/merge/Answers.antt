@@ -1,4 +1,4 @@
-use Rattle.std.proofs.Common.{ℕ, ◌^◌, ◌≤◌, List, length, All, sym, subst}
+use Rattle.std.proofs.Common.{ℕ, ◌^◌, ◌≤◌, List, length, All, sym, ap, subst, arith}
 use Rattle.ginneken_lists.specs.Pairs.{IsInRange}
 use Rattle.ginneken_lists.specs.StoredPairs.{pairs_of}
 use Rattle.ginneken_lists.specs.declared.pair.Pair.{Pair}
@@ -33,9 +33,15 @@ merge-requires-clause-right_marks g c =
     let marks : All (λ (p : Pair). p.mark ≤ n) (pairs_of items) = subst (λ (ps : List Pair). All (λ (p : Pair). p.mark ≤ n) ps) (sym c.right.view_is) c.requires.right_marks in
     subst (λ (xs : List Stored). All (λ (s : Stored). s.mark ≤ n) xs) (sym c.deref-2.ensures.value) (stored-marks n items marks)
 
+pub merge-requires-clause-room : goal.merge-requires-clause-room
+merge-requires-clause-room g c =
+    let first = ap (λ (xs : List Stored). length xs) c.deref.ensures.value in
+    let second = ap (λ (xs : List Stored). length xs) c.deref-2.ensures.value in
+    omega (arith, c.in_ok-pairs.ensures.room, first, second, c.left.inside.pairs.ok.0, c.right.inside.pairs.ok.0)
+
 pub invariant_of-result : goal.invariant_of-result
 invariant_of-result g c =
-    merged-list c.args.trail.now c.merge.new.trail c.deref.result.now c.deref-2.result.now c.in_ok-pairs.pairs.items c.in_ok-pairs.ensures.some c.in_ok-pairs.ensures.joined
+    merged-list c.args.trail.now c.merge.new.self c.deref.result.now c.deref-2.result.now c.merge.new.merged.items c.in_ok-merge.ensures.some c.in_ok-merge.ensures.joined
 
 pub returns-clause-marks : goal.returns-clause-marks
-returns-clause-marks g c = pair-marks (length c.merge.new.trail) c.in_ok-pairs.pairs.items c.in_ok-pairs.ensures.marks
+returns-clause-marks g c = pair-marks (length c.merge.new.self) c.merge.new.merged.items c.in_ok-merge.ensures.marks

@@ -1,8 +1,8 @@
 use Rattle.std.proofs.Common.{◌≡◌, ℕ, suc, ◌-◌, ◌<◌, List, length, sym, ap, subst, ◌∙◌, arith}
 use Rattle.ginneken_lists.specs.Candidates.{Chosen}
-use Rattle.ginneken_lists.specs.Trails.{chosen_of, chosen_by, trail_of, IsBelow}
+use Rattle.ginneken_lists.specs.Trails.{chosen_of, chosen_by, trail_of, HasBuffer, IsBelow}
 use Rattle.ginneken_lists.specs.declared.choice.Choice.{Choice}
-use Rattle.ginneken_lists.proofs.TrailLemmas.{length-trail, chosen-choice, below-choice}
+use Rattle.ginneken_lists.proofs.TrailLemmas.{length-trail, chosen-choice, below-choice, some-choice}
 use Rattle.ginneken_lists.proofs.trail.Trail.choice.Goals as goal
 
 pub index-requires : goal.index-requires
@@ -15,6 +15,7 @@ index-requires c =
 pub returns-then-mark-eq0 : goal.returns-then-mark-eq0
 returns-then-mark-eq0 c = record {
   choice = ap (chosen_of c.args.self.now) (sym c.if-mark-eq0.true);
+  some = λ later. let none = c.if-mark-eq0.true in absurd (omega (arith, later, none));
   lower = tt;
 }
 
@@ -30,5 +31,6 @@ returns c =
     record {
       choice = subst (λ (t : List Chosen). chosen_by t choice ≡ chosen_of t c.args.mark) c.self.view_is
           (ap (chosen_by (trail_of items)) c.index.ensures ∙ sym (chosen-choice items at c.args.mark choice c.self.invariant next inside));
+      some = λ later. subst HasBuffer (sym c.index.ensures) (some-choice items at choice c.self.invariant inside);
       lower = subst (λ (x : Choice). IsBelow c.args.mark x) (sym c.index.ensures) (below-choice items at c.args.mark choice c.self.invariant next inside);
     }

@@ -1,4 +1,4 @@
-use Rattle.std.proofs.Common.{◌≡◌, List, length, sym, ap, subst, ◌∙◌, arith}
+use Rattle.std.proofs.Common.{◌≡◌, List, length, ap, subst, ◌∙◌, arith}
 use Rattle.ginneken_lists.specs.Candidates.{Chosen, with_one}
 use Rattle.ginneken_lists.specs.Trails.{trail_of}
 use Rattle.ginneken_lists.specs.Offering.{buffer_over}
