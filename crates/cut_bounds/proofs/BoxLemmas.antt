@@ -1,22 +1,20 @@
 -- The numbers of boxes, and what nets need of boxes and what these hold.
-use Rattle.std.proofs.Common.{◌≡◌, ℕ, suc, zero, ◌+◌, ◌-◌, ◌*◌, ◌/◌, ◌%◌, ◌<◌, ◌≤◌, ◌^◌, ◌⊎◌, inl, inr, Bool, true, false, not, ◌&&◌, ◌||◌, ◌==◌, List, [], ◌∷◌, ◌++◌, All, map, take, drop, length, get_or, replicate, sum_by, refl, sym, ap, subst, ◌∙◌, arith}
+use Rattle.std.proofs.Common.{◌≡◌, ℕ, ◌+◌, ◌-◌, ◌*◌, ◌/◌, ◌<◌, ◌≤◌, ◌^◌, inl, inr, Bool, true, false, not, ◌&&◌, ◌==◌, List, [], ◌∷◌, All, map, drop, length, get_or, replicate, sum_by, refl, sym, ap, subst, ◌∙◌, arith}
 use Rattle.std.specs.List.{list_any, list_all}
-use Rattle.std.proofs.Math.Nat.{mul_comm}
-use Rattle.std.proofs.lemmas.Bool.{and_parts, cases_Bool, cases_lt}
+use Rattle.std.proofs.lemmas.Bool.{and_parts, cases_Bool, cases_lt, not-true, true≢false}
 use Rattle.std.proofs.lemmas.Bool.Decides.{nat_tests}
-use Rattle.std.proofs.lemmas.List.{drop_all, get_or_past, length-map, length-replicate, map-append}
+use Rattle.std.proofs.lemmas.List.{drop_all, get_or_past, length-replicate}
 use Rattle.std.proofs.lemmas.List.Elements.{All-head, All-tail}
-use Rattle.std.proofs.lemmas.List.Folds.{list_any-append}
 use Rattle.std.proofs.lemmas.List.Sums.{sum_by-cons}
 use Rattle.std.proofs.lemmas.Nat.{div-add-mod', le-div, mul-add-lt, mul-le, pow_pos, shr_le}
 use Rattle.gr_base.proofs.GridLemmas.{some_columns, some_rows}
 use Rattle.gr_base.specs.declared.grid.Shape.{Shape}
-use Rattle.wall_laws.specs.Walls.{differ, is_parted}
-use Rattle.cut_bounds.specs.Boxes.{across_of, up_of, boxes_on, box_needs, box_number, lies_in_one, AreMarked, IsOnChip}
+use Rattle.wall_laws.specs.Walls.{is_parted}
+use Rattle.cut_bounds.specs.Boxes.{across_of, up_of, boxes_on, box_needs, box_number, is_parted_on, lies_in_one, AreMarked, IsOnChip}
 use Rattle.cut_bounds.specs.Crossings.{is_boxed, leads_out}
 use Rattle.cut_bounds.specs.Cuts.{tile_at}
 use Rattle.cut_bounds.specs.NetTiles.{Placed, placed_by, pins_claimed}
-use Rattle.cut_bounds.specs.TileWires.{gained, held_by, passing_at, sum_below, tiles_of, where_so}
+use Rattle.cut_bounds.specs.TileWires.{held_by, passing_at, sum_below, tiles_of, where_so}
 use Rattle.cut_bounds.specs.declared.axis.Axis.TheVariants.{Columns, Rows}
 use Rattle.cut_bounds.specs.declared.tile_wires.TileWires.{TileWires}
 use Rattle.gr_base.specs.declared.grid.Way.TheVariants.{East, North}
@@ -24,7 +22,7 @@ use Rattle.cut_bounds.specs.declared.axis.Tile.{Tile}
 use Rattle.cut_bounds.specs.declared.net_tiles.Claim.{Claim}
 use Rattle.cut_bounds.proofs.CutLemmas.{few-tiles, line-inside}
 use Rattle.cut_bounds.proofs.NetLemmas.{IsNext}
-use Rattle.cut_bounds.proofs.SumLemmas.{below-le, below-more, below-up, where-yes, where-no, where-le, gained-at, length-gained}
+use Rattle.cut_bounds.proofs.SumLemmas.{below-le, below-more, below-up, where-le}
 use Rattle.cut_bounds.proofs.WireSums.{zeros}
 
 div-up : (m n level : ℕ) → m ≤ n → m / 2 ^ level ≤ n / 2 ^ level
@@ -52,13 +50,6 @@ count-most g level =
     omega (arith, whole, few-tiles g)
 
 -- ---- boxes that part a net
-
-not-true : (b : Bool) → b ≡ false → not b ≡ true
-not-true true e = cc
-not-true false e = refl
-
-apart : true ≡ false → ⊥
-apart e = cc
 
 -- a list of numbers that all are its first is parted by no box
 all-same : (first n : ℕ) (numbers : List ℕ) → list_all (λ b. b == first) numbers ≡ true →
@@ -93,7 +84,7 @@ parted-none n numbers same = all-same (get_or numbers 0 0) n numbers same
 
 -- where they are not all the first, a box that has one of them misses another
 some-other : (first n : ℕ) (numbers : List ℕ) → list_all (λ b. b == first) numbers ≡ false → (first == n) ≡ true → list_any (λ b. not (b == n)) numbers ≡ true
-some-other first n [] same on = absurd (apart same)
+some-other first n [] same on = absurd (true≢false same)
 some-other first n (b ∷ bs) same on = elim (cases_Bool (b == n)) [
   | inl here ↦
       let is : (b == first) ≡ true = grind (arith, nat_tests, here, on) in
@@ -139,7 +130,7 @@ marked-parted numbers old needs marks need mark n many was =
 -- what is so once the first nets are counted
 pub record AreBoxedTo (g : Shape) (level : ℕ) (claims : List Claim) (at : ℕ) (rest : List Tile) (needs marks : List ℕ) (mark : ℕ) (all : List Placed) : Type 0 where
   pub whole : pins_claimed (drop at claims) ≡ length rest
-  pub some : All (λ (net : Placed). 0 < length net.tiles) (placed_by (drop at claims) rest)
+  pub parts : All (λ (net : Placed). is_parted_on g level net ≡ true) (placed_by (drop at claims) rest)
   pub within : All (λ (net : Placed). All (IsOnChip g) net.tiles) (placed_by (drop at claims) rest)
   pub long : length needs ≡ boxes_on g level
   pub same : length marks ≡ boxes_on g level
@@ -148,14 +139,14 @@ pub record AreBoxedTo (g : Shape) (level : ℕ) (claims : List Claim) (at : ℕ)
   pub counted : (n : ℕ) → n < boxes_on g level → get_or needs n 0 + box_needs g level n (placed_by (drop at claims) rest) ≡ box_needs g level n all
 
 pub no-boxed-to : (g : Shape) (level n m : ℕ) (claims : List Claim) (tiles rest : List Tile) (needs marks : List ℕ) → rest ≡ tiles →
-    pins_claimed claims ≡ length tiles → All (λ (net : Placed). 0 < length net.tiles) (placed_by claims tiles) →
+    pins_claimed claims ≡ length tiles → All (λ (net : Placed). is_parted_on g level net ≡ true) (placed_by claims tiles) →
     All (λ (net : Placed). All (IsOnChip g) net.tiles) (placed_by claims tiles) → n ≡ boxes_on g level → m ≡ boxes_on g level →
     needs ≡ replicate n 0 → marks ≡ replicate m 0 →
     AreBoxedTo g level claims 0 rest needs marks 0 (placed_by claims tiles)
-no-boxed-to g level n m claims tiles rest needs marks same whole some within count count' is is' =
+no-boxed-to g level n m claims tiles rest needs marks same whole parts within count count' is is' =
     subst (λ (ts : List Tile). AreBoxedTo g level claims 0 ts needs marks 0 (placed_by claims tiles)) (sym same) (record {
       whole = whole;
-      some = some;
+      parts = parts;
       within = within;
       long = ap (λ (xs : List ℕ). length xs) is ∙ length-replicate n 0 ∙ count;
       same = ap (λ (xs : List ℕ). length xs) is' ∙ length-replicate m 0 ∙ count';
@@ -164,14 +155,17 @@ no-boxed-to g level n m claims tiles rest needs marks same whole some within cou
       counted = λ k lower. let e = ap (λ (xs : List ℕ). get_or xs k 0) is ∙ zeros n k in omega (arith, e);
     })
 
-pub boxed-some : (g : Shape) (level : ℕ) (claims : List Claim) (at : ℕ) (claim : Claim) (rest tiles others : List Tile) (needs marks : List ℕ) (mark : ℕ) (all : List Placed) →
-    AreBoxedTo g level claims at rest needs marks mark all → IsNext claims at claim rest tiles others → (0 < length tiles) × All (IsOnChip g) tiles
-boxed-some g level claims at claim rest tiles others needs marks mark all was next = (
-  All-head (λ (net : Placed). 0 < length net.tiles) record { need = claim.need; tiles = tiles } (placed_by (drop (at + 1) claims) others)
-      (subst (λ (ns : List Placed). All (λ (net : Placed). 0 < length net.tiles) ns) next.is was.some),
-  All-head (λ (net : Placed). All (IsOnChip g) net.tiles) record { need = claim.need; tiles = tiles } (placed_by (drop (at + 1) claims) others)
-      (subst (λ (ns : List Placed). All (λ (net : Placed). All (IsOnChip g) net.tiles) ns) next.is was.within),
-)
+pub boxed-parts : (g : Shape) (level : ℕ) (claims : List Claim) (at : ℕ) (claim : Claim) (rest tiles others : List Tile)
+    (needs marks : List ℕ) (mark : ℕ) (all : List Placed) → AreBoxedTo g level claims at rest needs marks mark all →
+    IsNext claims at claim rest tiles others → All (IsOnChip g) tiles × (lies_in_one (map (box_number g level) tiles) ≡ false)
+boxed-parts g level claims at claim rest tiles others needs marks mark all was next =
+    let net : Placed = record { need = claim.need; tiles = tiles } in
+    let ns : List Placed = placed_by (drop (at + 1) claims) others in (
+      All-head (λ (p : Placed). All (IsOnChip g) p.tiles) net ns
+          (subst (λ (ps : List Placed). All (λ (p : Placed). All (IsOnChip g) p.tiles) ps) next.is was.within),
+      not-true (lies_in_one (map (box_number g level) tiles)) (All-head (λ (p : Placed). is_parted_on g level p ≡ true) net ns
+          (subst (λ (ps : List Placed). All (λ (p : Placed). is_parted_on g level p ≡ true) ps) next.is was.parts)),
+    )
 
 pub box-needs-le : (g : Shape) (level n : ℕ) (nets : List Placed) → box_needs g level n nets ≤ sum_by (λ (net : Placed). net.need) nets
 box-needs-le g level n [] = omega arith
@@ -194,8 +188,8 @@ pub more-boxed-to : (g : Shape) (level : ℕ) (claims : List Claim) (at : ℕ) (
     AreBoxedTo g level claims (at + 1) others needs' marks' mark' all
 more-boxed-to g level claims at claim rest tiles others needs marks needs' marks' mark mark' need all was next up is long long' below step = record {
   whole = next.whole;
-  some = All-tail (λ (net : Placed). 0 < length net.tiles) record { need = claim.need; tiles = tiles } (placed_by (drop (at + 1) claims) others)
-      (subst (λ (ns : List Placed). All (λ (net : Placed). 0 < length net.tiles) ns) next.is was.some);
+  parts = All-tail (λ (net : Placed). is_parted_on g level net ≡ true) record { need = claim.need; tiles = tiles } (placed_by (drop (at + 1) claims) others)
+      (subst (λ (ns : List Placed). All (λ (net : Placed). is_parted_on g level net ≡ true) ns) next.is was.parts);
   within = All-tail (λ (net : Placed). All (IsOnChip g) net.tiles) record { need = claim.need; tiles = tiles } (placed_by (drop (at + 1) claims) others)
       (subst (λ (ns : List Placed). All (λ (net : Placed). All (IsOnChip g) net.tiles) ns) next.is was.within);
   long = long ∙ was.long;

@@ -1,21 +1,20 @@
 -- The boxes of a side one after another, and which of them are overfull.
-use Rattle.std.proofs.Common.{◌≡◌, ℕ, suc, zero, ◌+◌, ◌-◌, ◌*◌, ◌/◌, ◌%◌, ◌<◌, ◌≤◌, ◌^◌, min, Bool, true, false, ◌&&◌, nat_lt, List, [], ◌∷◌, ◌++◌, map, filter, get_or, length, refl, sym, ap, subst, ◌∙◌, arith}
+use Rattle.std.proofs.Common.{◌≡◌, ℕ, ◌+◌, ◌-◌, ◌*◌, ◌/◌, ◌%◌, ◌<◌, ◌≤◌, ◌^◌, Bool, true, false, ◌&&◌, nat_lt, List, [], ◌∷◌, ◌++◌, map, filter, refl, sym, ap, subst, ◌∙◌, arith}
 use Rattle.std.specs.List.{range_with_len}
 use Rattle.std.proofs.lemmas.List.{append_assoc, map-append}
-use Rattle.std.proofs.lemmas.Nat.{div-add-mod', div_below, mod_below, mul-le, one_shl, pow_below, pow_pos}
+use Rattle.std.proofs.lemmas.Nat.{div-add-mod', div_below, mod_below, mul-le, one_shl, pow_below}
 use Rattle.std.proofs.Math.Nat.{mul_comm}
 use Rattle.gr_base.proofs.GridLemmas.{some_columns, some_rows}
 use Rattle.gr_base.specs.Designs.{DesignView}
 use Rattle.gr_base.specs.declared.grid.Shape.{Shape}
 use Rattle.grid_demand.proofs.RangeFilters.{filter-fails, filter-passes}
 use Rattle.cut_bounds.specs.Boxes.{across_of, up_of, boxes_on, IsOnChip}
-use Rattle.cut_bounds.specs.Candidates.{box_at, box_from, candidates_on, counts, is_candidate}
+use Rattle.cut_bounds.specs.Candidates.{box_at, box_from, counts, is_candidate}
 use Rattle.cut_bounds.specs.Cuts.{tile_at}
 use Rattle.cut_bounds.specs.Measured.{measured}
 use Rattle.cut_bounds.specs.declared.axis.Tile.{Tile}
 use Rattle.cut_bounds.specs.declared.wall.MeasuredWall.{MeasuredWall}
 use Rattle.cut_bounds.specs.declared.wall.TileBox.{TileBox}
-use Rattle.cut_bounds.specs.declared.wall.Wall.{Wall}
 use Rattle.cut_bounds.specs.declared.wall.Wall.TheVariants.{Box}
 
 pub side-small : (level : ℕ) → level < 24 → 1 * 2 ^ level % 2 ^ 32 ≤ 16777216

@@ -1,7 +1,7 @@
 -- What nets need of straight cuts, by the lines in which they begin and end.
-use Rattle.std.proofs.Common.{◌≡◌, ℕ, suc, zero, ◌+◌, ◌-◌, ◌*◌, ◌/◌, ◌%◌, ◌<◌, ◌≤◌, ◌^◌, ◌⊎◌, max, min, inl, inr, Bool, true, false, not, ◌&&◌, ◌||◌, ◌==◌, nat_le, List, [], ◌∷◌, ◌++◌, All, map, take, drop, length, get_or, replicate, sum, sum_by, refl, sym, ap, subst, ◌∙◌, arith}
+use Rattle.std.proofs.Common.{◌≡◌, ℕ, suc, zero, ◌+◌, ◌-◌, ◌*◌, ◌/◌, ◌%◌, ◌<◌, ◌≤◌, ◌^◌, max, min, inl, inr, Bool, true, false, not, ◌&&◌, ◌||◌, nat_le, List, [], ◌∷◌, ◌++◌, All, map, take, drop, length, get_or, replicate, sum, sum_by, refl, sym, ap, subst, ◌∙◌, arith}
 use Rattle.std.specs.List.{list_any}
-use Rattle.std.proofs.lemmas.Bool.{cases_Bool, cases_lt}
+use Rattle.std.proofs.lemmas.Bool.{cases_Bool, cases_lt, not-true}
 use Rattle.std.proofs.lemmas.Bool.Decides.{nat_tests}
 use Rattle.std.proofs.lemmas.List.{drop_all, get_or_append_left, get_or_default, get_or_push, length-map, length-replicate, length_push, map-append}
 use Rattle.std.proofs.lemmas.List.Elements.{All-head, All-tail}
@@ -21,7 +21,7 @@ use Rattle.cut_bounds.specs.NetTiles.{Placed, placed_by, pins_claimed}
 use Rattle.cut_bounds.specs.TileWires.{where_so, gained, held_by, sum_below, tiles_of}
 use Rattle.cut_bounds.specs.declared.tile_wires.TileWires.{TileWires}
 use Rattle.cut_bounds.proofs.NetLemmas.{IsNext}
-use Rattle.cut_bounds.proofs.SumLemmas.{where-yes, where-no, where-le, length-gained, below-le, below-up}
+use Rattle.cut_bounds.proofs.SumLemmas.{where-yes, where-no, where-le, below-le, below-up}
 
 -- ---- sums up to a place
 
@@ -130,10 +130,6 @@ some-all p (n ∷ ns) some none = elim (cases_Bool (p n)) [
   apart : true ≡ false → ⊥
   apart e = cc
 
-not-false : (b : Bool) → not b ≡ true → b ≡ false
-not-false true e = cc
-not-false false e = refl
-
 not-not : (b : Bool) → not (not b) ≡ b
 not-not true = refl
 not-not false = refl
@@ -149,7 +145,7 @@ line-split axis line (net ∷ nets) some =
     let rest = line-split axis line nets (All-tail (λ (n : Placed). 0 < length n.tiles) net nets some) in
     let long : 0 < length (map (along axis) net.tiles) = omega (arith, first, length-map net.tiles (along axis)) in
     let split = split-need (is_reached axis line net.tiles) (is_passed axis line net.tiles) net.need
-    (λ p. some-all (λ at. nat_le at line) (map (along axis) net.tiles) long (not-false _ p)) in
+    (λ p. some-all (λ at. nat_le at line) (map (along axis) net.tiles) long (not-true _ p)) in
     let same = ap (λ (so : Bool). where_so (is_reached axis line net.tiles && so) net.need) (not-not (list_any (λ at. not (nat_le at line)) (map (along axis) net.tiles))) in
     omega (arith, a, b, d, rest, split, same)
 

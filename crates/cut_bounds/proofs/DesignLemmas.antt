@@ -1,5 +1,5 @@
 -- What the nets and the wires of a design keep to.
-use Rattle.std.proofs.Common.{◌≡◌, ℕ, suc, zero, ◌+◌, ◌*◌, ◌%◌, ◌<◌, ◌≤◌, ◌^◌, max, min, Bool, true, false, nat_le, nat_lt, List, [], ◌∷◌, ◌++◌, All, take, drop, unwrap_or, map, filter, fold, length, get_or, slice_get, Option, Some, None, IfSome, IsTrue, sum_by, refl, sym, ap, subst, ◌∙◌, arith}
+use Rattle.std.proofs.Common.{◌≡◌, ℕ, suc, zero, ◌+◌, ◌*◌, ◌%◌, ◌<◌, ◌≤◌, ◌^◌, max, Bool, true, false, nat_le, nat_lt, List, [], ◌∷◌, ◌++◌, All, take, drop, unwrap_or, map, filter, length, get_or, slice_get, Option, Some, None, IfSome, sum_by, refl, sym, ap, subst, ◌∙◌, arith}
 use Rattle.std.specs.List.{flat_map, range_with_len}
 use Rattle.std.proofs.lemmas.Bool.{and_parts}
 use Rattle.std.proofs.lemmas.Bool.Decides.{nat_tests}
@@ -10,19 +10,17 @@ use Rattle.std.proofs.lemmas.List.Sums.{count_by-le-length, length-filter, sum_b
 use Rattle.std.proofs.lemmas.Nat.{one_shl}
 use Rattle.gr_base.proofs.General.{fold-min-low}
 use Rattle.gr_base.specs.Capacities.{capacity, width_in, widths_of}
-use Rattle.gr_base.specs.Designs.{DesignView, IsDesign, IsFrame, IsLayer, IsNet, is_routed, is_routed_net, layers_of, pins_at, pins_in}
+use Rattle.gr_base.specs.Designs.{DesignView, IsDesign, IsLayer, is_routed, is_routed_net, pins_at, pins_in}
 use Rattle.gr_base.specs.Grid.{cells_of, edge_at, has_edge}
 use Rattle.gr_base.specs.Limits.{most_routed_pins, most_width}
 use Rattle.gr_base.specs.declared.frame.Layer.{Layer}
 use Rattle.gr_base.specs.declared.frame.Net.{Net}
 use Rattle.gr_base.specs.declared.grid.Edge.{Edge}
 use Rattle.gr_base.specs.declared.grid.Shape.{Shape}
-use Rattle.gr_base.specs.declared.grid.Way.{Way}
 use Rattle.gr_base.specs.declared.grid.Way.TheVariants.{East, North}
 use Rattle.gr_base.proofs.GridLemmas.{few_cells}
 use Rattle.grid_demand.proofs.CapacityLemmas.{capacity-most, get-all, tables-of}
 use Rattle.grid_demand.proofs.RangeFilters.{filter-fails, filter-passes}
-use Rattle.wall_laws.specs.Spans.{tile_number}
 use Rattle.wall_laws.specs.Walls.{least_need, least_on, taken_on}
 use Rattle.cut_bounds.specs.Boxes.{box_needs, boxes_on, IsOnChip}
 use Rattle.cut_bounds.specs.Candidates.{candidates_on, AreMeasured}
@@ -31,7 +29,7 @@ use Rattle.cut_bounds.specs.Cuts.{AreWithin, along, lines_of}
 use Rattle.cut_bounds.specs.NetTiles.{Placed, placed_by, placed_net, placed_nets, tile_in}
 use Rattle.cut_bounds.specs.declared.net_tiles.Claim.{Claim}
 use Rattle.cut_bounds.specs.declared.wall.MeasuredWall.{MeasuredWall}
-use Rattle.cut_bounds.specs.TileWires.{AreTileWires, held_by, sum_below, tiles_of, where_so}
+use Rattle.cut_bounds.specs.TileWires.{AreTileWires, held_by, sum_below, tiles_of}
 use Rattle.cut_bounds.specs.declared.axis.Axis.{Axis}
 use Rattle.cut_bounds.specs.declared.axis.Axis.TheVariants.{Columns, Rows}
 use Rattle.cut_bounds.specs.declared.axis.Tile.{Tile}
@@ -134,14 +132,14 @@ length-placed (claim ∷ claims) tiles = let rest = length-placed claims (drop c
 
 -- ---- the boxes of a side
 
-pub boxes-measured : (d : DesignView) (g : Shape) (level : ℕ) (nets : List Placed) (wires : TileWires) (needs holds : List ℕ) → g ≡ d.frame.shape → nets ≡ placed_nets d →
-    IsDesign d → AreTileWires d wires →
+pub boxes-measured : (d : DesignView) (g : Shape) (level : ℕ) (nets : List Placed) (wires : TileWires) (needs holds : List ℕ) → g ≡ d.frame.shape →
+    ((n : ℕ) → box_needs d.frame.shape level n nets ≡ box_needs d.frame.shape level n (placed_nets d)) → IsDesign d → AreTileWires d wires →
     ((n : ℕ) → n < boxes_on g level → get_or needs n 0 ≡ box_needs g level n nets) →
     ((n : ℕ) → n < boxes_on g level → get_or holds n 0 ≡ out_holds g (is_boxed g level n) wires) → AreMeasured d level needs holds
-boxes-measured d g level nets wires needs holds same placed is are need hold = record {
+boxes-measured d g level nets wires needs holds same left is are need hold = record {
   each = λ n inside.
       let low : n < boxes_on g level = subst (λ (s : Shape). n < boxes_on s level) (sym same) inside in (
-        need n low ∙ ap (λ (ns : List Placed). box_needs g level n ns) placed ∙ ap (λ (s : Shape). box_needs s level n (placed_nets d)) same ∙ sym (box-needs-are d level n is inside),
+        need n low ∙ ap (λ (s : Shape). box_needs s level n nets) same ∙ left n ∙ sym (box-needs-are d level n is inside),
         hold n low ∙ ap (λ (s : Shape). out_holds s (is_boxed s level n) wires) same ∙ sym (box-holds-are d level n wires are inside),
       );
 }

@@ -1,5 +1,5 @@
 -- Walls by falling excess.
-use Rattle.std.proofs.Common.{◌≡◌, Less, Equal, Greater, ℕ, ◌<◌, nat_lt, inl, inr, Bool, true, false, List, refl, sym, ap, ◌∙◌, arith}
+use Rattle.std.proofs.Common.{◌≡◌, Less, Equal, Greater, ℕ, nat_lt, inl, inr, Bool, List, sym, ap, ◌∙◌, arith}
 use Rattle.std.specs.Cmp.{IsStrictWeakOrder, nat_cmp_is}
 use Rattle.std.specs.List.Sorted.{IsSortedBy, IsStableBy}
 use Rattle.std.specs.Ordering.{is_lt, nat_cmp}

@@ -1,11 +1,11 @@
 -- The first few of a ranked list, kept as it grows.
-use Rattle.std.proofs.Common.{◌≡◌, ℕ, zero, suc, ◌+◌, ◌<◌, ◌≤◌, ltb, inl, inr, Option, Some, None, Bool, not, ◌++◌, get_or, true, false, cond, List, [], ◌∷◌, length, take, filter, fold, if◌then◌else◌, refl, sym, ap, ◌∙◌, append-nil, arith}
+use Rattle.std.proofs.Common.{◌≡◌, ℕ, zero, suc, ◌+◌, ◌<◌, ltb, inl, inr, Some, None, Bool, not, ◌++◌, get_or, true, false, cond, List, [], ◌∷◌, length, take, filter, if◌then◌else◌, refl, sym, ap, ◌∙◌, append-nil, arith}
 use Rattle.std.specs.List.{insert, position, position_or_len}
 use Rattle.std.proofs.lemmas.Bool.{cases_Bool, ltb-false}
 use Rattle.std.proofs.lemmas.Option.{none-some, same_Some}
 use Rattle.std.proofs.lemmas.List.Elements.{filter_more}
 use Rattle.std.proofs.lemmas.List.Sums.{fold_push, prefix_len-le-length}
-use Rattle.cut_bounds.specs.Fullest.{is_fuller, is_needed, fullest_of, most_told, place_among}
+use Rattle.cut_bounds.specs.Fullest.{is_fuller, is_needed, fullest_of, most_told}
 use Rattle.cut_bounds.specs.Measured.{ranked, ranked_with}
 use Rattle.cut_bounds.specs.declared.wall.MeasuredWall.{MeasuredWall}
 

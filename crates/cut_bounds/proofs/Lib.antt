@@ -14,6 +14,7 @@ pub mod ShareLemmas
 pub mod PlacesSmall
 pub mod TakenLemmas
 pub mod DesignLemmas
+pub mod PartedLemmas
 pub mod OrderLemmas
 pub mod StraightLemmas
 pub mod ExcessLemmas

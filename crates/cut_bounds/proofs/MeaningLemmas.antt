@@ -1,5 +1,5 @@
 -- What is counted by tile is what walls need and hold by their definitions.
-use Rattle.std.proofs.Common.{◌≡◌, ℕ, suc, zero, ◌+◌, ◌-◌, ◌*◌, ◌/◌, ◌%◌, ◌<◌, ◌≤◌, ◌^◌, ◌⊎◌, min, inl, inr, Bool, true, false, not, ◌&&◌, ◌||◌, ◌==◌, nat_le, nat_lt, List, [], ◌∷◌, All, map, filter, length, get_or, slice_get, Option, Some, None, IfSome, sum_by, IsTrue, refl, sym, ap, subst, ◌∙◌, arith}
+use Rattle.std.proofs.Common.{◌≡◌, ℕ, ◌+◌, ◌-◌, ◌*◌, ◌/◌, ◌%◌, ◌<◌, ◌≤◌, ◌^◌, ◌⊎◌, min, inl, inr, Bool, true, false, not, ◌&&◌, ◌||◌, ◌==◌, nat_le, nat_lt, List, [], ◌∷◌, All, map, filter, length, get_or, slice_get, Option, Some, None, IfSome, sum_by, refl, sym, ap, subst, ◌∙◌, arith}
 use Rattle.std.specs.List.{list_any, range_with_len}
 use Rattle.std.proofs.lemmas.Bool.{and_parts, cases_Bool, cases_lt}
 use Rattle.std.proofs.lemmas.Bool.Decides.{nat_tests}
@@ -7,11 +7,11 @@ use Rattle.std.proofs.lemmas.List.Elements.{All-head, All-tail}
 use Rattle.std.proofs.lemmas.List.Sums.{sum_by-cons}
 use Rattle.std.proofs.lemmas.Nat.{div-add-mod', div-mul-add, mod_below, mod-mul-add, pow_pos, same_from_place}
 use Rattle.gr_base.proofs.General.{same-truth}
-use Rattle.gr_base.proofs.GridLemmas.{edge-low, edge-room, high-below, place-high, place-inside, some_columns, some_rows}
+use Rattle.gr_base.proofs.GridLemmas.{edge-low, edge-room, high-below, place-high, place-inside, some_columns}
 use Rattle.gr_base.specs.Capacities.{capacity}
 use Rattle.gr_base.specs.Designs.{DesignView, IsDesign, IsNet, is_routed, pins_at, pins_in}
 use Rattle.gr_base.specs.Grid.{beyond, cells_of, has_edge, has_room, high_of, is_wire, is_wire_way, place_at}
-use Rattle.gr_base.specs.Sums.{wire_edges, wires_from_cells}
+use Rattle.gr_base.specs.Sums.{wire_edges}
 use Rattle.gr_base.specs.declared.frame.Net.{Net}
 use Rattle.gr_base.specs.declared.grid.Cell.{Cell}
 use Rattle.gr_base.specs.declared.grid.Edge.{Edge}
@@ -21,22 +21,22 @@ use Rattle.gr_base.specs.declared.grid.Way.TheVariants.{East, North, Up}
 use Rattle.grid_demand.proofs.CapacityLemmas.{get-all}
 use Rattle.wall_laws.proofs.CutLemmas.{differ-alike, differ-next}
 use Rattle.wall_laws.proofs.GridLists.{wires-are-wires, wires-in-grid}
+use Rattle.wall_laws.proofs.SumLemmas.{sum-map}
 use Rattle.wall_laws.specs.Spans.{tile_number}
-use Rattle.wall_laws.specs.Walls.{Tiles, box_wall, column_cut, crosses, differ, encloses, holds, is_parted, least_need, need_across, needs, row_cut}
-use Rattle.cut_bounds.specs.Boxes.{across_of, up_of, boxes_on, box_number, box_needs, IsOnChip}
-use Rattle.cut_bounds.specs.Candidates.{box_at, box_from}
+use Rattle.wall_laws.specs.Walls.{Tiles, column_cut, crosses, differ, encloses, holds, is_parted, least_need, need_across, needs, row_cut}
+use Rattle.cut_bounds.specs.Boxes.{across_of, boxes_on, box_number, box_needs, IsOnChip}
+use Rattle.cut_bounds.specs.Candidates.{box_at}
 use Rattle.cut_bounds.specs.Crossings.{above_of, has_tile, is_boxed, leads_out, out_holds, right_of}
 use Rattle.cut_bounds.specs.Cuts.{along, line_holds, line_needs, tile_at, wires_along}
 use Rattle.cut_bounds.specs.Measured.{tiles_in}
 use Rattle.cut_bounds.specs.NetTiles.{Placed, placed_net, placed_nets, tile_in}
-use Rattle.cut_bounds.specs.TileWires.{AreTileWires, passing_at, sum_below, tiles_of, where_so}
+use Rattle.cut_bounds.specs.TileWires.{AreTileWires, passing_at, tiles_of, where_so}
 use Rattle.cut_bounds.specs.declared.axis.Axis.TheVariants.{Columns, Rows}
 use Rattle.cut_bounds.specs.declared.axis.Tile.{Tile}
 use Rattle.cut_bounds.specs.declared.tile_wires.TileWires.{TileWires}
 use Rattle.cut_bounds.specs.declared.wall.Wall.TheVariants.{Box}
 use Rattle.cut_bounds.proofs.BoxLemmas.{box-column-below}
-use Rattle.cut_bounds.proofs.CutLemmas.{line-inside}
-use Rattle.cut_bounds.proofs.SumLemmas.{below-same, sum-filter, sum-map, sum-same, where-no}
+use Rattle.cut_bounds.proofs.SumLemmas.{below-same, sum-same}
 use Rattle.cut_bounds.proofs.WireSums.{tile-number}
 
 -- ---- what nets need

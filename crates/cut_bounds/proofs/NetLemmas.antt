@@ -1,19 +1,17 @@
 -- Routed nets in flat lists, and the least that they need.
-use Rattle.std.proofs.Common.{◌≡◌, ℕ, suc, zero, ◌+◌, ◌*◌, ◌<◌, ◌≤◌, min, inl, inr, Bool, true, false, List, [], ◌∷◌, ◌++◌, All, map, filter, fold, take, drop, length, get_or, slice_get, Option, Some, None, unwrap_or, sum_by, IsTrue, refl, sym, ap, subst, ◌∙◌, arith}
+use Rattle.std.proofs.Common.{◌≡◌, ℕ, suc, zero, ◌+◌, ◌<◌, ◌≤◌, min, true, false, List, [], ◌∷◌, ◌++◌, map, filter, fold, take, drop, length, get_or, slice_get, Option, Some, refl, sym, ap, subst, ◌∙◌, arith}
 use Rattle.std.specs.List.{range_with_len}
-use Rattle.std.proofs.lemmas.Bool.{cases_Bool}
 use Rattle.std.proofs.lemmas.List.{map-append, length-append, length-map, take_all, take-append-le, drop-append-le, nil_from_length, length-drop, drop_more}
 use Rattle.std.proofs.lemmas.List.Sums.{fold-append, sum_by-cons, sum_by_push}
-use Rattle.gr_base.specs.Capacities.{width_in, widths_of}
+use Rattle.gr_base.specs.Capacities.{width_in}
 use Rattle.gr_base.specs.Designs.{DesignView, is_routed, layers_of, pins_at, pins_in}
 use Rattle.gr_base.specs.declared.frame.Layer.{Layer}
 use Rattle.gr_base.specs.declared.frame.Net.{Net}
-use Rattle.gr_base.specs.declared.grid.Shape.{Shape}
 use Rattle.grid_demand.proofs.RangeFilters.{filter-fails, filter-passes}
 use Rattle.wall_laws.specs.Walls.{least_need, least_on, taken_on}
 use Rattle.cut_bounds.specs.declared.net_tiles.Claim.{Claim}
 use Rattle.cut_bounds.specs.declared.axis.Tile.{Tile}
-use Rattle.cut_bounds.specs.NetTiles.{Placed, placed_by, placed_in, placed_net, pins_claimed, tile_in}
+use Rattle.cut_bounds.specs.NetTiles.{Placed, placed_by, placed_net, pins_claimed, tile_in}
 
 -- ---- the least need over layers
 

@@ -1,5 +1,5 @@
 -- The walls in their order are walls of the grid, and the bounds that they show hold.
-use Rattle.std.proofs.Common.{◌≡◌, ℕ, suc, zero, ◌+◌, ◌-◌, ◌*◌, ◌<◌, ◌≤◌, ◌^◌, ◌⊎◌, inl, inr, min, Bool, true, false, ◌&&◌, nat_lt, List, [], ◌∷◌, ◌++◌, All, map, filter, fold, length, get_or, count_by, sum_by, refl, sym, ap, subst, ◌∙◌, arith}
+use Rattle.std.proofs.Common.{◌≡◌, ℕ, ◌+◌, ◌-◌, ◌*◌, ◌<◌, ◌≤◌, ◌^◌, ◌⊎◌, inl, inr, Bool, true, false, List, [], ◌∷◌, ◌++◌, All, map, filter, fold, get_or, count_by, sum_by, refl, sym, ap, subst, ◌∙◌, arith}
 use Rattle.std.specs.List.{flat_map, range_with_len}
 use Rattle.std.proofs.lemmas.Bool.{and_parts, cases_Bool}
 use Rattle.std.proofs.lemmas.Bool.Decides.{nat_tests}
@@ -12,19 +12,18 @@ use Rattle.gr_base.specs.declared.grid.Shape.{Shape}
 use Rattle.wall_laws.proofs.BoundLemmas.{are-bounds}
 use Rattle.wall_laws.specs.Laws.{AreBounds}
 use Rattle.wall_laws.specs.Spans.{least_wirelength, least_usable_wirelength}
-use Rattle.wall_laws.specs.Walls.{Tiles, holds, needs}
+use Rattle.wall_laws.specs.Walls.{holds, needs}
 use Rattle.cut_bounds.specs.Bounds.{BoundsView}
 use Rattle.cut_bounds.specs.BoundsOf.{bounds_of, is_box, is_column, is_row}
 use Rattle.cut_bounds.specs.Fullest.{fullest_of}
 use Rattle.cut_bounds.specs.Boxes.{boxes_on}
-use Rattle.cut_bounds.specs.Candidates.{box_at, box_from, candidates, candidates_on, column_walls, counts, is_candidate, levels_of, row_walls, straight_cuts}
+use Rattle.cut_bounds.specs.Candidates.{box_at, candidates, candidates_on, column_walls, counts, is_candidate, levels_of, row_walls, straight_cuts}
 use Rattle.cut_bounds.specs.Cuts.{tile_at}
 use Rattle.cut_bounds.specs.Boxes.{across_of}
 use Rattle.cut_bounds.specs.Measured.{is_overfull, measured, ranked, ranked_with, tiles_in}
 use Rattle.cut_bounds.specs.Places.{IsBoxOf, IsWallOf}
 use Rattle.cut_bounds.specs.Taken.{excess_of, has_more, is_blocked_by, order_of, take_apart, taken_walls}
 use Rattle.cut_bounds.specs.declared.wall.MeasuredWall.{MeasuredWall}
-use Rattle.cut_bounds.specs.declared.wall.Wall.{Wall}
 use Rattle.cut_bounds.specs.declared.wall.Wall.TheVariants.{Column, Row, Box}
 use Rattle.cut_bounds.proofs.CandidateLemmas.{corner-on, end-on}
 use Rattle.cut_bounds.proofs.ShareLemmas.{apart-all, tiles_list}

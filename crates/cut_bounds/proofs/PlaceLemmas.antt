@@ -1,19 +1,18 @@
 -- Runs of places: that they are small, and which places they have.
-use Rattle.std.proofs.Common.{◌≡◌, ℕ, suc, zero, ◌+◌, ◌-◌, ◌*◌, ◌/◌, ◌%◌, ◌<◌, ◌≤◌, ◌^◌, ◌⊎◌, inl, inr, Bool, true, false, not, ◌&&◌, ◌||◌, ◌==◌, nat_le, nat_lt, if◌then◌else◌, List, [], ◌∷◌, ◌++◌, All, Any, map, length, get_or, refl, sym, ap, subst, ◌∙◌, arith}
-use Rattle.std.specs.List.{list_any, range_with_len}
+use Rattle.std.proofs.Common.{◌≡◌, ℕ, ◌+◌, ◌-◌, ◌*◌, ◌/◌, ◌%◌, ◌<◌, ◌≤◌, ◌^◌, ◌⊎◌, inl, inr, Bool, true, false, ◌&&◌, ◌||◌, ◌==◌, nat_le, nat_lt, if◌then◌else◌, List, [], get_or, refl, sym, ap, ◌∙◌, arith}
+use Rattle.std.specs.List.{list_any}
 use Rattle.std.proofs.Math.Nat.{le-mul_of_pos_right, mul_comm}
 use Rattle.std.proofs.lemmas.Bool.{and_parts, cases_Bool, cases_lt}
 use Rattle.std.proofs.lemmas.Bool.Decides.{nat_tests}
 use Rattle.std.proofs.lemmas.List.FromFn.{get_or-map-range_with_len, length-map-range_with_len}
-use Rattle.std.proofs.lemmas.List.Folds.{Any-from_list_any, list_any-append, list_any_at}
-use Rattle.std.proofs.lemmas.Nat.{div-add-mod', div-mul-add, mod-mul-add, mod_below, mul-le}
+use Rattle.std.proofs.lemmas.List.Folds.{Any-from_list_any, list_any_at}
+use Rattle.std.proofs.lemmas.Nat.{div-add-mod', div-mul-add, mod-mul-add, mul-le}
 use Rattle.gr_base.proofs.General.{same-truth}
-use Rattle.gr_base.proofs.GridLemmas.{some_columns, some_rows}
+use Rattle.gr_base.proofs.GridLemmas.{some_rows}
 use Rattle.gr_base.specs.declared.grid.Shape.{Shape}
 use Rattle.wall_laws.specs.Walls.{differ}
-use Rattle.cut_bounds.specs.Places.{IsBoxOf, run_of}
+use Rattle.cut_bounds.specs.Places.{run_of}
 use Rattle.cut_bounds.specs.TileWires.{tiles_of}
-use Rattle.cut_bounds.specs.declared.wall.TileBox.{TileBox}
 use Rattle.cut_bounds.proofs.CutLemmas.{few-tiles}
 
 -- the places of a run up the rows, and of one along a row, are small

@@ -1,13 +1,11 @@
 -- The places of a wall's wires are those of the grid.
-use Rattle.std.proofs.Common.{◌≡◌, ℕ, suc, zero, ◌+◌, ◌-◌, ◌*◌, ◌<◌, ◌≤◌, ◌⊎◌, inl, inr, Bool, true, false, nat_lt, if◌then◌else◌, List, [], ◌∷◌, ◌++◌, All, length, get_or, refl, sym, ap, subst, ◌∙◌, arith}
+use Rattle.std.proofs.Common.{◌≡◌, ℕ, ◌+◌, ◌-◌, ◌*◌, ◌<◌, ◌≤◌, Bool, true, false, nat_lt, if◌then◌else◌, List, [], ◌++◌, All, sym, subst, arith}
 use Rattle.std.proofs.lemmas.List.Elements.{All-append}
 use Rattle.std.proofs.lemmas.List.FromFn.{get_or-map-range_with_len, length-map-range_with_len}
 use Rattle.std.proofs.lemmas.Nat.{mul-add-lt}
-use Rattle.std.proofs.Math.Nat.{mul_comm}
 use Rattle.gr_base.specs.declared.grid.Shape.{Shape}
-use Rattle.cut_bounds.specs.Places.{places_of, run_of, left_run, right_run, lower_run, upper_run, IsBoxOf, IsWallOf}
+use Rattle.cut_bounds.specs.Places.{places_of, run_of, left_run, right_run, lower_run, upper_run, IsWallOf}
 use Rattle.cut_bounds.specs.TileWires.{tiles_of}
-use Rattle.cut_bounds.specs.declared.wall.TileBox.{TileBox}
 use Rattle.cut_bounds.specs.declared.wall.Wall.{Wall}
 use Rattle.cut_bounds.specs.declared.wall.Wall.TheVariants.{Column, Row, Box}
 

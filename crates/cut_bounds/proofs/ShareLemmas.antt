@@ -1,6 +1,6 @@
 -- Walls that share an edge, by the places of their wires, and walls of which no two do.
-use Rattle.std.proofs.Common.{◌≡◌, ℕ, suc, zero, ◌+◌, ◌-◌, ◌*◌, ◌/◌, ◌%◌, ◌<◌, ◌≤◌, ◌⊎◌, inl, inr, Bool, true, false, ◌&&◌, ◌||◌, ◌==◌, nat_lt, List, [], ◌∷◌, ◌++◌, All, Any, map, filter, fold, length, get_or, IsTrue, refl, sym, ap, subst, ◌∙◌, arith}
-use Rattle.std.specs.List.{list_any, range_with_len}
+use Rattle.std.proofs.Common.{◌≡◌, ℕ, suc, zero, ◌+◌, ◌-◌, ◌*◌, ◌/◌, ◌%◌, ◌<◌, ◌≤◌, ◌⊎◌, inl, inr, Bool, true, false, ◌&&◌, ◌||◌, ◌==◌, nat_lt, List, [], ◌∷◌, ◌++◌, All, map, filter, fold, length, get_or, refl, sym, ap, subst, ◌∙◌, arith}
+use Rattle.std.specs.List.{list_any}
 use Rattle.std.proofs.lemmas.Bool.{and_parts, and_from, cases_Bool, cases_lt}
 use Rattle.std.proofs.lemmas.Bool.Decides.{nat_tests}
 use Rattle.std.proofs.lemmas.List.Elements.{All-push}
@@ -24,10 +24,9 @@ use Rattle.wall_laws.specs.Walls.{ShareNoEdge, Tiles, crosses, share_edge}
 use Rattle.cut_bounds.specs.Crossings.{has_tile, leads_out}
 use Rattle.cut_bounds.specs.Cuts.{tile_at}
 use Rattle.cut_bounds.specs.Measured.{tiles_in}
-use Rattle.cut_bounds.specs.Places.{is_walled, leads_at, places_of, IsWallOf}
+use Rattle.cut_bounds.specs.Places.{is_walled, places_of, IsWallOf}
 use Rattle.cut_bounds.specs.Taken.{AreMarks, is_blocked_by, take_apart}
 use Rattle.cut_bounds.specs.TileWires.{tiles_of}
-use Rattle.cut_bounds.specs.declared.axis.Tile.{Tile}
 use Rattle.cut_bounds.specs.declared.wall.MeasuredWall.{MeasuredWall}
 use Rattle.cut_bounds.specs.declared.wall.Wall.{Wall}
 use Rattle.cut_bounds.specs.declared.axis.Axis.TheVariants.{Rows}

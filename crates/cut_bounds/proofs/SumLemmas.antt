@@ -1,11 +1,10 @@
 -- Sums over the numbers below a number, over wire edges, and of lists in which one number gains.
-use Rattle.std.proofs.Common.{◌≡◌, ℕ, suc, zero, ◌+◌, ◌*◌, ◌<◌, ◌≤◌, inl, inr, Bool, true, false, ◌==◌, cond, List, [], ◌∷◌, ◌++◌, map, filter, take, length, get_or, replicate, set, sum, sum_by, refl, sym, ap, subst, ◌∙◌, arith}
+use Rattle.std.proofs.Common.{◌≡◌, ℕ, suc, zero, ◌+◌, ◌*◌, ◌<◌, ◌≤◌, inl, inr, Bool, true, false, ◌==◌, List, [], ◌∷◌, ◌++◌, length, get_or, replicate, sum_by, refl, sym, ap, subst, ◌∙◌, arith}
 use Rattle.std.specs.List.{range_with_len}
 use Rattle.std.proofs.lemmas.Bool.{cases_Bool, cases_lt}
 use Rattle.std.proofs.lemmas.Bool.Decides.{nat_tests}
 use Rattle.std.proofs.lemmas.List.{get_or-replicate, get_or-set_same, get_or-set_other, length-replicate, length-set}
-use Rattle.std.proofs.lemmas.List.Folds.{fold-map}
-use Rattle.std.proofs.lemmas.List.Sums.{sum_by-cons, sum_by-append, sum_by_push}
+use Rattle.std.proofs.lemmas.List.Sums.{sum_by-cons, sum_by_push}
 use Rattle.gr_base.proofs.General.{eqb-swap, range-more}
 use Rattle.cut_bounds.specs.TileWires.{sum_below, where_so, gained}
 
@@ -112,25 +111,9 @@ length-gained xs at more = length-set xs at (get_or xs at 0 + more)
 
 -- ---- sums of lists
 
-pub sum-filter : {X : Type 0} (f : X → ℕ) (p : X → Bool) (xs : List X) → sum_by f (filter p xs) ≡ sum_by (λ x. where_so (p x) (f x)) xs
-sum-filter f p [] = refl
-sum-filter {X = X} f p (x ∷ xs) = elim (cases_Bool (p x)) [
-  | inl on ↦
-      let is : filter p (x ∷ xs) ≡ x ∷ filter p xs = rw on refl in
-      let a = ap (λ (ys : List X). sum_by f ys) is ∙ sum_by-cons f x (filter p xs) in
-      omega (arith, a, sum_by-cons (λ (y : X). where_so (p y) (f y)) x xs, sum-filter f p xs, where-yes (p x) (f x) on)
-  | inr off ↦
-      let is : filter p (x ∷ xs) ≡ filter p xs = rw off refl in
-      let a = ap (λ (ys : List X). sum_by f ys) is in
-      omega (arith, a, sum_by-cons (λ (y : X). where_so (p y) (f y)) x xs, sum-filter f p xs, where-no (p x) (f x) off)
-]
-
 pub sum-same : {X : Type 0} (f h : X → ℕ) (xs : List X) → ((x : X) → f x ≡ h x) → sum_by f xs ≡ sum_by h xs
 sum-same f h [] same = refl
 sum-same f h (x ∷ xs) same = omega (arith, sum_by-cons f x xs, sum_by-cons h x xs, same x, sum-same f h xs same)
-
-pub sum-map : {X Y : Type 0} (f : Y → ℕ) (h : X → Y) (xs : List X) → sum_by f (map h xs) ≡ sum_by (λ x. f (h x)) xs
-sum-map f h xs = fold-map (λ (a : ℕ) y. a + f y) h 0 xs
 
 -- ---- numbers that gather in places
 

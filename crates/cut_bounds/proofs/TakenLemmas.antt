@@ -1,10 +1,9 @@
 -- Walls that are taken one after another.
-use Rattle.std.proofs.Common.{◌≡◌, ℕ, ◌*◌, ◌<◌, Bool, true, false, List, ◌∷◌, [], ◌++◌, All, length, get_or, sym, ap, subst, ◌∙◌, refl}
+use Rattle.std.proofs.Common.{◌≡◌, ℕ, ◌<◌, Bool, true, false, List, ◌∷◌, [], ◌++◌, All, length, get_or, sym, ap, subst, ◌∙◌, refl}
 use Rattle.std.specs.List.{list_any}
 use Rattle.gr_base.specs.declared.grid.Shape.{Shape}
 use Rattle.cut_bounds.specs.Places.{places_of, IsWallOf}
 use Rattle.cut_bounds.specs.Taken.{AreMarks, is_blocked_by, take_apart}
-use Rattle.cut_bounds.specs.TileWires.{tiles_of}
 use Rattle.cut_bounds.specs.declared.wall.MeasuredWall.{MeasuredWall}
 use Rattle.cut_bounds.proofs.PlacesSmall.{places-small}
 use Rattle.cut_bounds.proofs.ShareLemmas.{blocked-is}

@@ -1,5 +1,5 @@
 -- Sums over the wire edges of a grid, by the cells that they lead from, and what tiles hold of them.
-use Rattle.std.proofs.Common.{◌≡◌, ℕ, suc, zero, ◌+◌, ◌*◌, ◌/◌, ◌%◌, ◌<◌, ◌≤◌, ◌^◌, ◌⊎◌, inl, inr, Bool, true, false, ◌==◌, List, ◌++◌, map, filter, length, get_or, replicate, sum_by, refl, sym, ap, subst, ◌∙◌, arith}
+use Rattle.std.proofs.Common.{◌≡◌, ℕ, suc, zero, ◌+◌, ◌*◌, ◌%◌, ◌<◌, ◌≤◌, ◌^◌, ◌⊎◌, inl, inr, Bool, true, false, ◌==◌, List, length, get_or, replicate, sum_by, refl, sym, ap, subst, ◌∙◌, arith}
 use Rattle.std.specs.List.{range_with_len}
 use Rattle.std.proofs.Math.Arith.{mod-mul}
 use Rattle.std.proofs.Math.Nat.{mul_comm, mul-pos}
@@ -21,10 +21,11 @@ use Rattle.gr_base.specs.declared.grid.Way.TheVariants.{East, North}
 use Rattle.grid_demand.proofs.CapacityLemmas.{capacity-table}
 use Rattle.grid_demand.proofs.WireLemmas.{wire_at-east, wire_at-north}
 use Rattle.grid_demand.specs.Tables.{CapacityView, capacity_of}
+use Rattle.wall_laws.proofs.SumLemmas.{sum-filter, sum-map}
 use Rattle.wall_laws.specs.Spans.{tile_number}
 use Rattle.cut_bounds.specs.TileWires.{sum_below, tiles_of, where_so, gained, edge_holds, AreTileWires}
 use Rattle.cut_bounds.specs.declared.tile_wires.TileWires.{TileWires}
-use Rattle.cut_bounds.proofs.SumLemmas.{below-more, below-same, below-change, below-zero, gained-at, length-gained, sum-filter, sum-map, where-le, where-no}
+use Rattle.cut_bounds.proofs.SumLemmas.{below-more, below-change, below-zero, gained-at, length-gained, where-le, where-no}
 
 -- the tile of a cell, by its row and its column
 pub tile-number : (g : Shape) (cell : ℕ) → (place_at g cell).y * g.columns + (place_at g cell).x ≡ tile_number g cell

@@ -35,7 +35,9 @@ wall_line m = wall_text m.wall ++ codes " needs " ++ decimal m.needs ++ codes " 
 -- how many walls of each kind are taken
 abbrev pub taken_text : BoundsView → List ℕ
 taken_text b =
-    number_line (codes "column cuts") b.columns ++ number_line (codes "row cuts") b.rows ++ number_line (codes "boxes") b.boxes
+    number_line (codes "column cuts") b.columns ++
+    number_line (codes "row cuts") b.rows ++
+    number_line (codes "boxes") b.boxes
 
 -- the figures, and the fullest walls, a line each
 abbrev pub bounds_text : BoundsView → List ℕ

@@ -1,5 +1,6 @@
 -- The boxes of a side, which is a power of two, and the numbers of the boxes that tiles lie in.
-use Rattle.std.specs.Prelude.{◌≡◌, ℕ, ◌+◌, ◌-◌, ◌*◌, ◌/◌, ◌^◌, ◌<◌, ◌≤◌, ◌==◌, Bool, List, length, map, slice_index, sum_by}
+use Rattle.std.specs.Prelude.{◌≡◌, ℕ, ◌+◌, ◌-◌, ◌*◌, ◌/◌, ◌^◌, ◌<◌, ◌≤◌, ◌==◌, Bool, not, List, length, map}
+use Rattle.std.specs.Prelude.{slice_index, sum_by}
 use Rattle.std.specs.List.{list_all, list_any}
 use Rattle.gr_base.specs.declared.grid.Shape.{Shape}
 use Rattle.wall_laws.specs.Walls.{is_parted}
@@ -29,6 +30,10 @@ box_number g level tile = tile.y / 2 ^ level * across_of g level + tile.x / 2 ^ 
 -- all numbers of a list are its first
 abbrev pub lies_in_one : List ℕ → Bool
 lies_in_one numbers = list_all (λ number. number == slice_index numbers 0) numbers
+
+-- no box of a side holds all tiles of a net
+abbrev pub is_parted_on : Shape → ℕ → Placed → Bool
+is_parted_on g level net = not (lies_in_one (map (box_number g level) net.tiles))
 
 -- what the nets need that are parted by a box
 abbrev pub box_needs : Shape → ℕ → ℕ → List Placed → ℕ

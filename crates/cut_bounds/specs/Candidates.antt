@@ -1,11 +1,14 @@
 -- The straight cuts and the boxes of a grid, and those of them that are overfull.
-use Rattle.std.specs.Prelude.{◌≡◌, ℕ, ◌+◌, ◌-◌, ◌*◌, ◌^◌, ◌<◌, Bool, not, ◌&&◌, ◌==◌, nat_lt, max, min, List, ◌++◌, map, filter, slice_index}
+use Rattle.std.specs.Prelude.{◌≡◌, ℕ, ◌+◌, ◌-◌, ◌*◌, ◌^◌, ◌<◌, ◌≤◌, Bool, not, ◌&&◌, ◌==◌, nat_lt, max, min}
+use Rattle.std.specs.Prelude.{List, ◌++◌, All, filter, length, map, slice_index, sum_by}
 use Rattle.std.specs.List.{flat_map, range_with_len}
 use Rattle.gr_base.specs.Designs.{DesignView}
 use Rattle.gr_base.specs.declared.grid.Shape.{Shape}
-use Rattle.cut_bounds.specs.Boxes.{across_of, boxes_on}
+use Rattle.cut_bounds.specs.Boxes.{across_of, box_needs, boxes_on, IsOnChip}
 use Rattle.cut_bounds.specs.Cuts.{tile_at}
 use Rattle.cut_bounds.specs.Measured.{is_overfull, measured}
+use Rattle.cut_bounds.specs.NetTiles.{AreWhole, Placed, placed_in, placed_nets}
+use Rattle.cut_bounds.specs.declared.net_tiles.NetTiles.{NetTiles}
 use Rattle.cut_bounds.specs.declared.wall.MeasuredWall.{MeasuredWall}
 use Rattle.cut_bounds.specs.declared.wall.TileBox.{TileBox}
 use Rattle.cut_bounds.specs.declared.wall.Wall.{Wall}
@@ -29,7 +32,8 @@ box_from g side x0 y0 =
 -- the box of side 2^level with a number; boxes go by row and then by column
 abbrev pub box_at : Shape → (level number : ℕ) → TileBox
 box_at g level number =
-    box_from g (2 ^ level) ((tile_at (across_of g level) number).x * 2 ^ level) ((tile_at (across_of g level) number).y * 2 ^ level)
+    box_from g (2 ^ level) ((tile_at (across_of g level) number).x * 2 ^ level)
+    ((tile_at (across_of g level) number).y * 2 ^ level)
 
 -- a box spans all columns, and all rows
 abbrev pub spans_columns : Shape → TileBox → Bool
@@ -56,7 +60,8 @@ levels_of g = filter (λ level. nat_lt (2 ^ level) (max g.columns g.rows)) (rang
 -- the overfull boxes that count, of a side and of all sides, by side, row and column
 abbrev pub is_candidate : DesignView → (level number : ℕ) → Bool
 is_candidate d level number =
-    counts d.frame.shape level (box_at d.frame.shape level number) && is_overfull (measured d (Box (box_at d.frame.shape level number)))
+    counts d.frame.shape level (box_at d.frame.shape level number) &&
+    is_overfull (measured d (Box (box_at d.frame.shape level number)))
 
 abbrev pub candidates_on : DesignView → (level : ℕ) → List MeasuredWall
 candidates_on d level =
@@ -71,3 +76,13 @@ pub record AreMeasured (d : DesignView) (level : ℕ) (need_list hold_list : Lis
   pub each : (n : ℕ) → n < boxes_on d.frame.shape level →
       (slice_index need_list n ≡ (measured d (Box (box_at d.frame.shape level n))).needs)
       × (slice_index hold_list n ≡ (measured d (Box (box_at d.frame.shape level n))).holds)
+
+-- these are routed nets of a design, and the others need nothing of the boxes from a level on
+pub record AreLeft (d : DesignView) (level : ℕ) (nets : NetTiles) : Type 0 where
+  pub whole : AreWhole nets
+  pub within : All (λ (net : Placed). All (IsOnChip d.frame.shape) net.tiles) (placed_in nets)
+  pub some : All (λ (net : Placed). 0 < length net.tiles) (placed_in nets)
+  pub few : sum_by (λ (net : Placed). net.need) (placed_in nets) < 2 ^ 63
+  pub few_nets : length nets.claims.items < 2 ^ 31
+  pub same : (up n : ℕ) → level ≤ up →
+      box_needs d.frame.shape up n (placed_in nets) ≡ box_needs d.frame.shape up n (placed_nets d)

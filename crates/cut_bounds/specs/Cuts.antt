@@ -1,5 +1,6 @@
 -- What nets need across straight cuts, and what the cuts hold, line by line.
-use Rattle.std.specs.Prelude.{◌≡◌, ℕ, ◌+◌, ◌*◌, ◌/◌, ◌%◌, ◌<◌, nat_le, Bool, not, ◌==◌, List, All, map, take, length, sum, sum_by, slice_index, if◌then◌else◌}
+use Rattle.std.specs.Prelude.{◌≡◌, ℕ, ◌+◌, ◌/◌, ◌%◌, ◌<◌, nat_le, Bool, not, ◌==◌, List}
+use Rattle.std.specs.Prelude.{All, map, take, sum, sum_by, slice_index}
 use Rattle.std.specs.List.{list_any}
 use Rattle.gr_base.specs.declared.grid.Shape.{Shape}
 use Rattle.wall_laws.specs.Walls.{is_parted}
@@ -57,7 +58,8 @@ wires_along Rows wires = wires.north.items
 
 abbrev pub line_holds : Shape → Axis → ℕ → TileWires → ℕ
 line_holds g axis line wires =
-    sum_below (tiles_of g) (λ tile. where_so (along axis (tile_at g.columns tile) == line) (slice_index (wires_along axis wires) tile))
+    sum_below (tiles_of g)
+    (λ tile. where_so (along axis (tile_at g.columns tile) == line) (slice_index (wires_along axis wires) tile))
 
 -- what is counted so far, and what the other nets have, make what all have
 pub record AreCounted (axis : Axis) (begun ended : List ℕ) (nets all : List Placed) : Type 0 where

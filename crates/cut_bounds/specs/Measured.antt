@@ -1,9 +1,8 @@
 -- Walls with what nets need of them and what they hold, and their order by a test.
-use Rattle.std.specs.Prelude.{ℕ, Bool, nat_lt, List, [], ◌∷◌, fold, if◌then◌else◌}
+use Rattle.std.specs.Prelude.{Bool, nat_lt, List, [], ◌∷◌, fold, if◌then◌else◌}
 use Rattle.gr_base.specs.Designs.{DesignView}
 use Rattle.wall_laws.specs.Walls.{Tiles, box_wall, column_cut, holds, needs, row_cut}
 use Rattle.cut_bounds.specs.declared.wall.MeasuredWall.{MeasuredWall}
-use Rattle.cut_bounds.specs.declared.wall.TileBox.{TileBox}
 use Rattle.cut_bounds.specs.declared.wall.Wall.{Wall}
 use Rattle.cut_bounds.specs.declared.wall.Wall.TheVariants.{Column, Row, Box}
 
@@ -21,7 +20,8 @@ measured d wall = record { wall = wall; needs = needs d (tiles_in wall); holds =
 abbrev pub is_overfull : MeasuredWall → Bool
 is_overfull m = nat_lt m.holds m.needs
 
--- a list with one element more, behind those that it doesn't beat, and a list in the order of a test: those of which none beats the other stay as they stand
+-- a list with one element more, behind those that it doesn't beat, and a list in the order of a test: those of which
+-- none beats the other stay as they stand
 abbrev pub ranked_with : {X : Type 0} → (X → X → Bool) → X → List X → List X
 ranked_with beats x [] = x ∷ []
 ranked_with beats x (y ∷ ys) = if beats x y then x ∷ y ∷ ys else y ∷ ranked_with beats x ys

@@ -1,5 +1,5 @@
 -- The places of the wires between neighbouring tiles, and those of a wall's wires.
-use Rattle.std.specs.Prelude.{◌≡◌, ℕ, ◌+◌, ◌-◌, ◌*◌, ◌<◌, ◌≤◌, Bool, nat_lt, List, [], ◌++◌, map, if◌then◌else◌}
+use Rattle.std.specs.Prelude.{ℕ, ◌+◌, ◌-◌, ◌*◌, ◌<◌, ◌≤◌, Bool, nat_lt, List, [], ◌++◌, map, if◌then◌else◌}
 use Rattle.std.specs.List.{range_with_len}
 use Rattle.gr_base.specs.declared.grid.Shape.{Shape}
 use Rattle.gr_base.specs.declared.grid.Way.TheVariants.{East, North}
@@ -51,7 +51,8 @@ abbrev pub lower_run : Shape → TileBox → List ℕ
 lower_run g b = if nat_lt 0 b.y0 then run_of (tiles_of g + ((b.y0 - 1) * g.columns + b.x0)) 1 (b.x1 + 1 - b.x0) else []
 
 abbrev pub upper_run : Shape → TileBox → List ℕ
-upper_run g b = if nat_lt (b.y1 + 1) g.rows then run_of (tiles_of g + (b.y1 * g.columns + b.x0)) 1 (b.x1 + 1 - b.x0) else []
+upper_run g b =
+    if nat_lt (b.y1 + 1) g.rows then run_of (tiles_of g + (b.y1 * g.columns + b.x0)) 1 (b.x1 + 1 - b.x0) else []
 
 -- the places of a wall's wires
 abbrev pub places_of : Shape → Wall → List ℕ

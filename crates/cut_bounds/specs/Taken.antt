@@ -1,5 +1,6 @@
 -- Which walls are taken, so that no two of them share an edge.
-use Rattle.std.specs.Prelude.{◌≡◌, ℕ, ◌-◌, ◌*◌, ◌<◌, Bool, false, nat_lt, List, [], ◌∷◌, ◌++◌, filter, fold, length, slice_index_or, if◌then◌else◌}
+use Rattle.std.specs.Prelude.{◌≡◌, ℕ, ◌-◌, ◌*◌, ◌<◌, Bool, false, nat_lt, List, [], ◌∷◌, ◌++◌}
+use Rattle.std.specs.Prelude.{filter, fold, length, slice_index_or, if◌then◌else◌}
 use Rattle.std.specs.List.{list_any}
 use Rattle.gr_base.specs.Designs.{DesignView}
 use Rattle.gr_base.specs.declared.grid.Shape.{Shape}
@@ -37,4 +38,5 @@ taken_walls d = fold (take_apart d.frame.shape) [] (order_of d)
 -- the wires of these walls are marked, by place
 pub record AreMarks (g : Shape) (walls : List MeasuredWall) (marks : List Bool) : Type 0 where
   pub long : length marks ≡ 2 * tiles_of g
-  pub each : (place : ℕ) → place < 2 * tiles_of g → slice_index_or marks place false ≡ list_any (λ m. is_walled g m.wall place) walls
+  pub each : (place : ℕ) → place < 2 * tiles_of g →
+      slice_index_or marks place false ≡ list_any (λ m. is_walled g m.wall place) walls

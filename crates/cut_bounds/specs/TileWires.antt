@@ -27,7 +27,8 @@ where_so so n = if so then n else 0
 -- what the wires that lead from a tile hold, of those that pass a test
 abbrev pub passing_at : (Way → ℕ → Bool) → TileWires → ℕ → ℕ
 passing_at passes wires tile =
-    where_so (passes East tile) (slice_index wires.east.items tile) + where_so (passes North tile) (slice_index wires.north.items tile)
+    where_so (passes East tile) (slice_index wires.east.items tile) +
+    where_so (passes North tile) (slice_index wires.north.items tile)
 
 -- what both wires that lead from a tile hold
 abbrev pub held_by : TileWires → ℕ → ℕ
@@ -39,7 +40,8 @@ pub record AreTileWires (d : DesignView) (wires : TileWires) : Type 0 where
   pub north : length wires.north.items ≡ tiles_of d.frame.shape
   pub passing : (passes : Way → ℕ → Bool) →
       sum_below (tiles_of d.frame.shape) (passing_at passes wires)
-      ≡ sum_by (λ e. where_so (passes e.way (tile_number d.frame.shape e.low)) (capacity d e)) (wire_edges d.frame.shape)
+      ≡ sum_by (λ e. where_so (passes e.way (tile_number d.frame.shape e.low)) (capacity d e))
+      (wire_edges d.frame.shape)
 
 -- what an edge holds, where it is one of the grid's
 abbrev pub edge_holds : CapacityView → Edge → ℕ

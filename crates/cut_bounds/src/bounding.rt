@@ -35,7 +35,8 @@ struct Walls {
 pub fn bounds_of(alloc: Global, design: &Design, via_cost: u32) -> Result<Bounds, AllocError>
     requires { via_cost ≤ 1000 }
     ensures value { IfOk result (λ bounds. bounds ≡ bounds_of design.now via_cost) }
-    ensures law { IfOk result (λ bounds. AreBounds design.now via_cost bounds.overflow bounds.wirelength bounds.usable_wirelength) }
+    ensures law { IfOk result (λ bounds.
+        AreBounds design.now via_cost bounds.overflow bounds.wirelength bounds.usable_wirelength) }
 {
     let Walls { straight, taken } = walls_of(alloc, design)?;
     let wire = wire_bounds(alloc, design, via_cost)?;
@@ -64,7 +65,7 @@ fn walls_of(alloc: Global, design: &Design) -> Result<Walls, AllocError>
     let nets = NetTiles::of(alloc, design)?;
     let wires = TileWires::of(alloc, design)?;
     let straight = straight_cuts(alloc, design, &nets, &wires)?;
-    let boxes = overfull_boxes(alloc, design, &nets, &wires)?;
+    let boxes = overfull_boxes(alloc, design, nets, &wires)?;
     let taken = taken_of(alloc, shape, &straight, boxes)?;
     Ok(Walls { straight, taken })
 }
@@ -79,7 +80,8 @@ fn taken_of(
 ) -> Result<Vec<MeasuredWall>, AllocError>
     requires straight { All (λ m. IsWallOf shape m.wall) straight.now }
     requires boxes { All (λ m. IsWallOf shape m.wall) boxes.items }
-    ensures { IfOk result (λ taken. taken.items ≡ fold (take_apart shape) [] (filter is_overfull straight.now ++ ranked has_more boxes.items)) }
+    ensures { IfOk result (λ taken. taken.items ≡
+        fold (take_apart shape) [] (filter is_overfull straight.now ++ ranked has_more boxes.items)) }
 {
     let mut boxes = boxes;
     rank(&mut boxes)?;

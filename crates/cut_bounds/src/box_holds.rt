@@ -43,7 +43,8 @@ fn add_tile(holds: &mut Vec<u64>, wires: &TileWires, boxes: Boxes, number: usize
     requires long { length holds.old.items ≡ boxes_on boxes.shape boxes.level }
     requires room { (n : ℕ) → slice_index holds.old.items n + held_by wires.now number < 2 ^ 63 }
     ensures long { length holds.new.items ≡ length holds.old.items }
-    ensures holds { (n : ℕ) → n < boxes_on boxes.shape boxes.level → slice_index holds.new.items n ≡ slice_index holds.old.items n +
+    ensures holds { (n : ℕ) → n < boxes_on boxes.shape boxes.level →
+        slice_index holds.new.items n ≡ slice_index holds.old.items n +
         passing_at (λ way at. leads_out boxes.shape (is_boxed boxes.shape boxes.level n) way tile) wires.now number }
 {
     let here = boxes.number(tile);
@@ -70,7 +71,8 @@ fn add_wires(holds: &mut Vec<u64>, from: usize, to: usize, more: u64)
     requires to { to < length holds.old.items }
     requires room { (n : ℕ) → slice_index holds.old.items n + more < 2 ^ 64 }
     ensures long { length holds.new.items ≡ length holds.old.items }
-    ensures holds { (n : ℕ) → slice_index holds.new.items n ≡ slice_index holds.old.items n + where_so (differ (from == n) (to == n)) more }
+    ensures holds { (n : ℕ) → slice_index holds.new.items n ≡
+        slice_index holds.old.items n + where_so (differ (from == n) (to == n)) more }
 {
     if from != to {
         gain(holds, from, more);

@@ -1,7 +1,9 @@
 //! What the nets need of the boxes of a side.
-ghost use Rattle.std.specs.Prelude.{◌≡◌, ◌==◌, ℕ, ◌+◌, ◌<◌, ◌≤◌, ◌^◌, ◌∷◌, ◌++◌, [], All, List, length, map, slice_index, sum_by, IfOk};
+ghost use Rattle.std.specs.Prelude.{◌≡◌, ◌==◌, ℕ, ◌+◌, ◌<◌, ◌≤◌, ◌^◌, ◌∷◌, ◌++◌, [], true, false, All, List, length};
+ghost use Rattle.std.specs.Prelude.{map, slice_index, sum_by, IfOk};
 ghost use Rattle.wall_laws.specs.Walls.{is_parted};
-ghost use Rattle.cut_bounds.specs.Boxes.{AreMarked, box_needs, box_number, boxes_on, IsOnChip, lies_in_one};
+ghost use Rattle.cut_bounds.specs.Boxes.{AreMarked, box_needs, box_number, boxes_on, is_parted_on};
+ghost use Rattle.cut_bounds.specs.Boxes.{IsOnChip, lies_in_one};
 ghost use Rattle.cut_bounds.specs.NetTiles.{AreWhole, placed_in};
 ghost use Rattle.cut_bounds.specs.TileWires.{where_so};
 
@@ -18,7 +20,8 @@ struct BoxNeeds {
     marks: Vec<u32>,
 }
 
-/// What the nets need of each box of a side, by number. The only error is want of memory.
+/// What nets need of each box of a side, by number, none of which holds one of them. The only error is
+/// want of memory.
 pub(crate) fn needs_by_box(
     alloc: Global,
     nets: &NetTiles,
@@ -26,7 +29,7 @@ pub(crate) fn needs_by_box(
 ) -> Result<Vec<u64>, AllocError>
     requires whole { AreWhole nets.now }
     requires within { All (λ net. All (IsOnChip boxes.shape) net.tiles) (placed_in nets.now) }
-    requires some { All (λ net. 0 < length net.tiles) (placed_in nets.now) }
+    requires parted { All (λ net. is_parted_on boxes.shape boxes.level net ≡ true) (placed_in nets.now) }
     requires few { sum_by (λ net. net.need) (placed_in nets.now) < 2 ^ 63 }
     requires few_nets { length nets.now.claims.items < 2 ^ 31 }
     ensures long { IfOk result (λ needs. length needs.items ≡ boxes_on boxes.shape boxes.level) }
@@ -51,8 +54,8 @@ pub(crate) fn needs_by_box(
 impl BoxNeeds {
     /// Adds a net to each box that parts it.
     fn add_net(&mut self, boxes: Boxes, tiles: &[Tile], need: u32, mark: u32)
-        requires some { 0 < length tiles.now }
         requires within { All (IsOnChip boxes.shape) tiles.now }
+        requires parted { lies_in_one (map (box_number boxes.shape boxes.level) tiles.now) ≡ false }
         requires needs { length self.old.needs.items ≡ boxes_on boxes.shape boxes.level }
         requires marks { length self.old.marks.items ≡ boxes_on boxes.shape boxes.level }
         requires small { (n : ℕ) → slice_index self.old.needs.items n < 2 ^ 63 }
@@ -60,12 +63,10 @@ impl BoxNeeds {
         ensures needs_long { length self.new.needs.items ≡ length self.old.needs.items }
         ensures marks_long { length self.new.marks.items ≡ length self.old.marks.items }
         ensures marks { (n : ℕ) → slice_index self.new.marks.items n ≤ mark }
-        ensures needs { (n : ℕ) → n < boxes_on boxes.shape boxes.level → slice_index self.new.needs.items n ≡ slice_index self.old.needs.items n +
+        ensures needs { (n : ℕ) → n < boxes_on boxes.shape boxes.level →
+            slice_index self.new.needs.items n ≡ slice_index self.old.needs.items n +
             where_so (is_parted (λ b. b == n) (map (box_number boxes.shape boxes.level) tiles.now)) need }
     {
-        if boxes.hold_in_one(tiles) {
-            return;
-        }
         for tile in tiles {
             self.add_once(boxes.number(*tile), need, mark);
         }
@@ -80,29 +81,13 @@ impl BoxNeeds {
         requires fresh { (n : ℕ) → slice_index self.old.marks.items n ≤ mark }
         ensures needs_long { length self.new.needs.items ≡ length self.old.needs.items }
         ensures marks_long { length self.new.marks.items ≡ length self.old.marks.items }
-        ensures marks { (numbers : List ℕ) (needs : List ℕ) → AreMarked numbers needs need mark self.old.needs.items self.old.marks.items →
+        ensures marks { (numbers : List ℕ) (needs : List ℕ) →
+            AreMarked numbers needs need mark self.old.needs.items self.old.marks.items →
             AreMarked (numbers ++ at ∷ []) needs need mark self.new.needs.items self.new.marks.items }
     {
         if self.marks[at] != mark {
             self.marks[at] = mark;
             gain(&mut self.needs, at, u64::from(need));
         }
-    }
-}
-
-impl Boxes {
-    /// Whether some tiles all lie in one box.
-    fn hold_in_one(self, tiles: &[Tile]) -> bool
-        requires some { 0 < length tiles.now }
-        requires within { All (IsOnChip self.shape) tiles.now }
-        ensures { result ≡ lies_in_one (map (box_number self.shape self.level) tiles.now) }
-    {
-        let first = self.number(tiles[0]);
-        for tile in tiles {
-            if self.number(*tile) != first {
-                return false;
-            }
-        }
-        true
     }
 }

@@ -20,7 +20,8 @@ pub(crate) fn push_overfull(
 ) -> Result<(), AllocError>
     requires needs { length needs.now ≡ boxes_on boxes.shape boxes.level }
     requires holds { length holds.now ≡ boxes_on boxes.shape boxes.level }
-    ensures { OnOk result ((d : DesignView) → d.frame.shape ≡ boxes.shape → AreMeasured d boxes.level needs.now holds.now →
+    ensures { OnOk result ((d : DesignView) → d.frame.shape ≡ boxes.shape →
+        AreMeasured d boxes.level needs.now holds.now →
         found.new.items ≡ found.old.items ++ candidates_on d boxes.level) }
 {
     let mut place = Tile { x: 0, y: 0 };

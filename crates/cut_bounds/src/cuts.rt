@@ -1,9 +1,11 @@
 //! What the nets need across straight cuts, and what these hold.
-ghost use Rattle.std.specs.Prelude.{◌≡◌, ◌==◌, ◌∷◌, ℕ, ◌+◌, ◌*◌, ◌^◌, ◌<◌, ◌≤◌, nat_le, nat_lt, not, ◌&&◌, List, All, length, map, slice_index, sum_by, IfOk};
+ghost use Rattle.std.specs.Prelude.{◌≡◌, ◌==◌, ◌∷◌, ℕ, ◌+◌, ◌*◌, ◌^◌, ◌<◌, ◌≤◌, nat_le, nat_lt, not, ◌&&◌, List};
+ghost use Rattle.std.specs.Prelude.{All, length, map, slice_index, sum_by, IfOk};
 ghost use Rattle.std.specs.List.{list_any};
 ghost use Rattle.gr_base.specs.declared.grid.Shape.{Shape};
 ghost use Rattle.cut_bounds.specs.NetTiles.{AreWhole, Placed, placed_in};
-ghost use Rattle.cut_bounds.specs.Cuts.{AreCounted, AreWithin, is_reached, is_passed, line_needs, sum_to, reached_sum, passed_sum, lines_of, line_holds, wires_along};
+ghost use Rattle.cut_bounds.specs.Cuts.{AreCounted, AreWithin, is_reached, is_passed, line_needs, sum_to};
+ghost use Rattle.cut_bounds.specs.Cuts.{reached_sum, passed_sum, lines_of, line_holds, wires_along};
 ghost use Rattle.cut_bounds.specs.TileWires.{held_by, sum_below, tiles_of};
 
 use crate::axis::{Axis, Tile};
@@ -84,7 +86,8 @@ pub(crate) fn needs_by_line(
     requires within { All (λ net. AreWithin axis lines net.tiles) (placed_in nets.now) }
     requires few { sum_by (λ net. net.need) (placed_in nets.now) < 2 ^ 63 }
     ensures long { IfOk result (λ needs. length needs.items ≡ lines) }
-    ensures needs { (line : ℕ) → line < lines → IfOk result (λ needs. slice_index needs.items line ≡ line_needs axis line (placed_in nets.now)) }
+    ensures needs { (line : ℕ) → line < lines → IfOk result (λ needs.
+        slice_index needs.items line ≡ line_needs axis line (placed_in nets.now)) }
 {
     let ends = ends_by_line(alloc, nets, axis, lines)?;
     let mut needs = Vec::with_capacity(alloc, lines as usize)?;
@@ -109,8 +112,10 @@ fn ends_by_line(
     requires few { sum_by (λ net. net.need) (placed_in nets.now) < 2 ^ 63 }
     ensures begun_long { IfOk result (λ ends. length ends.begun.items ≡ lines) }
     ensures ended_long { IfOk result (λ ends. length ends.ended.items ≡ lines) }
-    ensures begun { (line : ℕ) → IfOk result (λ ends. sum_to line ends.begun.items ≡ reached_sum axis line (placed_in nets.now)) }
-    ensures ended { (line : ℕ) → IfOk result (λ ends. sum_to line ends.ended.items ≡ passed_sum axis line (placed_in nets.now)) }
+    ensures begun { (line : ℕ) → IfOk result (λ ends.
+        sum_to line ends.begun.items ≡ reached_sum axis line (placed_in nets.now)) }
+    ensures ended { (line : ℕ) → IfOk result (λ ends.
+        sum_to line ends.ended.items ≡ passed_sum axis line (placed_in nets.now)) }
 {
     let mut ends = LineNeeds {
         begun: vec![in alloc; 0; lines as usize]?,
@@ -135,7 +140,8 @@ fn add_net(ends: &mut LineNeeds, tiles: &[Tile], need: u32, axis: Axis)
     ensures begun_long { length ends.new.begun.items ≡ length ends.old.begun.items }
     ensures ended_long { length ends.new.ended.items ≡ length ends.old.ended.items }
     ensures counted { (nets all : List Placed) →
-        AreCounted axis ends.old.begun.items ends.old.ended.items (record { need = need; tiles = tiles.now } ∷ nets) all →
+        AreCounted axis ends.old.begun.items ends.old.ended.items
+        (record { need = need; tiles = tiles.now } ∷ nets) all →
         AreCounted axis ends.new.begun.items ends.new.ended.items nets all }
 {
     let reach = reach_of(tiles, axis);
@@ -155,7 +161,8 @@ pub(crate) fn holds_by_line(
     requires north { length wires.now.north.items ≡ tiles_of shape }
     requires few { sum_below (tiles_of shape) (held_by wires.now) < 2 ^ 62 }
     ensures long { IfOk result (λ holds. length holds.items ≡ lines_of shape axis) }
-    ensures holds { (line : ℕ) → line < lines_of shape axis → IfOk result (λ holds. slice_index holds.items line ≡ line_holds shape axis line wires.now) }
+    ensures holds { (line : ℕ) → line < lines_of shape axis → IfOk result (λ holds.
+        slice_index holds.items line ≡ line_holds shape axis line wires.now) }
 {
     let columns = shape.columns();
     let mut holds = vec![in alloc; 0; lines(shape, axis) as usize]?;

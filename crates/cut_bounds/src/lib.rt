@@ -15,6 +15,7 @@ mod fullest;
 mod gains;
 mod kinds;
 mod net_tiles;
+mod parted;
 mod places;
 mod ranked;
 mod straight;

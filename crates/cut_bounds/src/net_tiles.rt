@@ -1,10 +1,10 @@
 //! The routed nets as walls see them: what each needs of an edge at least, and the tiles of its pins.
 ghost use Rattle.std.specs.Prelude.{◌≡◌, ◌*◌, ◌≤◌, ◌<◌, ◌++◌, ◌∷◌, [], map, All, IfOk, OnOk, IsTrue};
-ghost use Rattle.gr_base.specs.Designs.{IsFrame, IsLayer, is_routed, layers_of, pins_at};
+ghost use Rattle.gr_base.specs.Designs.{IsFrame, IsLayer, is_routed, layers_of};
 ghost use Rattle.gr_base.specs.Grid.{cells_of};
 ghost use Rattle.gr_base.specs.Limits.{most_width};
-ghost use Rattle.wall_laws.specs.Walls.{least_need as least_need_of, least_on, taken_on as taken_by};
-ghost use Rattle.cut_bounds.specs.NetTiles.{placed_nets, placed_in, tile_in, AreWhole};
+ghost use Rattle.wall_laws.specs.Walls.{least_on, taken_on as taken_by};
+ghost use Rattle.cut_bounds.specs.NetTiles.{placed_net, placed_nets, placed_in, tile_in, AreWhole};
 
 use crate::axis::Tile;
 use gr_base::{Design, Frame, Layer, Shape};
@@ -48,8 +48,7 @@ impl NetTiles {
         requires net { IsTrue (is_routed design.now number) }
         requires whole { AreWhole self.old }
         ensures whole { OnOk result (AreWhole self.new) }
-        ensures placed { OnOk result (placed_in self.new ≡ placed_in self.old ++
-            record { need = least_need_of design.now number; tiles = map (tile_in design.now.frame.shape) (pins_at design.now number) } ∷ []) }
+        ensures placed { OnOk result (placed_in self.new ≡ placed_in self.old ++ placed_net design.now number ∷ []) }
     {
         let frame = design.frame();
         let net = design.net(number);

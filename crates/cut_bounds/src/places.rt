@@ -3,7 +3,8 @@ ghost use Rattle.std.specs.Prelude.{◌≡◌, ◌+◌, ◌*◌, ◌^◌, ◌<�
 ghost use Rattle.gr_base.specs.Limits.{most_cells};
 ghost use Rattle.cut_bounds.specs.Boxes.{IsOnChip};
 ghost use Rattle.cut_bounds.specs.TileWires.{tiles_of};
-ghost use Rattle.cut_bounds.specs.Places.{places_of, run_of, left_run, right_run, lower_run, upper_run, IsBoxOf, IsWallOf};
+ghost use Rattle.cut_bounds.specs.Places.{places_of, run_of, left_run, right_run, lower_run, upper_run};
+ghost use Rattle.cut_bounds.specs.Places.{IsBoxOf, IsWallOf};
 
 use crate::wall::{TileBox, Wall};
 use gr_base::Shape;
@@ -30,7 +31,8 @@ pub(crate) fn gather_places(
 /// Puts the places of a box's wires behind the others.
 fn push_box(places: &mut Vec<u32>, shape: Shape, area: TileBox) -> Result<(), AllocError>
     requires { IsBoxOf shape area }
-    ensures { OnOk result (places.new.items ≡ (((places.old.items ++ left_run shape area) ++ right_run shape area) ++ lower_run shape area) ++ upper_run shape area) }
+    ensures { OnOk result (places.new.items ≡ (((places.old.items ++ left_run shape area) ++
+        right_run shape area) ++ lower_run shape area) ++ upper_run shape area) }
 {
     push_left(places, shape, area)?;
     push_right(places, shape, area)?;

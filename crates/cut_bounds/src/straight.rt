@@ -51,7 +51,8 @@ fn push_cuts(
     requires whole { AreWhole nets.now }
     requires wires { AreTileWires design.now wires.now }
     requires some { All (λ net. 0 < length net.tiles) (placed_in nets.now) }
-    requires within { All (λ net. AreWithin axis (lines_of design.now.frame.shape axis) net.tiles) (placed_in nets.now) }
+    requires within { All (λ net. AreWithin axis (lines_of design.now.frame.shape axis) net.tiles)
+        (placed_in nets.now) }
     requires few_needs { sum_by (λ net. net.need) (placed_in nets.now) < 2 ^ 63 }
     requires few_holds { sum_below (tiles_of design.now.frame.shape) (held_by wires.now) < 2 ^ 62 }
     ensures { OnOk result (walls.new.items ≡ walls.old.items ++ cuts_along design.now axis) }

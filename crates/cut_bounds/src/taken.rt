@@ -1,5 +1,6 @@
 //! The walls that are taken, so that no two of them share an edge.
-ghost use Rattle.std.specs.Prelude.{◌≡◌, ◌==◌, ℕ, ◌<◌, ◌++◌, ◌∷◌, ◌||◌, [], false, All, fold, length, slice_index_or, IfOk, OnOk};
+ghost use Rattle.std.specs.Prelude.{◌≡◌, ◌==◌, ℕ, ◌<◌, ◌++◌, ◌∷◌, ◌||◌, [], false};
+ghost use Rattle.std.specs.Prelude.{All, fold, length, slice_index_or, IfOk, OnOk};
 ghost use Rattle.std.specs.List.{list_any};
 ghost use Rattle.cut_bounds.specs.Places.{places_of, IsWallOf};
 ghost use Rattle.cut_bounds.specs.Taken.{take_apart as taken_apart, AreMarks};

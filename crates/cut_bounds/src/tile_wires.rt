@@ -41,7 +41,8 @@ impl TileWires {
         requires cell { cell < cells_of capacity.now.shape }
         requires east { length self.old.east.items ≡ tiles_of capacity.now.shape }
         requires north { length self.old.north.items ≡ tiles_of capacity.now.shape }
-        requires room { (tile : ℕ) → slice_index self.old.east.items tile + slice_index self.old.north.items tile < 2 ^ 62 }
+        requires room { (tile : ℕ) →
+            slice_index self.old.east.items tile + slice_index self.old.north.items tile < 2 ^ 62 }
         ensures east { self.new.east.items ≡ gained self.old.east.items (tile_number capacity.now.shape cell)
             (edge_holds capacity.now (edge_at cell East)) }
         ensures north { self.new.north.items ≡ gained self.old.north.items (tile_number capacity.now.shape cell)

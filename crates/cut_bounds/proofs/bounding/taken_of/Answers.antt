@@ -1,4 +1,3 @@
-use Rattle.std.proofs.Common.{◌≡◌}
 use Rattle.cut_bounds.proofs.OrderLemmas.{order-read, taken-is}
 use Rattle.cut_bounds.proofs.bounding.taken_of.Goals as goal
 

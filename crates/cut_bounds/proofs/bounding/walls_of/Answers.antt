@@ -1,4 +1,4 @@
-use Rattle.std.proofs.Common.{◌≡◌, ap, ◌∙◌}
+use Rattle.std.proofs.Common.{ap, ◌∙◌}
 use Rattle.gr_base.specs.declared.frame.Frame.{Frame}
 use Rattle.cut_bounds.specs.Candidates.{candidates, straight_cuts}
 use Rattle.cut_bounds.specs.NetTiles.{placed_in}

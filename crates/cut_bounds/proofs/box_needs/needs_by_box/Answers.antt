@@ -1,14 +1,14 @@
-use Rattle.std.proofs.Common.{◌≡◌, ℕ, ◌+◌, ◌<◌, ◌≤◌, List, length, refl, sym, ap, subst, ◌∙◌, arith}
+use Rattle.std.proofs.Common.{◌+◌, ◌≤◌, List, length, refl, ap, subst, arith}
 use Rattle.cut_bounds.specs.NetTiles.{placed_in}
 use Rattle.cut_bounds.specs.declared.net_tiles.Claim.{Claim}
-use Rattle.cut_bounds.proofs.BoxLemmas.{no-boxed-to, boxed-some, boxed-small, more-boxed-to, all-boxed}
+use Rattle.cut_bounds.proofs.BoxLemmas.{no-boxed-to, boxed-parts, boxed-small, more-boxed-to, all-boxed}
 use Rattle.cut_bounds.proofs.NetLemmas.{next-read, next-fits}
 use Rattle.cut_bounds.proofs.box_needs.needs_by_box.Goals as goal
 
 pub loop-claim-init : goal.loop-claim-init
 loop-claim-init c =
     no-boxed-to c.args.boxes.shape c.args.boxes.level c.count.result c.count-2.result c.args.nets.now.claims.items c.args.nets.now.tiles.items c.as_slice-rest.result.now c.in_ok-vec.field-0.items c.in_ok-vec-2.field-0.items
-    c.as_slice-rest.ensures.value c.requires.whole c.requires.some c.requires.within c.count.ensures.count c.count-2.ensures.count
+    c.as_slice-rest.ensures.value c.requires.whole c.requires.parted c.requires.within c.count.ensures.count c.count-2.ensures.count
     (c.in_ok-vec.ensures.items_if_clones_equal (λ y e. e)) (c.in_ok-vec-2.ensures.items_if_clones_equal (λ y e. e))
 
 pub split_at-requires : goal.split_at-requires
@@ -21,17 +21,17 @@ overflow_add-mark c =
     let long = ap (λ (cs : List Claim). length cs) c.deref-claim-items.ensures.value in
     omega (arith, c.loop-claim.invariant.turn, c.loop-claim-test.true, long, c.requires.few_nets)
 
-pub add_net-requires-clause-some : goal.add_net-requires-clause-some
-add_net-requires-clause-some c =
-    let next = next-read c.args.nets.now.claims.items c.deref-claim-items.result.now c.loop-claim.claim-index record { need = 0; pins = 0 } c.loop-claim.rest.now
-    c.split_at.result.0.now c.split_at.result.1.now c.deref-claim-items.ensures.value c.loop-claim-test.true c.loop-claim.invariant.whole c.split_at.ensures.front c.split_at.ensures.back in
-    (boxed-some c.args.boxes.shape c.args.boxes.level c.args.nets.now.claims.items c.loop-claim.claim-index _ c.loop-claim.rest.now c.split_at.result.0.now c.split_at.result.1.now c.loop-claim.found.needs.items c.loop-claim.found.marks.items c.loop-claim.mark (placed_in c.args.nets.now) c.loop-claim.invariant next).0
-
 pub add_net-requires-clause-within : goal.add_net-requires-clause-within
 add_net-requires-clause-within c =
     let next = next-read c.args.nets.now.claims.items c.deref-claim-items.result.now c.loop-claim.claim-index record { need = 0; pins = 0 } c.loop-claim.rest.now
     c.split_at.result.0.now c.split_at.result.1.now c.deref-claim-items.ensures.value c.loop-claim-test.true c.loop-claim.invariant.whole c.split_at.ensures.front c.split_at.ensures.back in
-    (boxed-some c.args.boxes.shape c.args.boxes.level c.args.nets.now.claims.items c.loop-claim.claim-index _ c.loop-claim.rest.now c.split_at.result.0.now c.split_at.result.1.now c.loop-claim.found.needs.items c.loop-claim.found.marks.items c.loop-claim.mark (placed_in c.args.nets.now) c.loop-claim.invariant next).1
+    (boxed-parts c.args.boxes.shape c.args.boxes.level c.args.nets.now.claims.items c.loop-claim.claim-index _ c.loop-claim.rest.now c.split_at.result.0.now c.split_at.result.1.now c.loop-claim.found.needs.items c.loop-claim.found.marks.items c.loop-claim.mark (placed_in c.args.nets.now) c.loop-claim.invariant next).0
+
+pub add_net-requires-clause-parted : goal.add_net-requires-clause-parted
+add_net-requires-clause-parted c =
+    let next = next-read c.args.nets.now.claims.items c.deref-claim-items.result.now c.loop-claim.claim-index record { need = 0; pins = 0 } c.loop-claim.rest.now
+    c.split_at.result.0.now c.split_at.result.1.now c.deref-claim-items.ensures.value c.loop-claim-test.true c.loop-claim.invariant.whole c.split_at.ensures.front c.split_at.ensures.back in
+    (boxed-parts c.args.boxes.shape c.args.boxes.level c.args.nets.now.claims.items c.loop-claim.claim-index _ c.loop-claim.rest.now c.split_at.result.0.now c.split_at.result.1.now c.loop-claim.found.needs.items c.loop-claim.found.marks.items c.loop-claim.mark (placed_in c.args.nets.now) c.loop-claim.invariant next).1
 
 pub add_net-requires-clause-small : goal.add_net-requires-clause-small
 add_net-requires-clause-small c n =

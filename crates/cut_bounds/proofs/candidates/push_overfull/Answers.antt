@@ -1,14 +1,11 @@
-use Rattle.std.proofs.Common.{◌≡◌, ℕ, ◌+◌, ◌*◌, ◌<◌, ◌^◌, ◌++◌, [], List, length, ap, sym, subst, ◌∙◌, arith}
+use Rattle.std.proofs.Common.{◌≡◌, ℕ, ◌*◌, ◌<◌, ◌^◌, ◌++◌, length, ap, sym, subst, ◌∙◌, arith}
 use Rattle.std.proofs.lemmas.List.{append-nil}
 use Rattle.std.proofs.lemmas.Nat.{pow_pos}
 use Rattle.std.proofs.Math.Nat.{div-le_self}
-use Rattle.gr_base.specs.Designs.{DesignView}
 use Rattle.gr_base.specs.declared.grid.Shape.{Shape}
 use Rattle.cut_bounds.specs.Boxes.{across_of, boxes_on, IsOnChip}
-use Rattle.cut_bounds.specs.Candidates.{box_at, box_from, candidates_on}
 use Rattle.cut_bounds.specs.Cuts.{tile_at}
 use Rattle.cut_bounds.specs.declared.axis.Tile.{Tile}
-use Rattle.cut_bounds.specs.declared.wall.MeasuredWall.{MeasuredWall}
 use Rattle.cut_bounds.specs.declared.wall.TileBox.{TileBox}
 use Rattle.cut_bounds.proofs.BoxLemmas.{count-most}
 use Rattle.cut_bounds.proofs.CandidateLemmas.{area-is, boxes-same, candidate-more, candidate-passed, candidates_to, corner-on, end-on, test-is, wall-is}

@@ -1,4 +1,3 @@
-use Rattle.std.proofs.Common.{arith}
 use Rattle.cut_bounds.proofs.CutLemmas.{more-counted}
 use Rattle.cut_bounds.proofs.cuts.add_net.Goals as goal
 

@@ -1,4 +1,4 @@
-use Rattle.std.proofs.Common.{◌≡◌, ℕ, ◌<◌, ◌≤◌, List, length, sym, ap, subst}
+use Rattle.std.proofs.Common.{ℕ, ◌≤◌, List, length, sym, subst}
 use Rattle.cut_bounds.specs.Cuts.{AreWithin}
 use Rattle.cut_bounds.specs.NetTiles.{placed_in}
 use Rattle.cut_bounds.specs.declared.net_tiles.Claim.{Claim}

@@ -1,4 +1,4 @@
-use Rattle.std.proofs.Common.{◌≡◌, ℕ, List, get_or, length, ap, arith}
+use Rattle.std.proofs.Common.{ℕ, List, get_or, length, ap, arith}
 use Rattle.std.proofs.lemmas.List.{get_or_default}
 use Rattle.cut_bounds.specs.NetTiles.{placed_in}
 use Rattle.cut_bounds.proofs.CutLemmas.{AreSums, need-next, need-more}

@@ -1,6 +1,5 @@
-use Rattle.std.proofs.Common.{◌≡◌, ℕ, ◌+◌, ◌<◌, max, min, List, get_or, take, sym, ap, subst, ◌∙◌, arith}
+use Rattle.std.proofs.Common.{ℕ, ◌+◌, min, List, get_or, take, sym, subst, arith}
 use Rattle.std.proofs.lemmas.List.{take_all, take_more}
-use Rattle.cut_bounds.specs.Cuts.{along}
 use Rattle.cut_bounds.specs.declared.axis.Tile.{Tile}
 use Rattle.cut_bounds.proofs.CutLemmas.{AreEnds, no-ends, more-ends, all-ends}
 use Rattle.cut_bounds.proofs.cuts.reach_of.Goals as goal

@@ -1,4 +1,4 @@
-use Rattle.std.proofs.Common.{◌≡◌, ℕ, ◌*◌, ◌≤◌, take}
+use Rattle.std.proofs.Common.{◌≡◌, ◌*◌, ◌≤◌, take}
 use Rattle.gr_base.specs.Limits.{most_width}
 use Rattle.wall_laws.specs.Walls.{least_on}
 use Rattle.cut_bounds.proofs.net_tiles.least_need.Given as goal

@@ -1,4 +1,4 @@
-use Rattle.std.proofs.Common.{◌≡◌, ℕ, ◌+◌, ◌<◌, List, sym, ap, ◌∙◌, arith}
+use Rattle.std.proofs.Common.{◌≡◌, ◌+◌, ◌<◌, ap, ◌∙◌, arith}
 use Rattle.gr_base.specs.declared.frame.Frame.{Frame}
 use Rattle.cut_bounds.proofs.StraightLemmas.{cut-more}
 use Rattle.cut_bounds.specs.Cuts.{line_needs, line_holds, lines_of}

@@ -1,4 +1,4 @@
-use Rattle.std.proofs.Common.{ℕ, List, ◌++◌, codes, ap, ◌∙◌}
+use Rattle.std.proofs.Common.{ℕ, ◌++◌, codes, ap, ◌∙◌}
 use Rattle.cut_bounds.specs.Bounds.{BoundsView, number_line}
 use Rattle.cut_bounds.proofs.TextLemmas.{three-pieces}
 use Rattle.cut_bounds.proofs.text.put_taken.Goals as goal

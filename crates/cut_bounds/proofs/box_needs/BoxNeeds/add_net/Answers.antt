@@ -1,18 +1,9 @@
-use Rattle.std.proofs.Common.{◌≡◌, ◌==◌, ℕ, ◌+◌, ◌++◌, ◌∷◌, [], List, map, take, sym, ap, subst, ◌∙◌, arith}
+use Rattle.std.proofs.Common.{◌≡◌, ℕ, ◌+◌, ◌++◌, ◌∷◌, [], List, map, take, sym, ap, subst, ◌∙◌}
 use Rattle.std.proofs.lemmas.List.{map_more, take_all}
-use Rattle.wall_laws.specs.Walls.{is_parted}
 use Rattle.cut_bounds.specs.Boxes.{box_number, AreMarked}
-use Rattle.cut_bounds.specs.TileWires.{where_so}
 use Rattle.cut_bounds.specs.declared.axis.Tile.{Tile}
-use Rattle.cut_bounds.proofs.BoxLemmas.{marked-parted, parted-none}
-use Rattle.cut_bounds.proofs.SumLemmas.{where-no}
+use Rattle.cut_bounds.proofs.BoxLemmas.{marked-parted}
 use Rattle.cut_bounds.proofs.box_needs.BoxNeeds.add_net.Goals as goal
-
-pub returns-then-hold_in_one-clause-needs : goal.returns-then-hold_in_one-clause-needs
-returns-then-hold_in_one-clause-needs c n lower =
-    let numbers : List ℕ = map (box_number c.args.boxes.shape c.args.boxes.level) c.args.tiles.now in
-    let none = where-no (is_parted (λ b. b == n) numbers) c.args.need (parted-none n numbers (sym c.hold_in_one.ensures ∙ c.if-hold_in_one.true)) in
-    omega (arith, none)
 
 pub loop-tile-preserved : goal.loop-tile-preserved
 loop-tile-preserved c =
@@ -30,5 +21,5 @@ returns-clause-needs c n lower =
     let numbers : List ℕ = map f c.args.tiles.now in
     let all = ap (λ (ts : List Tile). map f ts) (take_all c.loop-tile.tile-index c.args.tiles.now c.loop-tile-test.false) in
     marked-parted numbers c.args.self.now.needs.items c.loop-tile.self.needs.items c.loop-tile.self.marks.items c.args.need c.args.mark n
-    (sym c.hold_in_one.ensures ∙ c.if-hold_in_one.false)
+    c.requires.parted
     (subst (λ (ks : List ℕ). AreMarked ks c.args.self.now.needs.items c.args.need c.args.mark c.loop-tile.self.needs.items c.loop-tile.self.marks.items) all c.loop-tile.invariant)

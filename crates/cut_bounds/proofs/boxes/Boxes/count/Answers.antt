@@ -1,5 +1,4 @@
-use Rattle.std.proofs.Common.{ℕ, ◌+◌, ◌-◌, ◌*◌, ◌/◌, ◌^◌, ◌≤◌, ap, ◌∙◌, arith}
-use Rattle.cut_bounds.specs.Boxes.{boxes_on}
+use Rattle.std.proofs.Common.{ℕ, ◌+◌, ◌-◌, ◌*◌, ◌/◌, ◌^◌, ap, ◌∙◌, arith}
 use Rattle.cut_bounds.proofs.BoxLemmas.{count-most}
 use Rattle.cut_bounds.proofs.boxes.Boxes.count.Goals as goal
 

@@ -3,7 +3,6 @@ use Rattle.gr_base.specs.Designs.{layers_of}
 use Rattle.gr_base.specs.declared.frame.Frame.{Frame}
 use Rattle.wall_laws.specs.Walls.{least_on}
 use Rattle.cut_bounds.specs.NetTiles.{tile_in}
-use Rattle.cut_bounds.specs.declared.axis.Tile.{Tile}
 use Rattle.cut_bounds.proofs.NetLemmas.{net-added}
 use Rattle.cut_bounds.proofs.net_tiles.NetTiles.add.Goals as goal
 

@@ -1,4 +1,4 @@
-use Rattle.std.proofs.Common.{◌≡◌, ◌∙◌, sym}
+use Rattle.std.proofs.Common.{◌∙◌, sym}
 use Rattle.cut_bounds.specs.NetTiles.{placed_in}
 use Rattle.cut_bounds.proofs.NetLemmas.{placed-more, placed-passed}
 use Rattle.cut_bounds.proofs.net_tiles.NetTiles.of.Goals as goal

@@ -1,4 +1,4 @@
-use Rattle.std.proofs.Common.{◌≡◌, ◌==◌, ◌||◌, ℕ, Bool, false, List, get_or, refl, ap, ◌∙◌}
+use Rattle.std.proofs.Common.{◌==◌, ◌||◌, ℕ, false, List, get_or, refl, ap, ◌∙◌}
 use Rattle.std.specs.List.{list_any}
 use Rattle.cut_bounds.proofs.TakenLemmas.{within}
 use Rattle.cut_bounds.proofs.ShareLemmas.{marks-more}

@@ -1,4 +1,4 @@
-use Rattle.std.proofs.Common.{◌≡◌, refl, sym, ap, ◌∙◌}
+use Rattle.std.proofs.Common.{◌∙◌}
 use Rattle.cut_bounds.proofs.TakenLemmas.{is-blocked, passed, taken-more, within}
 use Rattle.cut_bounds.proofs.taken.Taken.take_apart.Goals as goal
 

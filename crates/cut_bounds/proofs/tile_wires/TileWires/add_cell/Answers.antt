@@ -1,9 +1,6 @@
-use Rattle.std.proofs.Common.{◌≡◌, ℕ, ◌+◌, ◌*◌, List, ap, ◌∙◌, sym}
-use Rattle.gr_base.specs.Grid.{edge_at, place_at}
-use Rattle.gr_base.specs.declared.grid.Cell.{Cell}
-use Rattle.gr_base.specs.declared.grid.Way.TheVariants.{East, North}
+use Rattle.std.proofs.Common.{ℕ, ap, ◌∙◌}
 use Rattle.wall_laws.specs.Spans.{tile_number}
-use Rattle.cut_bounds.specs.TileWires.{edge_holds, gained}
+use Rattle.cut_bounds.specs.TileWires.{gained}
 use Rattle.cut_bounds.proofs.WireSums.{tile-is}
 use Rattle.cut_bounds.proofs.tile_wires.TileWires.add_cell.Goals as goal
 

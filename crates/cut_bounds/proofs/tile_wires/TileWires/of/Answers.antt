@@ -1,12 +1,10 @@
-use Rattle.std.proofs.Common.{◌≡◌, ℕ, ◌+◌, ◌*◌, Bool, ap, ◌∙◌, sym, arith}
-use Rattle.gr_base.specs.Capacities.{capacity}
+use Rattle.std.proofs.Common.{◌≡◌, ap, ◌∙◌, sym, arith}
 use Rattle.gr_base.specs.Grid.{cells_of}
 use Rattle.gr_base.specs.declared.frame.Frame.{Frame}
 use Rattle.gr_base.specs.declared.grid.Shape.{Shape}
 use Rattle.gr_base.specs.Designs.{DesignView}
 use Rattle.grid_demand.specs.Tables.{CapacityView, capacity_of}
-use Rattle.wall_laws.specs.Spans.{tile_number}
-use Rattle.cut_bounds.specs.TileWires.{sum_below, tiles_of, where_so}
+use Rattle.cut_bounds.specs.TileWires.{tiles_of}
 use Rattle.cut_bounds.proofs.WireSums.{none-so-far, more-so-far, room-so-far, all-so-far}
 use Rattle.cut_bounds.proofs.tile_wires.TileWires.of.Goals as goal
 
