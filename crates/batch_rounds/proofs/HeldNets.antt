@@ -17,6 +17,7 @@ use Rattle.book_state.proofs.BookSteps.{booked-none, booked-push}
 use Rattle.book_state.proofs.HistoryLists.{slice_get-right}
 use Rattle.book_state.proofs.BookingLaws.{unbounded}
 use Rattle.book_state.specs.Books.{booked_by, booked, reply_to, reply_to_claim, overflow_after, IsLegal}
+use Rattle.book_state.specs.Entries.{is_full_reply}
 use Rattle.book_state.specs.Marks.{least_mark}
 use Rattle.book_state.specs.Views.{entry_of}
 use Rattle.book_state.specs.declared.entry.Call.TheVariants.{Claim as Claims, Release, Mark}
@@ -27,9 +28,9 @@ use Rattle.book_state.specs.declared.entry.Reply.TheVariants.{Claimed, Taken, Fu
 use Rattle.round_core.proofs.StandLemmas.{mark-stands, victims-routed, least-call, least-place, some-least}
 use Rattle.round_core.proofs.TurnLemmas.{claim-answered, routed-below}
 use Rattle.round_core.proofs.WorldSteps.{one-more}
-use Rattle.round_core.specs.Rounds.{marker, IsFull, IsRouteOfNet}
+use Rattle.round_core.specs.Rounds.{marker, IsRouteOfNet}
 use Rattle.round_core.specs.Standing.{IsHeld, Stands}
-use Rattle.batch_rounds.specs.BatchedHistories.{Batching, capacity_in, claimant, IsNumbered, after_call, after_claim, after_mark, after_releases, is_full, is_refused, IsClaimOver, at_any_demand, IsClaimedAlone, IsTurn, AreTurns, opened, IsBatch, AreBatches, nets_due, IsRound, AreRounds, IsBatched}
+use Rattle.batch_rounds.specs.BatchedHistories.{Batching, capacity_in, claimant, IsNumbered, after_call, after_claim, after_mark, after_releases, is_refused, IsClaimOver, at_any_demand, IsClaimedAlone, IsTurn, AreTurns, opened, IsBatch, AreBatches, nets_due, IsRound, AreRounds, IsBatched}
 use Rattle.batch_rounds.specs.BatchedHistories.IsClaimedAlone.{Fits, Is_forced}
 use Rattle.batch_rounds.specs.BatchedHistories.IsTurn.{Is_first, Goes_on}
 use Rattle.batch_rounds.specs.BatchedHistories.AreTurns.{No_turns, Next_turn}
@@ -146,14 +147,6 @@ claim-goes_on t h claim routed routes = record {
     ]
 
 -- a claim that isn't answered Full leaves its net booked
-full-said : (reply : Reply) → IsFull reply → is_full reply ≡ true
-full-said (Full edge demand) is = refl
-full-said Claimed is = absurd is
-full-said Taken is = absurd is
-full-said Released is = absurd is
-full-said NotBooked is = absurd is
-full-said (Marked overflow) is = absurd is
-
 claim-held : (t : Batching) (h : List Entry) (claim : Claim) → IsTrue (is_routed t.design claim.net) → IsRouteOfNet t.design claim.net claim.tree →
     is_refused t h claim ≡ false → IsBooked (after_claim t h claim) claim.net
 claim-held t h claim routed routes fits = by (booked h claim.net) refl
@@ -170,14 +163,14 @@ claim-held t h claim routed routes fits = by (booked h claim.net) refl
           (booked-push h (entry_of claimant (Claims claim) (reply_to_claim c h claim)) claim.net
           ∙ ap (λ (r : Reply). booked_by claim.net (booked h claim.net) (Claims claim) r) got
           ∙ ap (λ (b : Bool). if b then Some claim.tree else booked h claim.net) own)
-      | inr full ↦ absurd (both_ways (is_refused t h claim) fits (full-said (reply_to_claim c h claim) full))
+      | inr full ↦ absurd (both_ways (is_refused t h claim) fits full)
     ]
 
 -- a claim at any demand is never answered Full
 pub forced-fits : (t : Batching) (h : List Entry) (claim : Claim) → claim.slack ≡ None → is_refused t h claim ≡ false
 forced-fits t h claim none = by (reply_to_claim (capacity_in t) h claim) refl
   where
-    by : (reply : Reply) → reply_to_claim (capacity_in t) h claim ≡ reply → is_full reply ≡ false
+    by : (reply : Reply) → reply_to_claim (capacity_in t) h claim ≡ reply → is_full_reply reply ≡ false
     by (Full edge demand) is = absurd (unbounded (capacity_in t) h claim none edge demand is)
     by Claimed is = refl
     by Taken is = refl

@@ -23,6 +23,7 @@ use Rattle.net_plan.specs.Mazes.{window_of}
 use Rattle.book_state.proofs.BookSteps.{booked-push, marks-idle}
 use Rattle.book_state.proofs.HistoryLists.{slice_get-right}
 use Rattle.book_state.specs.Books.{nets_of, booked, booked_by, share_of, demand, marks, reply_to, reply_to_free, AreLoadsOf}
+use Rattle.book_state.specs.Entries.{is_full_reply}
 use Rattle.book_state.specs.Still.{over_with}
 use Rattle.book_state.specs.Views.{entry_of}
 use Rattle.book_state.specs.declared.entry.Call.TheVariants.{Claim as Claims}
@@ -32,9 +33,11 @@ use Rattle.book_state.specs.declared.entry.Reply.{Reply}
 use Rattle.book_state.specs.declared.entry.Reply.TheVariants.{Claimed, Taken, Full, Released, NotBooked, Marked}
 use Rattle.round_core.proofs.StillPlans.{StaysBestIn, still-maze-in}
 use Rattle.round_core.proofs.TurnLemmas.{routed-net}
+use Rattle.round_core.specs.Attempts.{kind_of}
+use Rattle.round_core.specs.Rounds.{IsPlanFor}
 use Rattle.batch_rounds.proofs.HeldNets.{claim-books}
 use Rattle.batch_rounds.proofs.RoundSteps.{IsAdded}
-use Rattle.batch_rounds.specs.BatchedHistories.{Batching, capacity_in, claimant, after_claim, at_any_demand, is_full, IsPlanIn, IsClaimedAlone, IsTurn}
+use Rattle.batch_rounds.specs.BatchedHistories.{Batching, capacity_in, claimant, after_claim, at_any_demand, IsClaimedAlone, IsTurn}
 use Rattle.batch_rounds.specs.BatchedHistories.IsClaimedAlone.{Fits, Is_forced}
 use Rattle.batch_rounds.specs.BatchedHistories.IsTurn.{Is_first, Goes_on}
 use Rattle.batch_rounds.specs.SecondTries.{demand_if, demand_from_cell, demand_from, Grows, WasNoted, EndsWith, IsRefused}
@@ -184,10 +187,10 @@ ends-same h t u one other = sym one.tree_is ∙ ap (λ (claim : Claim). claim.tr
 
 -- a refused plan is still the plan where the demand from its cells is the same
 pub kept-plan : (d : DesignView) (formula : Formula) (round net sum : ℕ) (h : List Entry) (l : LoadsView) (u : TreeView) → 0 < round → IsTrue (is_routed d net) → AreLoadsOf (capacity_of d) h l →
-    IsRefused d formula round net sum h → EndsWith h u → demand_from (demand_at l) u ≡ sum → IsPlanIn d formula round h net u
+    IsRefused d formula round net sum h → EndsWith h u → demand_from (demand_at l) u ≡ sum → IsPlanFor d formula h net (kind_of round) u
 kept-plan d formula zero net sum h l u later routed of refused ends same = absurd (omega (arith, later))
 kept-plan d formula (suc r) net sum h l u later routed of refused ends same =
-    subst (IsPlanIn d formula (suc r) h net) is (record {
+    subst (IsPlanFor d formula h net (kind_of (suc r))) is (record {
       plan = record {
         loads = l;
         there = of;
@@ -205,7 +208,7 @@ kept-plan d formula (suc r) net sum h l u later routed of refused ends same =
     tree : TreeView
     tree = refused.planned.tree
 
-    was : IsPlanIn d formula (suc r) first net tree
+    was : IsPlanFor d formula first net (kind_of (suc r)) tree
     was = refused.was.noted.plan
 
     is : tree ≡ u
@@ -237,7 +240,7 @@ kept-plan d formula (suc r) net sum h l u later routed of refused ends same =
 
 -- a claim that found no room leaves its net unbooked, and ends the history
 pub refused-now : (t : Batching) (round net : ℕ) (h new : List Entry) (claim : Claim) (reply : Reply) (p : Planned) → WasNoted t.design t.formula round h net p → claim.net ≡ net → claim.tree ≡ p.tree →
-    IsAdded t h claim reply new → is_full reply ≡ true → IsRefused t.design t.formula round net p.demand new
+    IsAdded t h claim reply new → is_full_reply reply ≡ true → IsRefused t.design t.formula round net p.demand new
 refused-now t round net h new claim reply p was net_is tree_is added full = record {
   planned = p;
   demand_is = refl;
@@ -262,7 +265,7 @@ refused-now t round net h new claim reply p was net_is tree_is added full = reco
     last : Entry
     last = entry_of claimant (Claims claim) answer
 
-    refused : is_full answer ≡ true
+    refused : is_full_reply answer ≡ true
     refused = added.refused ∙ full
 
     free : booked (after_claim t h claim) claim.net ≡ None
@@ -271,7 +274,7 @@ refused-now t round net h new claim reply p was net_is tree_is added full = reco
         unbooked : is_some (booked h claim.net) ≡ false
         unbooked = elim (cases_Bool (is_some (booked h claim.net))) [
           | inl held ↦
-              absurd (both_ways false refl (sym (ap (λ (b : Bool). is_full (if b then Taken else reply_to_free (capacity_in t) (demand (capacity_in t) h) claim claim.slack)) held) ∙ refused))
+              absurd (both_ways false refl (sym (ap (λ (b : Bool). is_full_reply (if b then Taken else reply_to_free (capacity_in t) (demand (capacity_in t) h) claim claim.slack)) held) ∙ refused))
           | inr not ↦ not
         ]
 
@@ -279,7 +282,7 @@ refused-now t round net h new claim reply p was net_is tree_is added full = reco
         none-of None is = refl
         none-of (Some tree) is = absurd cc
 
-        by : (r : Reply) → answer ≡ r → is_full r ≡ true → booked_by claim.net (booked h claim.net) (Claims claim) answer ≡ None
+        by : (r : Reply) → answer ≡ r → is_full_reply r ≡ true → booked_by claim.net (booked h claim.net) (Claims claim) answer ≡ None
         by (Full edge n) is full = ap (booked_by claim.net (booked h claim.net) (Claims claim)) is ∙ none-of (booked h claim.net) unbooked
         by Claimed is full = absurd cc
         by Taken is full = absurd cc

@@ -3,5 +3,4 @@ pub mod PatternPrices
 pub mod OnlyHistories
 pub mod SeatSteps
 pub mod RoundSteps
-pub mod PlanSteps
 pub mod KeptPlans

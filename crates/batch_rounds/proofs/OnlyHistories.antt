@@ -24,9 +24,9 @@ use Rattle.book_state.specs.declared.entry.Entry.{Entry}
 use Rattle.book_state.specs.declared.entry.PlanKind.{PlanKind}
 use Rattle.book_state.specs.declared.entry.PlanKind.TheVariants.{Pattern, Maze}
 use Rattle.round_core.specs.Attempts.{kind_of}
-use Rattle.round_core.specs.Rounds.{marker, claim_of, IsPlan}
+use Rattle.round_core.specs.Rounds.{marker, claim_of, IsPlan, IsPlanFor}
 use Rattle.batch_rounds.proofs.PatternPrices.{AreSamePrices, patterns-same}
-use Rattle.batch_rounds.specs.BatchedHistories.{Batching, capacity_in, claimant, after_call, after_claim, after_mark, after_releases, is_full, is_refused, IsPlanIn, IsClaimOver, at_any_demand, first_slack, IsClaimedAlone, IsTurn, AreTurns, opened, IsBatch, AreBatches, nets_due, IsRound, goes_on, AreRounds, IsBatched}
+use Rattle.batch_rounds.specs.BatchedHistories.{Batching, capacity_in, claimant, after_call, after_claim, after_mark, after_releases, is_refused, IsClaimOver, at_any_demand, first_slack, IsClaimedAlone, IsTurn, AreTurns, opened, IsBatch, AreBatches, nets_due, IsRound, goes_on, AreRounds, IsBatched}
 use Rattle.batch_rounds.specs.BatchedHistories.IsClaimedAlone.{Fits, Is_forced}
 use Rattle.batch_rounds.specs.BatchedHistories.IsTurn.{Is_first, Goes_on}
 use Rattle.batch_rounds.specs.BatchedHistories.AreTurns.{No_turns, Next_turn}
@@ -67,7 +67,7 @@ pins-in d net design = by (slice_get d.nets net) refl
     by (Some value) is = (net-of d net value design is).pins
 
 plan-only : (d : DesignView) (formula : Formula) (round net : ℕ) (h : List Entry) (t u : TreeView) → IsDesign d →
-    IsPlanIn d formula round h net t → IsPlanIn d formula round h net u → t ≡ u
+    IsPlanFor d formula h net (kind_of round) t → IsPlanFor d formula h net (kind_of round) u → t ≡ u
 plan-only d formula round net h t u design one other = by (kind_of round) one.plan.plan other.plan.plan
   where
     c : CapacityView

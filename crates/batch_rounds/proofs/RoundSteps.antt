@@ -12,15 +12,16 @@ use Rattle.gr_base.specs.Trees.{TreeView}
 use Rattle.gr_base.specs.declared.frame.Net.{Net}
 use Rattle.grid_demand.specs.Tables.{CapacityView, capacity_of}
 use Rattle.book_state.specs.Books.{nets_of, reply_to, is_victim, victims}
+use Rattle.book_state.specs.Entries.{is_full_reply}
 use Rattle.book_state.specs.declared.entry.Call.TheVariants.{Claim as Claims}
 use Rattle.book_state.specs.declared.entry.Claim.{Claim}
 use Rattle.book_state.specs.declared.entry.Entry.{Entry}
 use Rattle.book_state.specs.declared.entry.PlanKind.{PlanKind}
 use Rattle.book_state.specs.declared.entry.Reply.{Reply}
 use Rattle.round_core.specs.Attempts.{kind_of}
-use Rattle.round_core.specs.Rounds.{claim_of}
+use Rattle.round_core.specs.Rounds.{claim_of, IsPlanFor}
 use Rattle.round_core.specs.Worlds.{routed_nets}
-use Rattle.batch_rounds.specs.BatchedHistories.{Batching, capacity_in, claimant, after_call, after_claim, is_full, is_refused, IsPlanIn, IsClaimOver, at_any_demand, first_slack, IsClaimedAlone, IsTurn, AreTurns, IsBatch, AreBatches, IsRound, goes_on}
+use Rattle.batch_rounds.specs.BatchedHistories.{Batching, capacity_in, claimant, after_call, after_claim, is_refused, IsClaimOver, at_any_demand, first_slack, IsClaimedAlone, IsTurn, AreTurns, IsBatch, AreBatches, IsRound, goes_on}
 use Rattle.batch_rounds.specs.BatchedHistories.IsClaimedAlone.{Fits, Is_forced}
 use Rattle.batch_rounds.specs.BatchedHistories.IsTurn.{Is_first, Goes_on}
 use Rattle.batch_rounds.specs.BatchedHistories.AreTurns.{No_turns, Next_turn}
@@ -31,17 +32,17 @@ use Rattle.batch_rounds.specs.Rounds.{HasRun}
 -- a claim that was added, with its reply, after a history
 pub record IsAdded (t : Batching) (h : List Entry) (claim : Claim) (reply : Reply) (new : List Entry) : Type 0 where
   pub after : new ≡ after_claim t h claim
-  pub refused : is_refused t h claim ≡ is_full reply
+  pub refused : is_refused t h claim ≡ is_full_reply reply
 
 pub is-added : (t : Batching) (c : CapacityView) (h : List Entry) (claim : Claim) (reply : Reply) (new : List Entry) → c ≡ capacity_in t →
     reply ≡ reply_to c h (Claims claim) → new ≡ after_call c h claimant (Claims claim) → IsAdded t h claim reply new
 is-added t c h claim reply new is said there = record {
   after = there ∙ ap (λ (v : CapacityView). after_call v h claimant (Claims claim)) is;
-  refused = sym (ap is_full (said ∙ ap (λ (v : CapacityView). reply_to v h (Claims claim)) is));
+  refused = sym (ap is_full_reply (said ∙ ap (λ (v : CapacityView). reply_to v h (Claims claim)) is));
 }
 
 -- a claim of a net for its plan over a history
-pub claim-over : (t : Batching) (round net : ℕ) (want slack : Option ℕ) (front : ℕ) (kind : PlanKind) (h : List Entry) (tree : TreeView) → IsPlanIn t.design t.formula round h net tree →
+pub claim-over : (t : Batching) (round net : ℕ) (want slack : Option ℕ) (front : ℕ) (kind : PlanKind) (h : List Entry) (tree : TreeView) → IsPlanFor t.design t.formula h net (kind_of round) tree →
     slack ≡ want → front ≡ length h → kind ≡ kind_of round → IsClaimOver t round net want h (claim_of net tree slack front kind)
 claim-over t round net want slack front kind h tree plan slack_is front_is kind_is = record {
   tree = tree;
@@ -54,21 +55,21 @@ claim-over t round net want slack front kind h tree plan slack_is front_is kind_
 
 -- a net's claims
 pub turn-first : (t : Batching) (round net : ℕ) (front h new : List Entry) (claim : Claim) (reply : Reply) → IsClaimOver t round net (first_slack round) front claim →
-    IsAdded t h claim reply new → is_full reply ≡ false → IsTurn t round front net h new
+    IsAdded t h claim reply new → is_full_reply reply ≡ false → IsTurn t round front net h new
 turn-first t round net front h new claim reply is added fits =
     subst (IsTurn t round front net h) (sym added.after) (Is_first claim is (added.refused ∙ fits))
 
 pub turn-on : (t : Batching) (round net : ℕ) (front h new after : List Entry) (claim : Claim) (reply : Reply) → IsClaimOver t round net (first_slack round) front claim →
-    IsAdded t h claim reply new → is_full reply ≡ true → IsClaimedAlone t round net new after → IsTurn t round front net h after
+    IsAdded t h claim reply new → is_full_reply reply ≡ true → IsClaimedAlone t round net new after → IsTurn t round front net h after
 turn-on t round net front h new after claim reply is added full alone =
     Goes_on claim is (added.refused ∙ full) (subst (λ (x : List Entry). IsClaimedAlone t round net x after) added.after alone)
 
 pub alone-fits : (t : Batching) (round net : ℕ) (h new : List Entry) (claim : Claim) (reply : Reply) → IsClaimOver t round net (Some 0) h claim →
-    IsAdded t h claim reply new → is_full reply ≡ false → IsClaimedAlone t round net h new
+    IsAdded t h claim reply new → is_full_reply reply ≡ false → IsClaimedAlone t round net h new
 alone-fits t round net h new claim reply is added fits = subst (IsClaimedAlone t round net h) (sym added.after) (Fits claim is (added.refused ∙ fits))
 
 pub alone-forced : (t : Batching) (round net : ℕ) (h new after : List Entry) (claim forced : Claim) (reply last : Reply) → IsClaimOver t round net (Some 0) h claim →
-    IsAdded t h claim reply new → is_full reply ≡ true → forced ≡ at_any_demand new claim → IsAdded t new forced last after → IsClaimedAlone t round net h after
+    IsAdded t h claim reply new → is_full_reply reply ≡ true → forced ≡ at_any_demand new claim → IsAdded t new forced last after → IsClaimedAlone t round net h after
 alone-forced t round net h new after claim forced reply last is added full forced_is then =
     let again : after ≡ after_claim t (after_claim t h claim) (at_any_demand (after_claim t h claim) claim) =
     then.after ∙ ap (λ (c : Claim). after_claim t new c) forced_is ∙ ap (λ (x : List Entry). after_claim t x (at_any_demand x claim)) added.after in

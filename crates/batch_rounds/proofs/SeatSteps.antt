@@ -138,7 +138,7 @@ taken-others seats after place taken other apart =
         ∙ sym (ap (λ (o : Option Seat). option_and_then (λ seat. plan_in seat (other / count)) o) (ap (slice_get seats) same ∙ taken.there))
 
 -- what is known of the plan for a place
-pub record IsPlanFor (d : DesignView) (formula : Formula) (round : ℕ) (h : List Entry) (net : ℕ) (plan : Planned) : Type 0 where
+pub record IsKnownPlan (d : DesignView) (formula : Formula) (round : ℕ) (h : List Entry) (net : ℕ) (plan : Planned) : Type 0 where
   pub noted : IsNoted d formula round h net plan
   pub shape : plan.tree.shape ≡ d.frame.shape
 
@@ -151,7 +151,7 @@ held-plan d formula round h nets from place net seats plans low there = some-is 
     some-is (Some tree) is = refl
 
 pub plan-known : (d : DesignView) (formula : Formula) (round : ℕ) (h : List Entry) (nets : List ℕ) (from place net : ℕ) (seats : List Seat) (tree : Planned) → HavePlans d formula round h nets from seats →
-    from ≤ place → slice_get nets place ≡ Some net → IsTrue (is_routed d net) → plan_for seats place ≡ Some tree → IsPlanFor d formula round h net tree
+    from ≤ place → slice_get nets place ≡ Some net → IsTrue (is_routed d net) → plan_for seats place ≡ Some tree → IsKnownPlan d formula round h net tree
 plan-known d formula round h nets from place net seats tree plans low there routed is =
     let noted = and-some (IsNoted d formula round h net) (plan_for seats place) tree is (plans place net low there) in
     let of = routed-net d net routed in

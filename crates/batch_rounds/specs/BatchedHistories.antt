@@ -5,16 +5,14 @@ use Rattle.gr_base.specs.Designs.{DesignView}
 use Rattle.gr_base.specs.Trees.{TreeView}
 use Rattle.grid_demand.specs.Tables.{CapacityView, capacity_of}
 use Rattle.book_state.specs.Books.{reply_to, victims}
-use Rattle.book_state.specs.Entries.{is_mark}
+use Rattle.book_state.specs.Entries.{is_mark, is_full_reply}
 use Rattle.book_state.specs.Views.{entry_of}
 use Rattle.book_state.specs.declared.entry.Call.{Call}
 use Rattle.book_state.specs.declared.entry.Call.TheVariants.{Claim as Claims, Release, Mark}
 use Rattle.book_state.specs.declared.entry.Claim.{Claim}
 use Rattle.book_state.specs.declared.entry.Entry.{Entry}
-use Rattle.book_state.specs.declared.entry.Reply.{Reply}
-use Rattle.book_state.specs.declared.entry.Reply.TheVariants.{Full}
 use Rattle.round_core.specs.Attempts.{kind_of}
-use Rattle.round_core.specs.Rounds.{marker, claim_of, IsPlanAfter, IsRouteOfNet}
+use Rattle.round_core.specs.Rounds.{marker, claim_of, IsPlanFor}
 use Rattle.round_core.specs.Worlds.{routed_nets}
 
 -- what is asked for: the design, the formula of the plans, at most how many rounds after round 0, and how many nets a
@@ -54,25 +52,14 @@ abbrev pub after_releases : CapacityView → List Entry → List ℕ → List En
 after_releases c h [] = h
 after_releases c h (net ∷ nets) = after_releases c (after_call c h claimant (Release net)) nets
 
--- a reply says that there is no room
-abbrev pub is_full : Reply → Bool
-is_full (Full edge demand) = true
-is_full _ = false
-
--- a claim after this history is answered so
+-- a claim after this history finds no room
 abbrev pub is_refused : Batching → List Entry → Claim → Bool
-is_refused t h claim = is_full (reply_to (capacity_in t) h (Claims claim))
-
--- a tree is a net's plan in a round over this history, and routes the net
-pub record IsPlanIn (d : DesignView) (formula : Formula) (round : ℕ) (h : List Entry) (net : ℕ) (tree : TreeView)
-    : Type 0 where
-  pub plan : IsPlanAfter d formula h net (kind_of round) tree
-  pub routes : IsRouteOfNet d net tree
+is_refused t h claim = is_full_reply (reply_to (capacity_in t) h (Claims claim))
 
 -- a claim of a net at this slack for its plan in a round over this history, whose length is the claim's front
 pub record IsClaimOver (t : Batching) (round net : ℕ) (slack : Option ℕ) (h : List Entry) (claim : Claim) : Type 0 where
   pub tree : TreeView
-  pub planned : IsPlanIn t.design t.formula round h net tree
+  pub planned : IsPlanFor t.design t.formula h net (kind_of round) tree
   pub claim_is : claim ≡ claim_of net tree slack (length h) (kind_of round)
 
 -- the same claim at any demand, with this history's length as front

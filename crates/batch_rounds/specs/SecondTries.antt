@@ -13,7 +13,8 @@ use Rattle.book_state.specs.Books.{booked, demand, marks}
 use Rattle.book_state.specs.declared.entry.Call.TheVariants.{Claim as Claims}
 use Rattle.book_state.specs.declared.entry.Claim.{Claim}
 use Rattle.book_state.specs.declared.entry.Entry.{Entry}
-use Rattle.batch_rounds.specs.BatchedHistories.{IsPlanIn}
+use Rattle.round_core.specs.Attempts.{kind_of}
+use Rattle.round_core.specs.Rounds.{IsPlanFor}
 use Rattle.batch_rounds.specs.declared.seat.Planned.{Planned}
 
 -- the demand for an edge, where the grid has it
@@ -36,7 +37,7 @@ pub record Grows (c : CapacityView) (before after : List Entry) : Type 0 where
 -- a net's plan in a round over this history, with the demand from its cells then
 pub record IsNoted (d : DesignView) (formula : Formula) (round : ℕ) (h : List Entry) (net : ℕ) (p : Planned)
     : Type 0 where
-  pub plan : IsPlanIn d formula round h net p.tree
+  pub plan : IsPlanFor d formula h net (kind_of round) p.tree
   pub demand : p.demand ≡ demand_from (demand (capacity_of d) h) p.tree
 
 -- such a plan over an earlier history, since which demand only rose

@@ -7,7 +7,8 @@ ghost use Rattle.gr_base.specs.Designs.{is_routed};
 ghost use Rattle.gr_base.specs.Grid.{cells_of, edge_at, has_room as room_at, is_wire_way, place_at, IsInside};
 ghost use Rattle.grid_demand.specs.LoadSums.{demand_at};
 ghost use Rattle.grid_demand.specs.Tables.{capacity_of};
-ghost use Rattle.batch_rounds.specs.BatchedHistories.{IsPlanIn};
+ghost use Rattle.round_core.specs.Attempts.{kind_of};
+ghost use Rattle.round_core.specs.Rounds.{IsPlanFor};
 ghost use Rattle.batch_rounds.specs.SecondTries.{demand_from as demand_from_tree, demand_from_cell as demand_from_one, demand_if, EndsWith, IsRefused};
 
 use crate::asked::Asked;
@@ -33,7 +34,8 @@ pub(crate) fn plan_again(
     requires round { round ≤ asked.now.rounds }
     requires net { IsTrue (is_routed asked.now.design.now net) }
     requires refused { IsRefused asked.now.design.now asked.now.rule.now.formula round net demand book.now.history }
-    ensures { IfOk result (IsPlanIn asked.now.design.now asked.now.rule.now.formula round book.now.history net) }
+    ensures { IfOk result (IsPlanFor asked.now.design.now asked.now.rule.now.formula book.now.history net
+        (kind_of round)) }
 {
     let basis = Basis::over(alloc, asked, round, book);
     if round > 0

@@ -6,7 +6,8 @@ ghost use Rattle.gr_base.specs.Designs.{is_routed};
 ghost use Rattle.gr_base.specs.Limits.{most_rounds};
 ghost use Rattle.grid_demand.specs.Tables.{capacity_of};
 ghost use Rattle.net_plan.specs.Prices.{HasBoundedDemand};
-ghost use Rattle.batch_rounds.specs.BatchedHistories.{IsPlanIn};
+ghost use Rattle.round_core.specs.Attempts.{kind_of};
+ghost use Rattle.round_core.specs.Rounds.{IsPlanFor};
 ghost use Rattle.batch_rounds.specs.SecondTries.{IsNoted};
 
 use crate::again::demand_from;
@@ -16,11 +17,9 @@ use book_state::BookState;
 use cost_rules::CostRule;
 use gr_base::{Design, RouteTree};
 use grid_demand::{Capacity, Loads};
-use net_plan::{Planner, maze_plan, pattern_plan};
+use net_plan::Planner;
+use round_core::{kind_of, plan_of};
 use std::alloc::{AllocError, Global};
-
-/// By how many tiles the window of a net's pins grows on each side with each round.
-pub(crate) const MARGIN: u32 = 4;
 
 /// What the plans of a round are made from: the demand and the marks of one history.
 #[derive(Drop)]
@@ -68,28 +67,17 @@ impl<'a> Basis<'a> {
     pub(crate) fn plan(&self, planner: &mut Planner, net: u32) -> Result<RouteTree, AllocError>
         requires { IsTrue (is_routed self.now.design.now net) }
         ensures plan { (h : List Entry) → AreLoadsOf (capacity_of self.now.design.now) h self.now.loads.now →
-            IfOk result (IsPlanIn self.now.design.now self.now.rule.now.formula self.now.round h net) }
+            IfOk result (IsPlanFor self.now.design.now self.now.rule.now.formula h net (kind_of self.now.round)) }
         ensures shape { IfOk result (λ tree. tree.shape ≡ self.now.loads.now.shape) }
     {
-        if self.round == 0 {
-            return pattern_plan(
-                self.alloc,
-                planner,
-                self.design,
-                self.capacity,
-                self.loads,
-                net,
-                self.rule,
-            );
-        }
-        maze_plan(
+        plan_of(
             self.alloc,
             planner,
             self.design,
             self.capacity,
             self.loads,
             net,
-            MARGIN * self.round,
+            kind_of(self.round),
             self.rule,
         )
     }

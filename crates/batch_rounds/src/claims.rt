@@ -3,49 +3,29 @@ ghost use Rattle.std.specs.Prelude.{◌≡◌, ◌<◌, ◌≤◌, ℕ, List, Al
 ghost use Rattle.book_state.specs.Books.{reply_to, IsClaim};
 ghost use Rattle.book_state.specs.declared.entry.Entry.{Entry};
 ghost use Rattle.gr_base.specs.Designs.{is_routed};
-ghost use Rattle.gr_base.specs.Limits.{most_rounds};
 ghost use Rattle.grid_demand.specs.Tables.{capacity_of};
 ghost use Rattle.round_core.specs.Attempts.{kind_of};
-ghost use Rattle.batch_rounds.specs.BatchedHistories.{claimant, after_call, is_full as is_full_reply, first_slack, IsPlanIn, IsClaimedAlone, IsTurn};
+ghost use Rattle.round_core.specs.Rounds.{IsPlanFor};
+ghost use Rattle.batch_rounds.specs.BatchedHistories.{claimant, after_call, first_slack, IsClaimedAlone, IsTurn};
 ghost use Rattle.batch_rounds.specs.SecondTries.{IsRefused, WasNoted};
 ghost use Rattle.batch_rounds.specs.Rounds.{batching_of};
 
 use crate::again::plan_again;
 use crate::asked::Asked;
-use crate::basis::MARGIN;
 use crate::seat::Planned;
-use book_state::{BookState, Call, Claim, PlanKind, Reply};
+use book_state::{BookState, Call, Claim, Reply};
 use net_plan::Planner;
+use round_core::kind_of;
 use std::alloc::{AllocError, Global};
 
 /// The number under which releases and claims stand in a history.
 pub(crate) const CLAIMANT: u32 = 1;
-
-/// How plans are made in a round.
-fn kind_of(round: u32) -> PlanKind
-    requires { round ≤ most_rounds }
-    ensures { result ≡ kind_of round }
-{
-    if round == 0 {
-        return PlanKind::Pattern;
-    }
-    PlanKind::Maze {
-        margin: MARGIN * round,
-    }
-}
 
 /// The slack of a net's first claim in a round.
 fn first_slack(round: u32) -> Option<u32>
     ensures { result ≡ first_slack round }
 {
     if round == 0 { None } else { Some(0) }
-}
-
-/// Whether a claim found no room.
-fn is_full(reply: Reply) -> bool
-    ensures { result ≡ is_full_reply reply }
-{
-    matches!(reply, Reply::Full { .. })
 }
 
 /// Claims a net for its plan from a batch, which was made after the first `front` entries, and where that
@@ -68,7 +48,7 @@ pub(crate) fn claim_net(
     requires planned { WasNoted asked.now.design.now asked.now.rule.now.formula round book.old.history net planned }
     ensures capacity { OnOk result (book.new.capacity ≡ capacity_of asked.now.design.now) }
     ensures turn { (h : List Entry) → front ≡ length h →
-        IsPlanIn asked.now.design.now asked.now.rule.now.formula round h net planned.tree →
+        IsPlanFor asked.now.design.now asked.now.rule.now.formula h net (kind_of round) planned.tree →
         OnOk result (IsTurn (batching_of asked.now) round h net book.old.history book.new.history) }
 {
     let claim = Claim {
@@ -78,7 +58,7 @@ pub(crate) fn claim_net(
         front,
         kind: kind_of(round),
     };
-    if is_full(add_claim(book, claim)?) {
+    if add_claim(book, claim)?.is_full() {
         claim_alone(alloc, asked, round, net, planned.demand, book, planner)?;
     }
     Ok(())
@@ -115,7 +95,7 @@ fn claim_alone(
         front,
         kind,
     };
-    if is_full(add_claim(book, within)?) {
+    if add_claim(book, within)?.is_full() {
         let front = book.history().len();
         let forced = Claim {
             net,

@@ -13,12 +13,9 @@ use crate::seat::Seat;
 use book_state::BookState;
 use gr_base::Cells;
 use net_plan::Planner;
-use round_core::routed_nets;
+use round_core::{MARKER, routed_nets};
 use std::alloc::{AllocError, Global};
 use std::thread::Threads;
-
-/// The number under which marks stand in a history.
-const MARKER: u32 = 0;
 
 /// The rounds over a book without entries. The only error is want of memory.
 pub(crate) fn run_rounds<R: Threads + Sync>(

@@ -1,5 +1,5 @@
 -- Replicas that stand for longer and longer histories.
-use Rattle.std.proofs.Common.{◌≡◌, ℕ, ◌+◌, ◌<◌, ◌≤◌, true, false, List, [], ◌∷◌, ◌++◌, length, take, Option, Some, None, slice_get, slice_set, replicate, IsTrue, refl, sym, ap, subst, ◌∙◌, arith, length-set}
+use Rattle.std.proofs.Common.{◌≡◌, ℕ, zero, suc, ◌+◌, ◌<◌, ◌≤◌, true, false, List, [], ◌∷◌, ◌++◌, length, take, Option, Some, None, slice_get, slice_set, replicate, IsTrue, refl, sym, ap, subst, ◌∙◌, arith, length-set}
 use Rattle.std.proofs.lemmas.Bool.{both_ways}
 use Rattle.std.proofs.lemmas.List.{length_push, length-replicate, take_all}
 use Rattle.std.proofs.lemmas.Option.{none-some, same_Some}
@@ -268,3 +268,12 @@ released-held c h place net r legal stands is =
 pub stands-first : (c : CapacityView) (h whole : List Entry) (r : ReplicaView) → StandsFor c h r → take (length h) whole ≡ h → StandsFor c (take r.front whole) r
 stands-first c h whole r stands part =
     subst (λ (k : List Entry). StandsFor c k r) (sym (ap (λ (n : ℕ). take n whole) stands.front ∙ part)) stands
+
+take-own : (n : ℕ) (h : List Entry) → take (length (take n h)) h ≡ take n h
+take-own zero h = refl
+take-own (suc n) [] = refl
+take-own (suc n) (e ∷ h) = ap (λ (k : List Entry). e ∷ k) (take-own n h)
+
+-- and one of a history's first part for as much of it as the replica's front says
+pub stands-part : (c : CapacityView) (h : List Entry) (n : ℕ) (r : ReplicaView) → StandsFor c (take n h) r → StandsFor c (take r.front h) r
+stands-part c h n r stands = stands-first c (take n h) h r stands (take-own n h)

@@ -1,8 +1,7 @@
 -- Entries that leave a net's plan the best in a window.
-use Rattle.std.proofs.Common.{◌≡◌, ℕ, ◌+◌, ◌<◌, ◌≤◌, inl, inr, Bool, true, false, ◌&&◌, nat_lt, List, [], ◌∷◌, ◌++◌, length, take, All, Option, Some, None, slice_get, slice_index_or, Result, Ok, Err, IsTrue, refl, sym, ap, subst, ◌∙◌, arith}
+use Rattle.std.proofs.Common.{◌≡◌, ℕ, ◌+◌, ◌<◌, ◌≤◌, inl, inr, Bool, true, false, ◌&&◌, nat_lt, List, [], ◌∷◌, ◌++◌, length, take, All, Option, Some, None, slice_get, slice_index_or, IsTrue, refl, sym, ap, subst, ◌∙◌, arith}
 use Rattle.std.proofs.lemmas.Bool.{cases_Bool, both_ways}
 use Rattle.std.proofs.lemmas.Bool.Decides.{nat_tests}
-use Rattle.std.specs.Result.{is_ok, OnOk}
 use Rattle.gr_base.proofs.TreeEdges.{tree-grid_edges}
 use Rattle.gr_base.specs.Grid.{has_edge, is_wire}
 use Rattle.gr_base.specs.Trees.{TreeView, IsTree, edges_of}
@@ -80,11 +79,6 @@ grown-by c h k other t x within others before after =
     let nothing : share_of c other (booked h other) x ≡ 0 = ap (λ (o : Option TreeView). share_of c other o x) before in
     let all : share_of c other (booked k other) x ≡ share c other t x = ap (λ (o : Option TreeView). share_of c other o x) after in
     omega (arith, change, nothing, all)
-
--- what holds where there is a value holds
-pub ok-holds : {T E : Type 0} (r : Result T E) (P : Type 0) → IsTrue (is_ok r) → OnOk r P → P
-ok-holds (Ok x) P ok holds = holds
-ok-holds (Err e) P ok holds = absurd (both_ways false refl ok)
 
 -- an edge that isn't noted doesn't lack room, where each that lacks it is noted
 lacks-not : (c : CapacityView) (w : Window) (l : LoadsView) (net : ℕ) (beside : Option ℕ) (touches : List Touch) (x : Edge) → (IsTrue (lacks_room c w (demand_at l) net beside x) → IsTrue (is_noted touches x)) →

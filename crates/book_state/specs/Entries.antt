@@ -4,6 +4,8 @@ use Rattle.std.specs.List.{filter}
 use Rattle.book_state.specs.declared.entry.Call.{Call}
 use Rattle.book_state.specs.declared.entry.Call.TheVariants.{Claim as Claims, Mark}
 use Rattle.book_state.specs.declared.entry.Entry.{Entry}
+use Rattle.book_state.specs.declared.entry.Reply.{Reply}
+use Rattle.book_state.specs.declared.entry.Reply.TheVariants.{Full}
 
 -- the entry is a mark's
 abbrev pub is_mark_call : Call → Bool
@@ -16,6 +18,11 @@ is_mark e = is_mark_call e.call
 abbrev pub is_claim_call : Call → Bool
 is_claim_call (Claims claim) = true
 is_claim_call _ = false
+
+-- the reply says that a claim found no room
+abbrev pub is_full_reply : Reply → Bool
+is_full_reply (Full edge demand) = true
+is_full_reply _ = false
 
 -- P holds of each entry and the history before it
 abbrev pub AtEach : (List Entry → Entry → Type 0) → List Entry → Type 0

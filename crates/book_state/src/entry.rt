@@ -1,4 +1,7 @@
 //! The entries of a history.
+ghost use Rattle.std.specs.Prelude.{◌≡◌};
+ghost use Rattle.book_state.specs.Entries.{is_full_reply};
+
 use gr_base::{Edge, RouteTree};
 
 /// How the tree of a claim was planned: by patterns, or by a maze search in the window of the net's
@@ -40,6 +43,15 @@ pub enum Reply {
     Released,
     NotBooked,
     Marked { overflow: u128 },
+}
+
+impl Reply {
+    /// Whether it says that a claim found no room.
+    pub fn is_full(self) -> bool
+        ensures { result ≡ is_full_reply self }
+    {
+        matches!(self, Reply::Full { .. })
+    }
 }
 
 /// A call by the caller of this number, and the reply to it.

@@ -1,5 +1,5 @@
 //! Loads as they are once a net is released, while it is booked.
-ghost use Rattle.std.specs.Prelude.{◌≡◌, [], ◌∷◌, ◌++◌, false, ◌<◌, take, is_some, IsTrue};
+ghost use Rattle.std.specs.Prelude.{◌≡◌, [], ◌∷◌, ◌++◌, false, ◌<◌, take, is_some, IfOk, OnOk, IsTrue};
 ghost use Rattle.book_state.specs.Books.{nets_of, booked as booked_tree, IsLegal};
 ghost use Rattle.book_state.specs.Lifted.{IsFreeing, IsLifted};
 ghost use Rattle.book_state.specs.Replicas.{StandsFor};
@@ -11,6 +11,7 @@ use crate::past::Past;
 use crate::replica::Replica;
 use crate::still::Sought;
 use grid_demand::Capacity;
+use std::alloc::AllocError;
 
 impl Replica {
     /// Takes a booked net's tree out of the loads, which then are those after a release of the net. The
@@ -49,23 +50,31 @@ impl Replica {
 
     /// Reads the entries of a past that the replica doesn't stand for yet, as `catch_up_beside` does.
     /// The result is true only where the last of them frees the net, which counts as no change, and of
-    /// the others it says what that of `catch_up_beside` says.
-    pub fn catch_up_freed(&mut self, capacity: &Capacity, past: &Past, sought: &Sought<'_>) -> bool
+    /// the others it says what that of `catch_up_beside` says. The only error is want of memory; the
+    /// replica then stands for a first part of the past.
+    pub fn catch_up_freed(
+        &mut self,
+        capacity: &Capacity,
+        past: &Past,
+        sought: &Sought<'_>,
+    ) -> Result<bool, AllocError>
         requires legal { IsLegal capacity.now past.now }
         requires stands { StandsFor capacity.now (take self.old.front past.now) self.old }
         requires net { sought.now.net < nets_of capacity.now }
-        ensures stands { StandsFor capacity.now past.now self.new }
-        ensures still { IsTrue result → (e : Entry) → IsFreeing sought.now.net e → StaysBest capacity.now
-            sought.now.net sought.now.window sought.now.tree.now (take self.old.front past.now ++ e ∷ []) past.now }
+        ensures stands { OnOk result (StandsFor capacity.now past.now self.new) }
+        ensures part { StandsFor capacity.now (take self.new.front past.now) self.new }
+        ensures still { IfOk result (λ still. IsTrue still → (e : Entry) → IsFreeing sought.now.net e →
+            StaysBest capacity.now sought.now.net sought.now.window sought.now.tree.now
+            (take self.old.front past.now ++ e ∷ []) past.now) }
     {
         let history = past.entries();
         if history.len() <= self.front() {
-            return false;
+            return Ok(false);
         }
         let last = history.len() - 1;
-        let still = self.read_beside(capacity, history, last, sought);
+        let still = self.read_beside(capacity, history, last, sought)?;
         self.read_entry(capacity, history, last);
-        still && frees(history.entry(last), sought.net)
+        Ok(still && frees(history.entry(last), sought.net))
     }
 }
 

@@ -1,5 +1,5 @@
 //! Entries that leave a net's plan the best in its window.
-ghost use Rattle.std.specs.Prelude.{◌+◌, ◌<◌, ◌≤◌, List, length, take, IsTrue};
+ghost use Rattle.std.specs.Prelude.{◌+◌, ◌<◌, ◌≤◌, List, length, take, IfOk, OnOk, IsTrue};
 ghost use Rattle.book_state.specs.Books.{IsLegal};
 ghost use Rattle.book_state.specs.Replicas.{StandsFor};
 ghost use Rattle.book_state.specs.Still.{StaysBest};
@@ -14,6 +14,7 @@ use crate::touches::{Touch, are_settled, lies_beyond, note_tree};
 use gr_base::RouteTree;
 use grid_demand::Capacity;
 use maze_route::Window;
+use std::alloc::AllocError;
 
 /// A net, the window in which its route is searched, and the tree that was found to be its plan there.
 #[derive(Clone, Copy, Debug)]
@@ -28,14 +29,20 @@ impl Replica {
     /// result is true only where they leave the net's booking, and where each wire edge that begins in
     /// the window stays as much over its capacity with the net on it, and keeps its marks: then it costs
     /// the net the same. An edge may get over it by more where it doesn't join two cells of the tree: a
-    /// plan doesn't change because what it leaves aside gets dearer. It takes memory to look, and is false
-    /// where memory is wanting.
-    pub fn catch_up_beside(&mut self, capacity: &Capacity, past: &Past, sought: &Sought<'_>) -> bool
+    /// plan doesn't change because what it leaves aside gets dearer. The only error is want of memory for
+    /// that look; the replica then stands for a first part of the past.
+    pub fn catch_up_beside(
+        &mut self,
+        capacity: &Capacity,
+        past: &Past,
+        sought: &Sought<'_>,
+    ) -> Result<bool, AllocError>
         requires legal { IsLegal capacity.now past.now }
         requires stands { StandsFor capacity.now (take self.old.front past.now) self.old }
-        ensures stands { StandsFor capacity.now past.now self.new }
-        ensures still { IsTrue result → StaysBest capacity.now sought.now.net sought.now.window sought.now.tree.now
-            (take self.old.front past.now) past.now }
+        ensures stands { OnOk result (StandsFor capacity.now past.now self.new) }
+        ensures part { StandsFor capacity.now (take self.new.front past.now) self.new }
+        ensures still { IfOk result (λ still. IsTrue still → StaysBest capacity.now sought.now.net sought.now.window
+            sought.now.tree.now (take self.old.front past.now) past.now) }
     {
         let history = past.entries();
         self.read_beside(capacity, history, history.len(), sought)
@@ -48,23 +55,24 @@ impl Replica {
         history: &History,
         end: u64,
         sought: &Sought<'_>,
-    ) -> bool
+    ) -> Result<bool, AllocError>
         requires legal { IsLegal capacity.now history.now }
         requires stands { StandsFor capacity.now (take self.old.front history.now) self.old }
         requires front { self.old.front ≤ end }
         requires end { end ≤ length history.now }
-        ensures stands { StandsFor capacity.now (take end history.now) self.new }
-        ensures still { IsTrue result → StaysBest capacity.now sought.now.net sought.now.window sought.now.tree.now
-            (take self.old.front history.now) (take end history.now) }
+        ensures stands { OnOk result (StandsFor capacity.now (take end history.now) self.new) }
+        ensures part { StandsFor capacity.now (take self.new.front history.now) self.new }
+        ensures still { IfOk result (λ still. IsTrue still → StaysBest capacity.now sought.now.net sought.now.window
+            sought.now.tree.now (take self.old.front history.now) (take end history.now)) }
     {
         let near = self.nodes_near(history, end, sought.window);
-        let mut touches = Vec::new(history.alloc());
-        let mut still = touches.reserve(near).is_ok();
+        let mut touches = Vec::with_capacity(history.alloc(), near)?;
+        let mut still = true;
         for place in self.front()..end {
-            still = still && self.note_entry(capacity, history, place, sought, &mut touches);
+            still = still && self.note_entry(capacity, history, place, sought, &mut touches)?;
             self.read_entry(capacity, history, place);
         }
-        still && are_settled(capacity, self.loads(), sought, &touches)
+        Ok(still && are_settled(capacity, self.loads(), sought, &touches))
     }
 
     /// How many nodes the trees have that the entries before `end` book or free and that may reach a
@@ -97,7 +105,7 @@ impl Replica {
     }
 
     /// Notes what the entry that is to be read next may change for the net in the window. False where it
-    /// is a mark or one of the net itself, or where memory is wanting.
+    /// is a mark or one of the net itself. The only error is want of memory.
     fn note_entry(
         &self,
         capacity: &Capacity,
@@ -105,37 +113,43 @@ impl Replica {
         place: u64,
         sought: &Sought<'_>,
         touches: &mut Vec<Touch>,
-    ) -> bool
+    ) -> Result<bool, AllocError>
         requires legal { IsLegal capacity.now history.now }
         requires stands { StandsFor capacity.now (take place history.now) self.now }
         requires place { place < length history.now }
-        ensures { IsTrue result → (first : List Entry) →
+        ensures { IfOk result (λ noted. IsTrue noted → (first : List Entry) →
             AreTouches capacity.now sought.now.net sought.now.window first (take place history.now) touches.old.items →
             AreTouches capacity.now sought.now.net sought.now.window first (take (place + 1) history.now)
-            touches.new.items }
+            touches.new.items) }
     {
         let entry = history.entry(place);
         let loads = self.loads();
         match &entry.call {
             Call::Claim(claim) => match entry.reply {
                 Reply::Claimed => {
+                    if claim.net == sought.net {
+                        return Ok(false);
+                    }
                     let other = Some(claim.net);
-                    claim.net != sought.net
-                        && note_tree(capacity, loads, &claim.tree, sought, other, touches).is_ok()
+                    note_tree(capacity, loads, &claim.tree, sought, other, touches)?;
+                    Ok(true)
                 }
-                _ => true,
+                _ => Ok(true),
             },
             Call::Release { net: freed } => match entry.reply {
-                Reply::Released => match self.tree(history, *freed) {
-                    Some(tree) => {
-                        *freed != sought.net
-                            && note_tree(capacity, loads, tree, sought, None, touches).is_ok()
+                Reply::Released => {
+                    let Some(tree) = self.tree(history, *freed) else {
+                        return Ok(false);
+                    };
+                    if *freed == sought.net {
+                        return Ok(false);
                     }
-                    None => false,
-                },
-                _ => true,
+                    note_tree(capacity, loads, tree, sought, None, touches)?;
+                    Ok(true)
+                }
+                _ => Ok(true),
             },
-            Call::Mark => false,
+            Call::Mark => Ok(false),
         }
     }
 }

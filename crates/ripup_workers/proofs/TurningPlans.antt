@@ -1,5 +1,5 @@
 -- Plans that stay the same while the history goes on.
-use Rattle.std.proofs.Common.{◌≡◌, ℕ, ◌≤◌, List, [], ◌∷◌, ◌++◌, take, length, Option, refl, sym, ap, subst, ◌∙◌, append_assoc, arith}
+use Rattle.std.proofs.Common.{◌≡◌, ℕ, List, [], ◌∷◌, ◌++◌, take, length, Option, refl, sym, ap, subst, ◌∙◌, append_assoc, arith}
 use Rattle.std.proofs.lemmas.List.{take-append-le, take_all}
 use mathlib.Core.List.{IsPrefix}
 use Rattle.book_front.proofs.Prefixes.{prefix-all}
@@ -20,10 +20,10 @@ use Rattle.book_state.specs.declared.entry.Reply.{Reply}
 use Rattle.book_state.specs.declared.entry.Call.{Call}
 use Rattle.book_state.specs.declared.entry.Call.TheVariants.{Claim as Claims}
 use Rattle.round_core.proofs.StillPlans.{still-maze}
-use Rattle.round_core.specs.Rounds.{IsPlan}
+use Rattle.round_core.specs.Rounds.{IsPlan, IsPlanFor}
 use Rattle.round_core.specs.RunHistories.{Setting, one_worker}
 use Rattle.track_book.specs.Passes.{PassView, IsAnswered}
-use Rattle.ripup_workers.specs.Turning.{IsOver, HasTried, IsPlanFor, IsWindowOf, WasPlanned}
+use Rattle.ripup_workers.specs.Turning.{IsOver, HasTried, IsWindowOf, WasPlanned}
 
 -- a first part of a list is what that many elements of it are
 pub take-first : (first now : List Entry) (front : ℕ) → IsPrefix first now → front ≡ length first → take front now ≡ first

@@ -1,24 +1,20 @@
 -- Where a worker's entries of a round lead.
-use Rattle.std.proofs.Common.{◌≡◌, ℕ, suc, zero, ◌*◌, ◌<◌, Bool, true, cond, ◌&&◌, ◌==◌, List, [], ◌∷◌, ◌++◌, length, take, Option, Some, None, slice_get, Result, Ok, Err, IfOk, OnOk, if◌then◌else◌, refl, sym, ap, subst, ◌∙◌, arith, append_assoc}
+use Rattle.std.proofs.Common.{◌≡◌, ℕ, suc, zero, ◌<◌, Bool, true, false, cond, ◌&&◌, ◌==◌, List, [], ◌∷◌, ◌++◌, length, take, Option, Some, None, slice_get, Result, Ok, Err, OnOk, if◌then◌else◌, refl, sym, ap, subst, ◌∙◌, arith, append_assoc}
 use Rattle.std.specs.List.{fold}
 use mathlib.Core.List.{IsPrefix}
+use Rattle.std.proofs.lemmas.Bool.{both_ways}
 use Rattle.std.proofs.lemmas.Bool.Decides.{nat_tests}
 use Rattle.std.proofs.lemmas.List.{append-nil, take_at}
 use Rattle.std.proofs.lemmas.List.Sums.{fold-append, sum_by-append}
 use Rattle.gr_base.proofs.General.{eqb-swap}
-use Rattle.gr_base.specs.Designs.{DesignView, pins_at}
-use Rattle.gr_base.specs.Plans.{IsRouteOf}
+use Rattle.gr_base.specs.Designs.{DesignView}
 use Rattle.gr_base.specs.Trees.{TreeView}
-use Rattle.gr_base.specs.declared.frame.Net.{Net}
 use Rattle.cost_rules.specs.declared.site.Formula.{Formula}
-use Rattle.grid_demand.specs.LoadSums.{LoadsView}
 use Rattle.grid_demand.specs.Tables.{CapacityView, capacity_of}
-use Rattle.net_plan.specs.Mazes.{IsMaze}
-use Rattle.net_plan.specs.Patterns.{IsPattern}
 use Rattle.book_front.proofs.Prefixes.{prefix-all, prefix-then}
 use Rattle.book_state.proofs.BookingLaws.{unbounded}
 use Rattle.book_state.proofs.HistoryLists.{slice_get-right}
-use Rattle.book_state.specs.Books.{IsLegal, reply_to_claim, AreLoadsOf}
+use Rattle.book_state.specs.Books.{IsLegal, reply_to_claim}
 use Rattle.book_state.specs.Views.{entry_of}
 use Rattle.book_state.specs.declared.entry.Call.{Call}
 use Rattle.book_state.specs.declared.entry.Call.TheVariants.{Claim as Claims, Release}
@@ -29,12 +25,11 @@ use Rattle.book_state.specs.declared.entry.PlanKind.TheVariants.{Pattern, Maze}
 use Rattle.book_state.specs.declared.entry.Reply.{Reply}
 use Rattle.book_state.specs.declared.entry.Reply.TheVariants.{Claimed, Taken, Full, Released, NotBooked, Marked}
 use Rattle.round_core.specs.Attempts.{Stage, Rests, Claiming, Broken, kind_of, is_kind, is_slack, is_claim_for, stage_replied, stage_after, begins, attempts_at}
-use Rattle.round_core.specs.Rounds.{IsFull, claim_of, slacks_of_turn, IsPlanAfter, IsRouteOfNet}
+use Rattle.round_core.specs.Rounds.{IsFull, claim_of, slacks_of_turn, IsPlanFor}
 use Rattle.round_core.specs.RunHistories.{Setting, IsPlanOver, IsPlanned}
 use Rattle.round_core.proofs.StageSteps.{attempts-push}
-use Rattle.round_core.proofs.TurnLemmas.{plan-after}
 use Rattle.track_book.specs.Passes.{PassView, IsPass, IsAnswered, HasLearnt}
-use Rattle.ripup_workers.specs.Turning.{IsOver, HasFollowed, IsPlanFor, HasTried}
+use Rattle.ripup_workers.specs.Turning.{IsOver, HasFollowed, HasTried}
 use Rattle.work_share.specs.Views.{times}
 use Rattle.ripup_workers.specs.Working.{ArePlanned, HasLed}
 use Rattle.ripup_workers.proofs.TurningPasses.{own-learnt, own-answered, answered-others, own-place}
@@ -180,7 +175,7 @@ tried-led t (suc r) net slack slacks reply p q later tried =
 replied-rests : (net : ℕ) (slacks : List (Option ℕ)) (reply : Reply) → (IsFull reply → ⊥) → stage_replied net slacks reply ≡ Rests
 replied-rests net slacks Claimed got = refl
 replied-rests net slacks Taken got = refl
-replied-rests net slacks (Full edge demand) got = absurd (got tt)
+replied-rests net slacks (Full edge demand) got = absurd (got refl)
 replied-rests net slacks Released got = refl
 replied-rests net slacks NotBooked got = refl
 replied-rests net slacks (Marked overflow) got = refl
@@ -192,12 +187,12 @@ got-led t r net slack slacks reply p q later tried got =
     (tried-led t r net slack slacks reply p q later tried)
 
 replied-goes_on : (net : ℕ) (slacks : List (Option ℕ)) (reply : Reply) → IsFull reply → stage_replied net slacks reply ≡ Claiming net slacks
-replied-goes_on net slacks Claimed full = absurd full
-replied-goes_on net slacks Taken full = absurd full
+replied-goes_on net slacks Claimed full = absurd (both_ways false refl full)
+replied-goes_on net slacks Taken full = absurd (both_ways false refl full)
 replied-goes_on net slacks (Full edge demand) full = refl
-replied-goes_on net slacks Released full = absurd full
-replied-goes_on net slacks NotBooked full = absurd full
-replied-goes_on net slacks (Marked overflow) full = absurd full
+replied-goes_on net slacks Released full = absurd (both_ways false refl full)
+replied-goes_on net slacks NotBooked full = absurd (both_ways false refl full)
+replied-goes_on net slacks (Marked overflow) full = absurd (both_ways false refl full)
 
 pub full-led : (t : Setting) (r net : ℕ) (slack : Option ℕ) (slacks : List (Option ℕ)) (reply : Reply) (p q : PassView) → 0 < r → HasTried t net (kind_of r) slack reply p q →
     IsFull reply → HasLed t r (Claiming net (slack ∷ slacks)) (Claiming net slacks) [] p q
@@ -207,12 +202,12 @@ full-led t r net slack slacks reply p q later tried full =
 
 -- a claim at any demand is never answered Full
 full-none : (reply : Reply) → IsFull reply → ((e : _) (n : ℕ) → reply ≡ Full e n → ⊥) → ⊥
-full-none Claimed full never = full
-full-none Taken full never = full
+full-none Claimed full never = both_ways false refl full
+full-none Taken full never = both_ways false refl full
 full-none (Full edge demand) full never = never edge demand refl
-full-none Released full never = full
-full-none NotBooked full never = full
-full-none (Marked overflow) full never = full
+full-none Released full never = both_ways false refl full
+full-none NotBooked full never = both_ways false refl full
+full-none (Marked overflow) full never = both_ways false refl full
 
 pub last-got : (t : Setting) (net : ℕ) (kind : PlanKind) (reply : Reply) (p q : PassView) → HasTried t net kind None reply p q → IsFull reply → ⊥
 last-got t net kind reply p q tried full =
@@ -255,10 +250,8 @@ tried-so t d formula c net kind slack tree reply p q over same one two plan answ
     let said = subst (λ (x : CapacityView). IsAnswered x p q (Claims claim) reply) is answered in
     let first = subst (λ (x : CapacityView). IsPass x p) is one in
     let second = subst (λ (x : CapacityView). IsPass x q) is two in
-    let over_it : IsPlanOver t p.seen claim = record {
-      plan = subst (λ (x : DesignView × Formula). IsPlanAfter x.0 x.1 p.seen net kind tree) (λ i. (sym over.design i, sym over.formula_is i)) plan.plan;
-      routes = subst (λ (x : DesignView). IsRouteOfNet x net tree) (sym over.design) plan.routes;
-    } in
+    let over_it : IsPlanOver t p.seen claim =
+    subst (λ (x : DesignView × Formula). IsPlanFor x.0 x.1 p.seen net kind tree) (λ i. (sym over.design i, sym over.formula_is i)) plan in
     record {
       claim = claim;
       net_is = refl;
@@ -278,33 +271,6 @@ freed-so t d formula c r net reply p q over same later one two answered =
     let is = over-capacity t d formula c over same in
     freed-led t r net reply p q later (subst (λ (x : CapacityView). IsAnswered x p q (Release net) reply) is answered)
     (subst (λ (x : CapacityView). IsPass x p) is one) (subst (λ (x : CapacityView). IsPass x q) is two)
-
--- the kind of plans in a later round
-pub kind-later : (r margin : ℕ) → 0 < r → margin ≡ 4 * r → Maze margin ≡ kind_of r
-kind-later zero margin later is = absurd (omega (arith, later))
-kind-later (suc r) margin later is = ap Maze is
-
-pub kind-first : (r : ℕ) → r ≡ 0 → Pattern ≡ kind_of r
-kind-first zero is = refl
-kind-first (suc r) is = absurd (omega (arith, is))
-
--- plans over loads are plans over what the loads are of
-pub plan-pattern : (d : DesignView) (formula : Formula) (v : CapacityView) (h : List Entry) (l : LoadsView) (net : ℕ) (kind : PlanKind) (t : TreeView) → v ≡ capacity_of d → AreLoadsOf (capacity_of d) h l →
-    kind ≡ Pattern → IsPattern v l formula net (pins_at d net) t → IsRouteOfNet d net t → IsPlanFor d formula h net kind t
-plan-pattern d formula v h l net kind t same of is plan routes =
-    subst (λ (k : PlanKind). IsPlanFor d formula h net k t) (sym is)
-    (record { plan = plan-after d formula (capacity_of d) v h l net Pattern t refl same of plan; routes = routes })
-
-pub plan-maze : (d : DesignView) (formula : Formula) (v : CapacityView) (h : List Entry) (l : LoadsView) (net : ℕ) (kind : PlanKind) (margin : ℕ) (t : TreeView) → v ≡ capacity_of d → AreLoadsOf (capacity_of d) h l →
-    kind ≡ Maze margin → IsMaze v l formula net (pins_at d net) margin t → IsRouteOfNet d net t → IsPlanFor d formula h net kind t
-plan-maze d formula v h l net kind margin t same of is plan routes =
-    subst (λ (k : PlanKind). IsPlanFor d formula h net k t) (sym is)
-    (record { plan = plan-after d formula (capacity_of d) v h l net (Maze margin) t refl same of plan; routes = routes })
-
-pub routes-net : {E : Type 0} (d : DesignView) (net : ℕ) (r : Result TreeView E) →
-    ((wanted : Net) → slice_get d.nets net ≡ Some wanted → IfOk r (IsRouteOf d.frame.shape wanted)) → IfOk r (IsRouteOfNet d net)
-routes-net d net (Ok t) routes = λ wanted is. routes wanted is
-routes-net d net (Err e) routes = tt
 
 -- a fact that doesn't hang on the result
 pub ok-all : {A E P : Type 0} (r : Result A E) → P → OnOk r P

@@ -15,7 +15,7 @@ use Rattle.book_state.specs.declared.entry.Reply.{Reply}
 use Rattle.maze_route.specs.declared.window.Window.{Window}
 use Rattle.net_plan.specs.Mazes.{window_of}
 use Rattle.round_core.specs.Attempts.{Rests, Claiming}
-use Rattle.round_core.specs.Rounds.{IsPlanAfter, IsRouteOfNet}
+use Rattle.round_core.specs.Rounds.{IsPlanFor}
 use Rattle.round_core.specs.RunHistories.{Setting}
 use Rattle.track_book.specs.Passes.{PassView, IsAnswered, HasLearnt}
 use Rattle.ripup_workers.specs.Working.{ArePlanned, HasLed, HasAttempted}
@@ -41,12 +41,6 @@ HasLedOn t round net slacks old new (Some next) =
 pub record HasFollowed (t : Setting) (old new : PassView) : Type 0 where
   pub learnt : HasLearnt (capacity_of t.design) old new
   pub planned : ArePlanned t old → ArePlanned t new
-
--- a tree is a net's plan of a kind over a history, and routes the net
-pub record IsPlanFor (d : DesignView) (formula : Formula) (h : List Entry) (net : ℕ) (kind : PlanKind) (tree : TreeView)
-    : Type 0 where
-  pub plan : IsPlanAfter d formula h net kind tree
-  pub routes : IsRouteOfNet d net tree
 
 -- a tree is a net's plan of a kind over a history behind which the net is freed
 abbrev pub IsPlanWithout : DesignView → Formula → List Entry → ℕ → PlanKind → TreeView → Type 0

@@ -1,15 +1,16 @@
 //! A worker's attempt at a net.
-ghost use Rattle.std.specs.Prelude.{◌≡◌, ◌↔◌, ◌<◌, ◌≤◌, ◌∷◌, [], ℕ, List, Option, IfOk, IfSome, OnOk, IsTrue};
+ghost use Rattle.std.specs.Prelude.{◌≡◌, ◌<◌, ◌≤◌, ◌∷◌, [], ℕ, List, Option, IfOk, IfSome, OnOk, IsTrue};
 ghost use Rattle.book_state.specs.Books.{nets_of};
 ghost use Rattle.book_state.specs.Replicas.{StandsFor};
+ghost use Rattle.book_state.specs.declared.entry.PlanKind.TheVariants.{Pattern};
 ghost use Rattle.gr_base.specs.Designs.{is_routed};
 ghost use Rattle.gr_base.specs.Limits.{most_rounds};
 ghost use Rattle.grid_demand.specs.Tables.{capacity_of};
 ghost use Rattle.round_core.specs.Attempts.{kind_of, Rests, Claiming};
-ghost use Rattle.round_core.specs.Rounds.{slacks_of_turn, IsFull};
+ghost use Rattle.round_core.specs.Rounds.{slacks_of_turn, IsPlanFor};
 ghost use Rattle.round_core.specs.RunHistories.{Setting};
 ghost use Rattle.ripup_workers.specs.Foresight.{IsForeseen};
-ghost use Rattle.ripup_workers.specs.Turning.{HasCapacity, IsOver, HasFollowed, HasTried, HasLedOn, IsPlanFor, WasPlanned};
+ghost use Rattle.ripup_workers.specs.Turning.{HasCapacity, IsOver, HasFollowed, HasTried, HasLedOn, WasPlanned};
 ghost use Rattle.ripup_workers.specs.Working.{HasLed, HasAttempted};
 
 use crate::asked::Asked;
@@ -19,29 +20,14 @@ use crate::ground::Ground;
 use crate::ready::ready_memory;
 use crate::wish::Wish;
 use crate::worker::Worker;
-use book_state::{PlanKind, Reply, Sought};
+use book_state::{Reply, Sought};
 use gr_base::RouteTree;
 use net_plan::Planner;
+use round_core::kind_of;
 use std::alloc::AllocError;
 use std::sync::Wait;
 use std::thread::Threads;
 use track_book::{BookName, Visit};
-
-/// By how many tiles the window of a net's pins grows on each side with each round.
-const MARGIN: u32 = 4;
-
-/// How plans are made in a round.
-fn kind_of(round: u32) -> PlanKind
-    requires { round ≤ most_rounds }
-    ensures { result ≡ kind_of round }
-{
-    if round == 0 {
-        return PlanKind::Pattern;
-    }
-    PlanKind::Maze {
-        margin: MARGIN * round,
-    }
-}
 
 impl<N: BookName, R: Threads + Wait + Sync, G: Gate> Ground<'_, N, R, G> {
     /// Attempts a net in a round, of which round 0 is the first. In round 0 it claims the net for its
@@ -91,7 +77,7 @@ impl<N: BookName, R: Threads + Wait + Sync, G: Gate> Ground<'_, N, R, G> {
         planner: &mut Planner,
     ) -> Result<(), AllocError>
         requires design { HasCapacity wish.now.design.now N.capacity }
-        requires kind { wish.now.kind ≡ PlanKind.Pattern }
+        requires kind { wish.now.kind ≡ Pattern }
         ensures { (t : Setting) → IsOver wish.now.design.now wish.now.rule.now.formula t →
             OnOk result (HasLed t 0 Rests Rests (wish.now.net ∷ []) worker.old.pass worker.new.pass) }
     {
@@ -158,15 +144,14 @@ impl<N: BookName, R: Threads + Wait + Sync, G: Gate> Ground<'_, N, R, G> {
         let front = worker.pass.known();
         let same = tree.copy(wish.alloc)?;
         let reply = self.claim(wish, tree, Some(0), visit, worker)?;
-        if !is_full(reply) {
+        if !reply.is_full() {
             return Ok(None);
         }
         let next = self.search_again(wish, same, front, visit, worker, planner)?;
         Ok(Some(next))
     }
 
-    /// Claims the net for its plan over all that the worker knows. Where a worker may wait at the gate, the
-    /// visit leaves before it and enters again.
+    /// Claims the net for its plan over all that the worker knows. The visit is inside from then on.
     fn claim(
         &self,
         wish: &Wish<'_>,
@@ -183,9 +168,6 @@ impl<N: BookName, R: Threads + Wait + Sync, G: Gate> Ground<'_, N, R, G> {
             worker.old.pass worker.new.pass) }
     {
         let number = worker.pass.number();
-        if self.gate.may_wait() {
-            visit.leave();
-        }
         self.gate
             .pass(self.rt, number, Stop::Claim { net: wish.net });
         visit.enter(self.rt);
@@ -265,11 +247,4 @@ impl<N: BookName, R: Threads + Wait + Sync, G: Gate> Ground<'_, N, R, G> {
             .pass(self.rt, number, Stop::Search { net: wish.net });
         wish.plan(planner, self.book.capacity(), worker.replica.loads())
     }
-}
-
-/// Whether a claim found no room.
-fn is_full(reply: Reply) -> bool
-    ensures { IsTrue result ↔ IsFull reply }
-{
-    matches!(reply, Reply::Full { .. })
 }

@@ -5,14 +5,16 @@ ghost use Rattle.book_state.specs.declared.entry.Entry.{Entry};
 ghost use Rattle.gr_base.specs.Designs.{is_routed};
 ghost use Rattle.grid_demand.specs.Tables.{capacity_of};
 ghost use Rattle.net_plan.specs.Prices.{HasBoundedDemand};
-ghost use Rattle.ripup_workers.specs.Turning.{IsPlanFor, IsWindowOf};
+ghost use Rattle.round_core.specs.Rounds.{IsPlanFor};
+ghost use Rattle.ripup_workers.specs.Turning.{IsWindowOf};
 
 use book_state::PlanKind;
 use cost_rules::CostRule;
 use gr_base::{Design, RouteTree};
 use grid_demand::{Capacity, Loads};
 use maze_route::Window;
-use net_plan::{Planner, maze_plan, maze_window, pattern_plan};
+use net_plan::{Planner, maze_window};
+use round_core::plan_of;
 use std::alloc::{AllocError, Global};
 
 /// A net that is to be planned, and what its plans are made with.
@@ -40,27 +42,16 @@ impl Wish<'_> {
         ensures { (h : List Entry) → AreLoadsOf (capacity_of self.now.design.now) h loads.now →
             IfOk result (IsPlanFor self.now.design.now self.now.rule.now.formula h self.now.net self.now.kind) }
     {
-        match self.kind {
-            PlanKind::Pattern => pattern_plan(
-                self.alloc,
-                planner,
-                self.design,
-                capacity,
-                loads,
-                self.net,
-                self.rule,
-            ),
-            PlanKind::Maze { margin } => maze_plan(
-                self.alloc,
-                planner,
-                self.design,
-                capacity,
-                loads,
-                self.net,
-                margin,
-                self.rule,
-            ),
-        }
+        plan_of(
+            self.alloc,
+            planner,
+            self.design,
+            capacity,
+            loads,
+            self.net,
+            self.kind,
+            self.rule,
+        )
     }
 
     /// The window outside of which the net's plan asks for no demand and no marks, where there is one.

@@ -64,7 +64,10 @@ impl<N: BookName> Worker<N> {
     {
         self.hold_more(rt, visit)?;
         let past = self.pass.past();
-        Ok(self.replica.catch_up_beside(visit.capacity(), past, sought))
+        let still = self
+            .replica
+            .catch_up_beside(visit.capacity(), past, sought)?;
+        Ok(still)
     }
 
     /// The worker comes to know the whole history as it stood at its last call, or later. The result is
@@ -87,7 +90,8 @@ impl<N: BookName> Worker<N> {
     {
         self.hold(rt, visit)?;
         let past = self.pass.past();
-        Ok(self.replica.catch_up_freed(visit.capacity(), past, sought))
+        let still = self.replica.catch_up_freed(visit.capacity(), past, sought)?;
+        Ok(still)
     }
 
     /// The net's plan over all that the worker knows, as if the net was released. None where it isn't

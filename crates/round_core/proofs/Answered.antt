@@ -80,16 +80,16 @@ none-claims later routed due held stage begun net turns none worker slacks is =
 
 -- a claim that is answered Full has a slack, and goes on
 pub full-slack : (c : CapacityView) (h : List Entry) (claim : Claim) (slack : Option ℕ) → claim.slack ≡ slack → booked h claim.net ≡ None → IsFull (reply_to_claim c h claim) → is_some slack ≡ true
-full-slack c h claim None is free full = absurd (subst IsFull (unbounded-claimed c h claim free is) full)
+full-slack c h claim None is free full = absurd (both_ways false refl (subst IsFull (unbounded-claimed c h claim free is) full))
 full-slack c h claim (Some slack) is free full = refl
 
 pub full-goes : (net : ℕ) (slacks : List (Option ℕ)) (reply : Reply) → IsFull reply → stage_replied net slacks reply ≡ Claiming net slacks
-full-goes net slacks Claimed full = absurd full
-full-goes net slacks Taken full = absurd full
+full-goes net slacks Claimed full = absurd (both_ways false refl full)
+full-goes net slacks Taken full = absurd (both_ways false refl full)
 full-goes net slacks (Full edge demand) full = refl
-full-goes net slacks Released full = absurd full
-full-goes net slacks NotBooked full = absurd full
-full-goes net slacks (Marked overflow) full = absurd full
+full-goes net slacks Released full = absurd (both_ways false refl full)
+full-goes net slacks NotBooked full = absurd (both_ways false refl full)
+full-goes net slacks (Marked overflow) full = absurd (both_ways false refl full)
 
 none-some : (t : TreeView) (o : Option TreeView) → o ≡ Some t → o ≡ None → ⊥
 none-some t o some none = let never : Some t ≡ None = sym some ∙ none in cc

@@ -1,6 +1,7 @@
 pub mod HandLemmas
 pub mod StandLemmas
 pub mod TurnLemmas
+pub mod PlanLemmas
 pub mod CutSteps
 pub mod StageSteps
 pub mod ApartSteps

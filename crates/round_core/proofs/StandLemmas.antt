@@ -56,7 +56,7 @@ victims-routed d h stands =
 
 -- a claim that is answered Full books nothing
 full-claimed : IsFull Claimed → ⊥
-full-claimed is = is
+full-claimed is = both_ways false refl is
 
 pub full-booked : (h : List Entry) (e : Entry) (claim : Claim) (net : ℕ) → e.call ≡ Claims claim → IsFull e.reply → booked (h ++ e ∷ []) net ≡ booked h net
 full-booked h e claim net call full =

@@ -1,5 +1,5 @@
 -- Replies to claims, routed nets, and plans over a history.
-use Rattle.std.proofs.Common.{◌≡◌, ◌⊎◌, ℕ, ◌-◌, ◌<◌, ◌≤◌, inl, inr, false, List, length, Option, Some, None, is_some, slice_get, if◌then◌else◌, IsTrue, refl, sym, ap, subst, ◌∙◌, arith}
+use Rattle.std.proofs.Common.{◌≡◌, ◌⊎◌, ℕ, ◌<◌, ◌≤◌, inl, inr, false, List, length, Option, Some, None, is_some, slice_get, if◌then◌else◌, IsTrue, refl, sym, ap, subst, ◌∙◌, arith}
 use Rattle.std.proofs.lemmas.Bool.{both_ways}
 use Rattle.std.proofs.lemmas.List.{length-map}
 use Rattle.std.proofs.lemmas.Option.{slice_get_within}
@@ -27,7 +27,7 @@ use Rattle.round_core.specs.Rounds.{IsPlan, IsPlanAfter, IsFull}
 -- the reply to a claim of a net that isn't booked
 full-answered : (demands : Edge → ℕ) (o : Option Edge) → (reply_by_full demands o ≡ Claimed) ⊎ IsFull (reply_by_full demands o)
 full-answered demands None = inl refl
-full-answered demands (Some e) = inr tt
+full-answered demands (Some e) = inr refl
 
 free-answered : (c : CapacityView) (demands : Edge → ℕ) (claim : Claim) (slack : Option ℕ) →
     (reply_to_free c demands claim slack ≡ Claimed) ⊎ IsFull (reply_to_free c demands claim slack)

@@ -197,7 +197,7 @@ replied-free other net tries last (Marked overflow) = refl
 right-replied : (r net tries last : ℕ) (reply : Reply) → 0 < r → (IsFull reply → tries + 1 ≤ 2) → IsPhaseRight r last (phase_replied net tries last reply)
 right-replied r net tries last Claimed later few = tt
 right-replied r net tries last Taken later few = tt
-right-replied r net tries last (Full edge demand) later few = (later, few tt, refl)
+right-replied r net tries last (Full edge demand) later few = (later, few refl, refl)
 right-replied r net tries last Released later few = tt
 right-replied r net tries last NotBooked later few = tt
 right-replied r net tries last (Marked overflow) later few = tt

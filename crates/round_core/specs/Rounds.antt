@@ -1,5 +1,5 @@
 -- What the entries of a round are made of: who marks, the plans and the routes of nets, and the slacks of claims.
-use Rattle.std.specs.Prelude.{◌≡◌, ℕ, List, [], ◌∷◌, Option, Some, None, slice_get}
+use Rattle.std.specs.Prelude.{◌≡◌, ℕ, List, [], ◌∷◌, Option, Some, None, slice_get, IsTrue}
 use Rattle.cost_rules.specs.declared.site.Formula.{Formula}
 use Rattle.gr_base.specs.Designs.{DesignView, pins_at}
 use Rattle.gr_base.specs.Plans.{IsRouteOf}
@@ -10,12 +10,12 @@ use Rattle.grid_demand.specs.Tables.{CapacityView, capacity_of}
 use Rattle.net_plan.specs.Mazes.{IsMaze}
 use Rattle.net_plan.specs.Patterns.{IsPattern}
 use Rattle.book_state.specs.Books.{AreLoadsOf}
+use Rattle.book_state.specs.Entries.{is_full_reply}
 use Rattle.book_state.specs.declared.entry.Claim.{Claim}
 use Rattle.book_state.specs.declared.entry.Entry.{Entry}
 use Rattle.book_state.specs.declared.entry.PlanKind.{PlanKind}
 use Rattle.book_state.specs.declared.entry.PlanKind.TheVariants.{Pattern, Maze}
 use Rattle.book_state.specs.declared.entry.Reply.{Reply}
-use Rattle.book_state.specs.declared.entry.Reply.TheVariants.{Full}
 
 -- the number of the one who marks
 abbrev pub marker : ℕ
@@ -37,12 +37,17 @@ pub record IsPlanAfter (d : DesignView) (formula : Formula) (h : List Entry) (ne
 abbrev pub IsRouteOfNet : DesignView → ℕ → TreeView → Type 0
 IsRouteOfNet d net t = (value : Net) → slice_get d.nets net ≡ Some value → IsRouteOf d.frame.shape value t
 
+-- a tree is a net's plan of a kind over a history, and routes the net
+pub record IsPlanFor (d : DesignView) (formula : Formula) (h : List Entry) (net : ℕ) (kind : PlanKind)
+    (t : TreeView) : Type 0 where
+  pub plan : IsPlanAfter d formula h net kind t
+  pub routes : IsRouteOfNet d net t
+
 abbrev pub claim_of : ℕ → TreeView → Option ℕ → ℕ → PlanKind → Claim
 claim_of net tree slack front kind = record { net = net; tree = tree; slack = slack; front = front; kind = kind }
 
 abbrev pub IsFull : Reply → Type 0
-IsFull (Full edge demand) = Unit {0}
-IsFull _ = ⊥
+IsFull reply = IsTrue (is_full_reply reply)
 
 -- two claims ask for room within capacity; the third always gets it
 abbrev pub slacks_of_turn : List (Option ℕ)

@@ -18,7 +18,7 @@ use Rattle.book_state.specs.declared.entry.Call.TheVariants.{Claim as Claims, Ma
 use Rattle.book_state.specs.declared.entry.Claim.{Claim}
 use Rattle.book_state.specs.declared.entry.Entry.{Entry}
 use Rattle.round_core.specs.Attempts.{Rests, stage_of, attempts_at, IsGranted}
-use Rattle.round_core.specs.Rounds.{marker, IsPlanAfter, IsRouteOfNet}
+use Rattle.round_core.specs.Rounds.{marker, IsPlanFor}
 
 -- what rounds are asked for: the design, the formula of the plans, how many workers, at most how many rounds after
 -- round 0, and the watch with its goal, which may end them earlier
@@ -41,9 +41,8 @@ IsNumbered workers Mark number = number ≡ marker
 IsNumbered workers _ number = (marker < number) × (number ≤ workers)
 
 -- a claim's tree is the plan of its kind over a history, and routes the net
-pub record IsPlanOver (t : Setting) (h : List Entry) (claim : Claim) : Type 0 where
-  pub plan : IsPlanAfter t.design t.formula h claim.net claim.kind claim.tree
-  pub routes : IsRouteOfNet t.design claim.net claim.tree
+abbrev pub IsPlanOver : Setting → List Entry → Claim → Type 0
+IsPlanOver t h claim = IsPlanFor t.design t.formula h claim.net claim.kind claim.tree
 
 -- a claim's front lies behind each earlier entry of the same number, and its tree is planned from the entries before
 -- the front

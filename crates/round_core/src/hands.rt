@@ -8,7 +8,7 @@ use std::alloc::{AllocError, Global};
 use std::marker::Model;
 
 /// The number under which the marks stand in a history.
-pub(crate) const MARKER: u32 = 0;
+pub const MARKER: u32 = 0;
 
 /// Places in a history, counted from 0 and rising.
 #[derive(Debug, Drop)]

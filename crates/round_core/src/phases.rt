@@ -2,14 +2,12 @@
 ghost use Rattle.std.specs.Prelude.{◌≡◌, ◌≤◌, ◌==◌};
 ghost use Rattle.std.specs.List.{list_any};
 ghost use Rattle.gr_base.specs.Limits.{most_rounds};
-ghost use Rattle.round_core.specs.Attempts.{is_kind as kind_test, is_slack as slack_test, is_claim_for as claim_test, kind_of};
+ghost use Rattle.round_core.specs.Attempts.{is_kind as kind_test, is_slack as slack_test, is_claim_for as claim_test};
 ghost use Rattle.round_core.specs.Worlds.{is_idle as idle_test, is_holding as holding_test, first_busy as first_busy_in, slack_after as slack_by, allows_claim as claim_allowed, net_in, tries_in, phase_replied as phase_by};
 
+use crate::plans::kind_of;
 use crate::steps::Phase;
 use book_state::{Claim, PlanKind, Reply};
-
-/// By how many tiles the window of a net's pins grows on each side with each round.
-const MARGIN: u32 = 4;
 
 pub(crate) fn is_idle(phase: Phase) -> bool
     ensures { result ≡ idle_test phase }
@@ -92,22 +90,9 @@ pub(crate) fn allows_claim(round: u32, phase: Phase, claim: &Claim) -> bool
     match phase {
         Phase::Holding { net } => round == 0 && is_claim_for(net, PlanKind::Pattern, None, claim),
         Phase::Trying { net, tries, .. } => {
-            is_claim_for(net, kind_in(round), slack_after(tries), claim)
+            is_claim_for(net, kind_of(round), slack_after(tries), claim)
         }
         Phase::Idle | Phase::Ended => false,
-    }
-}
-
-/// How plans are made in a round.
-fn kind_in(round: u32) -> PlanKind
-    requires { round ≤ most_rounds }
-    ensures { result ≡ kind_of round }
-{
-    if round == 0 {
-        return PlanKind::Pattern;
-    }
-    PlanKind::Maze {
-        margin: MARGIN * round,
     }
 }
 

@@ -11,6 +11,7 @@ fn main(rt: HostRuntime) -> io::Result<()> {
     let alloc = rt.alloc();
     rows::alone(&rt, alloc)?;
     rows::pair(&rt, alloc)?;
+    rows::first(&rt, alloc)?;
     rows::none(&rt, alloc)?;
     crowd::show(&rt, alloc)
 }

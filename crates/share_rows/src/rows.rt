@@ -23,6 +23,14 @@ pub(crate) fn pair<R: Print>(rt: &R, alloc: Global) -> io::Result<()> {
     ends(rt, share.end(hands)?, 2)
 }
 
+/// The first of two hands takes all nets.
+pub(crate) fn first<R: Print>(rt: &R, alloc: Global) -> io::Result<()> {
+    println!(rt; "the first of two hands")?;
+    let (share, mut hands) = share(alloc, &[5, 7], 2)?;
+    takes(rt, &share, &mut hands, 0, 3)?;
+    ends(rt, share.end(hands)?, 2)
+}
+
 /// Three hands of no nets.
 pub(crate) fn none<R: Print>(rt: &R, alloc: Global) -> io::Result<()> {
     println!(rt; "no nets")?;

@@ -15,6 +15,14 @@ count-all (x ∷ xs) =
     let all = sum_by-cons (λ (n : ℕ). 1) x xs in
     omega (arith, rest, all)
 
+-- a list of which no part by a test is greater than another's is no longer than that
+pub count-lengths : (xs ys : List ℕ) → ((test : ℕ → Bool) → count_by test xs ≤ count_by test ys) → length xs ≤ length ys
+count-lengths xs ys fewer =
+    let all = fewer (λ n. true) in
+    let left = count-all xs in
+    let right = count-all ys in
+    omega (arith, all, left, right)
+
 module _ {X : Type 0} (f : X → ℕ) where
   -- a sum after one change
   pub sum-set : (xs : List X) (at : ℕ) (x y : X) → get_elem? xs at ≡ some x → sum_by f (set xs at y) + f x ≡ sum_by f xs + f y

@@ -7,7 +7,7 @@ use Rattle.work_share.specs.Accounts.{HasTaken, WasEmpty}
 use Rattle.work_share.specs.Endings.{IsFifo, IsWhole, taken_by, put_count}
 use Rattle.work_share.specs.HandStore.{Owner}
 use Rattle.work_share.specs.declared.account.Account.{Account}
-use Rattle.work_share.proofs.AccountSums.{count-append}
+use Rattle.work_share.proofs.AccountSums.{count-append, count-lengths}
 use Rattle.work_share.proofs.HandLemmas.{took-put, took-taken, took-count}
 use Rattle.work_share.proofs.RuleSteps.{emptied}
 
@@ -36,7 +36,7 @@ emptying-more begin now next old new net is same took = record {
 -- fewer are left than before
 pub emptying-less : (now next : Owner) (net : ℕ) → HasTaken (worker_view now) (net ∷ []) (worker_view next) → length (worker_view next).put - length (worker_view next).taken < length (worker_view now).put - length (worker_view now).taken
 emptying-less now next net took =
-    let within = took.within in
+    let within = count-lengths (worker_view next).taken (worker_view next).put took.among in
     let put = ap (λ (l : List ℕ). length l) (took-put (worker_view now) (worker_view next) (net ∷ []) took) in
     let taken = ap (λ (l : List ℕ). length l) (took-taken (worker_view now) (worker_view next) (net ∷ []) took) ∙ length-append (worker_view now).taken (net ∷ []) in
     omega (arith, within, put, taken)

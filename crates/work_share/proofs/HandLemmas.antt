@@ -1,5 +1,5 @@
 -- Takes keep what is true of hands.
-use Rattle.std.proofs.Common.{◌≡◌, ◌≢◌, ℕ, ◌+◌, ◌≤◌, ◌<◌, Bool, true, List, [], ◌∷◌, ◌++◌, length, length-set, set, sum_by, count_by, Some, slice_get, sym, ap, ◌∙◌, ⊎_elim, arith, length-append}
+use Rattle.std.proofs.Common.{◌≡◌, ◌≢◌, ℕ, ◌+◌, ◌≤◌, ◌<◌, Bool, true, List, [], ◌∷◌, ◌++◌, length, length-set, set, get_or, sum_by, count_by, All, Some, slice_get, sym, ap, ◌∙◌, ⊎_elim, arith, length-append}
 use Rattle.std.proofs.lemmas.List.Elements.{All-set}
 use Rattle.std.proofs.lemmas.Option.{slice_get_within}
 use Rattle.work_share.specs.Accounts.{HasTaken}
@@ -7,7 +7,7 @@ use Rattle.work_share.specs.HandStore.{IsHand, IsWithin, put_length}
 use Rattle.work_share.specs.HandSteps.{with_account, with_other, with_left}
 use Rattle.work_share.specs.Views.{Known, HandView, put_in}
 use Rattle.work_share.specs.declared.account.Account.{Account}
-use Rattle.work_share.proofs.AccountSums.{count-append, count-all}
+use Rattle.work_share.proofs.AccountSums.{count-append, count-all, count-lengths}
 use Rattle.work_share.proofs.Places.{get-set, set-else, sum-replaced, sum-le, sum-equal}
 
 took-parts : (a b : Account) (nets : List ℕ) → HasTaken a nets b → b.parts ≡ a.parts
@@ -25,11 +25,15 @@ took-count test a b nets took = ap (λ (l : List ℕ). count_by test l) (took-ta
 
 took-within : (a b : Account) (net : ℕ) → HasTaken a (net ∷ []) b → length a.taken + 1 ≤ length a.put
 took-within a b net took =
-    let within = took.within in
+    let within = count-lengths b.taken b.put took.among in
     let put = ap (λ (l : List ℕ). length l) (took-put a b (net ∷ []) took) in
     let taken = ap (λ (l : List ℕ). length l) (took-taken a b (net ∷ []) took) in
     let more = length-append a.taken (net ∷ []) in
     omega (arith, within, put, taken, more)
+
+-- no more nets were taken from each deque than were put in
+all-short : (others : List Known) → All IsWithin others → All (λ (k : Known). length k.account.taken ≤ length (put_in k)) others
+all-short others within = λ at d less. count-lengths (get_or others at d).account.taken (get_or others at d).account.put (within at d less)
 
 -- how many nets a hand took through its accounts
 taken-length : (h : HandView) → IsHand h → length h.taken ≡ length h.own.account.taken + sum_by (λ (k : Known). length k.account.taken) h.others
@@ -45,7 +49,7 @@ pub own-fits : (h : HandView) (a : Account) (net : ℕ) → IsHand h → HasTake
 own-fits h a net is took =
     let all = taken-length h is in
     let own = took-within h.own.account a net took in
-    let others = sum-le (λ (k : Known). length k.account.taken) (λ (k : Known). length (put_in k)) h.others is.within in
+    let others = sum-le (λ (k : Known). length k.account.taken) (λ (k : Known). length (put_in k)) h.others (all-short h.others is.within) in
     omega (arith, all, own, others)
 
 -- a hand that took from another deque
@@ -67,7 +71,7 @@ other-step h place k a count net is apart there took =
           (get-set h.others place at (with_account k a) other here);
       alone = λ one. absurd (apart (omega (arith, one, long, number, within)));
       own_within = is.own_within;
-      within = All-set IsWithin h.others place (with_account k a) took.within is.within;
+      within = All-set IsWithin h.others place (with_account k a) took.among is.within;
       counted = λ test.
           let before = is.counted test in
           let taken = count-append test h.taken (net ∷ []) in
@@ -79,13 +83,13 @@ other-step h place k a count net is apart there took =
 pub other-fits : (h : HandView) (place : ℕ) (k : Known) (a : Account) (net : ℕ) → IsHand h → slice_get h.others place ≡ Some k → HasTaken k.account (net ∷ []) a → length h.taken < put_length h
 other-fits h place k a net is there took =
     let all = taken-length h is in
-    let own = is.own_within in
+    let own = count-lengths h.own.account.taken h.own.account.put is.own_within in
     let change = sum-replaced (λ (x : Known). length x.account.taken) h.others place k (with_account k a) there in
     let puts = sum-replaced (λ (x : Known). length (put_in x)) h.others place k (with_account k a) there in
     let same = ap (λ (l : List ℕ). length l) (took-put k.account a (net ∷ []) took) in
     let more = ap (λ (l : List ℕ). length l) (took-taken k.account a (net ∷ []) took) ∙ length-append k.account.taken (net ∷ []) in
     let others = sum-le (λ (x : Known). length x.account.taken) (λ (x : Known). length (put_in x)) (set h.others place (with_account k a))
-    (All-set IsWithin h.others place (with_account k a) took.within is.within) in
+    (all-short (set h.others place (with_account k a)) (All-set IsWithin h.others place (with_account k a) took.among is.within)) in
     omega (arith, all, own, change, puts, same, more, others)
 
 pub other-room : (h : HandView) (place : ℕ) (k : Known) (a : Account) (count net : ℕ) → slice_get h.others place ≡ Some k → HasTaken k.account (net ∷ []) a → put_length (with_other h place (with_account k a) count net) ≡ put_length h

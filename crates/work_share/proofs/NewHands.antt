@@ -77,8 +77,8 @@ module _ (nets : List ℕ) (owners : List Owner) (number : ℕ) (own : Owner) (p
   all-within =
       let d : Known = known_of own in
       All-from_get_or IsWithin others d
-      (λ i inside.
-      let none = ap (λ (l : List ℕ). length l) (taken-none i (get_or others i d) (slice_get-get_or others i d inside)) in
+      (λ i inside test.
+      let none = ap (λ (l : List ℕ). count_by test l) (taken-none i (get_or others i d) (slice_get-get_or others i d inside)) in
       omega (arith, none))
 
   put-own : put_by own ≡ dealt (length owners) nets number
@@ -139,7 +139,6 @@ module _ (nets : List ℕ) (owners : List Owner) (number : ℕ) (own : Owner) (p
       let inside = within in
       let few-owners = has.few in
       let parts = cut-own.parts in
-      let none = ap (λ (l : List ℕ). length l) cut-own.taken in
       record {
         number = omega (arith, as-long, inside);
         few = omega (arith, as-long, few-owners);
@@ -147,7 +146,7 @@ module _ (nets : List ℕ) (owners : List Owner) (number : ℕ) (own : Owner) (p
         home = home-known;
         parts = λ at k apart there. ap (λ (x : Known). x.account.parts) (away-known at k apart (known-at at k there));
         alone = λ one. (cut-own.alone (omega (arith, one, as-long)), cut-own.taken);
-        own_within = omega (arith, none);
+        own_within = λ test. (let none = ap (λ (l : List ℕ). count_by test l) cut-own.taken in omega (arith, none));
         within = all-within;
         counted = λ test.
             let own-none = ap (λ (l : List ℕ). count_by test l) cut-own.taken in

@@ -8,7 +8,7 @@ use Rattle.crossbeam_deque.specs.Tasks.{Pushes, Takes, Admits, Forks, Merges}
 use Rattle.crossbeam_deque.proofs.Lists.{at_set, at_snoc}
 use Rattle.work_share.specs.Accounts.{stranger, lessened, part_of, gathered, with_put, with_taken, taken_through, IsTrueOf, Balanced, HasPut, HasTaken, WasEmpty}
 use Rattle.work_share.specs.declared.account.Account.{Account}
-use Rattle.work_share.proofs.AccountSums.{count-append, count-all, sum-set, one-within, two-within}
+use Rattle.work_share.proofs.AccountSums.{count-append, sum-set, one-within, two-within}
 
 -- beside an account with a part none has all
 not-all : (items : List ℕ) (accounts : List Account) (at other : ℕ) (a b : Account) → Balanced items accounts → other ≢ at → get_elem? accounts at ≡ some a → get_elem? accounts other ≡ some b → 0 < a.parts → b.parts ≡ 1024 → ⊥
@@ -100,14 +100,6 @@ takes at a part nets items accounts any few rule here =
             let total = balance test in
             let own = one-within (λ (x : Account). count_by test x.taken) (set accounts at new) at new there in
             omega (arith, total, own);
-        within = (
-            let total = balance (λ n. true) in
-            let put = count-all a.put in
-            let held = count-all items in
-            let own = one-within (λ (x : Account). count_by (λ n. true) x.taken) (set accounts at new) at new there in
-            let taken = count-all (a.taken ++ nets) in
-            omega (arith, total, put, held, own, taken)
-            );
         order = λ lone. (items, order lone);
       },
     )

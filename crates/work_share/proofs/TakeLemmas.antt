@@ -1,18 +1,19 @@
 -- Hands of a share that take, or find nothing.
-use Rattle.std.proofs.Common.{◌≡◌, ◌≢◌, ℕ, suc, ◌+◌, ◌≤◌, ◌<◌, ◌⊎◌, ◌%◌, ◌==◌, inl, inr, Bool, true, false, if◌then◌else◌, cond, count_by, List, [], ◌∷◌, ◌++◌, length, length-set, set, get_or, map, Option, Some, None, IfSome, IfNone, slice_get, slice_index, sym, refl, ap, subst, ◌∙◌, ⊎_elim, arith}
+use Rattle.std.proofs.Common.{◌≡◌, ◌≢◌, ℕ, suc, ◌+◌, ◌≤◌, ◌<◌, ◌⊎◌, ◌%◌, ◌==◌, inl, inr, Bool, true, false, if◌then◌else◌, cond, count_by, List, [], ◌∷◌, ◌++◌, length, length-set, set, get_or, map, sum_by, Option, Some, None, IfSome, IfNone, slice_get, slice_index, sym, refl, ap, subst, ◌∙◌, ⊎_elim, arith}
 use Rattle.std.proofs.lemmas.List.{map-set, get_or-set_other}
 use Rattle.std.proofs.lemmas.List.Sums.{sum_by-cons}
 use Rattle.std.proofs.lemmas.Option.{slice_get_within}
 use Rattle.std.proofs.lemmas.Bool.{cases_lt, eq-eqb}
 use Rattle.work_share.specs.Accounts.{HasTaken, WasEmpty}
-use Rattle.work_share.specs.Dealt.{dealt_from, deals}
+use Rattle.work_share.specs.Dealt.{dealt_from, dealt, deals}
+use Rattle.work_share.specs.HandStore.{IsHand}
 use Rattle.work_share.specs.HandSteps.{with_account, with_other, with_left, TakesFrom, FindsNone, HasMore, IsDoneFrom}
 use Rattle.work_share.specs.Views.{DequeName, ShareView, Known, HandView, deque_of, put_in, times, IsHandOf, IsDone}
 use Rattle.work_share.specs.declared.account.Account.{Account}
 use Rattle.work_share.proofs.AccountSums.{count-append}
-use Rattle.work_share.proofs.DealtLemmas.{dealt-at}
+use Rattle.work_share.proofs.DealtLemmas.{dealt-at, get-deals, deals-count}
 use Rattle.work_share.proofs.HandLemmas.{took-put, took-count}
-use Rattle.work_share.proofs.Places.{get-map, get-set, get-read, same-element, set-same}
+use Rattle.work_share.proofs.Places.{get-map, get-set, get-read, same-element, set-same, sum-le, sum-replaced, sum-through}
 
 pub of-left : (s : ShareView) (h : HandView) (left : List ℕ) → IsHandOf s h → IsHandOf s (with_left h left)
 of-left s h left of = record { number = of.number; count = of.count; deques = of.deques; own = of.own; others = of.others }
@@ -47,6 +48,21 @@ dealt-among : (test : ℕ → Bool) (workers hand place : ℕ) (nets : List ℕ)
 dealt-among test workers hand place [] = omega arith
 dealt-among test workers hand place (net ∷ nets) =
     picked-among test (place % workers == hand) net (dealt_from (suc place) workers hand nets) nets (dealt-among test workers hand (suc place) nets)
+
+-- so a hand took no net more often than it was shared
+pub hand-among : (s : ShareView) (h : HandView) → IsHand h → IsHandOf s h → (test : ℕ → Bool) → count_by test h.taken ≤ count_by test s.nets
+hand-among s h is of test =
+    let counted = is.counted test in
+    let own = is.own_within test in
+    let own-put = ap (λ (l : List ℕ). count_by test l) of.own in
+    let others = sum-le (λ (k : Known). count_by test k.account.taken) (λ (k : Known). count_by test (put_in k)) h.others (λ at d less. is.within at d less test) in
+    let through = sum-through (λ (l : List ℕ). count_by test l) put_in h.others in
+    let same = ap (λ (x : List (List ℕ)). sum_by (λ (l : List ℕ). count_by test l) x) of.others in
+    let change = sum-replaced (λ (l : List ℕ). count_by test l) (deals s.workers s.nets) h.number (dealt s.workers s.nets h.number) [] (get-deals s.workers h.number s.nets of.number) in
+    let number = of.number in
+    let all = deals-count test s.workers s.nets (omega (arith, number)) in
+    let none : count_by test [] ≡ 0 = refl in
+    omega (arith, counted, own, own-put, others, through, same, change, all, none)
 
 abbrev bit : Bool → ℕ
 bit b = cond b 1 0

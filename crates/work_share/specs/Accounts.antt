@@ -1,5 +1,5 @@
 -- Accounts of a deque, and the rule that they keep.
-use Rattle.std.specs.Prelude.{◌≡◌, ℕ, ◌+◌, ◌-◌, ◌<◌, ◌≤◌, Bool, true, false, List, [], ◌++◌, length, sum_by, count_by}
+use Rattle.std.specs.Prelude.{◌≡◌, ℕ, ◌+◌, ◌-◌, ◌<◌, ◌≤◌, Bool, true, false, List, [], ◌++◌, sum_by, count_by}
 use mathlib.Core.Option.{some}
 use lib.ListN.{get_elem?}
 use Rattle.work_share.specs.declared.account.Account.{Account}
@@ -52,12 +52,11 @@ pub record Balanced (items : List ℕ) (accounts : List Account) : Type 0 where
 abbrev pub HasPut : Account → List ℕ → Account → Type 0
 HasPut old nets new = new ≡ with_put old nets
 
--- the account after nets were taken. No more were taken than were put in, nor more of those that pass a test; and where it
--- is alone they are those put in next
+-- the account after nets were taken. Of those that pass a test no more were taken than were put in; and where it is
+-- alone they are those put in next
 pub record HasTaken (old : Account) (nets : List ℕ) (new : Account) : Type 0 where
   pub is : new ≡ with_taken old nets
   pub among : (test : ℕ → Bool) → count_by test new.taken ≤ count_by test new.put
-  pub within : length new.taken ≤ length new.put
   pub order : old.alone ≡ true → (rest : List ℕ) × (new.put ≡ new.taken ++ rest)
 
 -- at one moment, when this was one of the deque's accounts, the deque held nothing

@@ -37,9 +37,9 @@ hand_of number parts = seen_in number parts.own parts.passes.items parts.taken.i
 abbrev pub IsBare : Pass → Type 0
 IsBare p = (p.me.hand ≡ None) × (p.me.spare ≡ None)
 
--- no more nets were taken than were put in
+-- of the nets that pass a test no more were taken than were put in
 abbrev pub IsWithin : Known → Type 0
-IsWithin k = length k.account.taken ≤ length k.account.put
+IsWithin k = (test : ℕ → Bool) → count_by test k.account.taken ≤ count_by test k.account.put
 
 -- what is true of every hand: it has a part of each other deque, and all other parts of its own. It took what was taken
 -- through its accounts; a lone hand took it in that order

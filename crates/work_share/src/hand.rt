@@ -1,11 +1,11 @@
 //! Hands, which take the nets that were shared.
-ghost use Rattle.std.specs.Prelude.{◌≡◌, ◌≢◌, ◌<◌, ◌≤◌, [], length, slice_get, All, IfSome, IfNone, true, vec_len};
+ghost use Rattle.std.specs.Prelude.{◌≡◌, ◌≢◌, ◌<◌, ◌≤◌, ℕ, [], length, slice_get, All, IfSome, IfNone, true, vec_len};
 ghost use Rattle.std.specs.Vec.{vec_capacity};
 ghost use Rattle.crossbeam_deque.specs.Handles.{stealer_deque, stealer_flavor, worker_flavor, worker_deque, worker_view};
 ghost use Rattle.work_share.specs.Accounts.{WasEmpty};
 ghost use Rattle.work_share.specs.HandStore.{hand_of, known_by, known_of, IsBare, IsHand, next_own, put_length};
 ghost use Rattle.work_share.specs.HandSteps.{TakesOwn, TakesFrom, FindsNone};
-ghost use Rattle.work_share.specs.Views.{Known};
+ghost use Rattle.work_share.specs.Views.{Known, ShareView, IsHandOf, times};
 
 use crate::account::Takes;
 use crate::deque::{Owner, Pass, Thief, steal};
@@ -66,9 +66,11 @@ impl Hand {
         self.number
     }
 
-    /// The nets that it has taken, in order.
+    /// The nets that it has taken, in order. It took no net more often than that was shared.
     pub fn taken(&self) -> &[u32]
-        ensures { result.now ≡ self.now.taken }
+        ensures taken { result.now ≡ self.now.taken }
+        ensures among { (s : ShareView) → IsHandOf s self.now → (net : ℕ) →
+            times net self.now.taken ≤ times net s.nets }
     {
         &self.taken
     }

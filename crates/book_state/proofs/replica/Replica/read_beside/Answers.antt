@@ -6,6 +6,7 @@ use Rattle.book_state.specs.Replicas.{StandsFor}
 use Rattle.book_state.specs.Still.{StaysBest}
 use Rattle.book_state.specs.Touches.{IsSettled}
 use Rattle.book_state.specs.declared.touches.Touch.{Touch}
+use Rattle.book_state.proofs.StandSteps.{stands-part}
 use Rattle.book_state.proofs.TouchSteps.{settled-best}
 use Rattle.book_state.proofs.replica.Replica.read_beside.Goals as goal
 use Rattle.book_state.proofs.replica.Replica.read_beside.Goals.{then-still-2, else-still-2}
@@ -32,3 +33,6 @@ returns-clause-still c = λ yes.
           settled-best cap net w u first now l c.loop-place.touches.items (c.loop-place.invariant.1 b.if-still-2.true) of
           (subst (λ (ts : List Touch). All (IsSettled cap net u (demand_at l)) ts) b.deref.ensures.value (b.are_settled.ensures (sym b.result-is ∙ yes)))
     ])
+
+pub returns-clause-part : goal.returns-clause-part
+returns-clause-part c = stands-part c.args.capacity.now c.args.history.now c.loop-place.place c.loop-place.self c.loop-place.invariant.0

@@ -2,8 +2,8 @@ use Rattle.std.proofs.Common.{[], ◌∷◌, Option, Some, None, IfSome, subst}
 use Rattle.gr_base.specs.Trees.{TreeView}
 use Rattle.book_state.specs.declared.entry.PlanKind.{PlanKind}
 use Rattle.round_core.specs.Attempts.{Rests, Claiming}
-use Rattle.round_core.specs.Rounds.{slacks_of_turn}
-use Rattle.ripup_workers.specs.Turning.{HasTried, HasLedOn, IsPlanFor}
+use Rattle.round_core.specs.Rounds.{slacks_of_turn, IsPlanFor}
+use Rattle.ripup_workers.specs.Turning.{HasTried, HasLedOn}
 use Rattle.ripup_workers.proofs.TurningPlans.{planned-now}
 use Rattle.ripup_workers.proofs.TurningStages.{led-then, followed-led, got-led, last-got}
 use Rattle.ripup_workers.proofs.ground.Ground.claim_until_got.Goals as goal

@@ -1,4 +1,4 @@
-use Rattle.std.proofs.Common.{[], ◌∷◌, false, Some, refl, subst}
+use Rattle.std.proofs.Common.{[], ◌∷◌, false, Some, refl, sym, subst, ◌∙◌}
 use Rattle.std.proofs.lemmas.Bool.{both_ways}
 use Rattle.book_state.specs.declared.entry.PlanKind.{PlanKind}
 use Rattle.round_core.specs.Attempts.{Claiming}
@@ -14,7 +14,7 @@ returns-then-not-is_full-clause-led g c = λ t round slacks over later kind.
     let q = c.claim.new.worker.pass in
     got-led t round net (Some 0) slacks c.in_ok-reply.reply p q later
     (subst (λ (k : PlanKind). HasTried t net k (Some 0) c.in_ok-reply.reply p q) kind (c.in_ok-reply.ensures t over))
-    (λ full. both_ways false refl (c.if-not-is_full.ensures.1 full))
+    (λ full. both_ways false refl (c.if-not-is_full.ensures ∙ full))
 
 pub returns-clause-led : goal.returns-clause-led
 returns-clause-led g c = λ t round slacks over later kind.
@@ -25,7 +25,7 @@ returns-clause-led g c = λ t round slacks over later kind.
     led-then t round (Claiming net (Some 0 ∷ slacks)) (Claiming net slacks) (Claiming net slacks) [] [] p q s
     (full-led t round net (Some 0) slacks c.in_ok-reply.reply p q later
     (subst (λ (k : PlanKind). HasTried t net k (Some 0) c.in_ok-reply.reply p q) kind (c.in_ok-reply.ensures t over))
-    (c.if-not-is_full.ensures.0 refl))
+    (sym c.if-not-is_full.ensures))
     (followed-led t round (Claiming net slacks) q s (c.in_ok-next.ensures.learnt t over))
 
 pub search_again-requires-clause-planned : goal.search_again-requires-clause-planned

@@ -1,5 +1,5 @@
--- Plans of a net in a round.
-use Rattle.std.proofs.Common.{◌≡◌, ℕ, zero, suc, ◌*◌, ◌<◌, List, Result, Ok, Err, Some, slice_get, IfOk, IsTrue, refl, sym, subst, ◌∙◌, arith}
+-- Plans of nets over loads.
+use Rattle.std.proofs.Common.{◌≡◌, ℕ, List, Result, Ok, Err, Some, slice_get, IfOk, IsTrue, refl, sym, subst, ◌∙◌}
 use Rattle.cost_rules.specs.declared.site.Formula.{Formula}
 use Rattle.gr_base.specs.Designs.{DesignView, is_routed, pins_at}
 use Rattle.gr_base.specs.Plans.{IsRouteOf}
@@ -11,24 +11,23 @@ use Rattle.net_plan.specs.Mazes.{IsMaze}
 use Rattle.net_plan.specs.Patterns.{IsPattern}
 use Rattle.book_state.specs.Books.{AreLoadsOf}
 use Rattle.book_state.specs.declared.entry.Entry.{Entry}
+use Rattle.book_state.specs.declared.entry.PlanKind.{PlanKind}
 use Rattle.book_state.specs.declared.entry.PlanKind.TheVariants.{Pattern, Maze}
 use Rattle.round_core.proofs.TurnLemmas.{plan-after, routed-net}
-use Rattle.round_core.specs.Rounds.{IsRouteOfNet}
-use Rattle.batch_rounds.specs.BatchedHistories.{IsPlanIn}
+use Rattle.round_core.specs.Rounds.{IsPlanFor, IsRouteOfNet}
 
-module _ (d : DesignView) (formula : Formula) (v : CapacityView) (h : List Entry) (l : LoadsView) (net : ℕ) (same : v ≡ capacity_of d) (of : AreLoadsOf (capacity_of d) h l) where
-  pub plan-first : (round : ℕ) (t : TreeView) → round ≡ 0 → IsPattern v l formula net (pins_at d net) t → IsRouteOfNet d net t → IsPlanIn d formula round h net t
-  plan-first round t first plan routes =
-      subst (λ (n : ℕ). IsPlanIn d formula n h net t) (sym first)
-      (record { plan = plan-after d formula (capacity_of d) v h l net Pattern t refl same of plan; routes = routes })
+-- plans over loads are plans over what the loads are of
+pub plan-pattern : (d : DesignView) (formula : Formula) (v : CapacityView) (h : List Entry) (l : LoadsView) (net : ℕ) (kind : PlanKind) (t : TreeView) → v ≡ capacity_of d → AreLoadsOf (capacity_of d) h l →
+    kind ≡ Pattern → IsPattern v l formula net (pins_at d net) t → IsRouteOfNet d net t → IsPlanFor d formula h net kind t
+plan-pattern d formula v h l net kind t same of is plan routes =
+    subst (λ (k : PlanKind). IsPlanFor d formula h net k t) (sym is)
+    (record { plan = plan-after d formula (capacity_of d) v h l net Pattern t refl same of plan; routes = routes })
 
-  pub plan-later : (round margin : ℕ) (t : TreeView) → 0 < round → margin ≡ 4 * round → IsMaze v l formula net (pins_at d net) margin t → IsRouteOfNet d net t → IsPlanIn d formula round h net t
-  plan-later zero margin t later wide plan routes = absurd (omega (arith, later))
-  plan-later (suc round) margin t later wide plan routes = record {
-    plan = plan-after d formula (capacity_of d) v h l net (Maze (4 * suc round)) t refl same of
-        (subst (λ (n : ℕ). IsMaze v l formula net (pins_at d net) n t) wide plan);
-    routes = routes;
-  }
+pub plan-maze : (d : DesignView) (formula : Formula) (v : CapacityView) (h : List Entry) (l : LoadsView) (net : ℕ) (kind : PlanKind) (margin : ℕ) (t : TreeView) → v ≡ capacity_of d → AreLoadsOf (capacity_of d) h l →
+    kind ≡ Maze margin → IsMaze v l formula net (pins_at d net) margin t → IsRouteOfNet d net t → IsPlanFor d formula h net kind t
+plan-maze d formula v h l net kind margin t same of is plan routes =
+    subst (λ (k : PlanKind). IsPlanFor d formula h net k t) (sym is)
+    (record { plan = plan-after d formula (capacity_of d) v h l net (Maze margin) t refl same of plan; routes = routes })
 
 -- a plan that routes what stands there routes the net
 pub routes-net : {E : Type 0} (d : DesignView) (net : ℕ) (r : Result TreeView E) →
