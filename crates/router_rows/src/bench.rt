@@ -140,9 +140,8 @@ fn end_of<R: AllocGlobal + Threads + Wait + Sync, G: Gate + Sync>(
         status,
         book,
         hands,
-        spent,
+        ..
     } = run(rt, rt.alloc(), words, shelf, out, err, gate, rules);
-    drop(spent);
     End {
         status,
         book,

@@ -28,22 +28,19 @@ struct Seen {
     met: bool,
 }
 
-/// Holds a worker at a search until the others have come to so many claims.
+/// Holds a worker at a search until the others have come to so many claims, which it counts.
 #[derive(Drop)]
 pub(crate) struct HoldingGate {
     whom: Whom,
     claims: u64,
-    may_wait: bool,
     seen: Mutex<Seen>,
 }
 
 impl HoldingGate {
-    /// A gate that says so of waiting.
-    pub(crate) fn new(whom: Whom, claims: u64, may_wait: bool) -> HoldingGate {
+    pub(crate) fn new(whom: Whom, claims: u64) -> HoldingGate {
         HoldingGate {
             whom,
             claims,
-            may_wait,
             seen: Mutex::new(Seen {
                 held: None,
                 searches: 0,
@@ -116,9 +113,5 @@ impl Gate for HoldingGate {
                 }
             }
         }
-    }
-
-    fn may_wait(&self) -> bool {
-        self.may_wait
     }
 }

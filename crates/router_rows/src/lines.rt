@@ -103,7 +103,14 @@ fn put_runs<R: AllocGlobal + Threads + Wait + Sync>(
             let steps = 0..bench.size_of(name).saturating_add(1);
             put_sweep(rt, bench, rules, rest, Sweep::Cut(name), steps, told)
         }
-        "hold" | "keep" => put_held(rt, bench, rules, rest, command == "hold", told),
+        "hold" => {
+            let (worker, rest) = number_in(rest);
+            put_held(rt, bench, rules, Whom::Worker(worker), rest, told)
+        }
+        "keep" => {
+            let (search, rest) = number_in(rest);
+            put_held(rt, bench, rules, Whom::Search(search), rest, told)
+        }
         _ => {
             let words = words_of(rt.alloc(), rest)?;
             put_run(rt, bench, rules, &words, command == "brief", told)
@@ -122,33 +129,26 @@ fn put_run<R: AllocGlobal + Threads + Wait + Sync>(
 ) -> Result<(), AllocError> {
     let left = bench.run(rt, &OpenGate, rules, bench.devices, None, words)?;
     if brief {
-        told::put_brief(told, &left)
+        told::put_brief(rt.alloc(), told, &left)
     } else {
         told::put_whole(told, &left)
     }
 }
 
-/// What is told of a run in which a worker waits at a search for so many claims of the others. Where it
-/// says that it may wait, it is named by its number, 0 for the first that comes, and else by its search.
+/// What is told of a run in which this worker waits at a search for so many claims of the others.
 fn put_held<R: AllocGlobal + Threads + Wait + Sync>(
     rt: &R,
     bench: &Bench,
     rules: &Rules,
+    whom: Whom,
     rest: &str,
-    may_wait: bool,
     told: &mut Text,
 ) -> Result<(), AllocError> {
-    let (number, rest) = number_in(rest);
     let (claims, rest) = number_in(rest);
     let words = words_of(rt.alloc(), rest)?;
-    let whom = if may_wait && number > 0 {
-        Whom::Worker(number)
-    } else {
-        Whom::Search(number)
-    };
-    let gate = HoldingGate::new(whom, claims, may_wait);
+    let gate = HoldingGate::new(whom, claims);
     let left = bench.run(rt, &gate, rules, bench.devices, None, &words)?;
-    told::put_meeting(told, &left, gate.is_passed())
+    told::put_meeting(rt.alloc(), told, &left, gate.is_passed())
 }
 
 /// What changes from run to run: the call of a device that fails, or how much is left of a text.

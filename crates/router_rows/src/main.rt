@@ -8,12 +8,11 @@
 //! - `set DEVICE N` sets a bound of the devices, or the call of one that fails (0: none); `ample`
 //!   sets all back;
 //! - `run WORD ..` runs the command, and prints its status, what out and err gained, and the book;
-//! - `brief WORD ..` runs it, and prints its status and the five numbers that err gained first: all
-//!   that is the same whatever the order in which several workers call;
-//! - `hold WORKER CLAIMS WORD ..` does so while the worker of that number (0: the first that comes)
-//!   waits at its first search until the others have come to so many claims;
-//! - `keep SEARCH CLAIMS WORD ..` likewise for whoever comes to that search of all, from 0, at a gate that
-//!   says that nobody waits there, as the program's own does;
+//! - `brief WORD ..` runs it, and prints its status, the five numbers that err gained first, and the nets
+//!   of each round: all that is the same whatever the order in which several workers call;
+//! - `hold WORKER CLAIMS WORD ..` does so while the worker of that number waits at its first search until
+//!   the others have come to so many claims;
+//! - `keep SEARCH CLAIMS WORD ..` likewise for whoever comes to that search of all, from 0;
 //! - `each DEVICE N WORD ..` runs it with each call from 1 to N of that device failing, and prints
 //!   a line for each;
 //! - `cut NAME WORD ..` runs it with each first part of that text in its place, likewise.

@@ -1,9 +1,9 @@
 //! What is told of a run.
 use crate::bench::Left;
-use book_state::{BookState, Call, Reply};
+use book_state::{BookState, Call, History, Reply};
 use gr_text::Text;
 use round_core::HandLog;
-use std::alloc::AllocError;
+use std::alloc::{AllocError, Global};
 
 /// The most bytes of a text that is printed whole.
 const MOST_PRINTED: usize = 2_000;
@@ -31,20 +31,60 @@ fn put_status(told: &mut Text, left: &Left) -> Result<(), AllocError> {
     told.put(b"\n")
 }
 
-/// How a run ended, and the five numbers of its report.
-pub(crate) fn put_brief(told: &mut Text, left: &Left) -> Result<(), AllocError> {
+/// How a run ended, the five numbers of its report, and the nets of its rounds.
+pub(crate) fn put_brief(alloc: Global, told: &mut Text, left: &Left) -> Result<(), AllocError> {
     put_status(told, left)?;
     for line in left.err.bytes().split(|&byte| byte == b'\n').take(NUMBERS) {
         told.put(b"| ")?;
         told.put(line)?;
         told.put(b"\n")?;
     }
+    match &left.ended.book {
+        Some(book) => put_rounds(alloc, told, book.state().history()),
+        None => Ok(()),
+    }
+}
+
+/// A line for each round: the nets that were claimed in the first one, and those that were released in
+/// each later one, in the order of their numbers.
+fn put_rounds(alloc: Global, told: &mut Text, history: &History) -> Result<(), AllocError> {
+    let mut nets = Vec::new(alloc);
+    let mut round: u64 = 0;
+    for place in 0..history.len() {
+        match &history.entry(place).call {
+            Call::Claim(claim) if round == 0 => nets.push(claim.net)?,
+            Call::Claim(_) => {}
+            Call::Release { net } => nets.push(*net)?,
+            Call::Mark => {
+                nets.sort_unstable();
+                put_round(told, round, &nets)?;
+                nets.clear();
+                round = round.saturating_add(1);
+            }
+        }
+    }
     Ok(())
 }
 
+fn put_round(told: &mut Text, round: u64, nets: &[u32]) -> Result<(), AllocError> {
+    told.put(b"round ")?;
+    told.put_number(round)?;
+    told.put(b":")?;
+    for net in nets {
+        told.put(b" ")?;
+        told.put_number(*net)?;
+    }
+    told.put(b"\n")
+}
+
 /// The same, and whether the others came to the claims for which a worker waits.
-pub(crate) fn put_meeting(told: &mut Text, left: &Left, passed: bool) -> Result<(), AllocError> {
-    put_brief(told, left)?;
+pub(crate) fn put_meeting(
+    alloc: Global,
+    told: &mut Text,
+    left: &Left,
+    passed: bool,
+) -> Result<(), AllocError> {
+    put_brief(alloc, told, left)?;
     let met: &[u8] = if passed {
         b"the others came to their claims\n"
     } else {

@@ -37,7 +37,7 @@ pub struct Ended {
     pub hands: Vec<HandLog>,
     /// What the run read and made beside the book, and needs no more. To let go of it takes as long as
     /// there are nets and trees, which a program that ends need not wait for.
-    pub spent: Option<Spent>,
+    spent: Option<Spent>,
 }
 
 impl Ended {
