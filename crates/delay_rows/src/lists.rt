@@ -13,6 +13,7 @@ use std::sync::ledger::{Blank, Ledger};
 
 /// No list of a row has a greater load or, either way, a greater time.
 const MOST_LOAD: u64 = 1_000_000_000;
+
 const MOST_TIME: i128 = 1_000_000_000;
 
 /// A line with the list after each step.
