@@ -1,24 +1,18 @@
 -- There is one pattern plan.
-use Rattle.std.proofs.Common.{◌≡◌, ℕ, zero, suc, ◌+◌, ◌<◌, ◌≤◌, inl, inr, Bool, true, false, ◌&&◌, ◌||◌, nat_lt, Option, None, unwrap_or, List, ◌∷◌, ◌++◌, length, map, filter, IsTrue, refl, sym, ap, subst, ◌∙◌, arith}
+use Rattle.std.proofs.Common.{◌≡◌, ℕ, zero, suc, ◌+◌, ◌<◌, ◌≤◌, inl, inr, Bool, true, ◌&&◌, nat_lt, Option, List, ◌∷◌, ◌++◌, length, map, filter, IsTrue, refl, sym, ap, subst, ◌∙◌, arith}
 use Rattle.std.specs.List.{list_any, range_with_len}
-use Rattle.std.specs.Option.{option_map}
 use Rattle.std.proofs.Math.Bool.{Bool-set}
 use Rattle.std.proofs.lemmas.Bool.{cases_Bool, cases_eq}
 use Rattle.std.proofs.lemmas.Bool.Decides.{nat_tests}
 use Rattle.gr_base.proofs.General.{filter-yes, filter-no}
-use Rattle.gr_base.specs.Grid.{on_layer}
-use Rattle.gr_base.specs.ParentEdges.{parent_edge}
-use Rattle.gr_base.specs.EdgeSets.{is_edge}
 use Rattle.gr_base.specs.Limits.{is_grid}
-use Rattle.gr_base.specs.Trees.{TreeView, IsTree, edges_of}
+use Rattle.gr_base.specs.Trees.{TreeView}
 use Rattle.gr_base.specs.declared.grid.Edge.{Edge}
 use Rattle.gr_base.specs.declared.grid.Shape.{Shape}
 use Rattle.gr_base.specs.declared.grid.Way.{Way}
-use Rattle.layer_assign.proofs.FlatLemmas.{root_edge}
 use Rattle.layer_assign.specs.Assignments.{ends_at, met, cost_of, tile_at, pin_layers, IsAssignment, IsLeast, IsFirst, AreAlike}
 use Rattle.layer_assign.specs.NodeOrder.{raised_tree}
 use Rattle.layer_assign.proofs.OrderLemmas.{tree-same}
-use Rattle.layer_assign.specs.Spans.{span_of}
 use Rattle.steiner_topology.specs.Topology.{topology_of}
 use Rattle.net_plan.specs.FlatPrices.{flat_price}
 use Rattle.net_plan.specs.FlatTrees.{distinct_tiles, tree_of, IsFlatTree}

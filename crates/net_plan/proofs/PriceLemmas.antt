@@ -1,5 +1,5 @@
 -- A net's prices are prices.
-use Rattle.std.proofs.Common.{◌≡◌, ℕ, ◌+◌, ◌*◌, ◌<◌, ◌≤◌, ◌↔◌, Bool, true, false, Option, Some, None, IsSome, IfSome, IsTrue, slice_get, if◌then◌else◌, min, refl, subst, sym, ap, ◌∙◌, arith}
+use Rattle.std.proofs.Common.{◌≡◌, ℕ, ◌+◌, ◌*◌, ◌<◌, ◌≤◌, ◌↔◌, Bool, true, false, Some, None, IsSome, IfSome, IsTrue, slice_get, if◌then◌else◌, min, refl, subst, sym, ap, ◌∙◌, arith}
 use Rattle.cost_rules.specs.Formulas.{cost_at, most_cost, overflow_at, via_price}
 use Rattle.cost_rules.specs.Prices.{layer_of, ArePrices, IsBelowVias}
 use Rattle.cost_rules.specs.declared.site.Formula.{Formula}
