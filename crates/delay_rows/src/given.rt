@@ -5,7 +5,7 @@ ghost use Rattle.gr_io.specs.Texts.{is_reached};
 ghost use Rattle.rc_library.specs.Libraries.{IsLibraryOf};
 ghost use Rattle.route_evaluator.specs.NetTrees.{IsNetRoute};
 
-use crate::{buffered, nodes};
+use crate::{buffered, lists, nodes};
 use anyhow::bail;
 use gr_base::{Design, RouteTree};
 use gr_io::{MemoryShelf, Shelf, Slot};
@@ -22,6 +22,8 @@ pub(crate) enum Asked<'a> {
     /// The text of buffers at these cells.
     Buffers(&'a str),
     Nodes,
+    /// The lists after these steps.
+    Lists(&'a str),
 }
 
 /// The texts of a design, of its routes and of a library.
@@ -42,7 +44,7 @@ impl Given {
         }
     }
 
-    /// The text of buffers that the words ask for, or of nodes where there are none.
+    /// The text that is asked for.
     pub(crate) fn told(&self, alloc: Global, asked: Asked<'_>) -> anyhow::Result<Text> {
         let design = self.design(alloc)?;
         self.told_of(alloc, &design, asked)
@@ -71,6 +73,7 @@ impl Given {
         let told = match asked {
             Asked::Buffers(words) => buffered::told(alloc, design, library, tree, words)?,
             Asked::Nodes => nodes::told(alloc, design, library, &tree)?,
+            Asked::Lists(words) => lists::told(alloc, library, words)?,
         };
         Ok(told)
     }

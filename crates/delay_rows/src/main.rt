@@ -7,11 +7,15 @@
 //! - `buffers CELL ..` prints the text of buffers with one of the library's first kind at each of
 //!   these cells, and a line with the delay to the last node of the net's tree;
 //! - `nodes` prints a line for each node: whether a buffer may stand there, and which signal its
-//!   sinks want.
+//!   sinks want;
+//! - `lists STEP / STEP ..` prints the loads and times of a list of choices of buffers after each of
+//!   these steps: `leaf LOAD TIME` begins with a leaf, `wire R C` goes along an edge, `offer` offers
+//!   the library's kinds, `merge LOAD TIME` joins a leaf on a branch beside.
 #![tactic(auto)]
 
 mod buffered;
 mod given;
+mod lists;
 mod nodes;
 
 use crate::given::{Asked, Given};
@@ -28,6 +32,7 @@ fn carry_out(alloc: Global, given: &mut Given, line: &str) -> anyhow::Result<Tex
         "library" => given.library = String::from_str(alloc, rest)?,
         "buffers" => return given.told(alloc, Asked::Buffers(rest)),
         "nodes" => return given.told(alloc, Asked::Nodes),
+        "lists" => return given.told(alloc, Asked::Lists(rest)),
         _ => return echoed(alloc, line),
     }
     Ok(Text::new(alloc))
