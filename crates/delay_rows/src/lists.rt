@@ -17,6 +17,7 @@ const MOST_TIME: i128 = 1_000_000_000;
 
 /// A line with the list after each step. What is no step, or out of range, changes nothing.
 pub(crate) fn told(alloc: Global, library: &Library, words: &str) -> Result<Text, AllocError> {
+    // A call at which a ledger is picked can't pass a `&str`.
     let words = String::from_str(alloc, words)?;
     told_by::<Brand>(alloc, library, &words, Blank::new(1))
 }
