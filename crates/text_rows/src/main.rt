@@ -1,4 +1,5 @@
-//! Tells rows of devices, tokens, numbers, trees of nets and reports, as standard input says.
+//! Tells rows of devices, tokens, numbers, trees of nets, reports and runs of grbound, as standard input
+//! says.
 //!
 //! Each line of standard input is printed. One of these has its answer behind it:
 //!
@@ -25,9 +26,16 @@
 //!   digits;
 //! - `join NUMBER NUMBER` puts a word and numbers together;
 //! - `tree ROUTE` and `runs ROUTE` tell the tree and the straight runs of the edges of a net;
-//! - `greatest` tells the report with the greatest numbers.
+//! - `greatest` tells the report with the greatest numbers;
+//! - `bound SHELF OUT ERR WORD ..` runs grbound's command over devices of memory, whose calls of these
+//!   numbers fail (0: none), and tells its status and what out and err gained. The shelf holds a small
+//!   design under `design`, and its first tokens under `cut`;
+//! - `calls DEVICE MOST WORD ..` does so once for each call of the device up to that number, and tells
+//!   how much of the text without a fault out and err gained;
+//! - `rooms WORD ..` does so with room on out for 0 bytes, 1, and so on, and tells how many are too few.
 #![tactic(auto)]
 
+mod bounds;
 mod calls;
 mod devices;
 mod edges;
@@ -69,6 +77,9 @@ fn put_row<R: AllocGlobal + Files>(rt: &R, line: &str, told: &mut Text) -> Resul
         "tree" => edges::put_edges(alloc, Asked::Tree, rest, told),
         "runs" => edges::put_edges(alloc, Asked::Runs, rest, told),
         "greatest" => texts::put_greatest(alloc, told),
+        "bound" => bounds::put_bound(alloc, rest, told),
+        "calls" => bounds::put_calls(alloc, rest, told),
+        "rooms" => bounds::put_rooms(alloc, rest, told),
         _ => Ok(()),
     }
 }
