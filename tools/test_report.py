@@ -124,14 +124,14 @@ class Report(InFolder):
 class Page(InFolder):
     """The page in a browser. Each test ends within a minute, as the browser is ended then."""
 
-    def grom(self):
-        """The address of a page of a real chip, without rounds, and its report."""
+    def grom(self, *words):
+        """The address of a page of a real chip, without rounds, made with these words too, and its report."""
         data = run("xz", "-dc", f"{ROOT}/examples/{GROM}.ispd.xz")[1]
         design, library = self.put("grom.ispd", data), f"{ROOT}/examples/osu035.library"
         _, solution, report = run(testing.program(), "route", design, library, "0")
         page = os.path.join(self.folder.name, "grom.html")
         done = tool("report.py", design, self.put("solution", solution), library, self.put("report", report), "--names",
-                    f"{ROOT}/examples/{GROM}.names", "-o", page)
+                    f"{ROOT}/examples/{GROM}.names", *words, "-o", page)
         self.assertEqual(done[::2], (0, ""))
         return f"file://{page}", report
 
@@ -196,6 +196,20 @@ class Page(InFolder):
     def wire_layers(self, page):
         """The layers on which the shown net has wires."""
         return set(page.value("[...runsOf(shown.net)].filter((run) => !run[3]).map((run) => run[2])"))
+
+    def test_walls(self):
+        """The fullest walls are listed, and the overflow that any routes have; a click shows a wall."""
+        address, _ = self.grom("--bound", self.put("bounds", testing.BOUNDS))
+        with browser.Browser() as page:
+            self.opened(page, address)
+            self.assertEqual(page.text("#bound"), "Overflow: at least 1 in any routes, 348 in these")
+            first = "#walls tbody tr:nth-child(1) button"
+            self.assertEqual(page.text(first), "box 0 0 0 0")
+            whole = self.changed(page, None)[1]
+            page.click(*page.middle(first))
+            self.assertRegex(page.value("location.hash"), r"^#view=[\d.%C]+$")
+            self.assertGreater(self.changed(page, whole)[0], 0)
+            self.assertEqual(page.complaints(), [])
 
     def test_what_is_heard(self):
         """The accessibility tree holds the tables; arrows tell the place that they come to."""
