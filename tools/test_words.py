@@ -149,12 +149,21 @@ class Terminal(InFolder):
         self.assertEqual(self.shown("route", *small, "3"), direct)
         self.assertEqual(self.shown("evaluate", small[0], "missing"), (6, "", "groute: a read failed\n"))
 
+    def inner(self, child):
+        """The processes that a process has started, once there are some, which takes at most ten seconds."""
+        for _ in range(100):
+            with open(f"/proc/{child.pid}/task/{child.pid}/children", encoding="ascii") as file:
+                found = file.read().split()
+            if found:
+                return found
+            time.sleep(0.1)
+        return []
+
     def test_signals(self):
         for number in (signal.SIGTERM, signal.SIGINT):
             child, terminal = self.started("trial", "1", "1024", "1024", "8", "1000000", "64")
+            inner = self.inner(child)
             time.sleep(1)
-            with open(f"/proc/{child.pid}/task/{child.pid}/children", encoding="ascii") as file:
-                inner = file.read().split()
             child.send_signal(number)
             child.communicate(timeout=20)
             os.close(terminal)
