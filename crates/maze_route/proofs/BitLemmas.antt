@@ -1,11 +1,11 @@
--- Buckets of keys, in bits.
+-- How many low bits two numbers differ in.
 use Rattle.std.proofs.Common.{◌≡◌, ◌≢◌, ℕ, zero, suc, ◌+◌, ◌-◌, ◌*◌, ◌/◌, ◌^◌, ◌<◌, ◌≤◌, inl, inr, refl, sym, ap, subst, ◌∙◌, arith}
 use Rattle.std.specs.Int.Bits.{bit_xor, xor_self, xor_assoc, xor_zero_r, xor_zero_l, xor_lt, xor_shr}
 use Rattle.std.specs.Int.{w64, leading_zeros}
 use Rattle.std.proofs.Math.Nat.{div-eq_of_lt, lt-mul-div-succ, pow-le-pow_right, pow-suc, one-le-pow, div-div-eq-div-mul, mul-le-mul_left, mul-div-le, div-one}
 use Rattle.std.proofs.lemmas.Nat.{leading_length, div-add-mod', mod_below}
 use Rattle.std.proofs.lemmas.Bool.{cases_lt, cases_eq}
-use Rattle.maze_route.specs.Buckets.{IsBucket}
+use Rattle.maze_route.specs.Buckets.{DifferIn}
 
 xor-equal : (a b : ℕ) → bit_xor a b ≡ 0 → a ≡ b
 xor-equal a b none =
@@ -31,9 +31,9 @@ shift-small x k none =
     let e : 2 ^ k * (x / 2 ^ k + 1) ≡ 2 ^ k * (0 + 1) = ap (λ (n : ℕ). 2 ^ k * (n + 1)) none in
     omega (arith, e)
 
--- the bucket by the highest bit in which two keys differ
-pub bucket-bits : (last key zero_bits bucket : ℕ) → last < 2 ^ 64 → key < 2 ^ 64 → zero_bits ≡ leading_zeros w64 (bit_xor last key) → bucket ≡ 64 - zero_bits → (IsBucket last key bucket) × (bucket < 65)
-bucket-bits last key zero_bits bucket last_fits key_fits is_zeros is =
+-- the bits up to the highest one in which two numbers differ
+pub differ-bits : (last key zero_bits bucket : ℕ) → last < 2 ^ 64 → key < 2 ^ 64 → zero_bits ≡ leading_zeros w64 (bit_xor last key) → bucket ≡ 64 - zero_bits → (DifferIn last key bucket) × (bucket < 65)
+differ-bits last key zero_bits bucket last_fits key_fits is_zeros is =
     let x = bit_xor last key in
     let low = xor_lt 64 last key last_fits key_fits in
     let length = leading_length 64 x low in
@@ -42,7 +42,7 @@ bucket-bits last key zero_bits bucket last_fits key_fits is_zeros is =
     let below = length.2 in
     let near = length.3 in
     let same : bucket ≡ m = omega arith in
-    let P : ℕ → Type 0 = λ b. (IsBucket last key b) × (b < 65) in
+    let P : ℕ → Type 0 = λ b. (DifferIn last key b) × (b < 65) in
     subst P (sym same) (
       record {
         agrees = xor-equal (last / 2 ^ m) (key / 2 ^ m) (sym (xor_shr last key m) ∙ div-eq_of_lt below);
@@ -73,8 +73,8 @@ agree-by a b n (suc d) m is same =
 pub agree-up : (a b n m : ℕ) → n ≤ m → a / 2 ^ n ≡ b / 2 ^ n → a / 2 ^ m ≡ b / 2 ^ m
 agree-up a b n m le same = agree-by a b n (m - n) m (omega arith) same
 
-pub one-bucket : (last key a b : ℕ) → IsBucket last key a → IsBucket last key b → a ≡ b
-one-bucket last key a b one two =
+pub one-differ : (last key a b : ℕ) → DifferIn last key a → DifferIn last key b → a ≡ b
+one-differ last key a b one two =
     elim (cases_lt a b) [
       | inl less ↦ absurd (two.differs a less one.agrees)
       | inr more ↦ elim (cases_lt b a) [
@@ -83,9 +83,9 @@ one-bucket last key a b one two =
       ]
     ]
 
--- a key of a lower bucket is less
-pub lower-less : (last a b m n : ℕ) → IsBucket last a m → IsBucket last b n → m < n → last ≤ b → a < b
-lower-less last a b m n low high less later =
+-- a number that differs in fewer bits is less
+pub fewer-less : (last a b m n : ℕ) → DifferIn last a m → DifferIn last b n → m < n → last ≤ b → a < b
+fewer-less last a b m n low high less later =
     let k = n - 1 in
     let one = agree-up last a m k (omega arith) low.agrees in
     let two : last / 2 ^ k ≢ b / 2 ^ k = high.differs k (omega arith) in
@@ -108,8 +108,8 @@ halves q a b le_a other_a same_a le_b other_b same_b =
 shift-twice : (a n : ℕ) → a / 2 ^ n / 2 ≡ a / 2 ^ suc n
 shift-twice a n = div-div-eq-div-mul a (2 ^ n) 2 ∙ ap (λ (k : ℕ). a / k) (sym (pow-suc 2 n))
 
--- two keys of one bucket agree past fewer bits with each other
-pub same-closer : (last a b n : ℕ) → 0 < n → IsBucket last a n → IsBucket last b n → last ≤ a → last ≤ b → a / 2 ^ (n - 1) ≡ b / 2 ^ (n - 1)
+-- two numbers that differ in the same bits agree past fewer with each other
+pub same-closer : (last a b n : ℕ) → 0 < n → DifferIn last a n → DifferIn last b n → last ≤ a → last ≤ b → a / 2 ^ (n - 1) ≡ b / 2 ^ (n - 1)
 same-closer last a b n some one two later_a later_b =
     let k = n - 1 in
     let e : suc k ≡ n = omega arith in
@@ -122,9 +122,9 @@ same-closer last a b n some one two later_a later_b =
     (shift-le last a k later_a) (one.differs k (omega arith)) (shift-twice last k ∙ agree_a ∙ sym (shift-twice a k))
     (shift-le last b k later_b) (two.differs k (omega arith)) (shift-twice last k ∙ agree_b ∙ sym (shift-twice b k))
 
--- a bucket past this one stays the same
-pub higher-same : (last least key n b : ℕ) → IsBucket last least n → IsBucket last key b → n < b → IsBucket least key b
-higher-same last least key n b here there less = record {
+-- one that differs in more bits differs in them from the other, too
+pub more-same : (last least key n b : ℕ) → DifferIn last least n → DifferIn last key b → n < b → DifferIn least key b
+more-same last least key n b here there less = record {
   agrees = sym (agree-up last least n b (omega arith) here.agrees) ∙ there.agrees;
   differs = λ bits low same.
       elim (cases_lt bits n) [
@@ -133,23 +133,23 @@ higher-same last least key n b here there less = record {
       ];
 }
 
-pub least-bucket : (last key b n : ℕ) → IsBucket last key b → last / 2 ^ n ≡ key / 2 ^ n → b ≤ n
-least-bucket last key b n is agrees = elim (cases_lt n b) [ inl less ↦ absurd (is.differs n less agrees) | inr le ↦ le ]
+pub least-differ : (last key b n : ℕ) → DifferIn last key b → last / 2 ^ n ≡ key / 2 ^ n → b ≤ n
+least-differ last key b n is agrees = elim (cases_lt n b) [ inl less ↦ absurd (is.differs n less agrees) | inr le ↦ le ]
 
-pub own-bucket : (last : ℕ) → IsBucket last last 0
-own-bucket last = record { agrees = refl; differs = λ bits less. absurd (omega arith) }
+pub own-differ : (last : ℕ) → DifferIn last last 0
+own-differ last = record { agrees = refl; differs = λ bits less. absurd (omega arith) }
 
-pub zero-bucket : (last key : ℕ) → IsBucket last key 0 → last ≡ key
-zero-bucket last key is =
+pub zero-differ : (last key : ℕ) → DifferIn last key 0 → last ≡ key
+zero-differ last key is =
     let one : 2 ^ 0 ≡ 1 = refl in
     let h = is.agrees in
     sym (div-one last) ∙ h ∙ div-one key
 
--- keys that agree past some bits have a bucket
-pub some-bucket : (a b n : ℕ) → a / 2 ^ n ≡ b / 2 ^ n → (k : ℕ) × ((k ≤ n) × IsBucket a b k)
-some-bucket a b zero same = (0, (omega arith, record { agrees = same; differs = λ bits less. absurd (omega arith) }))
-some-bucket a b (suc n) same =
+-- numbers that agree past some bits differ in at most these
+pub some-differ : (a b n : ℕ) → a / 2 ^ n ≡ b / 2 ^ n → (k : ℕ) × ((k ≤ n) × DifferIn a b k)
+some-differ a b zero same = (0, (omega arith, record { agrees = same; differs = λ bits less. absurd (omega arith) }))
+some-differ a b (suc n) same =
     elim (cases_eq (a / 2 ^ n) (b / 2 ^ n)) [
-      | inl lower ↦ let found = some-bucket a b n lower in (found.0, (let h = found.1.0 in omega arith, found.1.1))
+      | inl lower ↦ let found = some-differ a b n lower in (found.0, (let h = found.1.0 in omega arith, found.1.1))
       | inr other ↦ (suc n, (omega arith, record { agrees = same; differs = λ bits less equal. other (agree-up a b bits n (omega arith) equal) }))
     ]

@@ -1,5 +1,5 @@
 -- The least key of a chain, place by place.
-use Rattle.std.proofs.Common.{◌≡◌, ℕ, zero, suc, ◌<◌, ◌≤◌, ◌⊎◌, inl, inr, true, false, List, [], ◌∷◌, length, get_or, Option, Some, None, IsTrue, slice_get, slice_set, refl, sym, ap, subst, ◌∙◌, arith, min}
+use Rattle.std.proofs.Common.{◌≡◌, ℕ, ◌<◌, ◌≤◌, ◌⊎◌, inl, inr, true, false, List, [], ◌∷◌, length, Option, Some, None, IsTrue, slice_get, slice_set, refl, sym, ap, subst, ◌∙◌, arith, min}
 use Rattle.std.proofs.lemmas.Bool.{cases_lt, both_ways}
 use Rattle.std.proofs.lemmas.Option.{none-some, same_Some, slice_get_within}
 use Rattle.gr_base.specs.Trees.{is_among}
@@ -10,11 +10,6 @@ use Rattle.maze_route.proofs.ChainLemmas.{some-and, chain-once, chain-set}
 use Rattle.maze_route.proofs.LengthLemmas.{to_go, to-go}
 use Rattle.maze_route.proofs.SpreadingLemmas.{chain-long, spread-turn, among-head, among-more, among-split}
 
-pub head-read : (heads : List (Option ℕ)) (b : ℕ) → get_or heads b None ≡ head_at heads b
-head-read [] b = refl
-head-read (h ∷ hs) zero = refl
-head-read (h ∷ hs) (suc b) = head-read hs b
-
 pub chain-place : (slots : List Slot) (head : Option ℕ) (place : ℕ) (ps : List ℕ) → head ≡ Some place → IsChain slots head ps → place < length slots
 chain-place slots head place [] is chain = absurd (none-some place (sym chain ∙ is))
 chain-place slots head place (p ∷ ps) is chain =
@@ -23,13 +18,13 @@ chain-place slots head place (p ∷ ps) is chain =
     let h = slice_get_within slots p a.0 a.1.0 in
     omega arith
 
-pub turn-any : (slots : List Slot) (heads : List (Option ℕ)) (free at : Option ℕ) (last bucket place to : ℕ) (old new : Slot) (pairs : List (ℕ × ℕ)) →
-    at ≡ Some place → slice_get slots place ≡ Some old → new.key ≡ old.key → new.cell ≡ old.cell → new.taken ≡ old.taken → new.next ≡ get_or heads to None → IsBucket last old.key to → to < 65 →
-    IsSpreading slots heads free at last bucket pairs → IsSpreading (slice_set slots place new) (slice_set heads to (Some place)) free old.next last bucket pairs
-turn-any slots heads free at last bucket place to old new pairs is read key cell taken next of_to to_in so_far =
+pub turn-any : (slots : List Slot) (heads heads_after : List (Option ℕ)) (free at : Option ℕ) (last bucket place to : ℕ) (old new : Slot) (pairs : List (ℕ × ℕ)) →
+    at ≡ Some place → slice_get slots place ≡ Some old → new.key ≡ old.key → new.cell ≡ old.cell → new.taken ≡ old.taken → new.next ≡ head_at heads to → heads_after ≡ slice_set heads to (Some place) → IsBucket last old.key to → to < 1078 →
+    IsSpreading slots heads free at last bucket pairs → IsSpreading (slice_set slots place new) heads_after free old.next last bucket pairs
+turn-any slots heads heads_after free at last bucket place to old new pairs is read key cell taken next set of_to to_in so_far =
     let P : Option ℕ → Type 0 = λ o. IsSpreading slots heads free o last bucket pairs in
-    spread-turn slots (slice_set slots place new) heads (slice_set heads to (Some place)) free last bucket place to old new pairs (subst P is so_far)
-    (record { at = read; set = refl; key = key; cell = cell; taken = taken }) of_to to_in (next ∙ head-read heads to) refl
+    spread-turn slots (slice_set slots place new) heads heads_after free last bucket place to old new pairs (subst P is so_far)
+    (record { at = read; set = refl; key = key; cell = cell; taken = taken }) of_to to_in next set
 
 pub turn-less : (slots : List Slot) (heads : List (Option ℕ)) (at : Option ℕ) (last place : ℕ) (old new : Slot) → at ≡ Some place → slice_get slots place ≡ Some old →
     IsSpread slots heads at last → to_go (slice_set slots place new) old.next < to_go slots at

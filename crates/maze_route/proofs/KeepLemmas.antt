@@ -1,6 +1,8 @@
 -- What a queue keeps as pairs come and go.
-use Rattle.std.proofs.Common.{◌≡◌, ◌≢◌, ℕ, zero, suc, ◌<◌, ◌≤◌, inl, inr, Bool, true, false, ◌==◌, List, [], ◌∷◌, length, All, Option, Some, None, IsTrue, slice_get, slice_set, if◌then◌else◌, refl, sym, ap, subst, ◌∙◌, arith, length-set}
+use Rattle.std.proofs.Common.{◌≡◌, ◌≢◌, ℕ, zero, suc, ◌%◌, ◌<◌, ◌≤◌, inl, inr, true, false, ◌==◌, List, [], ◌∷◌, length, All, Option, Some, None, IsTrue, slice_get, slice_set, replicate, if◌then◌else◌, refl, sym, ap, subst, ◌∙◌, arith, length-set}
 use Rattle.std.specs.List.{filter_map, cons_option}
+use Rattle.std.proofs.lemmas.Nat.{mod_below}
+use Rattle.std.proofs.lemmas.List.{length-replicate}
 use Rattle.std.proofs.lemmas.Bool.{cases_eq, cases_Bool, both_ways}
 use Rattle.std.proofs.lemmas.Bool.Decides.{nat_tests}
 use Rattle.std.proofs.lemmas.Option.{none-some, same_Some, slice_get_within}
@@ -10,7 +12,7 @@ use Rattle.maze_route.specs.Buckets.{pair_in, IsBucket, IsChain, head_at, IsOf, 
 use Rattle.maze_route.specs.Places.{IsPut, HasFree}
 use Rattle.maze_route.specs.Renewed.{IsTakenOut}
 use Rattle.maze_route.specs.declared.slot.Slot.{Slot}
-use Rattle.maze_route.proofs.BitLemmas.{one-bucket, zero-bucket}
+use Rattle.maze_route.proofs.BucketNumbers.{one-bucket, own-key}
 use Rattle.maze_route.proofs.BucketLemmas.{chains-with}
 use Rattle.maze_route.proofs.ChainLemmas.{some-and, make-some-and, chain-once}
 use Rattle.maze_route.proofs.PlaceLemmas.{chain-other, pair-taken, pair-free, pairs-unset}
@@ -32,11 +34,11 @@ apart-of : (chain : List ℕ) (q place : ℕ) → IsTrue (is_among chain q) → 
 apart-of chain q place among isnt = λ same. both_ways true (sym (ap (λ (n : ℕ). is_among chain n) (sym same) ∙ among) ∙ isnt) refl
 
 pub push-keeps : (slots after : List Slot) (heads : List (Option ℕ)) (free free_after : Option ℕ) (last bucket place : ℕ) (slot : Slot) → Keeps slots heads free last →
-    IsPut slots after place slot → HasFree after free_after → slot.taken ≡ true → last ≤ slot.key → IsBucket last slot.key bucket → bucket < 65 → slot.next ≡ head_at heads bucket →
+    IsPut slots after place slot → HasFree after free_after → slot.taken ≡ true → last ≤ slot.key → IsBucket last slot.key bucket → bucket < 1078 → slot.next ≡ head_at heads bucket →
     Keeps after (slice_set heads bucket (Some place)) free_after last
 push-keeps slots after heads free free_after last bucket place slot keeps put has taken later of_bucket few next =
     let chains = keeps.are_chains in
-    let isnt = λ (b : ℕ) (below : b < 65). put-apart slots after place last b slot (keeps.chains b) put (λ q among. chains.only b q below among) in
+    let isnt = λ (b : ℕ) (below : b < 1078). put-apart slots after place last b slot (keeps.chains b) put (λ q among. chains.only b q below among) in
     record {
       size = length-set heads bucket (Some place) ∙ keeps.size;
       chains = chains-with keeps.chains bucket place;
@@ -114,70 +116,71 @@ nothing-waits slots heads free last keeps empty =
     let found = keeps.are_chains.all q s at taken in
     empty-chain slots (head_at heads found.0) (keeps.chains found.0) q (empty found.0 found.1.0) (keeps.are_chains.linked found.0 found.1.0) found.1.1.1)
 
-abbrev chains-without : (ℕ → List ℕ) → List ℕ → ℕ → List ℕ
-chains-without chains rest b = if b == 0 then rest else chains b
+abbrev chains-without : (ℕ → List ℕ) → ℕ → List ℕ → ℕ → List ℕ
+chains-without chains own rest b = if b == own then rest else chains b
 
-without-cases : (chains : ℕ → List ℕ) (rest : List ℕ) (b : ℕ) (P : List ℕ → Type 0) → (b ≡ 0 → P rest) → (b ≢ 0 → P (chains b)) → P (chains-without chains rest b)
-without-cases chains rest b P here there =
-    elim (cases_eq b 0) [
-      | inl same ↦ let test : (b == 0) ≡ true = grind (arith, nat_tests) in subst P (sym (ap (λ t. if t then rest else chains b) test)) (here same)
-      | inr other ↦ let test : (b == 0) ≡ false = grind (arith, nat_tests) in subst P (sym (ap (λ t. if t then rest else chains b) test)) (there other)
+without-cases : (chains : ℕ → List ℕ) (own : ℕ) (rest : List ℕ) (b : ℕ) (P : List ℕ → Type 0) → (b ≡ own → P rest) → (b ≢ own → P (chains b)) → P (chains-without chains own rest b)
+without-cases chains own rest b P here there =
+    elim (cases_eq b own) [
+      | inl same ↦ let test : (b == own) ≡ true = grind (arith, nat_tests) in subst P (sym (ap (λ t. if t then rest else chains b) test)) (here same)
+      | inr other ↦ let test : (b == own) ≡ false = grind (arith, nat_tests) in subst P (sym (ap (λ t. if t then rest else chains b) test)) (there other)
     ]
 
-pub free-first : (slots : List Slot) (heads : List (Option ℕ)) (free : Option ℕ) (last place : ℕ) (slot freed : Slot) → Keeps slots heads free last → head_at heads 0 ≡ Some place →
-    slice_get slots place ≡ Some slot → freed.taken ≡ false → freed.next ≡ free → IsTakenOut slots (slice_set slots place freed) (slice_set heads 0 slot.next) (Some place) last slot
-free-first slots heads free last place slot freed keeps head read freed_free freed_next =
+pub free-first : (slots : List Slot) (heads : List (Option ℕ)) (free : Option ℕ) (last own place : ℕ) (slot freed : Slot) → own ≡ last % 1024 → Keeps slots heads free last → head_at heads own ≡ Some place →
+    slice_get slots place ≡ Some slot → freed.taken ≡ false → freed.next ≡ free → IsTakenOut slots (slice_set slots place freed) (slice_set heads own slot.next) (Some place) last slot
+free-first slots heads free last own place slot freed is_own keeps head read freed_free freed_next =
     let chains = keeps.are_chains in
     let after = slice_set slots place freed in
     let inside = slice_get_within slots place slot read in
-    let zero_in : 0 < 65 = omega arith in
-    let P0 : Option ℕ → Type 0 = λ o. IsChain slots o (keeps.chains 0) in
-    let long = chain-long slots place slot (keeps.chains 0) read (subst P0 head (chains.linked 0 zero_in)) in
+    let own_in : own < 1078 = let h = mod_below last 1024 (omega arith) in omega arith in
+    let P0 : Option ℕ → Type 0 = λ o. IsChain slots o (keeps.chains own) in
+    let long = chain-long slots place slot (keeps.chains own) read (subst P0 head (chains.linked own own_in)) in
     let rest = long.rest in
-    let A : List ℕ → Type 0 = λ xs. (q : ℕ) → IsTrue (is_among xs q) → IsOf slots last 0 q in
-    let only0 = subst A long.are (λ q among. chains.only 0 q zero_in among) in
-    let of = only0 place (among-head place rest) in
+    let A : List ℕ → Type 0 = λ xs. (q : ℕ) → IsTrue (is_among xs q) → IsOf slots last own q in
+    let only_own = subst A long.are (λ q among. chains.only own q own_in among) in
+    let of = only_own place (among-head place rest) in
     let slot_is : of.slot ≡ slot = same_Some of.slot slot (sym of.at ∙ read) in
     let taken : slot.taken ≡ true = sym (ap (λ (s : Slot). s.taken) slot_is) ∙ of.taken in
-    let B : Slot → Type 0 = λ s. IsBucket last s.key 0 in
-    let key = zero-bucket last slot.key (subst B slot_is of.of_bucket) in
+    let B : Slot → Type 0 = λ s. IsBucket last s.key own in
+    let N : ℕ → Type 0 = λ n. IsBucket last slot.key n in
+    let key = own-key last slot.key (subst N is_own (subst B slot_is of.of_bucket)) in
     let once = chain-once slots place slot rest read long.linked in
     let others = λ (q : ℕ) (other : q ≢ place).
     let test : (q == place) ≡ false = grind (arith, nat_tests) in
     slice_get-set slots place q freed inside ∙ ap (λ b. if b then Some freed else slice_get slots q) test in
-    let own : (place == place) ≡ true = grind (arith, nat_tests) in
-    let at : slice_get after place ≡ Some freed = slice_get-set slots place place freed inside ∙ ap (λ b. if b then Some freed else slice_get slots place) own in
-    let apart = λ (b : ℕ) (below : b < 65) (other : b ≢ 0).
+    let itself : (place == place) ≡ true = grind (arith, nat_tests) in
+    let at : slice_get after place ≡ Some freed = slice_get-set slots place place freed inside ∙ ap (λ b. if b then Some freed else slice_get slots place) itself in
+    let apart = λ (b : ℕ) (below : b < 1078) (other : b ≢ own).
     let isnt : is_among (keeps.chains b) place ≡ false = elim (cases_Bool (is_among (keeps.chains b) place)) [
       | inl among ↦
           let there = chains.only b place below among in
           let e : there.slot ≡ of.slot = same_Some there.slot of.slot (sym there.at ∙ of.at) in
           let C : Slot → Type 0 = λ s. IsBucket last s.key b in
-          absurd (other (one-bucket last of.slot.key b 0 (subst C e there.of_bucket) of.of_bucket))
+          absurd (other (one-bucket last of.slot.key b own (subst C e there.of_bucket) of.of_bucket))
       | inr isnt ↦ isnt
     ] in isnt in
     let move = λ (b q : ℕ) (other : q ≢ place) (is : IsOf slots last b q).
     let moved : IsOf after last b q = record { slot = is.slot; at = others q other ∙ is.at; taken = is.taken; later = is.later; of_bucket = is.of_bucket } in moved in
-    let head_after = λ (b : ℕ). head-set heads b 0 slot.next (let h = keeps.size in omega arith) in
-    let keeps_after : Keeps after (slice_set heads 0 slot.next) (Some place) last = record {
-      size = length-set heads 0 slot.next ∙ keeps.size;
-      chains = chains-without keeps.chains rest;
+    let head_after = λ (b : ℕ). head-set heads b own slot.next (let h = keeps.size in omega arith) in
+    let keeps_after : Keeps after (slice_set heads own slot.next) (Some place) last = record {
+      size = length-set heads own slot.next ∙ keeps.size;
+      chains = chains-without keeps.chains own rest;
       are_chains = record {
         linked = λ b below.
-            without-cases keeps.chains rest b (λ xs. IsChain after (head_at (slice_set heads 0 slot.next) b) xs)
+            without-cases keeps.chains own rest b (λ xs. IsChain after (head_at (slice_set heads own slot.next) b) xs)
             (λ same.
-            let test : (b == 0) ≡ true = grind (arith, nat_tests) in
+            let test : (b == own) ≡ true = grind (arith, nat_tests) in
             let H : Option ℕ → Type 0 = λ o. IsChain after o rest in
             subst H (sym (head_after b ∙ ap (λ t. if t then slot.next else head_at heads b) test)) (chain-other slots after slot.next rest place others once long.linked))
             (λ other.
-            let test : (b == 0) ≡ false = grind (arith, nat_tests) in
+            let test : (b == own) ≡ false = grind (arith, nat_tests) in
             let H : Option ℕ → Type 0 = λ o. IsChain after o (keeps.chains b) in
             subst H (sym (head_after b ∙ ap (λ t. if t then slot.next else head_at heads b) test)) (chain-other slots after (head_at heads b) (keeps.chains b) place others (apart b below other) (chains.linked b below)));
         only = λ b q below.
-            without-cases keeps.chains rest b (λ xs. IsTrue (is_among xs q) → IsOf after last b q)
+            without-cases keeps.chains own rest b (λ xs. IsTrue (is_among xs q) → IsOf after last b q)
             (λ same among.
             let N : ℕ → Type 0 = λ n. IsOf after last n q in
-            subst N (sym same) (move 0 q (apart-of rest q place among once) (only0 q (among-more place q rest among))))
+            subst N (sym same) (move own q (apart-of rest q place among once) (only_own q (among-more place q rest among))))
             (λ other among. move b q (apart-of (keeps.chains b) q place among (apart b below other)) (chains.only b q below among));
         all = λ q s is is_taken.
             let away : q ≢ place = λ same.
@@ -189,11 +192,11 @@ free-first slots heads free last place slot freed keeps head read freed_free fre
                 found.1.0,
                 (
                   move found.0 q away found.1.1.0,
-                  without-cases keeps.chains rest found.0 (λ xs. IsTrue (is_among xs q))
+                  without-cases keeps.chains own rest found.0 (λ xs. IsTrue (is_among xs q))
                       (λ same.
                       let L : List ℕ → Type 0 = λ xs. IsTrue (is_among xs q) in
-                      let in0 : IsTrue (is_among (keeps.chains 0) q) = let N : ℕ → Type 0 = λ n. IsTrue (is_among (keeps.chains n) q) in subst N same found.1.1.1 in
-                      elim (among-split place q rest (subst L long.are in0)) [
+                      let in_own : IsTrue (is_among (keeps.chains own) q) = let N : ℕ → Type 0 = λ n. IsTrue (is_among (keeps.chains n) q) in subst N same found.1.1.1 in
+                      elim (among-split place q rest (subst L long.are in_own)) [
                         | inl is_place ↦ absurd (away (sym is_place))
                         | inr more ↦ more
                       ])
@@ -229,26 +232,20 @@ free-first slots heads free last place slot freed keeps head read freed_free fre
       key = sym key;
     }
 
-abbrev pub all_none : List (Option ℕ) → Bool
-all_none [] = true
-all_none (None ∷ heads) = all_none heads
-all_none (Some place ∷ heads) = false
+pub no-head : (count b : ℕ) → head_at (replicate count None) b ≡ None
+no-head zero b = refl
+no-head (suc count) zero = refl
+no-head (suc count) (suc b) = no-head count b
 
-no-head : (heads : List (Option ℕ)) (b : ℕ) → all_none heads ≡ true → head_at heads b ≡ None
-no-head [] b none = refl
-no-head (None ∷ heads) zero none = refl
-no-head (None ∷ heads) (suc b) none = no-head heads b none
-no-head (Some place ∷ heads) b none = absurd (both_ways true (sym none) refl)
-
-pub empty-keeps : (slots : List Slot) (heads : List (Option ℕ)) (last : ℕ) → slots ≡ [] → length heads ≡ 65 → all_none heads ≡ true → Keeps slots heads None last
-empty-keeps slots heads last none size empty =
+pub empty-keeps : (slots : List Slot) (heads : List (Option ℕ)) (last : ℕ) → slots ≡ [] → heads ≡ replicate 1078 None → Keeps slots heads None last
+empty-keeps slots heads last none empty =
     let nothing = λ (q : ℕ) (s : Slot) (at : slice_get slots q ≡ Some s).
     let bad : ⊥ = none-some s (sym (ap (λ (xs : List Slot). slice_get xs q) none) ∙ at) in bad in
     record {
-      size = size;
+      size = ap (λ (hs : List (Option ℕ)). length hs) empty ∙ length-replicate {A = Option ℕ} 1078 None;
       chains = λ b. [];
       are_chains = record {
-        linked = λ b below. no-head heads b empty;
+        linked = λ b below. ap (λ (hs : List (Option ℕ)). head_at hs b) empty ∙ no-head 1078 b;
         only = λ b q below among. absurd (both_ways true (sym among) refl);
         all = λ q s at taken. absurd (nothing q s at);
       };

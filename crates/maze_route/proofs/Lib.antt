@@ -20,6 +20,8 @@ pub mod WalkLemmas
 pub mod ReachLemmas
 pub mod GoalLemmas
 pub mod BitLemmas
+pub mod BucketNumbers
+pub mod HeadLemmas
 pub mod ChainLemmas
 pub mod BucketLemmas
 pub mod LengthLemmas

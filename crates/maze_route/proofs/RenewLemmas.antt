@@ -1,6 +1,7 @@
--- The bucket of the least key is made bucket 0.
-use Rattle.std.proofs.Common.{◌≡◌, ℕ, zero, suc, ◌-◌, ◌<◌, ◌≤◌, inl, inr, true, false, ◌==◌, nat_lt, List, [], ◌∷◌, Option, Some, None, IsSome, IsTrue, Contains, slice_get, slice_set, if◌then◌else◌, refl, sym, ap, subst, ◌∙◌, arith, length-set}
+-- The bucket of the least key is made one of this key alone.
+use Rattle.std.proofs.Common.{◌≡◌, ℕ, zero, suc, ◌+◌, ◌-◌, ◌/◌, ◌%◌, ◌<◌, ◌≤◌, inl, inr, true, false, ◌==◌, nat_lt, List, [], ◌∷◌, Option, Some, None, IsSome, IsTrue, Contains, slice_get, slice_set, if◌then◌else◌, refl, sym, ap, subst, ◌∙◌, arith, length-set}
 use Rattle.std.specs.List.{filter_map, cons_option}
+use Rattle.std.proofs.lemmas.Nat.{div-add-mod', mod_below}
 use Rattle.std.proofs.lemmas.Bool.{cases_lt, cases_eq, cases_Bool, both_ways}
 use Rattle.std.proofs.lemmas.Bool.Decides.{nat_tests}
 use Rattle.std.proofs.lemmas.Option.{none-some, same_Some}
@@ -9,12 +10,12 @@ use Rattle.maze_route.specs.Buckets.{pair_in, IsBucket, IsChain, head_at, IsOf, 
 use Rattle.maze_route.specs.Renewed.{IsRenewed}
 use Rattle.maze_route.specs.Spreading.{IsSpreading}
 use Rattle.maze_route.specs.declared.slot.Slot.{Slot}
-use Rattle.maze_route.proofs.BitLemmas.{one-bucket, lower-less, same-closer, higher-same, own-bucket, some-bucket}
+use Rattle.maze_route.proofs.BucketNumbers.{near-key, make-near, own-bucket, one-bucket, lower-less, in-block, closer-bucket, higher-same, same-block}
 use Rattle.maze_route.proofs.ChainLemmas.{chain-same}
 use Rattle.maze_route.proofs.KeepLemmas.{empty-chain}
 use Rattle.maze_route.proofs.LabelLemmas.{contains-head, contains-more, contains-cases}
 use Rattle.maze_route.proofs.PlaceLemmas.{pair-taken, pair-free}
-use Rattle.maze_route.proofs.SpreadingLemmas.{head-set}
+use Rattle.maze_route.proofs.SpreadingLemmas.{among-head, head-set}
 use Rattle.maze_route.proofs.ChainSteps.{chain-empty}
 
 abbrev above : (ℕ → List ℕ) → ℕ → ℕ → List ℕ
@@ -33,7 +34,7 @@ pub record IsLeast (slots : List Slot) (last bucket least : ℕ) (chain : List �
   pub of_bucket : IsBucket last least bucket
   pub later : last ≤ least
 
-least-bucket-of : (slots : List Slot) (heads : List (Option ℕ)) (free : Option ℕ) (last bucket first least : ℕ) → (keeps : Keeps slots heads free last) → bucket < 65 → head_at heads bucket ≡ Some first →
+least-bucket-of : (slots : List Slot) (heads : List (Option ℕ)) (free : Option ℕ) (last bucket first least : ℕ) → (keeps : Keeps slots heads free last) → bucket < 1078 → head_at heads bucket ≡ Some first →
     IsLeastKey slots first least → IsLeast slots last bucket least (keeps.chains bucket)
 least-bucket-of slots heads free last bucket first least keeps few head key =
     let P : Option ℕ → Type 0 = λ o. IsChain slots o (keeps.chains bucket) in
@@ -47,10 +48,10 @@ least-bucket-of slots heads free last bucket first least keeps few head key =
     let later = of.later in
     record { least_of = subst L same key.least_of; of_bucket = subst B value of.of_bucket; later = omega arith }
 
-pub renew-start : (slots : List Slot) (heads : List (Option ℕ)) (free : Option ℕ) (last bucket first least : ℕ) → (keeps : Keeps slots heads free last) → IsFirstFull heads (Some bucket) → 0 < bucket →
+pub renew-start : (slots : List Slot) (heads : List (Option ℕ)) (free : Option ℕ) (last bucket first least : ℕ) → (keeps : Keeps slots heads free last) → IsFirstFull heads (Some bucket) → 1024 ≤ bucket →
     head_at heads bucket ≡ Some first → IsLeastKey slots first least →
     IsSpreading slots (slice_set heads bucket None) free (Some first) least bucket (filter_map pair_in slots)
-renew-start slots heads free last bucket first least keeps full some head key =
+renew-start slots heads free last bucket first least keeps full far head key =
     let few = full.0 in
     let is = least-bucket-of slots heads free last bucket first least keeps few head key in
     let chains = keeps.are_chains in
@@ -68,10 +69,8 @@ renew-start slots heads free last bucket first least keeps full some head key =
       left_only = λ place among.
           let of = chains.only bucket place few among in
           let low = is.least_of place of.slot among of.at in
-          let agrees = same-closer last least of.slot.key bucket some is.of_bucket of.of_bucket is.later of.later in
-          let found = some-bucket least of.slot.key (bucket - 1) agrees in
-          let h = found.1.0 in
-          (found.0, (omega arith, record { slot = of.slot; at = of.at; taken = of.taken; later = low; of_bucket = found.1.1 }));
+          let found = closer-bucket last least of.slot.key bucket far is.of_bucket of.of_bucket is.later of.later in
+          (found.0, (found.1.0, record { slot = of.slot; at = of.at; taken = of.taken; later = low; of_bucket = found.1.1 }));
       linked = λ b below.
           above-cases keeps.chains bucket b (λ xs. IsChain slots (head_at (slice_set heads bucket None) b) xs)
           (λ higher.
@@ -156,7 +155,7 @@ renew-end before slots heads free first least bucket key place slot at taken is 
     let N : List ℕ → Type 0 = λ xs. IsTrue (is_among xs q) in
     let bad : ⊥ = both_ways true (sym (subst N none among)) refl in bad in
     let all = λ (q : ℕ) (s : Slot) (here : slice_get slots q ≡ Some s) (is_taken : s.taken ≡ true).
-    let found : (b : ℕ) × ((b < 65) × ((IsOf slots least b q) × IsTrue (is_among (so_far.chains b) q))) = elim (so_far.all q s here is_taken) [
+    let found : (b : ℕ) × ((b < 1078) × ((IsOf slots least b q) × IsTrue (is_among (so_far.chains b) q))) = elim (so_far.all q s here is_taken) [
       | inl left ↦ absurd (not_left q left)
       | inr found ↦ found
     ] in found in
@@ -168,7 +167,7 @@ renew-end before slots heads free first least bucket key place slot at taken is 
     let e : of.slot ≡ now.1.0 = same_Some of.slot now.1.0 (sym of.at ∙ now.1.1.0) in
     let value : of.slot.key ≡ least = ap (λ (s : Slot). s.key) e ∙ now.1.1.1.1 ∙ is in
     let B : ℕ → Type 0 = λ k. IsBucket least k found.0 in
-    let zero_b = one-bucket least least found.0 0 (subst B value of.of_bucket) (own-bucket least) in
+    let own = one-bucket least least found.0 (least % 1024) (subst B value of.of_bucket) (own-bucket least) in
     let S : ℕ → Type 0 = λ b. IsSome (head_at heads b) in
     record {
       keeps = record {
@@ -178,11 +177,11 @@ renew-end before slots heads free first least bucket key place slot at taken is 
         free_places = so_far.free_places;
         are_free = so_far.are_free;
       };
-      some = subst S zero_b (some-head slots (head_at heads found.0) (so_far.chains found.0) now.0 (so_far.linked found.0 found.1.0) found.1.1.1);
+      some = subst S own (some-head slots (head_at heads found.0) (so_far.chains found.0) now.0 (so_far.linked found.0 found.1.0) found.1.1.1);
     }
 
 -- the pair of least key waits
-key-taken : (slots : List Slot) (heads : List (Option ℕ)) (free : Option ℕ) (last bucket first least : ℕ) → (keeps : Keeps slots heads free last) → bucket < 65 → head_at heads bucket ≡ Some first →
+key-taken : (slots : List Slot) (heads : List (Option ℕ)) (free : Option ℕ) (last bucket first least : ℕ) → (keeps : Keeps slots heads free last) → bucket < 1078 → head_at heads bucket ≡ Some first →
     (key : IsLeastKey slots first least) → key.slot.taken ≡ true
 key-taken slots heads free last bucket first least keeps few head key =
     let P : Option ℕ → Type 0 = λ o. IsChain slots o (keeps.chains bucket) in
@@ -196,3 +195,88 @@ pub renew-whole : (before slots : List Slot) (old heads : List (Option ℕ)) (fr
     IsLeastKey before first least → IsSpreading slots heads free None least bucket (filter_map pair_in before) → IsRenewed slots heads free least
 renew-whole before slots old heads free last bucket first least keeps full head key so_far =
     renew-end before slots heads free first least bucket key key.place key.slot key.at (key-taken before old free last bucket first least keeps full.0 head key) key.key so_far
+
+chain-first : (slots : List Slot) (first : ℕ) (ps : List ℕ) → IsChain slots (Some first) ps → IsTrue (is_among ps first)
+chain-first slots first [] chain = absurd (none-some first (sym chain))
+chain-first slots first (p ∷ ps) chain =
+    let N : ℕ → Type 0 = λ n. IsTrue (is_among (p ∷ ps) n) in
+    subst N (sym (same_Some first p chain.0)) (among-head p ps)
+
+below-by : (slots : List Slot) (heads : List (Option ℕ)) (free : Option ℕ) (last b : ℕ) (head : Option ℕ) → Keeps slots heads free last → b < last % 1024 → head_at heads b ≡ head → head_at heads b ≡ None
+below-by slots heads free last b None keeps less is = is
+below-by slots heads free last b (Some first) keeps less is =
+    let h = mod_below last 1024 (omega arith) in
+    let few : b < 1078 = omega arith in
+    let P : Option ℕ → Type 0 = λ o. IsChain slots o (keeps.chains b) in
+    let of = keeps.are_chains.only b first few (chain-first slots first (keeps.chains b) (subst P is (keeps.are_chains.linked b few))) in
+    let near = near-key last of.slot.key b of.of_bucket (omega arith) in
+    let low = near.1 in
+    let before = in-block of.slot.key last (sym near.0) (omega arith) in
+    let later = of.later in
+    absurd (omega arith)
+
+-- no key waits below the last one
+pub none-below : (slots : List Slot) (heads : List (Option ℕ)) (free : Option ℕ) (last b : ℕ) → Keeps slots heads free last → b < last % 1024 → head_at heads b ≡ None
+none-below slots heads free last b keeps less = below-by slots heads free last b (head_at heads b) keeps less refl
+
+-- a key of a full bucket past the first one is greater, one of the first is this key
+pub first-least : (last next b bucket key : ℕ) → last / 1024 ≡ next / 1024 → next % 1024 ≡ bucket → bucket < 1024 → bucket ≤ b → IsBucket last key b → last ≤ key → next ≤ key
+first-least last next b bucket key block rest low le of_bucket later =
+    elim (cases_lt bucket b) [
+      | inl less ↦
+          let N : ℕ → Type 0 = λ n. IsBucket last next n in
+          let h = lower-less last next key bucket b (subst N rest (make-near last next block)) of_bucket less later in
+          omega arith
+      | inr same ↦
+          let near = near-key last key b of_bucket (omega arith) in
+          let next1 = div-add-mod' next 1024 in
+          let key1 = div-add-mod' key 1024 in
+          let one = near.0 in
+          let two = near.1 in
+          omega (arith, next1, key1, one, two, block, rest)
+    ]
+
+-- the first full bucket is one of a single key, which is the last one now
+pub renew-near : (slots : List Slot) (heads : List (Option ℕ)) (free : Option ℕ) (last bucket next : ℕ) → Keeps slots heads free last → IsFirstFull heads (Some bucket) → bucket < 1024 →
+    last / 1024 ≡ next / 1024 → next % 1024 ≡ bucket → IsRenewed slots heads free next
+renew-near slots heads free last bucket next keeps full low block rest =
+    let chains = keeps.are_chains in
+    let moved = λ (b place : ℕ) (below : b < 1078) (among : IsTrue (is_among (keeps.chains b) place)) (of : IsOf slots last b place).
+    let le : bucket ≤ b = elim (cases_lt b bucket) [
+      | inl less ↦ absurd (empty-chain slots (head_at heads b) (keeps.chains b) place (full.1.1 b less) (chains.linked b below) among)
+      | inr le ↦ le
+    ] in
+    let now : IsOf slots next b place = record {
+      slot = of.slot;
+      at = of.at;
+      taken = of.taken;
+      later = first-least last next b bucket of.slot.key block rest low le of.of_bucket of.later;
+      of_bucket = same-block last next of.slot.key b block of.of_bucket;
+    } in now in
+    let S : ℕ → Type 0 = λ n. IsSome (head_at heads n) in
+    record {
+      keeps = record {
+        size = keeps.size;
+        chains = keeps.chains;
+        are_chains = record {
+          linked = chains.linked;
+          only = λ b place below among. moved b place below among (chains.only b place below among);
+          all = λ place slot at taken.
+              let found = chains.all place slot at taken in
+              (found.0, (found.1.0, (moved found.0 place found.1.0 found.1.1.1 found.1.1.0, found.1.1.1)));
+        };
+        free_places = keeps.free_places;
+        are_free = keeps.are_free;
+      };
+      some = subst S (sym rest) full.1.0;
+    }
+
+-- the key of a bucket of its own
+pub near-number : (last bucket : ℕ) → bucket < 1024 → let next = last - last % 1024 + bucket in (last / 1024 ≡ next / 1024) × (next % 1024 ≡ bucket)
+near-number last bucket low =
+    let next : ℕ = last - last % 1024 + bucket in
+    let last1 = div-add-mod' last 1024 in
+    let last2 = mod_below last 1024 (omega arith) in
+    let next1 = div-add-mod' next 1024 in
+    let next2 = mod_below next 1024 (omega arith) in
+    (omega (arith, last1, last2, next1, next2), omega (arith, last1, last2, next1, next2))

@@ -7,7 +7,7 @@ use Rattle.std.proofs.lemmas.Option.{none-some, same_Some, slice_get_within}
 use Rattle.gr_base.specs.Trees.{is_among}
 use Rattle.maze_route.specs.Buckets.{IsBucket, IsChain, head_at, IsOf, AreFree}
 use Rattle.maze_route.specs.declared.slot.Slot.{Slot}
-use Rattle.maze_route.proofs.BitLemmas.{one-bucket}
+use Rattle.maze_route.proofs.BucketNumbers.{one-bucket}
 use Rattle.maze_route.proofs.BucketLemmas.{IsRelink, relink-at, relink-back, relink-of, relink-pairs, chains-with}
 use Rattle.maze_route.specs.Spreading.{IsSpreading}
 use Rattle.maze_route.proofs.ChainLemmas.{some-and, make-some-and, chain-once, chain-set, or-right}
@@ -73,8 +73,8 @@ relink-free slots after free places place old new re taken are =
     }
 
 linked-with : (slots after : List Slot) (heads heads_after : List (Option ℕ)) (chains : ℕ → List ℕ) (to place : ℕ) (old new : Slot) → IsRelink slots after place old new →
-    to < length heads → heads_after ≡ slice_set heads to (Some place) → new.next ≡ head_at heads to → ((b : ℕ) → b < 65 → is_among (chains b) place ≡ false) →
-    ((b : ℕ) → b < 65 → IsChain slots (head_at heads b) (chains b)) → (b : ℕ) → b < 65 → IsChain after (head_at heads_after b) (chains-with chains to place b)
+    to < length heads → heads_after ≡ slice_set heads to (Some place) → new.next ≡ head_at heads to → ((b : ℕ) → b < 1078 → is_among (chains b) place ≡ false) →
+    ((b : ℕ) → b < 1078 → IsChain slots (head_at heads b) (chains b)) → (b : ℕ) → b < 1078 → IsChain after (head_at heads_after b) (chains-with chains to place b)
 linked-with slots after heads heads_after chains to place old new re to_in set next apart linked b below =
     let inside = slice_get_within slots place old re.at in
     let C : List Slot → Type 0 = λ xs. IsChain xs (head_at heads b) (chains b) in
@@ -128,7 +128,7 @@ with-new chains to place =
 
 -- one place goes to its bucket
 pub spread-turn : (slots after : List Slot) (heads heads_after : List (Option ℕ)) (free : Option ℕ) (last bucket place to : ℕ) (old new : Slot) (pairs : List (ℕ × ℕ)) →
-    IsSpreading slots heads free (Some place) last bucket pairs → IsRelink slots after place old new → IsBucket last old.key to → to < 65 →
+    IsSpreading slots heads free (Some place) last bucket pairs → IsRelink slots after place old new → IsBucket last old.key to → to < 1078 →
     new.next ≡ head_at heads to → heads_after ≡ slice_set heads to (Some place) → IsSpreading after heads_after free old.next last bucket pairs
 spread-turn slots after heads heads_after free last bucket place to old new pairs so_far re of_to to_in next set =
     let long = chain-long slots place old so_far.left re.at so_far.left_linked in

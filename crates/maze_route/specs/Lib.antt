@@ -9,6 +9,7 @@ pub mod Queues
 pub mod Labels
 pub mod Search
 pub mod Buckets
+pub mod Heads
 pub mod Handing
 pub mod Ends
 pub mod Backs

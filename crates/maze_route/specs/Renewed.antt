@@ -1,14 +1,14 @@
 -- Buckets that are made ready for the next pair, and the pair that is taken.
-use Rattle.std.specs.Prelude.{◌≡◌, ℕ, ◌≤◌, List, ◌∷◌, All, Option, Some, IsSome}
+use Rattle.std.specs.Prelude.{◌≡◌, ℕ, ◌%◌, ◌≤◌, List, ◌∷◌, All, Option, Some, IsSome}
 use Rattle.std.specs.List.{filter_map}
 use Rattle.std.specs.List.Sorted.{IsPermutation}
 use Rattle.maze_route.specs.Buckets.{pair_in, head_at, Keeps, IsFirstFull}
 use Rattle.maze_route.specs.declared.slot.Slot.{Slot}
 
--- the buckets stand by the last key, and bucket 0 has a place
+-- the buckets stand by the last key, whose own bucket has a place
 pub record IsRenewed (slots : List Slot) (heads : List (Option ℕ)) (free : Option ℕ) (last : ℕ) : Type 0 where
   pub keeps : Keeps slots heads free last
-  pub some : IsSome (head_at heads 0)
+  pub some : IsSome (head_at heads (last % 1024))
 
 -- the bucket is the first that has a place
 pub record IsRenewable (slots : List Slot) (heads : List (Option ℕ)) (last bucket first : ℕ) : Type 0 where
@@ -16,11 +16,6 @@ pub record IsRenewable (slots : List Slot) (heads : List (Option ℕ)) (last buc
   pub keeps : Keeps slots heads free last
   pub full : IsFirstFull heads (Some bucket)
   pub head : head_at heads bucket ≡ Some first
-
--- bucket 0 has a place
-pub record HasFirst (slots : List Slot) (heads : List (Option ℕ)) (free : Option ℕ) : Type 0 where
-  pub last : ℕ
-  pub renewed : IsRenewed slots heads free last
 
 -- a pair of the last key is taken out, and no key is less
 pub record IsTakenOut (slots after : List Slot) (heads : List (Option ℕ)) (free : Option ℕ) (last : ℕ)

@@ -1,28 +1,33 @@
-ghost use Rattle.std.specs.Prelude.{◌≡◌, ℕ, ◌<◌, List, Option, None};
-ghost use Rattle.maze_route.specs.Buckets.{IsBucket, IsFirstFull, BeginsChain, IsLeastKey};
+ghost use Rattle.std.specs.Prelude.{◌≡◌, ℕ, ◌%◌, ◌<◌, List, Option, None};
+ghost use Rattle.maze_route.specs.Buckets.{IsBucket, BeginsChain, IsLeastKey};
 ghost use Rattle.maze_route.specs.Spreading.{IsSpreading, IsSpread};
 
+use crate::heads::Heads;
 use crate::slot::Slot;
 
-/// The bucket of a key: how many of the low bits hold all those in which it differs from the last
-/// key taken.
+/// The bucket of a key. Keys come in blocks of 1,024. Each key of the last key's block has a bucket of
+/// its own. Of the others it is the number of low bits that hold all those in which the numbers of the
+/// blocks differ.
+#[inline(always)]
 pub(crate) fn bucket_of(last: u64, key: u64) -> usize
     ensures bucket { IsBucket last key result }
-    ensures few { result < 65 }
+    ensures few { result < 1078 }
 {
-    64 - (last ^ key).leading_zeros() as usize
+    let bits = 64 - (last / 1024 ^ key / 1024).leading_zeros() as usize;
+    if bits == 0 {
+        own_bucket(key)
+    } else {
+        1023 + bits
+    }
 }
 
-/// The first bucket that has a pair.
-pub(crate) fn first_full(heads: &[Option<u32>; 65]) -> Option<usize>
-    ensures { IsFirstFull heads.now result }
+/// The bucket of a key as long as the last key is of its block.
+#[inline(always)]
+pub(crate) fn own_bucket(key: u64) -> usize
+    ensures own { result ≡ key % 1024 }
+    ensures few { result < 1024 }
 {
-    for bucket in 0..65 {
-        if heads[bucket].is_some() {
-            return Some(bucket);
-        }
-    }
-    None
+    (key % 1024) as usize
 }
 
 /// The least key of the pairs of a chain, from its first place.
@@ -42,12 +47,7 @@ pub(crate) fn least_key(slots: &[Slot], first: u32) -> u64
 }
 
 /// Links the pairs of a chain into their buckets by a new last key.
-pub(crate) fn spread(
-    slots: &mut Vec<Slot>,
-    heads: &mut [Option<u32>; 65],
-    last: u64,
-    first: Option<u32>,
-)
+pub(crate) fn spread(slots: &mut Vec<Slot>, heads: &mut Heads, last: u64, first: Option<u32>)
     requires { IsSpread slots.old.items heads.old first last }
     ensures { (free : Option ℕ) (bucket : ℕ) (pairs : List (ℕ × ℕ)) →
         IsSpreading slots.old.items heads.old free first last bucket pairs →
@@ -58,10 +58,10 @@ pub(crate) fn spread(
         let slot = slots[place as usize];
         let bucket = bucket_of(last, slot.key);
         slots[place as usize] = Slot {
-            next: heads[bucket],
+            next: heads.at(bucket),
             ..slot
         };
-        heads[bucket] = Some(place);
+        heads.set(bucket, Some(place));
         at = slot.next;
     }
 }

@@ -1,16 +1,17 @@
 ghost use Rattle.std.specs.Prelude.{◌≡◌, ℕ, Option};
 ghost use Rattle.std.specs.List.{filter_map};
 ghost use Rattle.maze_route.specs.Buckets.{pair_in, Keeps};
-ghost use Rattle.maze_route.specs.Renewed.{IsRenewed, IsRenewable, HasFirst, IsTakenOut};
+ghost use Rattle.maze_route.specs.Renewed.{IsRenewed, IsRenewable, IsTakenOut};
 
-use crate::bucket::{least_key, spread};
+use crate::bucket::{least_key, own_bucket, spread};
+use crate::heads::Heads;
 use crate::slot::Slot;
 
-/// Makes bucket 0 the one that has the least key, and answers that key: it is the last key itself,
-/// or the first full bucket is spread by its least key.
+/// Answers the least key, and makes the bucket that has it one of this key alone: the first full bucket
+/// is one, or it is spread by its least key.
 pub(crate) fn renew(
     slots: &mut Vec<Slot>,
-    heads: &mut [Option<u32>; 65],
+    heads: &mut Heads,
     last: u64,
     bucket: usize,
     first: u32,
@@ -20,29 +21,30 @@ pub(crate) fn renew(
         IsRenewed slots.new.items heads.new free result }
     ensures pairs { filter_map pair_in slots.new.items ≡ filter_map pair_in slots.old.items }
 {
-    if bucket == 0 {
-        return last;
+    if bucket < 1024 {
+        return last - last % 1024 + bucket as u64;
     }
     let least = least_key(slots, first);
-    heads[bucket] = None;
+    heads.set(bucket, None);
     spread(slots, heads, least, Some(first));
     least
 }
 
-/// Takes the first pair out of bucket 0.
+/// Takes the first pair out of the last key's bucket.
 #[inline(always)]
 pub(crate) fn take_first(
     slots: &mut Vec<Slot>,
-    heads: &mut [Option<u32>; 65],
+    heads: &mut Heads,
     free: &mut Option<u32>,
+    last: u64,
 ) -> Slot
-    requires { HasFirst slots.old.items heads.old free.old }
-    ensures { (last : ℕ) → IsRenewed slots.old.items heads.old free.old last →
-        IsTakenOut slots.old.items slots.new.items heads.new free.new last result }
+    requires { IsRenewed slots.old.items heads.old free.old last }
+    ensures { IsTakenOut slots.old.items slots.new.items heads.new free.new last result }
 {
-    let place = heads[0].unwrap();
+    let own = own_bucket(last);
+    let place = heads.at(own).unwrap();
     let slot = slots[place as usize];
-    heads[0] = slot.next;
+    heads.set(own, slot.next);
     slots[place as usize] = Slot {
         next: *free,
         taken: false,

@@ -9,6 +9,7 @@ mod ends;
 mod field;
 mod first;
 mod front;
+mod heads;
 mod lists;
 mod numbers;
 mod pane;

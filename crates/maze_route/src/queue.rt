@@ -2,8 +2,9 @@ ghost use Rattle.std.specs.Prelude.{◌≡◌, ◌≤◌, [], OnOk, OnErr};
 ghost use Rattle.maze_route.specs.Kept.{cells_of_pairs};
 ghost use Rattle.maze_route.specs.Queues.{IsPushed, Pops};
 
-use crate::bucket::{bucket_of, first_full};
+use crate::bucket::{bucket_of, own_bucket};
 use crate::first::{renew, take_first};
+use crate::heads::Heads;
 use crate::places::{put, waiting};
 use crate::slot::Slot;
 use std::alloc::{AllocError, Global};
@@ -12,14 +13,15 @@ use std::marker::Model;
 /// Pairs of a key and a cell, taken out by least key. No key that is put in is below the last one
 /// taken out.
 ///
-/// A pair lies in one of 65 buckets, by the highest bit in which its key differs from the last key
-/// taken: the radix heap of Ahuja, Mehlhorn, Orlin and Tarjan, "Faster algorithms for the shortest
-/// path problem", 1990. The pairs lie in one vector and are linked into their buckets by place.
+/// Keys near the last one taken have a bucket each, as in Dial, "Algorithm 360: shortest-path forest
+/// with topological ordering", 1969. Those farther on lie in buckets by the highest bit in which their
+/// block of keys differs from its, as in the radix heap of Ahuja, Mehlhorn, Orlin and Tarjan, "Faster
+/// algorithms for the shortest path problem", 1990. The pairs lie in one vector and are linked into
+/// their buckets by place.
 #[derive(Debug, Drop)]
 pub struct BucketQueue {
     slots: Vec<Slot>,
-    /// The first place of each bucket.
-    heads: [Option<u32>; 65],
+    heads: Heads,
     /// The first free place.
     free: Option<u32>,
     last: u64,
@@ -44,7 +46,7 @@ impl BucketQueue {
     {
         BucketQueue {
             slots: Vec::new(alloc),
-            heads: [None; 65],
+            heads: Heads::new(),
             free: None,
             last: 0,
         }
@@ -55,7 +57,7 @@ impl BucketQueue {
         ensures { self.new ≡ record { pairs = []; last = 0 } }
     {
         self.slots.clear();
-        self.heads = [None; 65];
+        self.heads = Heads::new();
         self.free = None;
         self.last = 0;
     }
@@ -70,11 +72,11 @@ impl BucketQueue {
         let slot = Slot {
             key,
             cell,
-            next: self.heads[bucket],
+            next: self.heads.at(bucket),
             taken: true,
         };
         let place = put(&mut self.slots, &mut self.free, slot)?;
-        self.heads[bucket] = Some(place);
+        self.heads.set(bucket, Some(place));
         Ok(())
     }
 
@@ -90,10 +92,10 @@ impl BucketQueue {
     pub fn pop(&mut self) -> Option<(u64, u32)>
         ensures { Pops result self.old self.new }
     {
-        let bucket = first_full(&self.heads)?;
-        let first = self.heads[bucket].unwrap();
+        let bucket = self.heads.first_full(own_bucket(self.last))?;
+        let first = self.heads.at(bucket).unwrap();
         self.last = renew(&mut self.slots, &mut self.heads, self.last, bucket, first);
-        let slot = take_first(&mut self.slots, &mut self.heads, &mut self.free);
+        let slot = take_first(&mut self.slots, &mut self.heads, &mut self.free, self.last);
         Some((slot.key, slot.cell))
     }
 }

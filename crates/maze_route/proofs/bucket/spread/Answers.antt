@@ -1,4 +1,4 @@
-use Rattle.std.proofs.Common.{ℕ, List, Option, None, length, get_or, refl, arith}
+use Rattle.std.proofs.Common.{ℕ, List, Option, length, refl, arith}
 use Rattle.std.proofs.lemmas.Option.{slice_get_read}
 use Rattle.maze_route.specs.declared.slot.Slot.{Slot}
 use Rattle.maze_route.proofs.ChainSteps.{chain-place, turn-any, turn-less}
@@ -28,9 +28,9 @@ loop-at-preserved c =
     let slot = c.index-slot.result.now in
     let read = slice_get_read items (length items) c.in-Some.place slot refl h c.index-slot.ensures in
     let to = c.bucket_of-bucket.result in
-    let new : Slot = record { key = slot.key; cell = slot.cell; next = get_or c.loop-at.heads to None; taken = slot.taken } in
+    let new : Slot = record { key = slot.key; cell = slot.cell; next = c.at.result; taken = slot.taken } in
     let turn = λ (free : Option ℕ) (bucket : ℕ) (pairs : List (ℕ × ℕ)).
-    turn-any items c.loop-at.heads free c.loop-at.at c.args.last bucket c.in-Some.place to slot new pairs c.in-Some.is read refl refl refl refl c.bucket_of-bucket.ensures.bucket c.bucket_of-bucket.ensures.few in
+    turn-any items c.loop-at.heads c.set.new.self free c.loop-at.at c.args.last bucket c.in-Some.place to slot new pairs c.in-Some.is read refl refl refl c.at.ensures c.set.ensures c.bucket_of-bucket.ensures.bucket c.bucket_of-bucket.ensures.few in
     let is = c.loop-at.invariant.is in
     record {
       is = record { free = is.free; bucket = is.bucket; pairs = is.pairs; spreading = turn is.free is.bucket is.pairs is.spreading };

@@ -1,21 +1,28 @@
-use Rattle.std.proofs.Common.{◌<◌, List, subst, arith}
+use Rattle.std.proofs.Common.{ℕ, ◌≤◌, ◌+◌, ◌-◌, ◌%◌, List, Option, Some, sym, subst, arith}
 use Rattle.std.specs.List.{filter_map}
-use Rattle.maze_route.specs.Buckets.{pair_in, IsLeastKey}
+use Rattle.maze_route.specs.Buckets.{pair_in, Keeps, IsLeastKey}
+use Rattle.maze_route.specs.Spreading.{IsSpreading}
 use Rattle.maze_route.specs.declared.slot.Slot.{Slot}
-use Rattle.maze_route.proofs.RenewLemmas.{renew-start, renew-whole}
+use Rattle.maze_route.proofs.RenewLemmas.{near-number, renew-near, renew-start, renew-whole}
 use Rattle.maze_route.proofs.first.renew.Goals as goal
+
+pub returns-then-bucket-lt1024-clause-renewed : goal.returns-then-bucket-lt1024-clause-renewed
+returns-then-bucket-lt1024-clause-renewed c = λ free keeps.
+    let next = near-number c.args.last c.args.bucket c.if-bucket-lt1024.true in
+    renew-near c.args.slots.now.items c.args.heads.now free c.args.last c.args.bucket (c.args.last - c.args.last % 1024 + c.args.bucket) keeps c.requires.full c.if-bucket-lt1024.true next.0 next.1
 
 pub spread-requires : goal.spread-requires
 spread-requires c =
     let items = c.args.slots.now.items in
     let K : List Slot → Type 0 = λ xs. IsLeastKey xs c.args.first c.least_key-least.result in
     let key = subst K c.deref.ensures.value c.least_key-least.ensures in
+    let far : 1024 ≤ c.args.bucket = omega (arith, c.if-bucket-lt1024.false) in
+    let S : List (Option ℕ) → Type 0 = λ hs. IsSpreading items hs c.requires.free (Some c.args.first) c.least_key-least.result c.args.bucket (filter_map pair_in items) in
     record {
       free = c.requires.free;
       bucket = c.args.bucket;
       pairs = filter_map pair_in items;
-      spreading = renew-start items c.args.heads.now c.requires.free c.args.last c.args.bucket c.args.first c.least_key-least.result c.requires.keeps c.requires.full
-          (omega (arith, c.if-bucket-eq0.false)) c.requires.head key;
+      spreading = subst S (sym c.set.ensures) (renew-start items c.args.heads.now c.requires.free c.args.last c.args.bucket c.args.first c.least_key-least.result c.requires.keeps c.requires.full far c.requires.head key);
     }
 
 pub returns : goal.returns
@@ -23,12 +30,13 @@ returns c =
     let items = c.args.slots.now.items in
     let K : List Slot → Type 0 = λ xs. IsLeastKey xs c.args.first c.least_key-least.result in
     let key = subst K c.deref.ensures.value c.least_key-least.ensures in
-    let some : 0 < c.args.bucket = omega (arith, c.if-bucket-eq0.false) in
+    let far : 1024 ≤ c.args.bucket = omega (arith, c.if-bucket-lt1024.false) in
+    let start = λ (free : Option ℕ) (keeps : Keeps items c.args.heads.now free c.args.last).
+    let S : List (Option ℕ) → Type 0 = λ hs. IsSpreading items hs free (Some c.args.first) c.least_key-least.result c.args.bucket (filter_map pair_in items) in
+    c.spread.ensures free c.args.bucket (filter_map pair_in items)
+    (subst S (sym c.set.ensures) (renew-start items c.args.heads.now free c.args.last c.args.bucket c.args.first c.least_key-least.result keeps c.requires.full far c.requires.head key)) in
     record {
       renewed = λ free keeps.
-          renew-whole items c.spread.new.slots.items c.args.heads.now c.spread.new.heads free c.args.last c.args.bucket c.args.first c.least_key-least.result keeps c.requires.full c.requires.head key
-          (c.spread.ensures free c.args.bucket (filter_map pair_in items)
-          (renew-start items c.args.heads.now free c.args.last c.args.bucket c.args.first c.least_key-least.result keeps c.requires.full some c.requires.head key));
-      pairs = (c.spread.ensures c.requires.free c.args.bucket (filter_map pair_in items)
-          (renew-start items c.args.heads.now c.requires.free c.args.last c.args.bucket c.args.first c.least_key-least.result c.requires.keeps c.requires.full some c.requires.head key)).same_pairs;
+          renew-whole items c.spread.new.slots.items c.args.heads.now c.spread.new.heads free c.args.last c.args.bucket c.args.first c.least_key-least.result keeps c.requires.full c.requires.head key (start free keeps);
+      pairs = (start c.requires.free c.requires.keeps).same_pairs;
     }
