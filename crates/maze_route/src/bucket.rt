@@ -5,19 +5,21 @@ ghost use Rattle.maze_route.specs.Spreading.{IsSpreading, IsSpread};
 use crate::heads::Heads;
 use crate::slot::Slot;
 
-/// The bucket of a key. Keys come in blocks of 1,024. Each key of the last key's block has a bucket of
-/// its own. Of the others it is the number of low bits that hold all those in which the numbers of the
-/// blocks differ.
+/// How many keys a block has. Each key of the last key's block has a bucket of its own.
+pub(crate) const BLOCK: u64 = 1024;
+
+/// The bucket of a key. Behind those of the last key's block there is one for each number of low bits
+/// that can hold all those in which the numbers of two blocks differ.
 #[inline(always)]
 pub(crate) fn bucket_of(last: u64, key: u64) -> usize
     ensures bucket { IsBucket last key result }
     ensures few { result < 1078 }
 {
-    let bits = 64 - (last / 1024 ^ key / 1024).leading_zeros() as usize;
+    let bits = 64 - (last / BLOCK ^ key / BLOCK).leading_zeros() as usize;
     if bits == 0 {
         own_bucket(key)
     } else {
-        1023 + bits
+        BLOCK as usize - 1 + bits
     }
 }
 
@@ -27,7 +29,7 @@ pub(crate) fn own_bucket(key: u64) -> usize
     ensures own { result ≡ key % 1024 }
     ensures few { result < 1024 }
 {
-    (key % 1024) as usize
+    (key % BLOCK) as usize
 }
 
 /// The least key of the pairs of a chain, from its first place.

@@ -3,7 +3,7 @@ ghost use Rattle.std.specs.List.{filter_map};
 ghost use Rattle.maze_route.specs.Buckets.{pair_in, Keeps};
 ghost use Rattle.maze_route.specs.Renewed.{IsRenewed, IsRenewable, IsTakenOut};
 
-use crate::bucket::{least_key, own_bucket, spread};
+use crate::bucket::{BLOCK, least_key, own_bucket, spread};
 use crate::heads::Heads;
 use crate::slot::Slot;
 
@@ -21,8 +21,8 @@ pub(crate) fn renew(
         IsRenewed slots.new.items heads.new free result }
     ensures pairs { filter_map pair_in slots.new.items ≡ filter_map pair_in slots.old.items }
 {
-    if bucket < 1024 {
-        return last - last % 1024 + bucket as u64;
+    if bucket < BLOCK as usize {
+        return last - last % BLOCK + bucket as u64;
     }
     let least = least_key(slots, first);
     heads.set(bucket, None);

@@ -5,11 +5,18 @@ ghost use Rattle.maze_route.specs.Buckets.{head_at, IsFirstFull};
 
 use std::marker::Model;
 
+/// How many buckets there are: one for each key of a block, and one for each number of bits in which
+/// blocks can differ.
+const BUCKETS: usize = 1078;
+
+/// How many words hold a bit for each bucket.
+const WORDS: usize = 17;
+
 /// The first place of each bucket, and a bit for each bucket that has one.
 #[derive(Debug, Drop)]
 pub(crate) struct Heads {
-    places: [Option<u32>; 1078],
-    full: [u64; 17],
+    places: [Option<u32>; BUCKETS],
+    full: [u64; WORDS],
 }
 
 impl Model for Heads {
@@ -30,8 +37,8 @@ impl Heads {
         ensures { result ≡ replicate 1078 None }
     {
         Heads {
-            places: [None; 1078],
-            full: [0; 17],
+            places: [None; BUCKETS],
+            full: [0; WORDS],
         }
     }
 
@@ -62,7 +69,7 @@ impl Heads {
         requires none { (bucket : ℕ) → bucket < from → head_at self.now bucket ≡ None }
         ensures { IsFirstFull self.now result }
     {
-        for word in from / 64..17 {
+        for word in from / 64..WORDS {
             let bits = self.full[word];
             if bits != 0 {
                 return Some(word * 64 + bits.trailing_zeros() as usize);
