@@ -109,8 +109,8 @@ def note(program, uses):
 
 
 def heights(uses):
-    """By crate, how much is to prove from it up to the program, in bytes along the longest chain."""
-    sizes = {name: sum(os.path.getsize(path) for path in sources(name)) for name in uses}
+    """By crate, how much is to prove from it up to the program, in bytes of code along the longest chain."""
+    sizes = {name: sum(os.path.getsize(path) for path in sources(name) if path.endswith(".rt")) for name in uses}
     above = {name: [high for high in uses if name in uses[high]] for name in uses}
     known = {}
 
@@ -195,6 +195,12 @@ class Build:
         ready = [name for name in self.waiting if all(low in self.proved for low in self.uses[name])]
         return sorted(ready, key=lambda name: -self.heights[name])
 
+    def jobs_for(self, name, most):
+        """By how many processes a crate is proved: by all where the longest chain waits for it, else by its share."""
+        if all(self.heights[name] > self.heights[other] for other in self.running):
+            return most
+        return max(1, most // (len(self.running) + len(self.ready())))
+
     def prove(self, name, jobs):
         """Proves a crate by so many jobs, and tells it. Without words the program ends at once."""
         words = ["run", "--jobs", str(jobs), "--", "usage"] if name == self.program else ["lib", "--jobs", str(jobs)]
@@ -225,7 +231,7 @@ class Build:
                     self.changed.wait()
                     continue
                 name = ready[0]
-                jobs = max(1, most // (len(self.running) + len(ready)))
+                jobs = self.jobs_for(name, most)
                 self.waiting.remove(name)
                 self.running.add(name)
                 threads.append(threading.Thread(target=self.prove, args=(name, jobs)))
