@@ -1,4 +1,5 @@
 pub mod Prices
+pub mod Sites
 pub mod FlatPrices
 pub mod Orders
 pub mod FlatTrees

@@ -1,16 +1,18 @@
 //! Prices of wire edges that lie side by side.
 ghost use Rattle.std.specs.Prelude.{◌≡◌, ◌+◌, ◌*◌, ◌≤◌, Some, length};
-ghost use Rattle.cost_rules.specs.Formulas.{IsInRange, cost_at, most_cost};
+ghost use Rattle.cost_rules.specs.Formulas.{IsInRange, cost_at};
+ghost use Rattle.cost_rules.specs.declared.site.Formula.TheVariants.{First};
 ghost use Rattle.cost_rules.specs.Prices.{layer_of};
-ghost use Rattle.gr_base.specs.Limits.{most_width};
+ghost use Rattle.gr_base.specs.Limits.{most_capacity, most_width};
 ghost use Rattle.grid_demand.specs.LoadSums.{demand_at, marks_at};
 ghost use Rattle.grid_demand.specs.Runs.{IsRunOf};
 ghost use Rattle.grid_demand.specs.Tables.{IsCapacity, capacity_at, need_at};
 ghost use Rattle.maze_route.specs.Runs.{price_from, AreSideBySide, IsRun};
 ghost use Rattle.net_plan.specs.Prices.{price_of, ways_of};
+ghost use Rattle.net_plan.specs.Sites.{whole_site};
 
 use crate::net_costs::NetCosts;
-use cost_rules::{Formula, Site, first_cost, flat_cost, steep_cost};
+use cost_rules::{Formula, MOST_COST, Site, flat_cost, steep_cost};
 use gr_base::Edge;
 
 /// The sites of a net at wire edges that lie side by side on a layer. The net takes the same of each.
@@ -32,7 +34,7 @@ impl NetCosts<'_> {
         from: Edge,
         sites: &SiteRun<'_>,
         first: usize,
-        prices: &mut Vec<u32>,
+        prices: &mut [u32],
     )
         requires formula { self.now.rule.now.formula ≡ formula }
         requires edges { AreSideBySide self.now.capacity.now.shape (ways_of self.now.capacity.now) from
@@ -44,41 +46,72 @@ impl NetCosts<'_> {
             sites.now.capacities.now }
         requires need { sites.now.need ≡ need_at self.now.capacity.now self.now.net from }
         requires most { sites.now.need ≤ 2 * most_width }
-        requires inside { first + length sites.now.demands.now ≤ length prices.old.items }
+        requires inside { first + length sites.now.demands.now ≤ length prices.old }
         ensures { IsRun (price_of self.now.capacity.now self.now.loads.now self.now.rule.now.formula self.now.net)
-            from first (length sites.now.demands.now) prices.old.items prices.new.items }
+            from first (length sites.now.demands.now) prices.old prices.new }
     {
+        let need = sites.need as u32;
         for place in 0..sites.demands.len() {
-            let site = Site {
-                demand: u64::from(sites.demands[place]),
-                capacity: u64::from(sites.capacities[place]),
-                need: sites.need,
-                marks: u32::from(sites.marks[place]),
+            let site = SmallSite {
+                demand: sites.demands[place],
+                capacity: sites.capacities[place],
+                need,
+                marks: sites.marks[place],
             };
             prices[first + place] = site_price(formula, site);
         }
     }
 }
 
-/// What a site costs by a formula, as a list of prices holds it.
-#[inline(always)]
-fn site_price(formula: Formula, site: Site) -> u32
-    requires { IsInRange site }
-    ensures { price_from (Some result) ≡ Some (cost_at formula site) }
-{
-    cost_by(formula, site) as u32
+/// A site whose numbers take less room.
+#[derive(Clone, Copy)]
+struct SmallSite {
+    demand: u16,
+    capacity: u32,
+    need: u32,
+    marks: u16,
 }
 
-/// What a site costs by a formula.
+impl SmallSite {
+    /// The site.
+    fn whole(self) -> Site
+        requires capacity { self.capacity ≤ most_capacity }
+        requires need { self.need ≤ 2 * most_width }
+        ensures site { result ≡ whole_site self }
+        ensures in_range { IsInRange result }
+    {
+        Site {
+            demand: u64::from(self.demand),
+            capacity: u64::from(self.capacity),
+            need: u64::from(self.need),
+            marks: u32::from(self.marks),
+        }
+    }
+}
+
+/// What a site costs by a formula, as a list of prices holds it.
 #[inline(always)]
-fn cost_by(formula: Formula, site: Site) -> u64
-    requires { IsInRange site }
-    ensures cost { result ≡ cost_at formula site }
-    ensures most { result ≤ most_cost }
+fn site_price(formula: Formula, site: SmallSite) -> u32
+    requires capacity { site.capacity ≤ most_capacity }
+    requires need { site.need ≤ 2 * most_width }
+    ensures { price_from (Some result) ≡ Some (cost_at formula (whole_site site)) }
 {
     match formula {
-        Formula::First => first_cost(site),
-        Formula::Steep => steep_cost(site),
-        Formula::Flat => flat_cost(site),
+        Formula::First => first_price(site),
+        Formula::Steep => steep_cost(site.whole()) as u32,
+        Formula::Flat => flat_cost(site.whole()) as u32,
     }
+}
+
+/// What a site costs by the first formula, in numbers of which processors take several at a time.
+#[inline(always)]
+fn first_price(site: SmallSite) -> u32
+    requires { site.need ≤ 2 * most_width }
+    ensures { result ≡ cost_at First (whole_site site) }
+{
+    let most = MOST_COST as u32;
+    let overflow = (u32::from(site.demand) + site.need).saturating_sub(site.capacity);
+    // As much overflow has the greatest cost.
+    let counted = overflow.min(most / 8);
+    most.min(1 + u32::from(site.marks) + 8 * counted)
 }
