@@ -1,8 +1,11 @@
 -- The least costs of crossing a window's borders, and their sums.
-use Rattle.std.proofs.Common.{◌≡◌, ℕ, suc, zero, ◌+◌, ◌*◌, ◌<◌, ◌≤◌, inl, inr, Bool, true, false, ◌&&◌, nat_lt, List, [], ◌∷◌, length, replicate, Option, IsSome, IsTrue, refl, sym, ap, subst, ◌∙◌, arith}
+use Rattle.std.proofs.Common.{◌≡◌, ℕ, suc, zero, ◌+◌, ◌*◌, ◌<◌, ◌≤◌, inl, inr, Bool, true, false, ◌&&◌, nat_lt, List, [], ◌∷◌, ◌++◌, length, take, drop, replicate, Option, IsSome, IsTrue, refl, sym, ap, subst, ◌∙◌, arith}
 use Rattle.std.proofs.lemmas.Bool.{cases_lt, both_ways}
 use Rattle.std.proofs.lemmas.Bool.Decides.{nat_tests}
 use Rattle.std.proofs.Math.Nat.{add-mul}
+use Rattle.std.proofs.Math.ListN.{drop_of_length-le}
+use Rattle.std.proofs.Math.Seq.{take-length}
+use Rattle.std.proofs.lemmas.List.{append-nil, length-replicate}
 use Rattle.cost_rules.specs.Prices.{layer_of, ArePrices}
 use Rattle.gr_base.specs.declared.grid.Cell.{Cell}
 use Rattle.gr_base.specs.declared.grid.Edge.{Edge}
@@ -306,3 +309,29 @@ steps-small count first steps are lowered place =
     let same = ap (λ (xs : List ℕ). at xs place) are in
     let most = replicate-most count 1048576 place in
     omega (arith, low, same, most)
+
+-- what a slice of a whole list has become is the list
+pub written-back : (count : ℕ) (before after : List ℕ) → count ≡ length before → length after ≡ length before → take count (after ++ drop (length after) before) ≡ after
+written-back count before after are same =
+    let whole : count ≡ length after = omega arith in
+    ap (λ (rest : List ℕ). take count (after ++ rest)) (drop_of_length-le before (omega arith))
+    ∙ ap (λ (xs : List ℕ). take count xs) (append-nil after) ∙ ap (λ (n : ℕ). take n after) whole ∙ take-length after
+
+-- the steps as they are once they are lowered
+pub record AreSteps (borders : ℕ) (after now : List ℕ) : Type 0 where
+  pub same : now ≡ after
+  pub size : length now ≡ borders
+  pub small : AreUpTo 1048576 now
+
+pub steps-lowered : (count borders len : ℕ) (first lent after now : List ℕ) → first ≡ replicate count 1048576 → count ≡ borders → lent ≡ first → AreLowered lent after → len ≡ length first →
+    now ≡ take len (after ++ drop (length after) first) → AreSteps borders after now
+steps-lowered count borders len first lent after now are is lends lowered long written =
+    let L : List ℕ → Type 0 = λ xs. AreLowered xs after in
+    let low = subst L lends lowered in
+    let same = written ∙ written-back len first after long low.size in
+    let N : List ℕ → Type 0 = λ xs. AreUpTo 1048576 xs in
+    record {
+      same = same;
+      size = ap (λ (xs : List ℕ). length xs) same ∙ low.size ∙ ap (λ (xs : List ℕ). length xs) are ∙ length-replicate {A = ℕ} count 1048576 ∙ is;
+      small = subst N (sym same) (steps-small count first after are low);
+    }

@@ -1,3 +1,4 @@
+//! The walk back from a goal to the tree.
 ghost use Rattle.std.specs.Prelude.{◌≡◌, ℕ, ◌<◌, length, Option, Some, IfOk, IfSome};
 ghost use Rattle.gr_base.specs.declared.grid.Edge.{Edge};
 ghost use Rattle.maze_route.specs.Backs.{closer_of, either_of, first_closer, IsNear, IsWalkBack};

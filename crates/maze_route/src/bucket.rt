@@ -1,3 +1,4 @@
+//! Buckets of pairs by their keys.
 ghost use Rattle.std.specs.Prelude.{◌≡◌, ℕ, ◌%◌, ◌<◌, List, Option, None};
 ghost use Rattle.maze_route.specs.Buckets.{IsBucket, BeginsChain, IsLeastKey};
 ghost use Rattle.maze_route.specs.Spreading.{IsSpreading, IsSpread};

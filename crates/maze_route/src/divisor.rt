@@ -1,3 +1,4 @@
+//! Division by a number that stays the same.
 ghost use Rattle.std.specs.Prelude.{◌≡◌, ◌/◌, ◌<◌, ◌≤◌};
 ghost use Rattle.gr_base.specs.Limits.{most_cells};
 ghost use Rattle.maze_route.specs.Divisors.{IsFactor};

@@ -1,3 +1,4 @@
+//! The goals of a walk, by their numbers in the window.
 ghost use Rattle.std.specs.Prelude.{◌≡◌, ℕ, ◌<◌, All, length, map, OnOk, IfSome};
 ghost use Rattle.gr_base.specs.Trees.{is_among};
 ghost use Rattle.maze_route.specs.Ends.{IsFirstOf, earlier_of};

@@ -1,3 +1,4 @@
+//! The pair of least key.
 ghost use Rattle.std.specs.Prelude.{◌≡◌, ℕ, Option};
 ghost use Rattle.std.specs.List.{filter_map};
 ghost use Rattle.maze_route.specs.Buckets.{pair_in, Keeps};

@@ -1,3 +1,4 @@
+//! Labels of cells, and the cells that wait to hand theirs on.
 ghost use Rattle.std.specs.Prelude.{◌≡◌, ℕ, [], ◌<◌, None, OnOk, length, if◌then◌else◌, slice_set};
 ghost use Rattle.maze_route.specs.Labels.{unreached, label_at, is_lower};
 

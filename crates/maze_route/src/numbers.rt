@@ -1,3 +1,4 @@
+//! Cells of a window by their numbers in it and in the grid.
 ghost use Rattle.std.specs.Prelude.{◌≡◌, ◌<◌, IsTrue};
 ghost use Rattle.gr_base.specs.declared.grid.Shape.{Shape};
 ghost use Rattle.gr_base.specs.Grid.{place_at, IsInside};

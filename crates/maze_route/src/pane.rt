@@ -1,3 +1,4 @@
+//! Windows and their cells as a search holds them.
 ghost use Rattle.std.specs.Prelude.{◌≡◌};
 ghost use Rattle.maze_route.specs.Panes.{IsPane};
 ghost use Rattle.maze_route.specs.Positions.{AreSmall};

@@ -1,3 +1,4 @@
+//! Places for pairs.
 ghost use Rattle.std.specs.Prelude.{◌≡◌, true, IfOk, OnOk, OnErr};
 ghost use Rattle.maze_route.specs.Kept.{cells_waiting};
 ghost use Rattle.maze_route.specs.Places.{IsPut, HasFree};

@@ -39,21 +39,22 @@ impl Scales {
 
 /// The positions of a window's columns, for the way East, or of its rows, for North, by the prices of the
 /// edges that go the way.
+#[inline(always)]
 fn positions<C: Costs>(
     alloc: Global,
     costs: &C,
     pane: Pane,
     way: Way,
-    prices: &Vec<u32>,
+    prices: &[u32],
 ) -> Result<Vec<u64>, AllocError>
     requires grid { C.grid costs.now ≡ pane.grid }
-    requires table { IsTable pane (C.price costs.now) way prices.now.items }
+    requires table { IsTable pane (C.price costs.now) way prices.now }
     ensures size { IfOk result (λ positions. length positions.items ≡ borders_of pane.window way + 1) }
     ensures near { IfOk result (λ positions. AreUpTo most_position positions.items) }
     ensures positions { IfOk result (λ positions.
         ArePositions pane.grid pane.window (C.price costs.now) way positions.items) }
 {
-    let mut steps = vec![in alloc; MOST_COST; borders(pane.window, way) as usize]?;
+    let mut steps = vec![in alloc; MOST_COST as u32; borders(pane.window, way) as usize]?;
     lower(costs, pane, way, prices, &mut steps);
     sums(alloc, &steps)
 }
@@ -96,29 +97,31 @@ fn start(pane: Pane, way: Way, layer: u32, line: u32) -> u32
 }
 
 /// Lowers numbers to the prices of the edges of a line, each to its own one's.
-fn lower_line(prices: &Vec<u32>, shape: Shape, way: Way, first: u32, numbers: &mut Vec<u64>)
-    requires inside { (place : ℕ) → place < length numbers.old.items →
-        first + place * stride shape way < length prices.now.items }
-    requires few { length prices.now.items ≤ most_cells }
-    ensures lowered { AreLowered numbers.old.items numbers.new.items }
-    ensures under { IsUnderPrices prices.now.items shape way first (length numbers.old.items) numbers.new.items }
+#[inline(always)]
+fn lower_line(prices: &[u32], shape: Shape, way: Way, first: u32, numbers: &mut [u32])
+    requires inside { (place : ℕ) → place < length numbers.old →
+        first + place * stride shape way < length prices.now }
+    requires few { length prices.now ≤ most_cells }
+    ensures lowered { AreLowered numbers.old numbers.new }
+    ensures under { IsUnderPrices prices.now shape way first (length numbers.old) numbers.new }
 {
     let stride = shape.stride(way);
     let mut at = first;
     for place in 0..numbers.len() {
-        numbers[place] = numbers[place].min(u64::from(prices[at as usize]));
+        numbers[place] = numbers[place].min(prices[at as usize]);
         at += stride;
     }
 }
 
 /// Lowers the numbers of a window's borders to the prices of the edges that cross them on a layer.
-fn lower_layer(pane: Pane, way: Way, layer: u32, prices: &Vec<u32>, numbers: &mut Vec<u64>)
+#[inline(always)]
+fn lower_layer(pane: Pane, way: Way, layer: u32, prices: &[u32], numbers: &mut [u32])
     requires layer { layer < pane.shape.layers }
-    requires prices { length prices.now.items ≡ size_of pane }
-    requires size { length numbers.old.items ≡ borders_of pane.window way }
-    ensures lowered { AreLowered numbers.old.items numbers.new.items }
-    ensures under { (price : Edge → Option ℕ) → IsTable pane price way prices.now.items →
-        AreUnder pane.grid pane.window price way (λ place. place.layer ≡ layer) numbers.new.items }
+    requires prices { length prices.now ≡ size_of pane }
+    requires size { length numbers.old ≡ borders_of pane.window way }
+    ensures lowered { AreLowered numbers.old numbers.new }
+    ensures under { (price : Edge → Option ℕ) → IsTable pane price way prices.now →
+        AreUnder pane.grid pane.window price way (λ place. place.layer ≡ layer) numbers.new }
 {
     for line in 0..lines(pane, way) {
         let first = start(pane, way, layer, line);
@@ -127,13 +130,14 @@ fn lower_layer(pane: Pane, way: Way, layer: u32, prices: &Vec<u32>, numbers: &mu
 }
 
 /// Lowers the numbers of a window's borders to the prices of the edges that cross them.
-fn lower<C: Costs>(costs: &C, pane: Pane, way: Way, prices: &Vec<u32>, numbers: &mut Vec<u64>)
+#[inline(always)]
+fn lower<C: Costs>(costs: &C, pane: Pane, way: Way, prices: &[u32], numbers: &mut [u32])
     requires grid { C.grid costs.now ≡ pane.grid }
-    requires table { IsTable pane (C.price costs.now) way prices.now.items }
-    requires size { length numbers.old.items ≡ borders_of pane.window way }
-    ensures lowered { AreLowered numbers.old.items numbers.new.items }
+    requires table { IsTable pane (C.price costs.now) way prices.now }
+    requires size { length numbers.old ≡ borders_of pane.window way }
+    ensures lowered { AreLowered numbers.old numbers.new }
     ensures under { AreUnder pane.grid pane.window (C.price costs.now) way (λ place. place.layer < pane.grid.layers)
-        numbers.new.items }
+        numbers.new }
 {
     for layer in 0..pane.shape.layers() {
         if !costs.goes(layer, way) {
@@ -144,7 +148,7 @@ fn lower<C: Costs>(costs: &C, pane: Pane, way: Way, prices: &Vec<u32>, numbers: 
 }
 
 /// The sums of the first numbers of a list, from that of none to that of all.
-fn sums(alloc: Global, numbers: &[u64]) -> Result<Vec<u64>, AllocError>
+fn sums(alloc: Global, numbers: &[u32]) -> Result<Vec<u64>, AllocError>
     requires few { length numbers.now < most_cells }
     requires small { AreUpTo most_cost numbers.now }
     ensures { IfOk result (λ sums. sums.items ≡ sums_from 0 numbers.now) }
@@ -153,7 +157,7 @@ fn sums(alloc: Global, numbers: &[u64]) -> Result<Vec<u64>, AllocError>
     let mut total = 0;
     for &number in numbers {
         sums.push(total)?;
-        total += number;
+        total += u64::from(number);
     }
     sums.push(total)?;
     Ok(sums)

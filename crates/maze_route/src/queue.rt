@@ -1,3 +1,4 @@
+//! The queue of cells that wait.
 ghost use Rattle.std.specs.Prelude.{◌≡◌, ◌≤◌, [], OnOk, OnErr};
 ghost use Rattle.maze_route.specs.Kept.{cells_of_pairs};
 ghost use Rattle.maze_route.specs.Queues.{IsPushed, Pops};

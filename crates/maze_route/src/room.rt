@@ -1,3 +1,4 @@
+//! What searches keep from walk to walk.
 ghost use Rattle.std.specs.Prelude.{◌≡◌, OnOk};
 ghost use Rattle.gr_base.specs.Trees.{TreeView};
 ghost use Rattle.maze_route.specs.Kept.{Serves};

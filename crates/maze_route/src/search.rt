@@ -1,3 +1,4 @@
+//! The search for the nearest goal.
 ghost use Rattle.std.specs.Prelude.{◌≡◌, ℕ, ◌+◌, ◌^◌, ◌<◌, ◌≤◌, true, length, Option, Some, IfSome, OnOk, IsTrue, if◌then◌else◌};
 ghost use Rattle.std.specs.Option.{option_map};
 ghost use Rattle.cost_rules.specs.Formulas.{most_cost};

@@ -1,3 +1,4 @@
+//! Sides of a cell.
 use gr_base::Way;
 
 /// Where a neighbour of a cell lies: against a way, or along it.

@@ -1,3 +1,4 @@
+//! A place of the queue.
 /// A place for a pair.
 #[derive(Clone, Copy, Debug)]
 pub(crate) struct Slot {

@@ -1,3 +1,4 @@
+//! Boxes by positions of columns and rows.
 ghost use Rattle.std.specs.Prelude.{◌≡◌};
 ghost use Rattle.maze_route.specs.Spans.{with_end};
 

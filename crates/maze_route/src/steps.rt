@@ -1,3 +1,4 @@
+//! Steps from a cell to its neighbours.
 ghost use Rattle.std.specs.Prelude.{◌≡◌, ◌^◌, ◌<◌, ◌≤◌, length, IsTrue, IfSome};
 ghost use Rattle.std.specs.Option.{option_map};
 ghost use Rattle.cost_rules.specs.Formulas.{most_cost};

@@ -1,3 +1,4 @@
+//! Least walks, as callers ask for them.
 ghost use Rattle.std.specs.Prelude.{◌≡◌, ◌<◌, length, IfOk, OnOk, IsTrue};
 ghost use Rattle.gr_base.specs.Trees.{IsTree, IsWalkTo};
 ghost use Rattle.maze_route.specs.Fields.{IsPriced};

@@ -1,3 +1,4 @@
+//! Windows of the grid.
 ghost use Rattle.std.specs.Prelude.{◌≡◌};
 ghost use Rattle.maze_route.specs.Windows.{is_within, with_place};
 

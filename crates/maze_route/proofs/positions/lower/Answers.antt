@@ -6,8 +6,8 @@ pub loop-layer-preserved : goal.loop-layer-preserved
 loop-layer-preserved g c =
     let price = g.C.Costs.price c.args.costs.now in
     record {
-      lowered = lowered-again c.args.numbers.now.items c.loop-layer.numbers.items c.lower_layer.new.numbers.items c.loop-layer.invariant.lowered c.lower_layer.ensures.lowered;
-      under = layer-turn c.args.pane.grid c.args.pane.window price c.args.way c.loop-layer.layer c.loop-layer.numbers.items c.lower_layer.new.numbers.items c.loop-layer.invariant.under
+      lowered = lowered-again c.args.numbers.now c.loop-layer.numbers c.lower_layer.new.numbers c.loop-layer.invariant.lowered c.lower_layer.ensures.lowered;
+      under = layer-turn c.args.pane.grid c.args.pane.window price c.args.way c.loop-layer.layer c.loop-layer.numbers c.lower_layer.new.numbers c.loop-layer.invariant.under
           c.lower_layer.ensures.lowered (c.lower_layer.ensures.under price c.requires.table);
     }
 

@@ -4,6 +4,6 @@ use Rattle.maze_route.proofs.positions.lower.Given as goal
 
 abbrev pub invariant-loop-layer : goal.invariant-loop-layer
 invariant-loop-layer g l = record {
-  lowered : AreLowered l.fn.numbers.items l.numbers.items;
-  under : AreUnder l.pane.grid l.pane.window (g.C.Costs.price l.costs) l.way (λ q. q.layer < l.layer) l.numbers.items;
+  lowered : AreLowered l.fn.numbers l.numbers;
+  under : AreUnder l.pane.grid l.pane.window (g.C.Costs.price l.costs) l.way (λ q. q.layer < l.layer) l.numbers;
 }

@@ -20,14 +20,14 @@ loop-line-preserved c =
     let way = c.args.way in
     let size = c.loop-line.invariant.lowered.size ∙ c.requires.size in
     record {
-      lowered = lowered-again c.args.numbers.now.items c.loop-line.numbers.items c.lower_line.new.numbers.items c.loop-line.invariant.lowered c.lower_line.ensures.lowered;
-      under = λ price table. lines-turn p.grid p.window price way c.args.layer c.loop-line.line (number_of p.grid (start_of p.window way c.args.layer c.loop-line.line)) c.loop-line.numbers.items
-          c.lower_line.new.numbers.items refl size (c.loop-line.invariant.under price table) c.lower_line.ensures.lowered
-          (prices-under p price way c.args.layer c.loop-line.line c.start-first.result _ c.args.prices.now.items c.lower_line.new.numbers.items table c.requires.layer
+      lowered = lowered-again c.args.numbers.now c.loop-line.numbers c.lower_line.new.numbers c.loop-line.invariant.lowered c.lower_line.ensures.lowered;
+      under = λ price table. lines-turn p.grid p.window price way c.args.layer c.loop-line.line (number_of p.grid (start_of p.window way c.args.layer c.loop-line.line)) c.loop-line.numbers
+          c.lower_line.new.numbers refl size (c.loop-line.invariant.under price table) c.lower_line.ensures.lowered
+          (prices-under p price way c.args.layer c.loop-line.line c.start-first.result _ c.args.prices.now c.lower_line.new.numbers table c.requires.layer
           (omega (arith, c.loop-line-test.true, c.lines-line-end.ensures)) c.start-first.ensures size c.lower_line.ensures.under);
     }
 
 pub returns-clause-under : goal.returns-clause-under
 returns-clause-under c = λ price table.
-    lines-done c.args.pane.grid c.args.pane.window price c.args.way c.args.layer c.loop-line.line c.loop-line.numbers.items
+    lines-done c.args.pane.grid c.args.pane.window price c.args.way c.args.layer c.loop-line.line c.loop-line.numbers
     (omega (arith, c.loop-line-test.false, c.lines-line-end.ensures)) (c.loop-line.invariant.under price table)

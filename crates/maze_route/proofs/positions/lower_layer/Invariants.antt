@@ -7,7 +7,7 @@ use Rattle.maze_route.proofs.positions.lower_layer.Given as goal
 
 abbrev pub invariant-loop-line : goal.invariant-loop-line
 invariant-loop-line l = record {
-  lowered : AreLowered l.fn.numbers.items l.numbers.items;
-  under : (price : Edge → Option ℕ) → IsTable l.pane price l.way l.prices.items →
-      AreUnder l.pane.grid l.pane.window price l.way (IsOnLines l.pane.window l.way l.layer l.line) l.numbers.items;
+  lowered : AreLowered l.fn.numbers l.numbers;
+  under : (price : Edge → Option ℕ) → IsTable l.pane price l.way l.prices →
+      AreUnder l.pane.grid l.pane.window price l.way (IsOnLines l.pane.window l.way l.layer l.line) l.numbers;
 }
