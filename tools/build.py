@@ -27,6 +27,7 @@ APART = f"{ROOT}.build"
 PROGRAMS = ["groute", "grbound"]
 PARTS = ["src", "specs", "proofs"]
 GIGABYTES = 3       # what a proof takes of memory, but for few
+MANY = 20           # of a process that holds so many crates copies take longer to make than they save
 
 
 def folder_of(name, root=ROOT):
@@ -197,6 +198,8 @@ class Build:
 
     def jobs_for(self, name, most):
         """By how many processes a crate is proved: by all where the longest chain waits for it, else by its share."""
+        if len(below(name, self.uses)) >= MANY:
+            return 1
         if all(self.heights[name] > self.heights[other] for other in self.running):
             return most
         return max(1, most // (len(self.running) + len(self.ready())))
