@@ -34,7 +34,7 @@ import compare
 from design import cell, edge, place, read_design, way
 from route import FORMULAS, Book, cut, maze_plan, pattern_plan, stops
 from solution import solution_text
-from workers import WORKERS, library, run
+from workers import ROUTER, WORKERS, library, run
 
 HERE = os.path.dirname(os.path.abspath(__file__))
 PROGRAM = os.path.join(HERE, "..", "crates", "round_histories", "out", "round_histories")
@@ -330,10 +330,10 @@ def replayed(program, design, paths, asked, share):
     return rounds
 
 
-def made(folder):
-    """The made designs with their libraries and rounds."""
+def made(router, folder):
+    """The designs that a router makes, with their libraries and rounds."""
     for words, rounds in MADE:
-        _, text, _ = run("make", *words.split())
+        _, text, _ = run(router, "make", *words.split())
         yield *put(folder, words.replace(" ", "_"), text), str(rounds)
 
 
@@ -379,6 +379,7 @@ def tried(program, design, paths, rounds, times, share, orders, batch):
 def main():
     parser = argparse.ArgumentParser(description=__doc__, formatter_class=argparse.RawDescriptionHelpFormatter)
     parser.add_argument("--program", default=PROGRAM)
+    parser.add_argument("--router", default=ROUTER, help="the router that makes designs")
     parser.add_argument("--times", type=int, default=20)
     parser.add_argument("--share", type=int, default=50)
     parser.add_argument("--random", type=int, default=20, help="how many random designs")
@@ -391,7 +392,7 @@ def main():
     faults = 0
     with tempfile.TemporaryDirectory() as folder:
         named = [tuple(words.names[at : at + 3]) for at in range(0, len(words.names), 3)]
-        for design, paths, rounds in named or made(folder):
+        for design, paths, rounds in named or made(words.router, folder):
             faults += tried(words.program, design, paths, rounds, words.times, words.share, orders, words.batch)
         for design, paths, rounds in () if named else random_designs(folder, words.random):
             faults += tried(words.program, design, paths, rounds, 1, 1, orders, words.batch)
