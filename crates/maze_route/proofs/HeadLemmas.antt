@@ -1,17 +1,15 @@
 -- Bits of the buckets that have a place.
-use Rattle.std.proofs.Common.{◌≡◌, ◌≢◌, ℕ, zero, suc, ◌+◌, ◌-◌, ◌*◌, ◌/◌, ◌%◌, ◌^◌, ◌<◌, ◌≤◌, inl, inr, Bool, true, false, ◌==◌, List, length, get_or, Option, Some, None, is_some, IsSome, slice_get, slice_set, replicate, if◌then◌else◌, refl, sym, ap, ◌∙◌, arith, length-set, w64}
+use Rattle.std.proofs.Common.{◌≡◌, ℕ, zero, suc, ◌+◌, ◌-◌, ◌*◌, ◌/◌, ◌%◌, ◌^◌, ◌<◌, ◌≤◌, inl, inr, Bool, true, List, length, get_or, Option, Some, None, is_some, IsSome, slice_get, replicate, if◌then◌else◌, refl, sym, ap, ◌∙◌, arith, w64}
 use Rattle.std.specs.Int.{bit_at, trailing_zeros}
 use Rattle.std.specs.Prelude.{option_and_then}
 use Rattle.std.proofs.lemmas.Nat.{div-add-mod', mod_below}
 use Rattle.std.proofs.lemmas.Nat.Bits.{bit_at-zero, bit_at-trailing_zeros}
-use Rattle.std.proofs.lemmas.List.{length-replicate, get_or-set_same, get_or-set_other}
-use Rattle.std.proofs.lemmas.Bool.{cases_lt, cases_eq, both_ways}
-use Rattle.std.proofs.lemmas.Bool.Decides.{nat_tests}
+use Rattle.std.proofs.lemmas.List.{length-replicate}
+use Rattle.std.proofs.lemmas.Bool.{cases_lt, both_ways}
 use Rattle.std.proofs.lemmas.Option.{slice_get_within}
 use Rattle.maze_route.specs.Buckets.{head_at, IsFirstFull}
 use Rattle.maze_route.specs.Heads.{AreMarked}
 use Rattle.maze_route.proofs.KeepLemmas.{no-head}
-use Rattle.maze_route.proofs.SpreadingLemmas.{head-set}
 
 no-word : (count n : ℕ) → get_or (replicate count zero) n zero ≡ zero
 no-word zero n = refl
@@ -26,43 +24,6 @@ none-marked places full no_place no_bit = record {
       let word : get_or full (bucket / 64) 0 ≡ 0 = ap (λ (ws : List ℕ). get_or ws (bucket / 64) 0) no_bit ∙ no-word 17 (bucket / 64) in
       let head : head_at places bucket ≡ None = ap (λ (ps : List (Option ℕ)). head_at ps bucket) no_place ∙ no-head 1078 bucket in
       ap (λ (w : ℕ). bit_at w (bucket % 64)) word ∙ bit_at-zero (bucket % 64) ∙ sym (ap (λ (o : Option ℕ). if is_some o then 1 else 0) head);
-}
-
--- a word in which one bit says whether a bucket has a place
-pub record IsMarked (before after bit : ℕ) (full : Bool) : Type 0 where
-  pub own : bit_at after bit ≡ (if full then 1 else 0)
-  pub others : (other : ℕ) → other < 64 → other ≢ bit → bit_at after other ≡ bit_at before other
-
-pub set-marked : (places : List (Option ℕ)) (full : List ℕ) (bucket word : ℕ) (head : Option ℕ) → AreMarked places full → bucket < 1078 →
-    IsMarked (get_or full (bucket / 64) 0) word (bucket % 64) (is_some head) → AreMarked (slice_set places bucket head) (slice_set full (bucket / 64) word)
-set-marked places full bucket word head are few is = record {
-  size = length-set places bucket head ∙ are.size;
-  words = length-set full (bucket / 64) word ∙ are.words;
-  marked = λ b below.
-      let b1 = div-add-mod' b 64 in
-      let b2 = mod_below b 64 (omega arith) in
-      let k1 = div-add-mod' bucket 64 in
-      let head_now = head-set places b bucket head (let h = are.size in omega arith) in
-      let T : Option ℕ → ℕ = λ o. if is_some o then 1 else 0 in
-      elim (cases_eq b bucket) [
-        | inl same ↦
-            let test : (b == bucket) ≡ true = grind (arith, nat_tests) in
-            let at : get_or (slice_set full (bucket / 64) word) (bucket / 64) 0 ≡ word = get_or-set_same full (bucket / 64) word 0 (let h = are.words in omega (arith, k1)) in
-            ap (λ (n : ℕ). bit_at (get_or (slice_set full (bucket / 64) word) (n / 64) 0) (n % 64)) same ∙ ap (λ (w : ℕ). bit_at w (bucket % 64)) at ∙ is.own
-            ∙ sym (ap (λ (o : Option ℕ). T o) (head_now ∙ ap (λ t. if t then head else head_at places b) test))
-        | inr other ↦
-            let test : (b == bucket) ≡ false = grind (arith, nat_tests) in
-            let head_same : T (head_at (slice_set places bucket head) b) ≡ T (head_at places b) = ap (λ (o : Option ℕ). T o) (head_now ∙ ap (λ t. if t then head else head_at places b) test) in
-            elim (cases_eq (b / 64) (bucket / 64)) [
-              | inl same_word ↦
-                  let apart : b % 64 ≢ bucket % 64 = λ same_bit. other (omega (arith, b1, k1, same_word, same_bit)) in
-                  let at : get_or (slice_set full (bucket / 64) word) (bucket / 64) 0 ≡ word = get_or-set_same full (bucket / 64) word 0 (let h = are.words in omega (arith, k1)) in
-                  ap (λ (n : ℕ). bit_at (get_or (slice_set full (bucket / 64) word) n 0) (b % 64)) same_word ∙ ap (λ (w : ℕ). bit_at w (b % 64)) at ∙ is.others (b % 64) b2 apart
-                  ∙ ap (λ (n : ℕ). bit_at (get_or full n 0) (b % 64)) (sym same_word) ∙ are.marked b below ∙ sym head_same
-              | inr other_word ↦
-                  ap (λ (w : ℕ). bit_at w (b % 64)) (get_or-set_other full (bucket / 64) (b / 64) word 0 other_word) ∙ are.marked b below ∙ sym head_same
-            ]
-      ];
 }
 
 -- the bit of a bucket
