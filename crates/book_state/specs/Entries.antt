@@ -7,7 +7,7 @@ use Rattle.book_state.specs.declared.entry.Entry.{Entry}
 use Rattle.book_state.specs.declared.entry.Reply.{Reply}
 use Rattle.book_state.specs.declared.entry.Reply.TheVariants.{Full}
 
--- the entry is a mark's
+-- the call is a mark
 abbrev pub is_mark_call : Call → Bool
 is_mark_call Mark = true
 is_mark_call _ = false

@@ -126,7 +126,9 @@ impl BookState {
     /// capacity and slack. The answer is `Taken` exactly where the net is booked; else `Full`
     /// exactly where there is a slack and a wire edge of the tree whose demand with the net's need
     /// is above capacity and slack, and names the first such edge by node number; else `Claimed`.
-    /// The claim comes back only for want of memory, and the book is then as it was.
+    /// `number` is the caller's. The net is one of the design's, the tree one on its grid, and the claim's
+    /// front at most the history's length. The claim comes back only for want of memory, and the book is
+    /// then as it was.
     pub fn claim(&mut self, number: u32, claim: Claim) -> Result<Reply, ClaimRefused>
         requires { IsClaim self.old.capacity (length self.old.history) claim }
         ensures reply { IfOk result (λ reply. reply ≡ reply_to_claim self.old.capacity self.old.history claim) }
@@ -149,8 +151,9 @@ impl BookState {
         }
     }
 
-    /// Frees a booked net. The answer is `Released` exactly where the net is booked, else
-    /// `NotBooked`. The only error is want of memory, and leaves the book as it was.
+    /// Frees one of the design's nets for a caller of this number. The answer is `Released` exactly where
+    /// the net is booked, else `NotBooked`. The only error is want of memory, and leaves the book as it
+    /// was.
     pub fn release(&mut self, number: u32, net: u32) -> Result<Reply, AllocError>
         requires { net < nets_of self.old.capacity }
         ensures reply { IfOk result (λ reply. reply ≡ reply_to_release self.old.history net) }
@@ -170,8 +173,8 @@ impl BookState {
         }
     }
 
-    /// Marks the edges whose demand is above their capacity. The answer carries the total overflow.
-    /// The only error is want of memory, and leaves the book as it was.
+    /// Marks the edges whose demand is above their capacity, for a caller of this number. The answer
+    /// carries the total overflow. The only error is want of memory, and leaves the book as it was.
     pub fn mark(&mut self, number: u32) -> Result<Reply, AllocError>
         ensures reply { IfOk result (λ reply. reply ≡ reply_to_mark self.old.capacity self.old.history) }
         ensures entry { IfOk result (λ reply. self.new ≡ with_call self.old number Call.Mark reply) }

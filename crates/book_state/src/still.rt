@@ -77,8 +77,8 @@ impl Replica {
 
     /// How many nodes the trees have that the entries before `end` book or free and that may reach a
     /// window, as far as the replica knows them. That takes a look at the first node of each tree and at
-    /// no more. What other threads wrote comes from far, and so it comes at the same time for several
-    /// entries, and not for one after another as they are read.
+    /// no more. Trees that other threads wrote aren't in this processor's cache: here several are loaded
+    /// at the same time, and not one after another as entries are read.
     fn nodes_near(&self, history: &History, end: u64, window: Window) -> usize
         requires { end ≤ length history.now }
     {

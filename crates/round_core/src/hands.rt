@@ -48,6 +48,7 @@ impl Places {
         Ok(())
     }
 
+    /// The places, from the least on.
     pub fn as_slice(&self) -> &[u64]
         ensures { result.now ≡ self.now }
     {

@@ -19,7 +19,8 @@ use std::alloc::{AllocError, Global};
 /// By how many tiles the window of a net's pins grows on each side with each round.
 const MARGIN: u32 = 4;
 
-/// How plans are made in a round: by patterns in round 0, and later by a maze search.
+/// How plans are made in a round, of which there are at most 64: by patterns in round 0, and later by a
+/// maze search in the box of the pins, four tiles wider on each side for each round.
 pub fn kind_of(round: u32) -> PlanKind
     requires { round ≤ most_rounds }
     ensures { result ≡ kind_of round }

@@ -32,6 +32,7 @@ pub enum StepRefused {
     /// first worker that isn't idle.
     #[error("the rules don't allow the step")]
     NotAllowed { phase: Phase, step: Step },
+    /// The book has no memory for the entry.
     #[error("out of memory")]
     NoMemory { step: Step },
 }

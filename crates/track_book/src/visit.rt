@@ -13,8 +13,8 @@ use std::alloc::AllocError;
 use std::sync::{MutexGuard, Wait};
 
 /// A caller's visit to the book N. Once it has entered, it holds the book's lock until it leaves or
-/// ends, so that no entry of others comes between its calls. Outside, each call takes the lock for
-/// itself.
+/// ends. That no entry of others then comes between its calls rests on the lock alone, and is in no
+/// clause. Outside, each call takes the lock for itself.
 #[derive(Drop)]
 pub struct Visit<'a, N: BookName> {
     book: &'a TrackBook<N>,

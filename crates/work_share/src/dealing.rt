@@ -159,7 +159,7 @@ fn hands(
     let mut number = 0;
     while let Some(own) = owners.next() {
         let Some(passes) = rows.next() else {
-            break;
+            unreachable!()
         };
         let taken = Vec::with_capacity(alloc, nets.len())?;
         hands.push(Hand::new(number, HandParts { own, passes, taken }))?;

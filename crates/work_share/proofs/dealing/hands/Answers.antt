@@ -7,7 +7,6 @@ use Rattle.work_share.specs.Views.{HandView, share_of, IsNewHand}
 use Rattle.work_share.proofs.HandMaking.{IsMaking, making-first, making-parts, making-more, making-last, making-both}
 use Rattle.work_share.proofs.NewHands.{new-is, new-room, new-of, new-fifo}
 use Rattle.work_share.proofs.dealing.hands.Goals as goal
-use Rattle.work_share.proofs.dealing.hands.Goals.{in-Some+in_default-next, in_default}
 
 pub loop-own-init : goal.loop-own-init
 loop-own-init c =
@@ -59,17 +58,15 @@ loop-own-preserved c =
     subst (λ (l : List HandView). IsMaking c.args.nets.now c.args.owners.items c.args.rows.items (c.loop-own.number + 1) (into_iter_items c.next.new.self) (into_iter_items c.next-in-Some.new.self) l) (sym c.in_ok-push.ensures.items)
     (making-more c.args.nets.now c.args.owners.items _ c.args.rows.items _ c.loop-own.number c.in-Some.own c.in-Some-next.passes c.loop-own.hands.items c.new.result making hand)
 
+pub unreachable-requires : goal.unreachable-requires
+unreachable-requires c =
+    let making = subst (λ (l : List Owner). IsMaking c.args.nets.now c.args.owners.items c.args.rows.items c.loop-own.number l (into_iter_items c.loop-own.rows) c.loop-own.hands.items) c.in-Some.ensures.items c.loop-own.invariant in
+    let none = c.in_default-next.ensures.cases.0 in
+    let count = c.loop-own.rows.rest.ok.0 in
+    making-both c.args.nets.now c.args.owners.items _ c.args.rows.items (into_iter_items c.loop-own.rows) c.loop-own.number c.in-Some.own c.loop-own.hands.items making c.requires.rows (omega (arith, none, count))
+
 pub returns : goal.returns
-returns c = elim c.match-next.branch [
-  | in-Some+in_default-next w ↦ (
-      let making = subst (λ (l : List Owner). IsMaking c.args.nets.now c.args.owners.items c.args.rows.items c.loop-own.number l (into_iter_items c.loop-own.rows) c.loop-own.hands.items) w.in-Some.ensures.items c.loop-own.invariant in
-      let none = w.in_default-next.ensures.cases.0 in
-      let count = c.loop-own.rows.rest.ok.0 in
-      absurd (making-both c.args.nets.now c.args.owners.items _ c.args.rows.items (into_iter_items c.loop-own.rows) c.loop-own.number w.in-Some.own c.loop-own.hands.items making c.requires.rows (omega (arith, none, count)))
-      )
-  | in_default w ↦ (
-      let none = w.in_default.ensures.cases.0 in
-      let count = c.loop-own.owners.rest.ok.0 in
-      making-last c.args.nets.now c.args.owners.items (into_iter_items c.loop-own.owners) c.args.rows.items (into_iter_items c.loop-own.rows) c.loop-own.number c.loop-own.hands.items c.loop-own.invariant (omega (arith, none, count))
-      )
-]
+returns c =
+    let none = c.in_default.ensures.cases.0 in
+    let count = c.loop-own.owners.rest.ok.0 in
+    making-last c.args.nets.now c.args.owners.items (into_iter_items c.loop-own.owners) c.args.rows.items (into_iter_items c.loop-own.rows) c.loop-own.number c.loop-own.hands.items c.loop-own.invariant (omega (arith, none, count))
