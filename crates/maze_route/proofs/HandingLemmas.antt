@@ -8,10 +8,9 @@ use Rattle.gr_base.specs.declared.grid.Way.TheVariants.{East, North, Up}
 use Rattle.gr_base.specs.Trees.{TreeView}
 use Rattle.maze_route.specs.Search.{IsConsistent, HasCosts, IsRelaxed, IsSearching}
 use Rattle.maze_route.specs.Handing.{HandsOn}
-use Rattle.maze_route.specs.Steps.{size_of, pane_step, pane_graph, rest_of, IsGuide, step_to, made_step, ahead_of, behind_of, steps_from}
+use Rattle.maze_route.specs.Steps.{Step, size_of, pane_step, pane_graph, rest_of, IsGuide, step_to, made_step, ahead_of, behind_of, steps_from}
 use Rattle.maze_route.specs.declared.front.Front.{Front}
 use Rattle.maze_route.specs.declared.pane.Pane.{Pane}
-use Rattle.maze_route.specs.declared.pane.Step.{Step}
 use Rattle.maze_route.specs.declared.pane.Aim.{Aim}
 use Rattle.maze_route.proofs.StepLemmas.{step-by, step-least, step-to-some, ahead-is, behind-is, at-some}
 use Rattle.maze_route.proofs.SearchLemmas.{labels_of, Grown, IsReached, AllSteps, CanTake, reach-all}

@@ -7,13 +7,13 @@ use Rattle.std.proofs.lemmas.Bool.Decides.{nat_tests}
 use Rattle.std.proofs.lemmas.Option.{none-some, same_Some}
 use Rattle.std.proofs.lemmas.List.Sums.{sum_by-set}
 use Rattle.std.proofs.lemmas.List.Sorted.{Contains-permutation, IsPermutation-sym, length_permutation}
+use Rattle.maze_route.specs.Steps.{Step}
 use Rattle.maze_route.specs.Labels.{unreached, label_at, is_lower, relabelled}
 use Rattle.maze_route.specs.Queues.{QueueView}
 use Rattle.maze_route.specs.Search.{most_distance, IsAtMost, IsConsistent, HasCosts, HasSources, AreWalked, IsRelaxed, AreGuided, IsSearching, HasGoal}
 use Rattle.maze_route.specs.Handing.{Lowers, Stands, IsReachIf, does_lower, IsReach, AreReaches}
 use Rattle.maze_route.specs.Walks.{Graph, Reaches, Starts, Goes_on}
 use Rattle.maze_route.specs.declared.front.Front.{Front}
-use Rattle.maze_route.specs.declared.pane.Step.{Step}
 use Rattle.maze_route.proofs.Distances.{at-most, make-at-most}
 use Rattle.maze_route.proofs.LabelLemmas.{label-set, relabelled-here, relabelled-there, lower-item, lower-label, not-lower, contains-head, contains-more, contains-cases}
 
@@ -41,9 +41,6 @@ pub record Grown (graph : Graph) (rest : ℕ → ℕ) (v from : ℕ) (before aft
   pub weight : weight_of after ≤ weight_of before
   pub size : length after.labels.costs.items ≡ length before.labels.costs.items
   pub last : after.queue.last ≡ before.queue.last
-
-falls-again : (label : ℕ → Option ℕ) (n cost : ℕ) → label n ≡ Some cost → IsAtMost (label n) cost
-falls-again label n cost is = make-at-most (label n) cost cost is (omega arith)
 
 -- a front that stands as it was
 stands-labels : (before after : Front) → Stands before after → (n : ℕ) → labels_of after n ≡ labels_of before n

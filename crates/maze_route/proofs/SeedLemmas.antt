@@ -10,12 +10,11 @@ use Rattle.gr_base.specs.Trees.{TreeView, holds, cell_at, node_with}
 use Rattle.gr_base.proofs.TreeLemmas.{some_from, node_with-at, cell_at-within}
 use Rattle.maze_route.specs.Search.{HasSources, IsSearching}
 use Rattle.maze_route.specs.Handing.{IsReach}
-use Rattle.maze_route.specs.Steps.{size_of, cell_in, local_of, pane_source, pane_graph, rest_of, least_to, IsSpot, IsSeededTo}
+use Rattle.maze_route.specs.Steps.{Step, size_of, cell_in, local_of, pane_source, pane_graph, rest_of, least_to, IsSpot, IsSeededTo}
 use Rattle.maze_route.specs.Windows.{in_window, TreeLiesIn}
 use Rattle.maze_route.specs.declared.front.Front.{Front}
 use Rattle.maze_route.specs.declared.pane.Pane.{Pane}
 use Rattle.maze_route.specs.declared.pane.Spot.{Spot}
-use Rattle.maze_route.specs.declared.pane.Step.{Step}
 use Rattle.maze_route.specs.declared.pane.Aim.{Aim}
 use Rattle.maze_route.proofs.PaneLemmas.{local-cell}
 use Rattle.maze_route.proofs.SearchLemmas.{labels_of, seed-grown, seed-low, sources-fall}

@@ -9,13 +9,12 @@ use Rattle.gr_base.specs.declared.grid.Way.{Way}
 use Rattle.gr_base.specs.Grid.{place_at, IsInside, beyond, stride, has_room, edge_at}
 use Rattle.gr_base.proofs.GridLemmas.{place-inside, some_columns, some_rows, few_cells}
 use Rattle.std.proofs.Math.Nat.{le-mul_of_pos_right}
-use Rattle.maze_route.specs.Steps.{size_of, cell_in, pane_step, step_to, made_step, ahead_of, behind_of, has_room_behind, before, least_to, rest_of, FitsIn, IsGuide, Covers, step_of, IsSpot}
+use Rattle.maze_route.specs.Steps.{Step, size_of, cell_in, pane_step, step_to, made_step, ahead_of, behind_of, has_room_behind, before, least_to, rest_of, FitsIn, IsGuide, Covers, step_of, IsSpot}
 use Rattle.maze_route.specs.Handing.{IsReach}
 use Rattle.maze_route.specs.declared.front.Front.{Front}
 use Rattle.maze_route.specs.declared.pane.Neighbour.{Neighbour}
 use Rattle.maze_route.specs.declared.pane.Pane.{Pane}
 use Rattle.maze_route.specs.declared.pane.Spot.{Spot}
-use Rattle.maze_route.specs.declared.pane.Step.{Step}
 use Rattle.maze_route.specs.declared.pane.Aim.{Aim}
 use Rattle.maze_route.proofs.StepLemmas.{IsNext, IsBehind, next-ahead, next-behind, step-ahead, step-behind, ahead-is, behind-is, before-is, step-fits}
 

@@ -7,8 +7,7 @@ use Rattle.maze_route.specs.Search.{most_distance}
 use Rattle.maze_route.specs.declared.front.Front.{Front}
 use Rattle.maze_route.specs.declared.pane.Aim.{Aim}
 use Rattle.maze_route.specs.declared.pane.Pane.{Pane}
-use Rattle.maze_route.specs.declared.pane.Step.{Step}
-use Rattle.maze_route.specs.Steps.{steps_from}
+use Rattle.maze_route.specs.Steps.{Step, steps_from}
 
 -- the step's end has its label lowered to the cost, and waits with the cost and the rest as key
 pub record Lowers (cost : ℕ) (step : Step) (before after : Front) : Type 0 where

@@ -143,13 +143,5 @@ fn walk_in<C: Costs>(
         &mut room.front,
     )?;
     let goal = first_reached(&room.front.labels, &room.ends).unwrap();
-    walk_back(
-        alloc,
-        costs,
-        &room.field,
-        &aim,
-        tree,
-        &room.front.labels,
-        goal,
-    )
+    walk_back(alloc, costs, &room.field, tree, &room.front.labels, goal)
 }
