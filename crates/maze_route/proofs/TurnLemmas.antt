@@ -2,7 +2,7 @@
 use Rattle.std.proofs.Common.{◌≡◌, ℕ, ◌+◌, ◌<◌, ◌≤◌, inl, inr, Bool, true, false, List, [], ◌∷◌, length, Option, Some, None, IfSome, IsSome, IsSomeAnd, Contains, get_or, if◌then◌else◌, refl, sym, ap, subst, ◌∙◌, arith}
 use Rattle.std.proofs.lemmas.Bool.{both_ways}
 use Rattle.std.proofs.lemmas.Bool.Decides.{nat_tests}
-use Rattle.std.proofs.lemmas.Option.{same_Some, slice_get_past, unwrap_or-slice_get}
+use Rattle.std.proofs.lemmas.Option.{same_Some, slice_get_past}
 use Rattle.std.proofs.lemmas.List.Elements.{All-contains}
 use Rattle.std.proofs.lemmas.List.Sorted.{Contains-permutation, length_permutation}
 use Rattle.cost_rules.specs.Prices.{ArePrices}
@@ -127,7 +127,7 @@ settled-turn p t grid ways price aim marks nearest next front after queue spot k
     let rest = spot-rest p aim spot cell steps at local steps_are in
     let fresh : key ≤ cost + rest_of p aim cell = omega (arith, due, rest) in
     let marked = get_or marks cell false in
-    let mark : is_marked marks cell ≡ marked = unwrap_or-slice_get marks cell false in
+    let mark : is_marked marks cell ≡ marked = refl in
     let graph = pane_graph p t price in
     let none = no-label front (size_of p) turn.size_is in
     let opened = open-taken graph (rest_of p aim) (labels_of front) front.queue.pairs queue.pairs (size_of p) key cell turn.searching none (taken-by key cell front.queue queue popped) in
