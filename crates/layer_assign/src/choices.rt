@@ -61,7 +61,7 @@ pub(crate) fn choose_layers<C: Costs>(
 /// whatever edges this tile has.
 ///
 /// Spans go from narrow to wide, since a span's cost is read where it is as wide or wider. Those
-/// before that of the pins hold it no more.
+/// before that of the pins don't hold it.
 fn choose_by_span<C: Costs>(
     costs: &C,
     shape: Shape,
@@ -165,7 +165,8 @@ fn choose_layer<C: Costs>(
     requires own { node * spans_of shape.layers + spans_of shape.layers ≤ length choices.old.items }
     requires small { (other : ℕ) → other < shape.layers →
         entry shape.layers least.old.items parent (widened span other) ≤ 2 ^ 50 }
-    requires some { IsSome (best_below (offer shape (priced shape (C.price costs.now) limb.now) least.old.items parent span) shape.layers) }
+    requires some { IsSome (best_below
+        (offer shape (priced shape (C.price costs.now) limb.now) least.old.items parent span) shape.layers) }
     ensures wires { AreWires shape (C.price costs.now) limb.now.edge wires.new }
     ensures writes { Writes shape.layers parent node span
         (best_below (offer shape (priced shape (C.price costs.now) limb.now) least.old.items parent span) shape.layers)

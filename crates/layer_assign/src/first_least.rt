@@ -19,6 +19,10 @@ use std::alloc::{AllocError, Global};
 /// there: the layers of the tile's edges and of its pins. Of the least assignments the first by the
 /// layers of nodes 1, 2 and so on is taken. The only error is want of memory.
 ///
+/// The flat tree has the grid's columns and rows and one layer, and for each of its edges a layer of the
+/// grid goes its way. There is at least one pin; each is a cell of the grid whose tile the flat tree holds.
+/// The room is for at least as many tiles as the grid has.
+///
 /// After Lee and Wang, "Congestion-constrained layer assignment for via minimization in global
 /// routing", 2008: by tables from the last node down, here for each span of layers of a tile. A node
 /// takes time in the square of the number of layers, and in its third power where edges branch.

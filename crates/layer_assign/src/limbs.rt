@@ -114,7 +114,8 @@ fn best_with<C: Costs>(
     requires parent { parent < most_cells }
     requires row { parent * spans_of shape.layers + spans_of shape.layers ≤ length least.now }
     requires small { entry shape.layers least.now parent (widened span layer) ≤ 2 ^ 50 }
-    ensures best { result ≡ better best (offer shape (priced shape (C.price costs.now) limb.now) least.now parent span layer) }
+    ensures best { result ≡ better best
+        (offer shape (priced shape (C.price costs.now) limb.now) least.now parent span layer) }
     ensures wires { AreWires shape (C.price costs.now) limb.now.edge wires.new }
 {
     let Some(below) = limb.below[layer as usize] else {

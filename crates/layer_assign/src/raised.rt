@@ -26,6 +26,10 @@ use std::alloc::{AllocError, Global};
 /// those of the tile's edges and of its pins. So it holds each pin's cell. The only error is want of
 /// memory.
 ///
+/// The flat tree has the grid's columns and rows and one layer, and each of its edges has a layer of the
+/// grid. There is at least one pin; each is a cell of the grid whose tile the flat tree holds. The room is
+/// for at least as many tiles as the grid has.
+///
 /// The tile of the first pin is added first, then the tiles of its node's ancestors up to node 0,
 /// and then the others by their nodes. A tile is added from the cell that its edge leads to.
 pub fn raise(

@@ -25,7 +25,7 @@ pub struct LayerRoom {
     pub(crate) workings: Workings,
     /// The span of each node's tile at last.
     pub(crate) whole: Vec<Span>,
-    /// How many nodes the raised tree had just after each node's tile was added.
+    /// How many nodes the raised tree had just after each node's tile was added, and 0 before.
     pub(crate) ends: Vec<u32>,
 }
 

@@ -4,6 +4,7 @@ use Rattle.std.proofs.lemmas.Bool.{cases_Bool, both_ways}
 use Rattle.std.proofs.lemmas.Bool.Decides.{nat_tests}
 use Rattle.std.proofs.lemmas.Option.{none-some, same_Some}
 use Rattle.std.proofs.Math.Nat.{le-mul_of_pos_right}
+use Rattle.std.specs.Option.{option_map}
 use Rattle.cost_rules.specs.Prices.{ArePrices}
 use Rattle.gr_base.specs.declared.grid.Edge.{Edge}
 use Rattle.gr_base.specs.declared.grid.Shape.{Shape}
@@ -13,10 +14,9 @@ use Rattle.gr_base.specs.Grid.{place_at, has_room}
 use Rattle.gr_base.specs.Trees.{TreeView}
 use Rattle.gr_base.proofs.GridLemmas.{some_columns, some_rows}
 use Rattle.maze_route.specs.Backs.{makes_up, closer_of, either_of, first_some, first_closer, IsNear}
-use Rattle.maze_route.specs.Steps.{pane_step, pane_graph, rest_of, step_to, has_room_behind, sides, steps_from}
+use Rattle.maze_route.specs.Steps.{Step, pane_step, pane_graph, rest_of, step_to, has_room_behind, sides, steps_from}
 use Rattle.maze_route.specs.Walks.{IsFirstBack}
 use Rattle.maze_route.specs.declared.pane.Pane.{Pane}
-use Rattle.maze_route.specs.declared.pane.Step.{Step}
 use Rattle.maze_route.specs.declared.pane.Aim.{Aim}
 use Rattle.maze_route.proofs.Distances.{guided-distance, label-back, back-label, some-back}
 use Rattle.maze_route.proofs.SearchLemmas.{AllSteps}
@@ -148,15 +148,16 @@ sum-makes o label cost left is sum =
     ap (λ (l : Option ℕ). makes_up l cost left) is ∙ same
 
 -- the cell of the first step back is the first one back
-pub record GoesBack (p : Pane) (t : TreeView) (price : Edge → Option ℕ) (aim : Aim) (label : ℕ → Option ℕ) (cell left : ℕ) (step : Step) : Type 0 where
+pub record GoesBack (p : Pane) (t : TreeView) (price : Edge → Option ℕ) (label : ℕ → Option ℕ) (cell left : ℕ) (step : Step) : Type 0 where
   pub first : IsFirstBack (pane_graph p t price) cell step.cell
   pub less : step.cost ≤ left
   pub some : 0 < step.cost
-  pub near : IsNear p t price aim label step.cell (left - step.cost)
+  pub near : IsNear p t price label step.cell (left - step.cost)
 
-pub goes-back : (p : Pane) (t : TreeView) (ways : ℕ → Way → Bool) (price : Edge → Option ℕ) (aim : Aim) (label : ℕ → Option ℕ) (cell left : ℕ) (step : Step) → ArePrices p.grid ways price →
-    IsNear p t price aim label cell left → first_closer p price aim label cell left ≡ Some step → GoesBack p t price aim label cell left step
-goes-back p t ways price aim label cell left step prices near is =
+pub goes-back : (p : Pane) (t : TreeView) (ways : ℕ → Way → Bool) (price : Edge → Option ℕ) (label : ℕ → Option ℕ) (cell left : ℕ) (step : Step) → ArePrices p.grid ways price →
+    (near : IsNear p t price label cell left) → first_closer p price near.aim label cell left ≡ Some step → GoesBack p t price label cell left step
+goes-back p t ways price label cell left step prices near is =
+    let aim = near.aim in
     let graph = pane_graph p t price in
     let rest = rest_of p aim in
     let costs = pane-costs p t ways price prices in
@@ -182,6 +183,7 @@ goes-back p t ways price aim label cell left step prices near is =
       less = omega arith;
       some = costs step.cell cell step.cost taken;
       near = record {
+        aim = aim;
         inside = elim (by.next) [ inl next ↦ next.low_inside | inr next ↦ next.inside ];
         labelled = made.1.0 ∙ ap (λ (n : ℕ). Some n) left_is;
         bound = near.bound;
@@ -207,9 +209,10 @@ some-from : (o : Option Step) → (o ≡ None → ⊥) → IsSome o
 some-from None h = absurd (h refl)
 some-from (Some s) h = refl
 
-pub finds-back : (p : Pane) (t : TreeView) (price : Edge → Option ℕ) (aim : Aim) (label : ℕ → Option ℕ) (cell left : ℕ) →
-    IsNear p t price aim label cell left → 0 < left → IsSome (first_closer p price aim label cell left)
-finds-back p t price aim label cell left near some =
+pub finds-back : (p : Pane) (t : TreeView) (price : Edge → Option ℕ) (label : ℕ → Option ℕ) (cell left : ℕ) →
+    (near : IsNear p t price label cell left) → 0 < left → IsSome (first_closer p price near.aim label cell left)
+finds-back p t price label cell left near some =
+    let aim = near.aim in
     some-from (first_closer p price aim label cell left) (λ none.
     let graph = pane_graph p t price in
     let rest = rest_of p aim in
@@ -219,3 +222,8 @@ finds-back p t price aim label cell left near some =
     let there = step-swap p price back.0 cell at.1.0 at.1.1.1.0 in
     let fails = pick-step p price aim cell back.0 at.1.0 (λ s. makes_up (label s.cell) s.cost left ≡ false) there (none-closer p price aim label left cell (steps_from p price aim cell) none) in
     absurd (both_ways true (sym (sum-makes (label back.0) at.0 at.1.0 left at.1.1.0 at.1.1.1.1.0) ∙ fails) refl))
+
+-- what is mapped to something is something
+pub some-mapped : {A B : Type 0} (f : A → B) (o : Option A) → IsSome (option_map f o) → IsSome o
+some-mapped f None is = is
+some-mapped f (Some x) is = refl

@@ -1,12 +1,11 @@
 -- The first of some labelled cells, and their marks.
-use Rattle.std.proofs.Common.{◌≡◌, ℕ, ◌+◌, ◌<◌, ◌≤◌, ◌⊎◌, inl, inr, Bool, true, false, ◌&&◌, ◌||◌, ◌==◌, nat_lt, nat_le, List, [], ◌∷◌, ◌++◌, length, take, get_or, Option, Some, None, unwrap_or, slice_get, slice_set, IsTrue, if◌then◌else◌, refl, sym, ap, subst, ◌∙◌, arith}
+use Rattle.std.proofs.Common.{◌≡◌, ℕ, ◌+◌, ◌<◌, ◌≤◌, ◌⊎◌, inl, inr, Bool, true, false, ◌&&◌, ◌||◌, ◌==◌, nat_lt, nat_le, List, [], ◌∷◌, ◌++◌, length, take, get_or, Option, Some, None, slice_set, IsTrue, if◌then◌else◌, refl, sym, ap, subst, ◌∙◌, arith}
 use Rattle.std.proofs.lemmas.Bool.{cases_lt, cases_eq, cases_Bool, both_ways}
 use Rattle.std.proofs.lemmas.Bool.Decides.{nat_tests}
-use Rattle.std.proofs.lemmas.List.{take_more}
+use Rattle.std.proofs.lemmas.List.{take_more, get_or-set_same, get_or-set_other}
 use Rattle.std.proofs.lemmas.List.Folds.{list_any-append}
 use Rattle.std.proofs.lemmas.Option.{none-some, same_Some}
 use Rattle.gr_base.specs.Trees.{is_among}
-use Rattle.maze_route.proofs.LabelLemmas.{slice_get-set}
 use Rattle.maze_route.specs.Ends.{reached_at, is_earlier, earlier_of, IsFirst, IsFirstOf}
 use Rattle.maze_route.specs.Search.{is_marked}
 use Rattle.maze_route.specs.declared.pane.Reached.{Reached}
@@ -155,9 +154,17 @@ or-comm true false = refl
 or-comm false true = refl
 or-comm false false = refl
 
-mark-if : (b : Bool) (o : Option Bool) → unwrap_or (if b then Some true else o) false ≡ (b || unwrap_or o false)
-mark-if true o = refl
-mark-if false o = refl
+-- what is marked once another cell is
+mark-set : (marks : List Bool) (end n : ℕ) → end < length marks → is_marked (slice_set marks end true) n ≡ ((n == end) || is_marked marks n)
+mark-set marks end n inside =
+    elim (cases_eq n end) [
+      | inl same ↦
+          let here : (n == end) ≡ true = grind (arith, nat_tests) in
+          ap (λ (k : ℕ). is_marked (slice_set marks end true) k) same ∙ get_or-set_same marks end true false inside ∙ sym (ap (λ (b : Bool). b || is_marked marks n) here)
+      | inr other ↦
+          let there : (n == end) ≡ false = grind (arith, nat_tests) in
+          get_or-set_other marks end n true false other ∙ sym (ap (λ (b : Bool). b || is_marked marks n) there)
+    ]
 
 -- one more mark
 pub mark-turn : (marks after : List Bool) (ends : List ℕ) (at end d n : ℕ) → at < length ends → end ≡ get_or ends at d → end < length marks → after ≡ slice_set marks end true →
@@ -175,8 +182,7 @@ mark-turn marks after ends at end d n below is inside set so_far =
           one ∙ sym two
     ] in
     ap (λ (xs : List Bool). is_marked xs n) set
-    ∙ ap (λ (o : Option Bool). unwrap_or o false) (slice_get-set marks end n true inside)
-    ∙ mark-if (n == end) (slice_get marks n)
+    ∙ mark-set marks end n inside
     ∙ ap (λ b. b || is_marked marks n) swapped
     ∙ or-comm (end == n) (is_marked marks n)
     ∙ ap (λ b. b || (end == n)) so_far

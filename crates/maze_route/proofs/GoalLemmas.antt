@@ -137,19 +137,20 @@ pub lies-in : (p : Pane) (t : TreeView) → t.shape ≡ p.grid → TreeLiesIn p.
 lies-in p t same lies cell held = let P : Shape → Type 0 = λ g. IsTrue (in_window g p.window cell) in subst P same (lies cell held)
 
 -- what the search and the first goal come to
-pub record Found (p : Pane) (t : TreeView) (price : Edge → Option ℕ) (aim : Aim) (label : ℕ → Option ℕ) (ends : List ℕ) (first : Reached) : Type 0 where
-  pub near : IsNear p t price aim label first.cell first.cost
+pub record Found (p : Pane) (t : TreeView) (price : Edge → Option ℕ) (label : ℕ → Option ℕ) (ends : List ℕ) (first : Reached) : Type 0 where
+  pub near : IsNear p t price label first.cell first.cost
   pub goal : IsFirstGoal (pane_graph p t price) ends first.cell
 
 pub found-first : (p : Pane) (t : TreeView) (price : Edge → Option ℕ) (aim : Aim) (marks : List Bool) (label : ℕ → Option ℕ) (ends : List ℕ) (first : Reached) →
     IsGuide p price aim → Finds (pane_graph p t price) (rest_of p aim) marks label → ((n : ℕ) → is_marked marks n ≡ is_among ends n) → ((end : ℕ) → IsTrue (is_among ends end) → rest_of p aim end ≡ 0) →
-    All (λ e. e < size_of p) ends → IsFirst label ends first → Found p t price aim label ends first
+    All (λ e. e < size_of p) ends → IsFirst label ends first → Found p t price label ends first
 found-first p t price aim marks label ends first guide finds marked free below is =
     let consistent = pane-rest p t price aim guide in
     let low = first-low marks ends label finds.bound first finds.goal marked is in
     let none = free first.cell is.among in
     record {
       near = record {
+        aim = aim;
         inside = among-below ends (size_of p) first.cell below is.among;
         labelled = is.labelled;
         bound = finds.bound;
@@ -165,10 +166,10 @@ pub found-of : (p : Pane) (t : TreeView) (price : Edge → Option ℕ) (aim : Ai
     (goals ends boxed marked kept : List ℕ) (o : Option Reached) (first : Reached) → IsGuide p price aim →
     Finds (pane_graph p t price) (rest_of p aim) marks label → boxed ≡ kept → marked ≡ kept → ends ≡ kept → kept ≡ map (local_of p) goals →
     marks ≡ made → ((n : ℕ) → is_marked made n ≡ is_among marked n) → ((end : ℕ) → IsTrue (is_among boxed end) → rest_of p aim end ≡ 0) →
-    LieIn p.grid p.window goals → IsFirstOf label ends o → o ≡ Some first → Found p t price aim label (map (local_of p) goals) first
+    LieIn p.grid p.window goals → IsFirstOf label ends o → o ≡ Some first → Found p t price label (map (local_of p) goals) first
 found-of p t price aim marks made label goals ends boxed marked kept o first guide finds as_boxed as_marked as_ends kept_are marks_are of_marks of_box inside is found =
     let are = as_ends ∙ kept_are in
-    subst (λ (xs : List ℕ). Found p t price aim label xs first) are
+    subst (λ (xs : List ℕ). Found p t price label xs first) are
     (found-first p t price aim marks label ends first guide finds
     (λ n. ap (λ (xs : List Bool). is_marked xs n) marks_are ∙ of_marks n ∙ ap (λ (xs : List ℕ). is_among xs n) (as_marked ∙ sym as_ends))
     (λ end among. of_box end (ap (λ (xs : List ℕ). is_among xs end) (as_boxed ∙ sym as_ends) ∙ among))

@@ -8,10 +8,9 @@ use Rattle.gr_base.specs.declared.grid.Way.TheVariants.{East, North, Up}
 use Rattle.gr_base.specs.Trees.{TreeView}
 use Rattle.maze_route.specs.Search.{IsConsistent, HasCosts, IsRelaxed, IsSearching}
 use Rattle.maze_route.specs.Handing.{HandsOn}
-use Rattle.maze_route.specs.Steps.{size_of, pane_step, pane_graph, rest_of, IsGuide, step_to, made_step, ahead_of, behind_of, steps_from}
-use Rattle.maze_route.specs.declared.front.Front.{Front}
+use Rattle.maze_route.specs.Steps.{Step, size_of, pane_step, pane_graph, rest_of, IsGuide, step_to, made_step, ahead_of, behind_of, steps_from}
+use Rattle.maze_route.specs.declared.front.Frontier.{Frontier}
 use Rattle.maze_route.specs.declared.pane.Pane.{Pane}
-use Rattle.maze_route.specs.declared.pane.Step.{Step}
 use Rattle.maze_route.specs.declared.pane.Aim.{Aim}
 use Rattle.maze_route.proofs.StepLemmas.{step-by, step-least, step-to-some, ahead-is, behind-is, at-some}
 use Rattle.maze_route.proofs.SearchLemmas.{labels_of, Grown, IsReached, AllSteps, CanTake, reach-all}
@@ -66,7 +65,7 @@ pub pane-rest : (p : Pane) (t : TreeView) (price : Edge → Option ℕ) (aim : A
 pane-rest p t price aim guide u v k taken = guide.falls u v k taken
 
 -- a settled cell is relaxed
-pub spread-grown : (p : Pane) (t : TreeView) (ways : ℕ → Way → Bool) (price : Edge → Option ℕ) (aim : Aim) (cell from : ℕ) (before after : Front) → ArePrices p.grid ways price →
+pub spread-grown : (p : Pane) (t : TreeView) (ways : ℕ → Way → Bool) (price : Edge → Option ℕ) (aim : Aim) (cell from : ℕ) (before after : Frontier) → ArePrices p.grid ways price →
     IsSearching (pane_graph p t price) (rest_of p aim) (labels_of before) before.queue.pairs cell → labels_of before cell ≡ Some from →
     length before.labels.costs.items ≡ size_of p → HandsOn p price aim cell from before after →
     (Grown (pane_graph p t price) (rest_of p aim) cell from before after) × IsRelaxed (pane_graph p t price) (labels_of after) cell from

@@ -1,5 +1,5 @@
 -- Bits of the buckets that have a place.
-use Rattle.std.proofs.Common.{◌≡◌, ℕ, zero, suc, ◌+◌, ◌-◌, ◌*◌, ◌/◌, ◌%◌, ◌^◌, ◌<◌, ◌≤◌, inl, inr, Bool, true, List, length, get_or, Option, Some, None, is_some, IsSome, slice_get, replicate, if◌then◌else◌, refl, sym, ap, ◌∙◌, arith, w64}
+use Rattle.std.proofs.Common.{◌≡◌, ℕ, zero, suc, ◌+◌, ◌-◌, ◌*◌, ◌/◌, ◌%◌, ◌^◌, ◌<◌, ◌≤◌, inl, inr, true, List, length, get_or, Option, Some, None, is_some, IsSome, slice_get, replicate, if◌then◌else◌, refl, sym, ap, ◌∙◌, arith, w64}
 use Rattle.std.specs.Int.{bit_at, trailing_zeros}
 use Rattle.std.specs.Prelude.{option_and_then}
 use Rattle.std.proofs.lemmas.Nat.{div-add-mod', mod_below}

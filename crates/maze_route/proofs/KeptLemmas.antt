@@ -18,7 +18,7 @@ use Rattle.maze_route.specs.Search.{most_distance, IsAtMost, IsSearching, is_mar
 use Rattle.maze_route.specs.Steps.{size_of, cell_in, pane_source, pane_graph}
 use Rattle.maze_route.specs.Walks.{Graph, Reaches, Starts, Goes_on}
 use Rattle.maze_route.specs.declared.field.Field.{Field}
-use Rattle.maze_route.specs.declared.front.Front.{Front}
+use Rattle.maze_route.specs.declared.front.Frontier.{Frontier}
 use Rattle.maze_route.specs.declared.pane.Pane.{Pane}
 use Rattle.maze_route.specs.declared.room.MazeRoom.{MazeRoom}
 use Rattle.maze_route.specs.declared.scales.Scales.{Scales}
@@ -43,7 +43,7 @@ reaches-grown : (p : Pane) (t u : TreeView) (price : Edge → Option ℕ) (v cos
 reaches-grown p t u price v cost keeps (Starts source) = Starts (source-grown p t u v keeps source)
 reaches-grown p t u price v cost keeps (Goes_on {u = from} {cost = before} walk taken) = Goes_on (reaches-grown p t u price from before keeps walk) taken
 
-kept-grown : (p : Pane) (t u : TreeView) (price : Edge → Option ℕ) (nowhere : ℕ) (front : Front) → Keeps t u → IsKept (pane_graph p t price) nowhere front →
+kept-grown : (p : Pane) (t u : TreeView) (price : Edge → Option ℕ) (nowhere : ℕ) (front : Frontier) → Keeps t u → IsKept (pane_graph p t price) nowhere front →
     IsKept (pane_graph p u price) nowhere front
 kept-grown p t u price nowhere front keeps kept = record {
   rest = kept.rest;
@@ -67,7 +67,7 @@ serves-grown w price room t u same keeps serves = record {
 }
 
 -- before any label
-pub kept-empty : (graph : Graph) (nowhere : ℕ) (front : Front) → ((n : ℕ) → label_at front.labels.costs.items n ≡ None) → front.queue.pairs ≡ [] → IsKept graph nowhere front
+pub kept-empty : (graph : Graph) (nowhere : ℕ) (front : Frontier) → ((n : ℕ) → label_at front.labels.costs.items n ≡ None) → front.queue.pairs ≡ [] → IsKept graph nowhere front
 kept-empty graph nowhere front none empty = record {
   rest = λ _. 0;
   searching = record {
@@ -187,7 +187,7 @@ some-and : (o : Option ℕ) (P : ℕ → Type 0) → IsSomeAnd o P → (x : ℕ)
 some-and None P h = absurd h
 some-and (Some x) P h = (x, (refl, h))
 
-pub cells-labelled : (graph : Graph) (nowhere : ℕ) (front : Front) → IsKept graph nowhere front →
+pub cells-labelled : (graph : Graph) (nowhere : ℕ) (front : Frontier) → IsKept graph nowhere front →
     All (λ cell. IsAtMost (label_at front.labels.costs.items cell) most_distance) (cells_of_pairs front.queue.pairs)
 cells-labelled graph nowhere front kept =
     let label = label_at front.labels.costs.items in

@@ -7,22 +7,22 @@ use Rattle.std.proofs.lemmas.Bool.Decides.{nat_tests}
 use Rattle.std.proofs.lemmas.Option.{none-some, same_Some}
 use Rattle.std.proofs.lemmas.List.Sums.{sum_by-set}
 use Rattle.std.proofs.lemmas.List.Sorted.{Contains-permutation, IsPermutation-sym, length_permutation}
+use Rattle.maze_route.specs.Steps.{Step}
 use Rattle.maze_route.specs.Labels.{unreached, label_at, is_lower, relabelled}
 use Rattle.maze_route.specs.Queues.{QueueView}
 use Rattle.maze_route.specs.Search.{most_distance, IsAtMost, IsConsistent, HasCosts, HasSources, AreWalked, IsRelaxed, AreGuided, IsSearching, HasGoal}
 use Rattle.maze_route.specs.Handing.{Lowers, Stands, IsReachIf, does_lower, IsReach, AreReaches}
 use Rattle.maze_route.specs.Walks.{Graph, Reaches, Starts, Goes_on}
-use Rattle.maze_route.specs.declared.front.Front.{Front}
-use Rattle.maze_route.specs.declared.pane.Step.{Step}
+use Rattle.maze_route.specs.declared.front.Frontier.{Frontier}
 use Rattle.maze_route.proofs.Distances.{at-most, make-at-most}
 use Rattle.maze_route.proofs.LabelLemmas.{label-set, relabelled-here, relabelled-there, lower-item, lower-label, not-lower, contains-head, contains-more, contains-cases}
 
--- the labels of a front
-abbrev pub labels_of : Front → ℕ → Option ℕ
+-- the labels of a frontier
+abbrev pub labels_of : Frontier → ℕ → Option ℕ
 labels_of front = label_at front.labels.costs.items
 
 -- how much the search has before it at most
-abbrev pub weight_of : Front → ℕ
+abbrev pub weight_of : Frontier → ℕ
 weight_of front = length front.queue.pairs + 2 * sum front.labels.costs.items
 
 abbrev pub Falls : (ℕ → Option ℕ) → (ℕ → Option ℕ) → Type 0
@@ -34,7 +34,7 @@ pub record IsStepFrom (graph : Graph) (rest : ℕ → ℕ) (v : ℕ) (step : Ste
   pub left : step.rest ≡ rest step.cell
 
 -- what the reach of a step from a settled cell leaves
-pub record Grown (graph : Graph) (rest : ℕ → ℕ) (v from : ℕ) (before after : Front) : Type 0 where
+pub record Grown (graph : Graph) (rest : ℕ → ℕ) (v from : ℕ) (before after : Frontier) : Type 0 where
   pub searching : IsSearching graph rest (labels_of after) after.queue.pairs v
   pub falls : Falls (labels_of before) (labels_of after)
   pub kept : labels_of after v ≡ Some from
@@ -42,14 +42,11 @@ pub record Grown (graph : Graph) (rest : ℕ → ℕ) (v from : ℕ) (before aft
   pub size : length after.labels.costs.items ≡ length before.labels.costs.items
   pub last : after.queue.last ≡ before.queue.last
 
-falls-again : (label : ℕ → Option ℕ) (n cost : ℕ) → label n ≡ Some cost → IsAtMost (label n) cost
-falls-again label n cost is = make-at-most (label n) cost cost is (omega arith)
-
--- a front that stands as it was
-stands-labels : (before after : Front) → Stands before after → (n : ℕ) → labels_of after n ≡ labels_of before n
+-- a frontier that stands as it was
+stands-labels : (before after : Frontier) → Stands before after → (n : ℕ) → labels_of after n ≡ labels_of before n
 stands-labels before after stands n = ap (λ (xs : List ℕ). label_at xs n) stands.costs
 
-pub stands-grown : (graph : Graph) (rest : ℕ → ℕ) (v from : ℕ) (before after : Front) →
+pub stands-grown : (graph : Graph) (rest : ℕ → ℕ) (v from : ℕ) (before after : Frontier) →
     IsSearching graph rest (labels_of before) before.queue.pairs v → labels_of before v ≡ Some from → Stands before after → Grown graph rest v from before after
 stands-grown graph rest v from before after searching is stands =
     let P : List ℕ → QueueView → Type 0 = λ xs q. IsSearching graph rest (label_at xs) q.pairs v in
@@ -165,7 +162,7 @@ lowered-queued graph rest before after cell cost v pairs pairs_after key low sea
     ]
 
 -- the reach of a step from an open cell
-pub lowers-grown : (graph : Graph) (rest : ℕ → ℕ) (v from : ℕ) (step : Step) (before after : Front) → HasCosts graph →
+pub lowers-grown : (graph : Graph) (rest : ℕ → ℕ) (v from : ℕ) (step : Step) (before after : Frontier) → HasCosts graph →
     IsSearching graph rest (labels_of before) before.queue.pairs v → labels_of before v ≡ Some from → IsStepFrom graph rest v step →
     step.cell < length before.labels.costs.items → from + step.cost ≤ most_distance → Lowers (from + step.cost) step before after →
     (Grown graph rest v from before after) × (labels_of after step.cell ≡ Some (from + step.cost))
@@ -219,7 +216,7 @@ kept-reached : (before after : ℕ → Option ℕ) (from : ℕ) (step : Option S
 kept-reached before after from None falls reached = tt
 kept-reached before after from (Some step) falls reached = reached-falls before after from step falls reached
 
-reach-if : (graph : Graph) (rest : ℕ → ℕ) (v from : ℕ) (step : Step) (before after : Front) (does : Bool) → does_lower (from + step.cost) step before ≡ does → HasCosts graph →
+reach-if : (graph : Graph) (rest : ℕ → ℕ) (v from : ℕ) (step : Step) (before after : Frontier) (does : Bool) → does_lower (from + step.cost) step before ≡ does → HasCosts graph →
     IsSearching graph rest (labels_of before) before.queue.pairs v → labels_of before v ≡ Some from → IsStepFrom graph rest v step →
     step.cell < length before.labels.costs.items → IsReachIf does (from + step.cost) step before after →
     (Grown graph rest v from before after) × IsReached (labels_of after) from step
@@ -245,7 +242,7 @@ AllSteps P (step ∷ steps) = IfSome step P × AllSteps P steps
 abbrev pub CanTake : Graph → (ℕ → ℕ) → ℕ → ℕ → Step → Type 0
 CanTake graph rest size v step = IsStepFrom graph rest v step × (step.cell < size)
 
-grown-again : (graph : Graph) (rest : ℕ → ℕ) (v from : ℕ) (before between after : Front) → Grown graph rest v from before between → Grown graph rest v from between after →
+grown-again : (graph : Graph) (rest : ℕ → ℕ) (v from : ℕ) (before between after : Frontier) → Grown graph rest v from before between → Grown graph rest v from between after →
     Grown graph rest v from before after
 grown-again graph rest v from before between after first second = record {
   searching = second.searching;
@@ -261,7 +258,7 @@ grown-again graph rest v from before between after first second = record {
   last = second.last ∙ first.last;
 }
 
-reach-one : (graph : Graph) (rest : ℕ → ℕ) (v from size : ℕ) (step : Option Step) (before after : Front) → HasCosts graph →
+reach-one : (graph : Graph) (rest : ℕ → ℕ) (v from size : ℕ) (step : Option Step) (before after : Frontier) → HasCosts graph →
     IsSearching graph rest (labels_of before) before.queue.pairs v → labels_of before v ≡ Some from → length before.labels.costs.items ≡ size →
     IfSome step (CanTake graph rest size v) → IsReach from step before after →
     (Grown graph rest v from before after) × IfSome step (IsReached (labels_of after) from)
@@ -270,7 +267,7 @@ reach-one graph rest v from size (Some step) before after costs searching is all
     let inside = can.1 in
     reach-if graph rest v from step before after (does_lower (from + step.cost) step before) refl costs searching is can.0 (omega arith) reach
 
-pub reach-all : (graph : Graph) (rest : ℕ → ℕ) (v from size : ℕ) (steps : List (Option Step)) (before after : Front) → HasCosts graph →
+pub reach-all : (graph : Graph) (rest : ℕ → ℕ) (v from size : ℕ) (steps : List (Option Step)) (before after : Frontier) → HasCosts graph →
     IsSearching graph rest (labels_of before) before.queue.pairs v → labels_of before v ≡ Some from → length before.labels.costs.items ≡ size →
     AllSteps (CanTake graph rest size v) steps → AreReaches from steps before after →
     (Grown graph rest v from before after) × AllSteps (IsReached (labels_of after) from) steps
@@ -283,7 +280,7 @@ reach-all graph rest v from size (step ∷ next ∷ steps) before after costs se
     let more = reach-all graph rest v from size (next ∷ steps) between after costs one.0.searching one.0.kept (one.0.size ∙ all) can.1 reaches.1.1 in
     (grown-again graph rest v from before between after one.0 more.0, (kept-reached (labels_of between) (labels_of after) from step more.0.falls one.1, more.1))
 
-seed-if : (graph : Graph) (rest : ℕ → ℕ) (open_cell : ℕ) (step : Step) (before after : Front) (does : Bool) → does_lower (0 + step.cost) step before ≡ does →
+seed-if : (graph : Graph) (rest : ℕ → ℕ) (open_cell : ℕ) (step : Step) (before after : Frontier) (does : Bool) → does_lower (0 + step.cost) step before ≡ does →
     IsSearching graph rest (labels_of before) before.queue.pairs open_cell → IsTrue (graph.source step.cell) → step.cost ≡ 0 → step.rest ≡ rest step.cell →
     step.cell < length before.labels.costs.items → IsReachIf does (0 + step.cost) step before after →
     IsSearching graph rest (labels_of after) after.queue.pairs open_cell
@@ -310,14 +307,14 @@ seed-if graph rest open_cell step before after false does searching source free 
     subst P2 (sym stands.queue) (subst P1 (sym stands.costs) searching)
 
 -- a source is reached with cost 0
-pub seed-grown : (graph : Graph) (rest : ℕ → ℕ) (open_cell : ℕ) (step : Step) (before after : Front) →
+pub seed-grown : (graph : Graph) (rest : ℕ → ℕ) (open_cell : ℕ) (step : Step) (before after : Frontier) →
     IsSearching graph rest (labels_of before) before.queue.pairs open_cell → IsTrue (graph.source step.cell) → step.cost ≡ 0 → step.rest ≡ rest step.cell →
     step.cell < length before.labels.costs.items → IsReach 0 (Some step) before after →
     IsSearching graph rest (labels_of after) after.queue.pairs open_cell
 seed-grown graph rest open_cell step before after searching source free left inside reach =
     seed-if graph rest open_cell step before after (does_lower (0 + step.cost) step before) refl searching source free left inside reach
 
-low-if : (step : Step) (before after : Front) (does : Bool) → does_lower (0 + step.cost) step before ≡ does → step.cost ≡ 0 → step.cell < length before.labels.costs.items →
+low-if : (step : Step) (before after : Frontier) (does : Bool) → does_lower (0 + step.cost) step before ≡ does → step.cost ≡ 0 → step.cell < length before.labels.costs.items →
     IsReachIf does (0 + step.cost) step before after → (Falls (labels_of before) (labels_of after)) × (labels_of after step.cell ≡ Some 0)
 low-if step before after true does free inside lowers =
     let cost = 0 + step.cost in
@@ -340,7 +337,7 @@ low-if step before after false does free inside stands =
     )
 
 -- and has label 0 then
-pub seed-low : (step : Step) (before after : Front) → step.cost ≡ 0 → step.cell < length before.labels.costs.items → IsReach 0 (Some step) before after →
+pub seed-low : (step : Step) (before after : Frontier) → step.cost ≡ 0 → step.cell < length before.labels.costs.items → IsReach 0 (Some step) before after →
     (Falls (labels_of before) (labels_of after)) × (labels_of after step.cell ≡ Some 0)
 seed-low step before after free inside reach = low-if step before after (does_lower (0 + step.cost) step before) refl free inside reach
 
@@ -443,7 +440,7 @@ stop-guided graph rest label pairs nowhere bound consistent searching none sourc
 }
 
 -- what stands at each turn of the search
-pub record IsTurn (graph : Graph) (rest : ℕ → ℕ) (marks : List Bool) (size : ℕ) (nearest : Option ℕ) (front : Front) : Type 0 where
+pub record IsTurn (graph : Graph) (rest : ℕ → ℕ) (marks : List Bool) (size : ℕ) (nearest : Option ℕ) (front : Frontier) : Type 0 where
   pub size_is : length front.labels.costs.items ≡ size
   pub sources : HasSources graph (labels_of front)
   pub searching : IsSearching graph rest (labels_of front) front.queue.pairs size

@@ -1,4 +1,4 @@
--- The front at which a search begins.
+-- The frontier at which a search begins.
 use Rattle.std.proofs.Common.{◌≡◌, ℕ, ◌+◌, ◌<◌, ◌≤◌, inl, inr, Bool, true, ◌&&◌, nat_lt, length, Option, Some, is_some, IsTrue, sym, ap, subst, ◌∙◌, arith}
 use Rattle.std.proofs.lemmas.Bool.{cases_eq}
 use Rattle.std.proofs.lemmas.Bool.Decides.{nat_tests}
@@ -10,12 +10,11 @@ use Rattle.gr_base.specs.Trees.{TreeView, holds, cell_at, node_with}
 use Rattle.gr_base.proofs.TreeLemmas.{some_from, node_with-at, cell_at-within}
 use Rattle.maze_route.specs.Search.{HasSources, IsSearching}
 use Rattle.maze_route.specs.Handing.{IsReach}
-use Rattle.maze_route.specs.Steps.{size_of, cell_in, local_of, pane_source, pane_graph, rest_of, least_to, IsSpot, IsSeededTo}
+use Rattle.maze_route.specs.Steps.{Step, size_of, cell_in, local_of, pane_source, pane_graph, rest_of, least_to, IsSpot, IsSeededTo}
 use Rattle.maze_route.specs.Windows.{in_window, TreeLiesIn}
-use Rattle.maze_route.specs.declared.front.Front.{Front}
+use Rattle.maze_route.specs.declared.front.Frontier.{Frontier}
 use Rattle.maze_route.specs.declared.pane.Pane.{Pane}
 use Rattle.maze_route.specs.declared.pane.Spot.{Spot}
-use Rattle.maze_route.specs.declared.pane.Step.{Step}
 use Rattle.maze_route.specs.declared.pane.Aim.{Aim}
 use Rattle.maze_route.proofs.PaneLemmas.{local-cell}
 use Rattle.maze_route.proofs.SearchLemmas.{labels_of, seed-grown, seed-low, sources-fall}
@@ -37,7 +36,7 @@ tree-source p t node cell local found inside is =
     (ap (λ (c : ℕ). holds t c) is ∙ ap (λ (o : Option ℕ). is_some o) found)
 
 -- one more node
-pub seed-turn : (p : Pane) (t : TreeView) (price : Edge → Option ℕ) (aim : Aim) (node cell : ℕ) (spot : Spot) (step : Step) (before after : Front) →
+pub seed-turn : (p : Pane) (t : TreeView) (price : Edge → Option ℕ) (aim : Aim) (node cell : ℕ) (spot : Spot) (step : Step) (before after : Frontier) →
     node_with t.nodes cell ≡ Some node → IsSpot p spot → spot.local ≡ local_of p cell → cell_in p (local_of p cell) ≡ cell →
     step.cell ≡ spot.local → step.cost ≡ 0 → step.rest ≡ least_to aim spot.place → length before.labels.costs.items ≡ size_of p →
     IsReach 0 (Some step) before after →
@@ -51,7 +50,7 @@ seed-turn p t price aim node cell spot step before after found is_spot local bac
     let rest : step.rest ≡ rest_of p aim step.cell = left ∙ ap tiles is_spot.place ∙ ap (λ (n : ℕ). rest_of p aim n) (sym is_cell) in
     seed-grown (pane_graph p t price) (rest_of p aim) (size_of p) step before after searching source free rest (omega arith) reach
 
-pub seeded-turn : (p : Pane) (t : TreeView) (node next cell : ℕ) (spot : Spot) (step : Step) (before after : Front) →
+pub seeded-turn : (p : Pane) (t : TreeView) (node next cell : ℕ) (spot : Spot) (step : Step) (before after : Frontier) →
     next ≡ node + 1 → cell_at t.nodes node ≡ Some cell → IsSpot p spot → spot.local ≡ local_of p cell → step.cell ≡ spot.local → step.cost ≡ 0 →
     length before.labels.costs.items ≡ size_of p → IsReach 0 (Some step) before after → IsSeededTo p t (labels_of before) node → IsSeededTo p t (labels_of after) next
 seeded-turn p t node next cell spot step before after is_next at is_spot local is_cell free all reach seeded k other below is =

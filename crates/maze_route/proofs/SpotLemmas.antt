@@ -9,13 +9,12 @@ use Rattle.gr_base.specs.declared.grid.Way.{Way}
 use Rattle.gr_base.specs.Grid.{place_at, IsInside, beyond, stride, has_room, edge_at}
 use Rattle.gr_base.proofs.GridLemmas.{place-inside, some_columns, some_rows, few_cells}
 use Rattle.std.proofs.Math.Nat.{le-mul_of_pos_right}
-use Rattle.maze_route.specs.Steps.{size_of, cell_in, pane_step, step_to, made_step, ahead_of, behind_of, has_room_behind, before, least_to, rest_of, FitsIn, IsGuide, Covers, step_of, IsSpot}
+use Rattle.maze_route.specs.Steps.{Step, size_of, cell_in, pane_step, step_to, made_step, ahead_of, behind_of, has_room_behind, before, least_to, rest_of, FitsIn, IsGuide, Covers, step_of, IsSpot}
 use Rattle.maze_route.specs.Handing.{IsReach}
-use Rattle.maze_route.specs.declared.front.Front.{Front}
+use Rattle.maze_route.specs.declared.front.Frontier.{Frontier}
 use Rattle.maze_route.specs.declared.pane.Neighbour.{Neighbour}
 use Rattle.maze_route.specs.declared.pane.Pane.{Pane}
 use Rattle.maze_route.specs.declared.pane.Spot.{Spot}
-use Rattle.maze_route.specs.declared.pane.Step.{Step}
 use Rattle.maze_route.specs.declared.pane.Aim.{Aim}
 use Rattle.maze_route.proofs.StepLemmas.{IsNext, IsBehind, next-ahead, next-behind, step-ahead, step-behind, ahead-is, behind-is, before-is, step-fits}
 
@@ -147,6 +146,6 @@ neighbour-fits p price aim guide n from last size o None is all low = (tt, tt)
 neighbour-fits p price aim guide n from last size o (Some m) is all low = step-fits p price aim guide n from last size o (Some (step_of aim m)) is all low
 
 -- what reaches by one step reaches by an equal one
-pub on-step : {E : Type 0} (done : Result Unit E) (from : ℕ) (one other : Option Step) (before after : Front) → one ≡ other → OnOk done (IsReach from one before after) →
+pub on-step : {E : Type 0} (done : Result Unit E) (from : ℕ) (one other : Option Step) (before after : Frontier) → one ≡ other → OnOk done (IsReach from one before after) →
     OnOk done (IsReach from other before after)
 on-step done from one other before after same reach = let P : Option Step → Type 0 = λ s. OnOk done (IsReach from s before after) in subst P same reach

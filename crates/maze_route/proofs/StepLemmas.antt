@@ -14,10 +14,9 @@ use Rattle.gr_base.specs.Grid.{cells_of, number_of, place_at, IsInside, beyond, 
 use Rattle.gr_base.proofs.GridLemmas.{number-place, place-inside, same_cell, place-number, number-below, high-number, edge-room, place-high, high-below, edge-beyond, edge-of-beyond, edge_of-joins}
 use Rattle.maze_route.specs.Panes.{out_of}
 use Rattle.cost_rules.specs.Prices.{ArePrices}
-use Rattle.maze_route.specs.Steps.{size_of, cell_in, pane_step, ahead_of, behind_of, has_room_behind, before, rest_of, IsGuide, made_step, step_to}
+use Rattle.maze_route.specs.Steps.{Step, size_of, cell_in, pane_step, ahead_of, behind_of, has_room_behind, before, rest_of, IsGuide, made_step, step_to}
 use Rattle.maze_route.specs.Windows.{in_window, window_step}
 use Rattle.maze_route.specs.declared.pane.Pane.{Pane}
-use Rattle.maze_route.specs.declared.pane.Step.{Step}
 use Rattle.maze_route.specs.declared.pane.Aim.{Aim}
 use Rattle.maze_route.specs.declared.window.Window.{Window}
 use Rattle.maze_route.proofs.PaneLemmas.{place-cell, cell-below, cell-in-window}
@@ -247,13 +246,3 @@ spot-fits p price aim guide n cell from last last_now size size_now o step local
     let rest = ap (λ (m : ℕ). rest_of p aim m) local in
     let near : last_now ≤ from + rest_of p aim n = omega (arith, rest) in
     step-fits p price aim guide n from last_now size_now o step is (size_is ∙ all) near
-
--- a step leads to a cell of the window
-pub step-within : (p : Pane) (price : Edge → Option ℕ) (aim : Aim) (n size : ℕ) (o : Option ℕ) (step : Option Step) → step ≡ step_to p price aim n o → size ≡ size_of p →
-    IfSome step (λ s. s.cell < size)
-step-within p price aim n size o None is all = tt
-step-within p price aim n size o (Some s) is all =
-    let to = step-to-some p price aim n o s (sym is) in
-    let by = step-by p price n s.cell s.cost to.1.0 in
-    let inside : s.cell < size_of p = elim (by.next) [ inl next ↦ next.inside | inr next ↦ next.low_inside ] in
-    omega (arith, inside)

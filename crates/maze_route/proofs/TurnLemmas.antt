@@ -2,7 +2,7 @@
 use Rattle.std.proofs.Common.{◌≡◌, ℕ, ◌+◌, ◌<◌, ◌≤◌, inl, inr, Bool, true, false, List, [], ◌∷◌, length, Option, Some, None, IfSome, IsSome, IsSomeAnd, Contains, get_or, if◌then◌else◌, refl, sym, ap, subst, ◌∙◌, arith}
 use Rattle.std.proofs.lemmas.Bool.{both_ways}
 use Rattle.std.proofs.lemmas.Bool.Decides.{nat_tests}
-use Rattle.std.proofs.lemmas.Option.{same_Some, slice_get_past, unwrap_or-slice_get}
+use Rattle.std.proofs.lemmas.Option.{same_Some, slice_get_past}
 use Rattle.std.proofs.lemmas.List.Elements.{All-contains}
 use Rattle.std.proofs.lemmas.List.Sorted.{Contains-permutation, length_permutation}
 use Rattle.cost_rules.specs.Prices.{ArePrices}
@@ -17,7 +17,7 @@ use Rattle.maze_route.specs.Search.{most_distance, IsConsistent, is_marked, HasG
 use Rattle.maze_route.specs.Handing.{HandsOn}
 use Rattle.maze_route.specs.Steps.{size_of, pane_graph, rest_of, least_to, IsSpot}
 use Rattle.maze_route.specs.Walks.{Graph}
-use Rattle.maze_route.specs.declared.front.Front.{Front}
+use Rattle.maze_route.specs.declared.front.Frontier.{Frontier}
 use Rattle.maze_route.specs.declared.pane.Pane.{Pane}
 use Rattle.maze_route.specs.declared.pane.Spot.{Spot}
 use Rattle.maze_route.specs.declared.pane.Aim.{Aim}
@@ -26,14 +26,14 @@ use Rattle.maze_route.proofs.LabelLemmas.{label-within, contains-cases}
 use Rattle.maze_route.proofs.SearchLemmas.{labels_of, weight_of, Falls, IsTurn, IsTaken, taken-label, stale-taken, open-taken, close-relaxed, stop-guided, sources-fall}
 use Rattle.maze_route.proofs.HandingLemmas.{spread-grown}
 
--- the front once a pair is taken
-abbrev pub left_of : Front → QueueView → Front
+-- the frontier once a pair is taken
+abbrev pub left_of : Frontier → QueueView → Frontier
 left_of front queue = record { labels = front.labels; queue = queue }
 
 taken-by : (key cell : ℕ) (before after : QueueView) → IsPopped key cell before after → IsTaken key cell before.pairs after.pairs
 taken-by key cell before after popped = record { moved = popped.pairs; least = popped.least }
 
-no-label : (front : Front) (size : ℕ) → length front.labels.costs.items ≡ size → labels_of front size ≡ None
+no-label : (front : Frontier) (size : ℕ) → length front.labels.costs.items ≡ size → labels_of front size ≡ None
 no-label front size all = ap label_from (slice_get_past front.labels.costs.items size (omega arith))
 
 some-label : (o : Option ℕ) (rest key : ℕ) → IsSomeAnd o (λ c. c + rest ≤ key) → (cost : ℕ) × ((o ≡ Some cost) × (cost + rest ≤ key))
@@ -41,14 +41,14 @@ some-label None rest key h = absurd h
 some-label (Some cost) rest key h = (cost, (refl, h))
 
 -- the cell that is taken has a label, no higher than its key says
-pub record HasLabel (front : Front) (rest : ℕ → ℕ) (size key cell : ℕ) : Type 0 where
+pub record HasLabel (front : Frontier) (rest : ℕ → ℕ) (size key cell : ℕ) : Type 0 where
   pub cost : ℕ
   pub is : labels_of front cell ≡ Some cost
   pub low : cost + rest cell ≤ key
   pub small : cost ≤ most_distance
   pub inside : cell < size
 
-pub taken-has : (graph : Graph) (rest : ℕ → ℕ) (marks : List Bool) (size : ℕ) (nearest : Option ℕ) (front : Front) (key cell : ℕ) (queue : QueueView) →
+pub taken-has : (graph : Graph) (rest : ℕ → ℕ) (marks : List Bool) (size : ℕ) (nearest : Option ℕ) (front : Frontier) (key cell : ℕ) (queue : QueueView) →
     IsTurn graph rest marks size nearest front → IsPopped key cell front.queue queue → HasLabel front rest size key cell
 taken-has graph rest marks size nearest front key cell queue turn popped =
     let label = some-label (labels_of front cell) (rest cell) key
@@ -60,13 +60,13 @@ taken-has graph rest marks size nearest front key cell queue turn popped =
 pub is-some : (o : Option ℕ) (x : ℕ) → o ≡ Some x → IsSome o
 is-some o x is = subst (λ (p : Option ℕ). IsSome p) (sym is) refl
 
-weight-less : (front : Front) (queue : QueueView) (key cell : ℕ) → IsPopped key cell front.queue queue → weight_of (left_of front queue) < weight_of front
+weight-less : (front : Frontier) (queue : QueueView) (key cell : ℕ) → IsPopped key cell front.queue queue → weight_of (left_of front queue) < weight_of front
 weight-less front queue key cell popped =
     let count : length ((key, cell) ∷ queue.pairs) ≡ length front.queue.pairs = length_permutation front.queue.pairs ((key, cell) ∷ queue.pairs) popped.pairs in
     omega (arith, count)
 
 -- the turn of a stale pair
-pub stale-turn : (graph : Graph) (rest : ℕ → ℕ) (marks : List Bool) (size : ℕ) (nearest : Option ℕ) (front : Front) (key cell cost : ℕ) (queue : QueueView) →
+pub stale-turn : (graph : Graph) (rest : ℕ → ℕ) (marks : List Bool) (size : ℕ) (nearest : Option ℕ) (front : Frontier) (key cell cost : ℕ) (queue : QueueView) →
     IsTurn graph rest marks size nearest front → IsPopped key cell front.queue queue → labels_of front cell ≡ Some cost → cost + rest cell < key →
     (IsTurn graph rest marks size nearest (left_of front queue)) × (weight_of (left_of front queue) < weight_of front)
 stale-turn graph rest marks size nearest front key cell cost queue turn popped is stale = (
@@ -115,7 +115,7 @@ spot-rest p aim spot cell rest is local tiles =
 
 -- the turn of a pair whose cell, at this spot, is settled
 pub settled-turn : (p : Pane) (t : TreeView) (grid : Shape) (ways : ℕ → Way → Bool) (price : Edge → Option ℕ) (aim : Aim) (marks : List Bool) (nearest next : Option ℕ)
-    (front after : Front) (queue : QueueView) (spot : Spot) (key cell cost steps : ℕ) → grid ≡ p.grid → ArePrices grid ways price →
+    (front after : Frontier) (queue : QueueView) (spot : Spot) (key cell cost steps : ℕ) → grid ≡ p.grid → ArePrices grid ways price →
     IsTurn (pane_graph p t price) (rest_of p aim) marks (size_of p) nearest front → IsPopped key cell front.queue queue →
     labels_of front cell ≡ Some cost → IsSpot p spot → spot.local ≡ cell → steps ≡ least_to aim spot.place → key ≤ cost + steps →
     next ≡ (if get_or marks cell false then Some key else nearest) → ((n : ℕ) → is_marked marks n ≡ true → rest_of p aim n ≡ 0) →
@@ -127,7 +127,7 @@ settled-turn p t grid ways price aim marks nearest next front after queue spot k
     let rest = spot-rest p aim spot cell steps at local steps_are in
     let fresh : key ≤ cost + rest_of p aim cell = omega (arith, due, rest) in
     let marked = get_or marks cell false in
-    let mark : is_marked marks cell ≡ marked = unwrap_or-slice_get marks cell false in
+    let mark : is_marked marks cell ≡ marked = refl in
     let graph = pane_graph p t price in
     let none = no-label front (size_of p) turn.size_is in
     let opened = open-taken graph (rest_of p aim) (labels_of front) front.queue.pairs queue.pairs (size_of p) key cell turn.searching none (taken-by key cell front.queue queue popped) in
@@ -152,7 +152,7 @@ above-some : (nearest : Option ℕ) (key : ℕ) → is_above nearest key ≡ tru
 above-some None key above = absurd (both_ways true (sym above) refl)
 above-some (Some most) key above = (most, (refl, grind (arith, nat_tests)))
 
-pub stop-turn : (graph : Graph) (rest : ℕ → ℕ) (marks : List Bool) (size : ℕ) (nearest : Option ℕ) (front : Front) (key cell : ℕ) (queue : QueueView) → IsConsistent graph rest →
+pub stop-turn : (graph : Graph) (rest : ℕ → ℕ) (marks : List Bool) (size : ℕ) (nearest : Option ℕ) (front : Frontier) (key cell : ℕ) (queue : QueueView) → IsConsistent graph rest →
     IsTurn graph rest marks size nearest front → IsPopped key cell front.queue queue → is_above nearest key ≡ true → Finds graph rest marks (labels_of front)
 stop-turn graph rest marks size nearest front key cell queue consistent turn popped above =
     let past = above-some nearest key above in
@@ -174,7 +174,7 @@ stop-turn graph rest marks size nearest front key cell queue consistent turn pop
     }
 
 -- or where nothing waits
-pub end-turn : (graph : Graph) (rest : ℕ → ℕ) (marks : List Bool) (size : ℕ) (nearest : Option ℕ) (front : Front) → IsConsistent graph rest →
+pub end-turn : (graph : Graph) (rest : ℕ → ℕ) (marks : List Bool) (size : ℕ) (nearest : Option ℕ) (front : Frontier) → IsConsistent graph rest →
     ((n : ℕ) → is_marked marks n ≡ true → rest n ≡ 0) → IsTurn graph rest marks size nearest front → front.queue.pairs ≡ [] → CanReach graph marks → Finds graph rest marks (labels_of front)
 end-turn graph rest marks size nearest front consistent aims turn empty can =
     let guided = stop-guided graph rest (labels_of front) front.queue.pairs size can.cost consistent turn.searching (no-label front size turn.size_is) turn.sources can.small

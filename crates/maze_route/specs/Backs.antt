@@ -3,11 +3,10 @@ use Rattle.std.specs.Prelude.{◌≡◌, ℕ, ◌+◌, ◌<◌, ◌≤◌, Bool,
 use Rattle.gr_base.specs.declared.grid.Edge.{Edge}
 use Rattle.gr_base.specs.Trees.{TreeView}
 use Rattle.maze_route.specs.Search.{IsConsistent, AreGuided}
-use Rattle.maze_route.specs.Steps.{size_of, cell_in, rest_of, pane_graph, steps_from}
+use Rattle.maze_route.specs.Steps.{Step, size_of, cell_in, rest_of, pane_graph, steps_from}
 use Rattle.maze_route.specs.Walks.{LeadsBack}
 use Rattle.maze_route.specs.declared.pane.Aim.{Aim}
 use Rattle.maze_route.specs.declared.pane.Pane.{Pane}
-use Rattle.maze_route.specs.declared.pane.Step.{Step}
 
 -- the label and the cost make up the label that is left
 abbrev pub makes_up : Option ℕ → ℕ → ℕ → Bool
@@ -32,8 +31,8 @@ abbrev pub first_closer : Pane → (Edge → Option ℕ) → Aim → (ℕ → Op
 first_closer p price aim label cell left = first_some (map (closer_of label left) (steps_from p price aim cell))
 
 -- a cell whose label is within the bound of the search
-pub record IsNear (p : Pane) (t : TreeView) (price : Edge → Option ℕ) (aim : Aim) (label : ℕ → Option ℕ)
-    (cell left : ℕ) : Type 0 where
+pub record IsNear (p : Pane) (t : TreeView) (price : Edge → Option ℕ) (label : ℕ → Option ℕ) (cell left : ℕ) : Type 0 where
+  pub aim : Aim
   pub inside : cell < size_of p
   pub labelled : label cell ≡ Some left
   pub bound : ℕ

@@ -10,7 +10,7 @@ use Rattle.maze_route.specs.Scales.{AreScales}
 use Rattle.maze_route.specs.Search.{IsSearching}
 use Rattle.maze_route.specs.Steps.{size_of, pane_graph}
 use Rattle.maze_route.specs.Walks.{Graph}
-use Rattle.maze_route.specs.declared.front.Front.{Front}
+use Rattle.maze_route.specs.declared.front.Frontier.{Frontier}
 use Rattle.maze_route.specs.declared.pane.Pane.{Pane}
 use Rattle.maze_route.specs.declared.room.MazeRoom.{MazeRoom}
 use Rattle.maze_route.specs.declared.slot.Slot.{Slot}
@@ -30,12 +30,12 @@ pub record AreWaiting (rest : ℕ → ℕ) (label : ℕ → Option ℕ) (pairs :
   pub only : (key cell : ℕ) → Contains pairs (key, cell) → IsSomeAnd (label cell) (λ cost. cost + rest cell ≤ key)
 
 -- labels are costs of walks, and each labelled cell waits or has handed its label on
-pub record IsKept (graph : Graph) (nowhere : ℕ) (front : Front) : Type 0 where
+pub record IsKept (graph : Graph) (nowhere : ℕ) (front : Frontier) : Type 0 where
   pub rest : ℕ → ℕ
   pub searching : IsSearching graph rest (label_at front.labels.costs.items) front.queue.pairs nowhere
 
 -- so it is by some prices
-pub record IsResumable (p : Pane) (t : TreeView) (front : Front) : Type 0 where
+pub record IsResumable (p : Pane) (t : TreeView) (front : Frontier) : Type 0 where
   pub price : Edge → Option ℕ
   pub kept : IsKept (pane_graph p t price) (size_of p) front
 

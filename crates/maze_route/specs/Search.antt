@@ -1,5 +1,5 @@
 -- What stands while labels spread from the tree, and what labels tell in the end.
-use Rattle.std.specs.Prelude.{◌≡◌, ◌≢◌, ℕ, ◌+◌, ◌≤◌, ◌⊎◌, Bool, true, false, List, Option, Some, None, Contains, IsSomeAnd, IsTrue, slice_get, unwrap_or, nat_lt}
+use Rattle.std.specs.Prelude.{◌≡◌, ◌≢◌, ℕ, ◌+◌, ◌≤◌, ◌⊎◌, Bool, true, false, List, Option, Some, None, Contains, IsSomeAnd, IsTrue, slice_index_or, nat_lt}
 use Rattle.maze_route.specs.Walks.{Graph, Reaches}
 
 -- the greatest distance: walks that cost more are not looked for
@@ -47,9 +47,9 @@ pub record IsSearching (graph : Graph) (rest : ℕ → ℕ) (label : ℕ → Opt
       Contains pairs (cost + rest v, v) ⊎ IsRelaxed graph label v cost
   pub queued : (key v : ℕ) → Contains pairs (key, v) → IsSomeAnd (label v) (λ cost. cost + rest v ≤ key)
 
--- a cell marked as a goal
+-- what has this number is marked
 abbrev pub is_marked : List Bool → ℕ → Bool
-is_marked marks cell = unwrap_or (slice_get marks cell) false
+is_marked marks cell = slice_index_or marks cell false
 
 -- a goal has a label of at most this
 pub record HasGoal (marks : List Bool) (label : ℕ → Option ℕ) (most : ℕ) : Type 0 where

@@ -16,7 +16,6 @@ use Rattle.maze_route.specs.declared.pane.Aim.{Aim}
 use Rattle.maze_route.specs.declared.pane.Neighbour.{Neighbour}
 use Rattle.maze_route.specs.declared.pane.Pane.{Pane}
 use Rattle.maze_route.specs.declared.pane.Spot.{Spot}
-use Rattle.maze_route.specs.declared.pane.Step.{Step}
 use Rattle.maze_route.specs.declared.side.Side.{Side}
 use Rattle.maze_route.specs.declared.side.Side.TheVariants.{Behind, Ahead}
 
@@ -80,6 +79,12 @@ least_to aim cell = at aim.columns.items cell.x + at aim.rows.items cell.y + (ce
 
 abbrev pub rest_of : Pane → Aim → ℕ → ℕ
 rest_of p aim n = least_to aim (place_at p.shape n)
+
+-- a step to a cell: its number in the window, what the step costs, and what the rest of a walk from there costs at least
+pub record Step : Type 0 where
+  pub cell : ℕ
+  pub cost : ℕ
+  pub rest : ℕ
 
 -- the step to a neighbour, with what the rest of a walk from there costs at least
 abbrev pub step_of : Aim → Neighbour → Step

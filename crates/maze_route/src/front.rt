@@ -60,13 +60,13 @@ impl Labels {
 
 /// The state of a search: the labels, and the cells that wait to hand theirs on.
 #[derive(Debug, Drop)]
-pub(crate) struct Front {
+pub(crate) struct Frontier {
     pub(crate) labels: Labels,
     pub(crate) queue: BucketQueue,
 }
 
-impl Front {
-    /// Makes it the front of a search over so many cells: none has a label, and none waits. The only
+impl Frontier {
+    /// Makes it the frontier of a search over so many cells: none has a label, and none waits. The only
     /// error is want of memory.
     pub(crate) fn clear(&mut self, cells: u32) -> Result<(), AllocError>
         ensures size { OnOk result (length self.new.labels.costs.items ≡ cells) }

@@ -30,6 +30,6 @@ mod window;
 
 pub use queue::BucketQueue;
 pub use room::MazeRoom;
-pub use runs::{NO_PRICE, RunCosts, price_each};
-pub use walk::{least_walk, least_walk_by, least_walk_in};
+pub use runs::{RunCosts, price_each};
+pub use walk::{least_walk, least_walk_by};
 pub use window::Window;

@@ -52,17 +52,6 @@ pub(crate) struct Neighbour {
     pub(crate) place: Cell,
 }
 
-/// A step to a cell of a window.
-#[derive(Clone, Copy)]
-pub(crate) struct Step {
-    /// The cell's number in the window.
-    pub(crate) cell: u32,
-    /// What the step costs.
-    pub(crate) cost: u64,
-    /// What the rest of a walk from there costs at least.
-    pub(crate) rest: u64,
-}
-
 /// A cell of a window that a search has labelled.
 #[derive(Clone, Copy)]
 pub(crate) struct Reached {

@@ -7,21 +7,21 @@ ghost use Rattle.maze_route.specs.Search.{most_distance, IsAtMost, HasSources, I
 ghost use Rattle.maze_route.specs.Steps.{size_of, rest_of, FitsIn, pane_graph};
 ghost use Rattle.maze_route.specs.Windows.{TreeLiesIn};
 
-use crate::front::Front;
+use crate::front::Frontier;
 use crate::pane::{Aim, Neighbour, Pane};
 use crate::search::reach;
 use crate::steps::distance_to;
 use gr_base::RouteTree;
 use std::alloc::AllocError;
 
-/// Makes it a front at which the tree's cells have label 0, and what waits does so by this bound on the
+/// Makes it a frontier at which the tree's cells have label 0, and what waits does so by this bound on the
 /// rest of the way.
 pub(crate) fn resume(
     pane: Pane,
     aim: &Aim,
     tree: &RouteTree,
     waiting: &mut Vec<u32>,
-    front: &mut Front,
+    front: &mut Frontier,
 ) -> Result<(), AllocError>
     requires aim { FitsIn pane aim.now }
     requires grid { tree.now.shape ≡ pane.grid }
@@ -42,7 +42,7 @@ pub(crate) fn resume(
 }
 
 /// Puts labelled cells into an empty queue.
-fn wait_again(pane: Pane, aim: &Aim, cells: &[u32], front: &mut Front) -> Result<(), AllocError>
+fn wait_again(pane: Pane, aim: &Aim, cells: &[u32], front: &mut Frontier) -> Result<(), AllocError>
     requires aim { FitsIn pane aim.now }
     requires size { length front.old.labels.costs.items ≡ size_of pane }
     requires labelled { All (λ cell. IsAtMost (label_at front.old.labels.costs.items cell) most_distance) cells.now }
@@ -61,7 +61,7 @@ fn wait_again(pane: Pane, aim: &Aim, cells: &[u32], front: &mut Front) -> Result
 }
 
 /// Gives each of the tree's cells the label 0.
-fn seed(pane: Pane, aim: &Aim, tree: &RouteTree, front: &mut Front) -> Result<(), AllocError>
+fn seed(pane: Pane, aim: &Aim, tree: &RouteTree, front: &mut Frontier) -> Result<(), AllocError>
     requires aim { FitsIn pane aim.now }
     requires grid { tree.now.shape ≡ pane.grid }
     requires tree { TreeLiesIn pane.window tree.now }

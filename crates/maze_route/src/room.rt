@@ -5,7 +5,7 @@ ghost use Rattle.maze_route.specs.Kept.{Serves};
 ghost use Rattle.maze_route.specs.Windows.{IsWindow};
 
 use crate::field::Field;
-use crate::front::{Front, Labels};
+use crate::front::{Frontier, Labels};
 use crate::queue::BucketQueue;
 use crate::runs::RunCosts;
 use crate::scales::Scales;
@@ -13,7 +13,8 @@ use crate::window::Window;
 use gr_base::Shape;
 use std::alloc::{AllocError, Global};
 
-/// What walks are searched with. It serves walk after walk and keeps its memory.
+/// What walks are searched with. It serves walk after walk, and keeps its memory but that of scales and
+/// bounds.
 ///
 /// While a tree grows in a window and prices stand still, the costs of walks that one search found
 /// stay those of walks, and the next goes on from them.
@@ -22,7 +23,7 @@ pub struct MazeRoom {
     /// The window of the walks, with its prices.
     pub(crate) field: Field,
     pub(crate) scales: Scales,
-    pub(crate) front: Front,
+    pub(crate) front: Frontier,
     /// The goals by their numbers in the window.
     pub(crate) ends: Vec<u32>,
     /// A mark for each goal among the window's cells.
@@ -37,7 +38,7 @@ impl MazeRoom {
         MazeRoom {
             field: Field::new(alloc),
             scales: Scales::new(alloc),
-            front: Front {
+            front: Frontier {
                 labels: Labels::new(alloc),
                 queue: BucketQueue::new(alloc),
             },

@@ -8,7 +8,7 @@ use cost_rules::Costs;
 use gr_base::Edge;
 
 /// What stands for no price in a list of prices.
-pub const NO_PRICE: u32 = u32::MAX;
+pub(crate) const NO_PRICE: u32 = u32::MAX;
 
 /// Costs that tell prices by runs of edges, since much of a price is the same for all edges of a run.
 pub trait RunCosts: Costs {
@@ -36,7 +36,8 @@ fn held_for(cost: Option<u64>) -> u32
 /// that have no better way.
 pub fn price_each<C: Costs>(costs: &C, from: Edge, count: u32, first: usize, prices: &mut Vec<u32>)
     requires inside { first + count ≤ length prices.old.items }
-    requires edges { (place : ℕ) → place < count → IsTrue (has_edge (C.grid costs.now) (edge_at (from.low + place) from.way)) }
+    requires edges { (place : ℕ) → place < count →
+        IsTrue (has_edge (C.grid costs.now) (edge_at (from.low + place) from.way)) }
     ensures { IsRun (C.price costs.now) from first count prices.old.items prices.new.items }
 {
     for place in 0..count {

@@ -11,7 +11,7 @@ ghost use Rattle.maze_route.specs.Search.{most_distance, is_above, HasSources, I
 ghost use Rattle.maze_route.specs.Handing.{IsReach, HandsOn};
 
 use crate::field::Field;
-use crate::front::Front;
+use crate::front::Frontier;
 use crate::pane::{Aim, Neighbour, Spot};
 use crate::side::Side;
 use crate::side::Side::{Ahead, Behind};
@@ -27,7 +27,7 @@ const MOST_DISTANCE: u64 = 1_152_921_504_606_846_976;
 #[inline(always)]
 pub(crate) fn reach(
     aim: &Aim,
-    front: &mut Front,
+    front: &mut Frontier,
     from: u64,
     neighbour: Option<Neighbour>,
 ) -> Result<(), AllocError>
@@ -62,7 +62,7 @@ fn reach_beside<C: Costs>(
     costs: &C,
     field: &Field,
     aim: &Aim,
-    front: &mut Front,
+    front: &mut Frontier,
     spot: Spot,
     from: u64,
     side: Side,
@@ -75,7 +75,8 @@ fn reach_beside<C: Costs>(
     requires size { length front.old.labels.costs.items ≡ size_of field.now.pane }
     requires key { front.old.queue.last ≤ from + rest_of field.now.pane aim.now spot.local }
     ensures done { OnOk result (IsReach from
-        (step_to field.now.pane (C.price costs.now) aim.now spot.local (beside field.now.pane.shape spot.local side)) front.old front.new) }
+        (step_to field.now.pane (C.price costs.now) aim.now spot.local (beside field.now.pane.shape spot.local side))
+        front.old front.new) }
     ensures size { length front.new.labels.costs.items ≡ length front.old.labels.costs.items }
     ensures last { front.new.queue.last ≡ front.old.queue.last }
 {
@@ -87,7 +88,7 @@ fn settle<C: Costs>(
     costs: &C,
     field: &Field,
     aim: &Aim,
-    front: &mut Front,
+    front: &mut Frontier,
     spot: Spot,
     from: u64,
 ) -> Result<(), AllocError>
@@ -110,8 +111,8 @@ fn settle<C: Costs>(
 }
 
 /// Labels the cells of a window with the least costs of walks to them from the tree, as far as to
-/// the nearest marked cell. It goes on from a front at which each labelled cell waits or has handed
-/// its label on, and leaves such a front. `known` is a marked cell's label, if one has a label.
+/// the nearest marked cell. It goes on from a frontier at which each labelled cell waits or has handed
+/// its label on, and leaves such a frontier. `known` is a marked cell's label, if one has a label.
 ///
 /// Cells wait in a queue by their label and a bound on the rest of the way, as in A* of Hart,
 /// Nilsson and Raphael, "A formal basis for the heuristic determination of minimum cost paths",
@@ -123,7 +124,7 @@ pub(crate) fn search<C: Costs>(
     marks: &[bool],
     known: Option<u64>,
     tree: &RouteTree,
-    front: &mut Front,
+    front: &mut Frontier,
 ) -> Result<(), AllocError>
     requires grid { C.grid costs.now ≡ field.now.pane.grid }
     requires priced { IsPriced (C.price costs.now) field.now }
@@ -131,18 +132,22 @@ pub(crate) fn search<C: Costs>(
     requires size { length front.old.labels.costs.items ≡ size_of field.now.pane }
     requires sources { HasSources (pane_graph field.now.pane tree.now (C.price costs.now))
         (label_at front.old.labels.costs.items) }
-    requires searching { IsSearching (pane_graph field.now.pane tree.now (C.price costs.now)) (rest_of field.now.pane aim.now)
-        (label_at front.old.labels.costs.items) front.old.queue.pairs (size_of field.now.pane) }
+    requires searching { IsSearching (pane_graph field.now.pane tree.now (C.price costs.now))
+        (rest_of field.now.pane aim.now) (label_at front.old.labels.costs.items) front.old.queue.pairs
+        (size_of field.now.pane) }
     requires known { IfSome known (HasGoal marks.now (label_at front.old.labels.costs.items)) }
     requires near { IfSome known (λ distance. distance ≤ most_distance) }
     requires marks { length marks.now ≡ size_of field.now.pane }
     requires aim { (cell : ℕ) → is_marked marks.now cell ≡ true → rest_of field.now.pane aim.now cell ≡ 0 }
     requires goal { CanReach (pane_graph field.now.pane tree.now (C.price costs.now)) marks.now }
     ensures found { OnOk result (let label = label_at front.new.labels.costs.items in
-        Finds (pane_graph field.now.pane tree.now (C.price costs.now)) (rest_of field.now.pane aim.now) marks.now label) }
+        Finds (pane_graph field.now.pane tree.now (C.price costs.now)) (rest_of field.now.pane aim.now) marks.now
+        label) }
     ensures size { OnOk result (length front.new.labels.costs.items ≡ size_of field.now.pane) }
-    ensures kept { OnOk result (IsKept (pane_graph field.now.pane tree.now (C.price costs.now)) (size_of field.now.pane) front.new) }
+    ensures kept { OnOk result (IsKept (pane_graph field.now.pane tree.now (C.price costs.now))
+        (size_of field.now.pane) front.new) }
 {
+    // Clauses alone speak of it.
     let _tree = tree;
     let mut nearest = known;
     while let Some((key, cell)) = front.queue.pop() {

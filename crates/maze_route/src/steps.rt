@@ -5,10 +5,10 @@ ghost use Rattle.cost_rules.specs.Formulas.{most_cost};
 ghost use Rattle.gr_base.specs.Grid.{IsInside, beyond, has_room};
 ghost use Rattle.gr_base.specs.Limits.{most_cells};
 ghost use Rattle.maze_route.specs.Fields.{IsPriced};
-ghost use Rattle.maze_route.specs.Steps.{IsSpot, has_room_behind, before, ahead_of, behind_of, beside, size_of, FitsIn, Covers, least_to, step_of, step_to};
+ghost use Rattle.maze_route.specs.Steps.{IsSpot, has_room_behind, before, ahead_of, behind_of, beside, size_of, Covers, least_to, step_of, step_to};
 
 use crate::field::Field;
-use crate::pane::{Aim, Neighbour, Spot, Step};
+use crate::pane::{Aim, Neighbour, Spot};
 use crate::side::Side;
 use cost_rules::Costs;
 use gr_base::{Cell, Edge, Shape, Way};
@@ -100,6 +100,7 @@ fn ahead<C: Costs>(costs: &C, field: &Field, spot: Spot, way: Way) -> Option<Nei
     ensures step { (aim : Aim) → option_map (step_of aim) result ≡
         step_to field.now.pane (C.price costs.now) aim spot.local (ahead_of field.now.pane.shape spot.local way) }
     ensures cost { IfSome result (λ n. n.cost ≤ most_cost) }
+    ensures cell { IfSome result (λ n. n.cell < size_of field.now.pane) }
     ensures inside { IfSome result (λ n. IsInside field.now.pane.shape n.place) }
 {
     if !has_ahead(field.pane.shape, spot.place, way) {
@@ -125,6 +126,7 @@ fn behind<C: Costs>(costs: &C, field: &Field, spot: Spot, way: Way) -> Option<Ne
     ensures step { (aim : Aim) → option_map (step_of aim) result ≡
         step_to field.now.pane (C.price costs.now) aim spot.local (behind_of field.now.pane.shape spot.local way) }
     ensures cost { IfSome result (λ n. n.cost ≤ most_cost) }
+    ensures cell { IfSome result (λ n. n.cell < size_of field.now.pane) }
     ensures inside { IfSome result (λ n. IsInside field.now.pane.shape n.place) }
 {
     if !has_behind(spot.place, way) {
@@ -156,32 +158,11 @@ pub(crate) fn neighbour_on<C: Costs>(
     ensures step { (aim : Aim) → option_map (step_of aim) result ≡
         step_to field.now.pane (C.price costs.now) aim spot.local (beside field.now.pane.shape spot.local side) }
     ensures cost { IfSome result (λ n. n.cost ≤ most_cost) }
+    ensures cell { IfSome result (λ n. n.cell < size_of field.now.pane) }
     ensures inside { IfSome result (λ n. IsInside field.now.pane.shape n.place) }
 {
     match side {
         Side::Behind(way) => behind(costs, field, spot, way),
         Side::Ahead(way) => ahead(costs, field, spot, way),
     }
-}
-
-/// The step to the neighbour on a side, if there is one.
-pub(crate) fn step_beside<C: Costs>(
-    costs: &C,
-    field: &Field,
-    aim: &Aim,
-    spot: Spot,
-    side: Side,
-) -> Option<Step>
-    requires grid { C.grid costs.now ≡ field.now.pane.grid }
-    requires priced { IsPriced (C.price costs.now) field.now }
-    requires aim { FitsIn field.now.pane aim.now }
-    requires spot { IsSpot field.now.pane spot }
-    ensures { result ≡ step_to field.now.pane (C.price costs.now) aim.now spot.local (beside field.now.pane.shape spot.local side) }
-{
-    let neighbour = neighbour_on(costs, field, spot, side)?;
-    Some(Step {
-        cell: neighbour.cell,
-        cost: neighbour.cost,
-        rest: distance_to(aim, neighbour.place),
-    })
 }

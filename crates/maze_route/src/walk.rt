@@ -48,30 +48,8 @@ pub fn least_walk<C: RunCosts>(
     ensures attaches { IfOk result (IsWalkTo tree.now) }
 {
     let mut room = MazeRoom::new(alloc);
-    least_walk_in(alloc, &mut room, costs, window, tree, goals)
-}
-
-/// The same walk, searched with a room that is kept from walk to walk. What the room holds before
-/// doesn't matter.
-pub fn least_walk_in<C: RunCosts>(
-    alloc: Global,
-    room: &mut MazeRoom,
-    costs: &C,
-    window: Window,
-    tree: &RouteTree,
-    goals: &[u32],
-) -> Result<Cells, AllocError>
-    requires grid { C.grid costs.now ≡ tree.now.shape }
-    requires window { IsWindow tree.now.shape window }
-    requires tree { TreeLiesIn window tree.now }
-    requires goals { LieIn tree.now.shape window goals.now }
-    requires some { 0 < length goals.now }
-    requires passable { IsPassable tree.now.shape (C.ways costs.now) window }
-    ensures walk { IfOk result (IsLeastWalk (window_graph tree.now window (C.price costs.now)) goals.now) }
-    ensures attaches { IfOk result (IsWalkTo tree.now) }
-{
     room.begin(alloc, costs, tree.shape(), window)?;
-    least_walk_by(alloc, room, costs, window, tree, goals)
+    least_walk_by(alloc, &mut room, costs, window, tree, goals)
 }
 
 /// The same walk, in a room that serves the tree: `MazeRoom::begin` makes it so, and each walk leaves it
@@ -111,7 +89,8 @@ fn walk_in<C: Costs>(
     requires grid { C.grid costs.now ≡ room.old.field.pane.grid }
     requires priced { IsPriced (C.price costs.now) room.old.field }
     requires shape { tree.now.shape ≡ room.old.field.pane.grid }
-    requires scales { AreScales room.old.field.pane.grid room.old.field.pane.window (C.price costs.now) room.old.scales }
+    requires scales { AreScales room.old.field.pane.grid room.old.field.pane.window (C.price costs.now)
+        room.old.scales }
     requires tree { TreeLiesIn room.old.field.pane.window tree.now }
     requires rooted { IsTree tree.now }
     requires goals { LieIn room.old.field.pane.grid room.old.field.pane.window goals.now }
@@ -143,13 +122,5 @@ fn walk_in<C: Costs>(
         &mut room.front,
     )?;
     let goal = first_reached(&room.front.labels, &room.ends).unwrap();
-    walk_back(
-        alloc,
-        costs,
-        &room.field,
-        &aim,
-        tree,
-        &room.front.labels,
-        goal,
-    )
+    walk_back(alloc, costs, &room.field, tree, &room.front.labels, goal)
 }

@@ -12,7 +12,8 @@ use Rattle.steiner_topology.specs.Spanning.{IsTopology, LeadsUp}
 use Rattle.steiner_topology.specs.Spanning.LeadsUp.{root, over}
 use Rattle.steiner_topology.specs.Topology.{point, parent_of}
 use Rattle.steiner_topology.specs.declared.point.Point.{Point}
-use Rattle.net_plan.specs.Orders.{is_handled, is_due, next_due, with_next, order_after, order_of, is_marked, AreBelowSome, AreBelowChildren}
+use Rattle.maze_route.specs.Search.{is_marked}
+use Rattle.net_plan.specs.Orders.{is_handled, is_due, next_due, with_next, order_after, order_of, AreBelowSome, AreBelowChildren}
 use Rattle.net_plan.proofs.RangeLemmas.{find-some, find-none, find-before, find-same, count-less, count-none, count-all}
 
 -- what has been handled after one more point

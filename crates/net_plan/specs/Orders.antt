@@ -1,5 +1,5 @@
 -- The order in which the points of a topology are joined to a tree.
-use Rattle.std.specs.Prelude.{◌≡◌, ℕ, zero, suc, ◌-◌, ◌<◌, ◌≤◌, Bool, false, not, ◌&&◌, ◌||◌, ◌==◌, List, [], ◌∷◌, ◌++◌, length, find, slice_index_or, Option, Some, None}
+use Rattle.std.specs.Prelude.{◌≡◌, ℕ, zero, suc, ◌-◌, ◌<◌, ◌≤◌, Bool, not, ◌&&◌, ◌||◌, ◌==◌, List, [], ◌∷◌, ◌++◌, length, find, slice_index_or, Option, Some, None}
 use Rattle.std.specs.List.{range_with_len}
 use Rattle.gr_base.specs.Trees.{is_among}
 use Rattle.steiner_topology.specs.Topology.{parent_of}
@@ -30,10 +30,6 @@ order_after (suc n) points order = order_after n points (with_next order (next_d
 -- the points but point 0, in the order in which they are handled
 abbrev pub order_of : List Point → List ℕ
 order_of points = order_after (length points - 1) points []
-
--- the point is marked
-abbrev pub is_marked : List Bool → ℕ → Bool
-is_marked marks v = slice_index_or marks v false
 
 -- of the first so many points none has a lower number than the one that is kept for its parent
 pub record AreBelowSome (points : List Point) (lowest : List ℕ) (count : ℕ) : Type 0 where

@@ -10,9 +10,8 @@ use gr_base::{Design, Edge, Frame, Way};
 use grid_demand::{Capacity, Loads};
 use maze_route::{RunCosts, price_each};
 
-/// What the edges of a design's grid cost a net over given loads: a via edge
-/// what each via edge costs, a usable wire edge what the rule gives at the edge's demand, capacity and marks and the
-/// net's need.
+/// What the edges of a design's grid cost a net over given loads: a via edge 3, a usable wire edge what the
+/// rule gives at the edge's demand, capacity and marks and the net's need.
 #[derive(Clone, Copy)]
 pub(crate) struct NetCosts<'a> {
     pub(crate) frame: &'a Frame,

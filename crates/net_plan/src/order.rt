@@ -1,6 +1,7 @@
 ghost use Rattle.std.specs.Prelude.{◌≡◌, ℕ, ◌<◌, length, false, IfSome, OnOk};
 ghost use Rattle.steiner_topology.specs.Spanning.{IsTopology};
-ghost use Rattle.net_plan.specs.Orders.{is_marked, is_due, next_due, order_of, AreBelowChildren};
+ghost use Rattle.maze_route.specs.Search.{is_marked};
+ghost use Rattle.net_plan.specs.Orders.{is_due, next_due, order_of, AreBelowChildren};
 
 use std::alloc::AllocError;
 use steiner_topology::Topology;

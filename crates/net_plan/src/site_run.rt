@@ -40,7 +40,8 @@ impl NetCosts<'_> {
         requires edges { AreSideBySide self.now.capacity.now.shape (ways_of self.now.capacity.now) from
             (length sites.now.demands.now) }
         requires tables { IsCapacity self.now.capacity.now }
-        requires demands { IsRunOf (demand_at self.now.loads.now) from (length sites.now.demands.now) sites.now.demands.now }
+        requires demands { IsRunOf (demand_at self.now.loads.now) from (length sites.now.demands.now)
+            sites.now.demands.now }
         requires marks { IsRunOf (marks_at self.now.loads.now) from (length sites.now.demands.now) sites.now.marks.now }
         requires capacities { IsRunOf (capacity_at self.now.capacity.now) from (length sites.now.demands.now)
             sites.now.capacities.now }

@@ -1,7 +1,7 @@
-use Rattle.maze_route.specs.Steps.{beside}
-use Rattle.maze_route.proofs.StepLemmas.{step-within}
+use Rattle.std.proofs.Common.{ℕ, ◌<◌, IfSome, sym, subst}
 use Rattle.maze_route.proofs.back.closer_beside.Goals as goal
 
 pub closer-requires : goal.closer-requires
 closer-requires g c =
-    step-within c.args.field.now.pane (g.C.Costs.price c.args.costs.now) c.args.aim.now c.args.spot.local _ (beside c.args.field.now.pane.shape c.args.spot.local c.args.side) c.step_beside.result c.step_beside.ensures c.requires.size
+    let P : ℕ → Type 0 = λ size. IfSome c.neighbour_on.result (λ n. n.cell < size) in
+    subst P (sym c.requires.size) c.neighbour_on.ensures.cell

@@ -1,6 +1,5 @@
 use Rattle.std.proofs.Common.{ℕ, ◌+◌, refl, sym, ap, ◌∙◌, arith}
-use Rattle.maze_route.specs.Steps.{cell_in, least_to}
-use Rattle.maze_route.specs.declared.pane.Step.{Step}
+use Rattle.maze_route.specs.Steps.{Step, cell_in, least_to}
 use Rattle.maze_route.specs.Labels.{label_at}
 use Rattle.maze_route.proofs.SeedLemmas.{seed-turn, seeded-turn, seed-done, tree-window}
 use Rattle.maze_route.proofs.SpotLemmas.{covers-at}

@@ -54,3 +54,8 @@ returns-clause-inside g c =
     let to = c.args.spot.local + stride c.args.field.now.pane.shape c.args.way in
     let next = spot-ahead c.args.field.now.pane c.args.spot c.args.way c.requires.spot (sym c.has_ahead.ensures ∙ c.if-not-has_ahead.false) in
     inside-at c.args.field.now.pane to c.one_on.result next.inside (place-on c.args.field.now.pane c.args.spot c.args.way to c.one_on.result c.requires.spot next c.one_on.ensures)
+
+pub returns-clause-cell : goal.returns-clause-cell
+returns-clause-cell g c =
+    let next = spot-ahead c.args.field.now.pane c.args.spot c.args.way c.requires.spot (sym c.has_ahead.ensures ∙ c.if-not-has_ahead.false) in
+    omega (arith, c.stride.ensures, next.inside)

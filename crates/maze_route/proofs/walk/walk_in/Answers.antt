@@ -95,7 +95,7 @@ walk_back-requires g c =
     c.deref-4.result.now _ (label_at c.search.new.front.labels.costs.items) c.args.goals.now c.deref-5.result.now c.deref.result.now c.deref-2.result.now _ c.first_reached.result c.unwrap-goal.result
     guide c.in_ok-search.ensures.found c.deref.ensures.value c.deref-2.ensures.value c.deref-5.ensures.value c.in_ok-locals.ensures
     c.deref-4.ensures.value c.in_ok-mark.ensures.marks c.in_ok-aim.ensures.ends c.requires.goals c.first_reached.ensures c.unwrap-goal.ensures in
-    record { grid = c.requires.grid; priced = c.requires.priced; aim = guide.fits; size = c.in_ok-search.ensures.size; near = found.near }
+    record { grid = c.requires.grid; priced = c.requires.priced; size = c.in_ok-search.ensures.size; near = found.near }
 
 pub returns-clause-walk : goal.returns-clause-walk
 returns-clause-walk g c =

@@ -1,5 +1,6 @@
 use Rattle.std.proofs.Common.{◌<◌, length, sym, ◌∙◌, arith}
-use Rattle.net_plan.specs.Orders.{is_marked, is_due}
+use Rattle.maze_route.specs.Search.{is_marked}
+use Rattle.net_plan.specs.Orders.{is_due}
 use Rattle.net_plan.proofs.RangeLemmas.{found-later, found-from}
 use Rattle.net_plan.proofs.order.next_due.Goals as goal
 

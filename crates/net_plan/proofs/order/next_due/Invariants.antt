@@ -1,6 +1,7 @@
 use Rattle.std.proofs.Common.{◌≡◌, ◌-◌, length, find}
 use Rattle.std.specs.List.{range_with_len}
-use Rattle.net_plan.specs.Orders.{is_marked, is_due, next_due}
+use Rattle.maze_route.specs.Search.{is_marked}
+use Rattle.net_plan.specs.Orders.{is_due, next_due}
 use Rattle.net_plan.proofs.order.next_due.Given as goal
 
 abbrev pub invariant-loop-point : goal.invariant-loop-point

@@ -1,7 +1,8 @@
 use Rattle.std.proofs.Common.{◌≡◌, ℕ, ◌<◌, Bool, true, false, Some, List, get_or, refl, sym, ap, subst, ◌∙◌, arith}
 use Rattle.std.proofs.lemmas.List.{get_or_default}
 use Rattle.std.proofs.Math.ListN.{set}
-use Rattle.net_plan.specs.Orders.{is_due, next_due, is_marked}
+use Rattle.maze_route.specs.Search.{is_marked}
+use Rattle.net_plan.specs.Orders.{is_due, next_due}
 use Rattle.net_plan.proofs.OrderLemmas.{IsUnderWay, open_count, filled, order-first, order-more, order-done, none-below}
 use Rattle.net_plan.proofs.order.order_of.Goals as goal
 use Rattle.net_plan.proofs.order.order_of.Goals.{After-min-from}

@@ -1,5 +1,6 @@
 use Rattle.std.proofs.Common.{◌≡◌, ℕ, ◌<◌, false}
-use Rattle.net_plan.specs.Orders.{is_marked, is_due}
+use Rattle.maze_route.specs.Search.{is_marked}
+use Rattle.net_plan.specs.Orders.{is_due}
 use Rattle.net_plan.proofs.OrderLemmas.{IsUnderWay, open_count}
 use Rattle.net_plan.proofs.order.order_of.Given as goal
 
