@@ -40,6 +40,7 @@ impl CostRule {
         (self.rule)(site)
     }
 
+    /// The formula that the function computes.
     pub fn formula(&self) -> Formula
         ensures { result ≡ self.now.formula }
     {

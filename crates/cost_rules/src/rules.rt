@@ -67,6 +67,7 @@ impl Rules {
         }
     }
 
+    /// The rule of the first formula.
     pub fn first(&self) -> &CostRule
         ensures value { result.now ≡ self.now.first }
         ensures formula { result.now.formula ≡ First }
@@ -74,6 +75,7 @@ impl Rules {
         &self.first
     }
 
+    /// The rule of the steep formula.
     pub fn steep(&self) -> &CostRule
         ensures value { result.now ≡ self.now.steep }
         ensures formula { result.now.formula ≡ Steep }
@@ -81,6 +83,7 @@ impl Rules {
         &self.steep
     }
 
+    /// The rule of the flat formula.
     pub fn flat(&self) -> &CostRule
         ensures value { result.now ≡ self.now.flat }
         ensures formula { result.now.formula ≡ Flat }
@@ -88,6 +91,7 @@ impl Rules {
         &self.flat
     }
 
+    /// The watcher that stops the rounds at no sight.
     pub fn never(&self) -> &Watcher
         ensures value { result.now ≡ self.now.never }
         ensures watch { result.now.watch ≡ Never }
@@ -95,6 +99,7 @@ impl Rules {
         &self.never
     }
 
+    /// The watcher that stops them where a round has not made the overflow smaller.
     pub fn still(&self) -> &Watcher
         ensures value { result.now ≡ self.now.still }
         ensures watch { result.now.watch ≡ Still }
@@ -102,6 +107,7 @@ impl Rules {
         &self.still
     }
 
+    /// The watcher that stops them where the overflow is at most the goal.
     pub fn goal(&self) -> &Watcher
         ensures value { result.now ≡ self.now.goal }
         ensures watch { result.now.watch ≡ Goal }

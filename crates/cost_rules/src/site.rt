@@ -19,7 +19,7 @@ pub struct Site {
 pub enum Formula {
     /// Overflow weighs the same on each edge, and each mark adds 1.
     First,
-    /// Overflow weighs more with each mark: PathFinder's product of present and past congestion.
+    /// Overflow weighs more with each mark, after PathFinder's product of present and past congestion.
     Steep,
     /// Overflow alone counts.
     Flat,

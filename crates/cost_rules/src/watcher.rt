@@ -33,6 +33,7 @@ impl Watcher {
         (self.look)(sight)
     }
 
+    /// The watch that the function follows.
     pub fn watch(&self) -> Watch
         ensures { result ≡ self.now.watch }
     {

@@ -13,13 +13,13 @@ use Rattle.wall_laws.specs.Walls.{is_parted}
 use Rattle.cut_bounds.specs.Boxes.{across_of, up_of, boxes_on, box_needs, box_number, is_parted_on, lies_in_one, AreMarked, IsOnChip}
 use Rattle.cut_bounds.specs.Crossings.{is_boxed, leads_out}
 use Rattle.cut_bounds.specs.Cuts.{tile_at}
-use Rattle.cut_bounds.specs.NetTiles.{Placed, placed_by, pins_claimed}
+use Rattle.cut_bounds.specs.NetTiles.{Placed, placed_by, pins_counted}
 use Rattle.cut_bounds.specs.TileWires.{held_by, passing_at, sum_below, tiles_of, where_so}
 use Rattle.cut_bounds.specs.declared.axis.Axis.TheVariants.{Columns, Rows}
 use Rattle.cut_bounds.specs.declared.tile_wires.TileWires.{TileWires}
 use Rattle.gr_base.specs.declared.grid.Way.TheVariants.{East, North}
 use Rattle.cut_bounds.specs.declared.axis.Tile.{Tile}
-use Rattle.cut_bounds.specs.declared.net_tiles.Claim.{Claim}
+use Rattle.cut_bounds.specs.declared.net_tiles.NetNeed.{NetNeed}
 use Rattle.cut_bounds.proofs.CutLemmas.{few-tiles, line-inside}
 use Rattle.cut_bounds.proofs.NetLemmas.{IsNext}
 use Rattle.cut_bounds.proofs.SumLemmas.{below-le, below-more, below-up, where-le}
@@ -128,23 +128,23 @@ marked-parted numbers old needs marks need mark n many was =
 -- ---- a loop over the nets
 
 -- what is so once the first nets are counted
-pub record AreBoxedTo (g : Shape) (level : ℕ) (claims : List Claim) (at : ℕ) (rest : List Tile) (needs marks : List ℕ) (mark : ℕ) (all : List Placed) : Type 0 where
-  pub whole : pins_claimed (drop at claims) ≡ length rest
-  pub parts : All (λ (net : Placed). is_parted_on g level net ≡ true) (placed_by (drop at claims) rest)
-  pub within : All (λ (net : Placed). All (IsOnChip g) net.tiles) (placed_by (drop at claims) rest)
+pub record AreBoxedTo (g : Shape) (level : ℕ) (net_needs : List NetNeed) (at : ℕ) (rest : List Tile) (needs marks : List ℕ) (mark : ℕ) (all : List Placed) : Type 0 where
+  pub whole : pins_counted (drop at net_needs) ≡ length rest
+  pub parts : All (λ (net : Placed). is_parted_on g level net ≡ true) (placed_by (drop at net_needs) rest)
+  pub within : All (λ (net : Placed). All (IsOnChip g) net.tiles) (placed_by (drop at net_needs) rest)
   pub long : length needs ≡ boxes_on g level
   pub same : length marks ≡ boxes_on g level
   pub turn : mark ≡ at
   pub below : (n : ℕ) → get_or marks n 0 ≤ mark
-  pub counted : (n : ℕ) → n < boxes_on g level → get_or needs n 0 + box_needs g level n (placed_by (drop at claims) rest) ≡ box_needs g level n all
+  pub counted : (n : ℕ) → n < boxes_on g level → get_or needs n 0 + box_needs g level n (placed_by (drop at net_needs) rest) ≡ box_needs g level n all
 
-pub no-boxed-to : (g : Shape) (level n m : ℕ) (claims : List Claim) (tiles rest : List Tile) (needs marks : List ℕ) → rest ≡ tiles →
-    pins_claimed claims ≡ length tiles → All (λ (net : Placed). is_parted_on g level net ≡ true) (placed_by claims tiles) →
-    All (λ (net : Placed). All (IsOnChip g) net.tiles) (placed_by claims tiles) → n ≡ boxes_on g level → m ≡ boxes_on g level →
+pub no-boxed-to : (g : Shape) (level n m : ℕ) (net_needs : List NetNeed) (tiles rest : List Tile) (needs marks : List ℕ) → rest ≡ tiles →
+    pins_counted net_needs ≡ length tiles → All (λ (net : Placed). is_parted_on g level net ≡ true) (placed_by net_needs tiles) →
+    All (λ (net : Placed). All (IsOnChip g) net.tiles) (placed_by net_needs tiles) → n ≡ boxes_on g level → m ≡ boxes_on g level →
     needs ≡ replicate n 0 → marks ≡ replicate m 0 →
-    AreBoxedTo g level claims 0 rest needs marks 0 (placed_by claims tiles)
-no-boxed-to g level n m claims tiles rest needs marks same whole parts within count count' is is' =
-    subst (λ (ts : List Tile). AreBoxedTo g level claims 0 ts needs marks 0 (placed_by claims tiles)) (sym same) (record {
+    AreBoxedTo g level net_needs 0 rest needs marks 0 (placed_by net_needs tiles)
+no-boxed-to g level n m net_needs tiles rest needs marks same whole parts within count count' is is' =
+    subst (λ (ts : List Tile). AreBoxedTo g level net_needs 0 ts needs marks 0 (placed_by net_needs tiles)) (sym same) (record {
       whole = whole;
       parts = parts;
       within = within;
@@ -155,12 +155,12 @@ no-boxed-to g level n m claims tiles rest needs marks same whole parts within co
       counted = λ k lower. let e = ap (λ (xs : List ℕ). get_or xs k 0) is ∙ zeros n k in omega (arith, e);
     })
 
-pub boxed-parts : (g : Shape) (level : ℕ) (claims : List Claim) (at : ℕ) (claim : Claim) (rest tiles others : List Tile)
-    (needs marks : List ℕ) (mark : ℕ) (all : List Placed) → AreBoxedTo g level claims at rest needs marks mark all →
-    IsNext claims at claim rest tiles others → All (IsOnChip g) tiles × (lies_in_one (map (box_number g level) tiles) ≡ false)
-boxed-parts g level claims at claim rest tiles others needs marks mark all was next =
-    let net : Placed = record { need = claim.need; tiles = tiles } in
-    let ns : List Placed = placed_by (drop (at + 1) claims) others in (
+pub boxed-parts : (g : Shape) (level : ℕ) (net_needs : List NetNeed) (at : ℕ) (net_need : NetNeed) (rest tiles others : List Tile)
+    (needs marks : List ℕ) (mark : ℕ) (all : List Placed) → AreBoxedTo g level net_needs at rest needs marks mark all →
+    IsNext net_needs at net_need rest tiles others → All (IsOnChip g) tiles × (lies_in_one (map (box_number g level) tiles) ≡ false)
+boxed-parts g level net_needs at net_need rest tiles others needs marks mark all was next =
+    let net : Placed = record { need = net_need.need; tiles = tiles } in
+    let ns : List Placed = placed_by (drop (at + 1) net_needs) others in (
       All-head (λ (p : Placed). All (IsOnChip g) p.tiles) net ns
           (subst (λ (ps : List Placed). All (λ (p : Placed). All (IsOnChip g) p.tiles) ps) next.is was.within),
       not-true (lies_in_one (map (box_number g level) tiles)) (All-head (λ (p : Placed). is_parted_on g level p ≡ true) net ns
@@ -174,23 +174,23 @@ box-needs-le g level n (net ∷ nets) =
     let b = sum_by-cons (λ (p : Placed). p.need) net nets in
     omega (arith, a, b, where-le (is_parted (λ b. b == n) (map (box_number g level) net.tiles)) net.need, box-needs-le g level n nets)
 
-pub boxed-small : (g : Shape) (level : ℕ) (claims : List Claim) (at : ℕ) (rest : List Tile) (needs marks : List ℕ) (mark : ℕ) (all : List Placed) (n : ℕ) →
-    AreBoxedTo g level claims at rest needs marks mark all → sum_by (λ (net : Placed). net.need) all < 2 ^ 63 → get_or needs n 0 < 2 ^ 63
-boxed-small g level claims at rest needs marks mark all n was few = elim (cases_lt n (boxes_on g level)) [
+pub boxed-small : (g : Shape) (level : ℕ) (net_needs : List NetNeed) (at : ℕ) (rest : List Tile) (needs marks : List ℕ) (mark : ℕ) (all : List Placed) (n : ℕ) →
+    AreBoxedTo g level net_needs at rest needs marks mark all → sum_by (λ (net : Placed). net.need) all < 2 ^ 63 → get_or needs n 0 < 2 ^ 63
+boxed-small g level net_needs at rest needs marks mark all n was few = elim (cases_lt n (boxes_on g level)) [
   | inl inside ↦ let e = was.counted n inside in omega (arith, e, box-needs-le g level n all, few)
   | inr past ↦ let e = get_or_past needs n 0 (omega (arith, past, was.long)) in omega (arith, e)
 ]
 
-pub more-boxed-to : (g : Shape) (level : ℕ) (claims : List Claim) (at : ℕ) (claim : Claim) (rest tiles others : List Tile) (needs marks needs' marks' : List ℕ) (mark mark' need : ℕ) (all : List Placed) →
-    AreBoxedTo g level claims at rest needs marks mark all → IsNext claims at claim rest tiles others → mark' ≡ mark + 1 → need ≡ claim.need →
+pub more-boxed-to : (g : Shape) (level : ℕ) (net_needs : List NetNeed) (at : ℕ) (net_need : NetNeed) (rest tiles others : List Tile) (needs marks needs' marks' : List ℕ) (mark mark' need : ℕ) (all : List Placed) →
+    AreBoxedTo g level net_needs at rest needs marks mark all → IsNext net_needs at net_need rest tiles others → mark' ≡ mark + 1 → need ≡ net_need.need →
     length needs' ≡ length needs → length marks' ≡ length marks → ((n : ℕ) → get_or marks' n 0 ≤ mark') →
     ((n : ℕ) → n < boxes_on g level → get_or needs' n 0 ≡ get_or needs n 0 + where_so (is_parted (λ b. b == n) (map (box_number g level) tiles)) need) →
-    AreBoxedTo g level claims (at + 1) others needs' marks' mark' all
-more-boxed-to g level claims at claim rest tiles others needs marks needs' marks' mark mark' need all was next up is long long' below step = record {
+    AreBoxedTo g level net_needs (at + 1) others needs' marks' mark' all
+more-boxed-to g level net_needs at net_need rest tiles others needs marks needs' marks' mark mark' need all was next up is long long' below step = record {
   whole = next.whole;
-  parts = All-tail (λ (net : Placed). is_parted_on g level net ≡ true) record { need = claim.need; tiles = tiles } (placed_by (drop (at + 1) claims) others)
+  parts = All-tail (λ (net : Placed). is_parted_on g level net ≡ true) record { need = net_need.need; tiles = tiles } (placed_by (drop (at + 1) net_needs) others)
       (subst (λ (ns : List Placed). All (λ (net : Placed). is_parted_on g level net ≡ true) ns) next.is was.parts);
-  within = All-tail (λ (net : Placed). All (IsOnChip g) net.tiles) record { need = claim.need; tiles = tiles } (placed_by (drop (at + 1) claims) others)
+  within = All-tail (λ (net : Placed). All (IsOnChip g) net.tiles) record { need = net_need.need; tiles = tiles } (placed_by (drop (at + 1) net_needs) others)
       (subst (λ (ns : List Placed). All (λ (net : Placed). All (IsOnChip g) net.tiles) ns) next.is was.within);
   long = long ∙ was.long;
   same = long' ∙ was.same;
@@ -199,16 +199,16 @@ more-boxed-to g level claims at claim rest tiles others needs marks needs' marks
   counted = λ n inside.
       let old = was.counted n inside in
       let split = ap (λ (ns : List Placed). box_needs g level n ns) next.is
-      ∙ sum_by-cons (λ (p : Placed). where_so (is_parted (λ b. b == n) (map (box_number g level) p.tiles)) p.need) record { need = claim.need; tiles = tiles } (placed_by (drop (at + 1) claims) others) in
+      ∙ sum_by-cons (λ (p : Placed). where_so (is_parted (λ b. b == n) (map (box_number g level) p.tiles)) p.need) record { need = net_need.need; tiles = tiles } (placed_by (drop (at + 1) net_needs) others) in
       let e = step n inside in
       let w = ap (λ (m : ℕ). where_so (is_parted (λ b. b == n) (map (box_number g level) tiles)) m) is in
       omega (arith, old, split, e, w);
 }
 
-pub all-boxed : (g : Shape) (level : ℕ) (claims : List Claim) (at : ℕ) (rest : List Tile) (needs marks : List ℕ) (mark : ℕ) (all : List Placed) (n : ℕ) → length claims ≤ at →
-    AreBoxedTo g level claims at rest needs marks mark all → n < boxes_on g level → get_or needs n 0 ≡ box_needs g level n all
-all-boxed g level claims at rest needs marks mark all n past was inside =
-    let none : placed_by (drop at claims) rest ≡ [] = ap (λ (cs : List Claim). placed_by cs rest) (drop_all at claims past) in
+pub all-boxed : (g : Shape) (level : ℕ) (net_needs : List NetNeed) (at : ℕ) (rest : List Tile) (needs marks : List ℕ) (mark : ℕ) (all : List Placed) (n : ℕ) → length net_needs ≤ at →
+    AreBoxedTo g level net_needs at rest needs marks mark all → n < boxes_on g level → get_or needs n 0 ≡ box_needs g level n all
+all-boxed g level net_needs at rest needs marks mark all n past was inside =
+    let none : placed_by (drop at net_needs) rest ≡ [] = ap (λ (cs : List NetNeed). placed_by cs rest) (drop_all at net_needs past) in
     let e = ap (λ (ns : List Placed). box_needs g level n ns) none in
     let old = was.counted n inside in
     omega (arith, e, old)

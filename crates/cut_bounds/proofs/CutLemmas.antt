@@ -11,13 +11,14 @@ use Rattle.std.proofs.lemmas.Nat.{div-add-mod', div-mul-add, div_below, mod-mul-
 use Rattle.wall_laws.specs.Walls.{is_parted}
 use Rattle.gr_base.proofs.GridLemmas.{few_cells, some_columns, some_layers}
 use Rattle.gr_base.specs.declared.grid.Shape.{Shape}
+use Rattle.std.proofs.Math.Bool.{or-false}
 use Rattle.std.proofs.Math.Nat.{le-mul_of_pos_right, mul_comm}
 use Rattle.cut_bounds.specs.declared.axis.Axis.{Axis}
 use Rattle.cut_bounds.specs.declared.axis.Axis.TheVariants.{Columns, Rows}
 use Rattle.cut_bounds.specs.declared.axis.Tile.{Tile}
-use Rattle.cut_bounds.specs.declared.net_tiles.Claim.{Claim}
+use Rattle.cut_bounds.specs.declared.net_tiles.NetNeed.{NetNeed}
 use Rattle.cut_bounds.specs.Cuts.{along, lines_of, tile_at, wires_along, AreWithin, is_reached, is_passed, reached_sum, passed_sum, line_needs, sum_to, AreCounted}
-use Rattle.cut_bounds.specs.NetTiles.{Placed, placed_by, pins_claimed}
+use Rattle.cut_bounds.specs.NetTiles.{Placed, placed_by, pins_counted}
 use Rattle.cut_bounds.specs.TileWires.{where_so, gained, held_by, sum_below, tiles_of}
 use Rattle.cut_bounds.specs.declared.tile_wires.TileWires.{TileWires}
 use Rattle.cut_bounds.proofs.NetLemmas.{IsNext}
@@ -157,10 +158,6 @@ reached-push axis line tiles tile =
     ap (λ (ns : List ℕ). list_any (λ at. nat_le at line) ns) (map-append (along axis) tiles (tile ∷ []))
     ∙ list_any-append (λ at. nat_le at line) (map (along axis) tiles) (along axis tile ∷ [])
     ∙ ap (λ (b : Bool). is_reached axis line tiles || b) (or-false (nat_le (along axis tile) line))
-  where
-    or-false : (b : Bool) → (b || false) ≡ b
-    or-false true = refl
-    or-false false = refl
 
 passed-push : (axis : Axis) (line : ℕ) (tiles : List Tile) (tile : Tile) →
     is_passed axis line (tiles ++ tile ∷ []) ≡ (is_passed axis line tiles && nat_le (along axis tile) line)
@@ -238,63 +235,63 @@ all-ends axis start (tile ∷ tiles) d first last some is ends = (
 -- ---- a loop over the nets
 
 -- what is so once the first nets are counted
-pub record AreCountedTo (axis : Axis) (lines : ℕ) (claims : List Claim) (at : ℕ) (rest : List Tile) (begun ended : List ℕ) (all : List Placed) : Type 0 where
-  pub whole : pins_claimed (drop at claims) ≡ length rest
-  pub some : All (λ (net : Placed). 0 < length net.tiles) (placed_by (drop at claims) rest)
-  pub within : All (λ (net : Placed). AreWithin axis lines net.tiles) (placed_by (drop at claims) rest)
+pub record AreCountedTo (axis : Axis) (lines : ℕ) (net_needs : List NetNeed) (at : ℕ) (rest : List Tile) (begun ended : List ℕ) (all : List Placed) : Type 0 where
+  pub whole : pins_counted (drop at net_needs) ≡ length rest
+  pub some : All (λ (net : Placed). 0 < length net.tiles) (placed_by (drop at net_needs) rest)
+  pub within : All (λ (net : Placed). AreWithin axis lines net.tiles) (placed_by (drop at net_needs) rest)
   pub begun_long : length begun ≡ lines
   pub ended_long : length ended ≡ lines
-  pub counted : AreCounted axis begun ended (placed_by (drop at claims) rest) all
+  pub counted : AreCounted axis begun ended (placed_by (drop at net_needs) rest) all
 
 -- what is so of the next net
-pub next-some : (axis : Axis) (lines : ℕ) (claims : List Claim) (at : ℕ) (claim : Claim) (rest tiles others : List Tile) (begun ended : List ℕ) (all : List Placed) →
-    AreCountedTo axis lines claims at rest begun ended all → IsNext claims at claim rest tiles others → 0 < length tiles
-next-some axis lines claims at claim rest tiles others begun ended all was next =
-    All-head (λ (net : Placed). 0 < length net.tiles) record { need = claim.need; tiles = tiles } (placed_by (drop (at + 1) claims) others)
+pub next-some : (axis : Axis) (lines : ℕ) (net_needs : List NetNeed) (at : ℕ) (net_need : NetNeed) (rest tiles others : List Tile) (begun ended : List ℕ) (all : List Placed) →
+    AreCountedTo axis lines net_needs at rest begun ended all → IsNext net_needs at net_need rest tiles others → 0 < length tiles
+next-some axis lines net_needs at net_need rest tiles others begun ended all was next =
+    All-head (λ (net : Placed). 0 < length net.tiles) record { need = net_need.need; tiles = tiles } (placed_by (drop (at + 1) net_needs) others)
     (subst (λ (ns : List Placed). All (λ (net : Placed). 0 < length net.tiles) ns) next.is was.some)
 
-pub next-within : (axis : Axis) (lines : ℕ) (claims : List Claim) (at : ℕ) (claim : Claim) (rest tiles others : List Tile) (begun ended : List ℕ) (all : List Placed) →
-    AreCountedTo axis lines claims at rest begun ended all → IsNext claims at claim rest tiles others → AreWithin axis lines tiles
-next-within axis lines claims at claim rest tiles others begun ended all was next =
-    All-head (λ (net : Placed). AreWithin axis lines net.tiles) record { need = claim.need; tiles = tiles } (placed_by (drop (at + 1) claims) others)
+pub next-within : (axis : Axis) (lines : ℕ) (net_needs : List NetNeed) (at : ℕ) (net_need : NetNeed) (rest tiles others : List Tile) (begun ended : List ℕ) (all : List Placed) →
+    AreCountedTo axis lines net_needs at rest begun ended all → IsNext net_needs at net_need rest tiles others → AreWithin axis lines tiles
+next-within axis lines net_needs at net_need rest tiles others begun ended all was next =
+    All-head (λ (net : Placed). AreWithin axis lines net.tiles) record { need = net_need.need; tiles = tiles } (placed_by (drop (at + 1) net_needs) others)
     (subst (λ (ns : List Placed). All (λ (net : Placed). AreWithin axis lines net.tiles) ns) next.is was.within)
 
-pub more-counted-to : (axis : Axis) (lines : ℕ) (claims : List Claim) (at : ℕ) (claim : Claim) (rest tiles others : List Tile) (begun ended begun' ended' : List ℕ) (all : List Placed) →
-    AreCountedTo axis lines claims at rest begun ended all → IsNext claims at claim rest tiles others → length begun' ≡ length begun → length ended' ≡ length ended →
-    ((nets all : List Placed) → AreCounted axis begun ended (record { need = claim.need; tiles = tiles } ∷ nets) all → AreCounted axis begun' ended' nets all) →
-    AreCountedTo axis lines claims (at + 1) others begun' ended' all
-more-counted-to axis lines claims at claim rest tiles others begun ended begun' ended' all was next long long' step = record {
+pub more-counted-to : (axis : Axis) (lines : ℕ) (net_needs : List NetNeed) (at : ℕ) (net_need : NetNeed) (rest tiles others : List Tile) (begun ended begun' ended' : List ℕ) (all : List Placed) →
+    AreCountedTo axis lines net_needs at rest begun ended all → IsNext net_needs at net_need rest tiles others → length begun' ≡ length begun → length ended' ≡ length ended →
+    ((nets all : List Placed) → AreCounted axis begun ended (record { need = net_need.need; tiles = tiles } ∷ nets) all → AreCounted axis begun' ended' nets all) →
+    AreCountedTo axis lines net_needs (at + 1) others begun' ended' all
+more-counted-to axis lines net_needs at net_need rest tiles others begun ended begun' ended' all was next long long' step = record {
   whole = next.whole;
-  some = All-tail (λ (net : Placed). 0 < length net.tiles) record { need = claim.need; tiles = tiles } (placed_by (drop (at + 1) claims) others)
+  some = All-tail (λ (net : Placed). 0 < length net.tiles) record { need = net_need.need; tiles = tiles } (placed_by (drop (at + 1) net_needs) others)
       (subst (λ (ns : List Placed). All (λ (net : Placed). 0 < length net.tiles) ns) next.is was.some);
-  within = All-tail (λ (net : Placed). AreWithin axis lines net.tiles) record { need = claim.need; tiles = tiles } (placed_by (drop (at + 1) claims) others)
+  within = All-tail (λ (net : Placed). AreWithin axis lines net.tiles) record { need = net_need.need; tiles = tiles } (placed_by (drop (at + 1) net_needs) others)
       (subst (λ (ns : List Placed). All (λ (net : Placed). AreWithin axis lines net.tiles) ns) next.is was.within);
   begun_long = long ∙ was.begun_long;
   ended_long = long' ∙ was.ended_long;
-  counted = step (placed_by (drop (at + 1) claims) others) all (subst (λ (ns : List Placed). AreCounted axis begun ended ns all) next.is was.counted);
+  counted = step (placed_by (drop (at + 1) net_needs) others) all (subst (λ (ns : List Placed). AreCounted axis begun ended ns all) next.is was.counted);
 }
 
 -- once all are counted
-pub all-counted : (axis : Axis) (lines : ℕ) (claims : List Claim) (at : ℕ) (rest : List Tile) (begun ended : List ℕ) (all : List Placed) → length claims ≤ at →
-    AreCountedTo axis lines claims at rest begun ended all →
+pub all-counted : (axis : Axis) (lines : ℕ) (net_needs : List NetNeed) (at : ℕ) (rest : List Tile) (begun ended : List ℕ) (all : List Placed) → length net_needs ≤ at →
+    AreCountedTo axis lines net_needs at rest begun ended all →
     ((line : ℕ) → sum_to line begun ≡ reached_sum axis line all) × ((line : ℕ) → sum_to line ended ≡ passed_sum axis line all)
-all-counted axis lines claims at rest begun ended all past was =
-    let none : placed_by (drop at claims) rest ≡ [] = ap (λ (cs : List Claim). placed_by cs rest) (drop_all at claims past) in
+all-counted axis lines net_needs at rest begun ended all past was =
+    let none : placed_by (drop at net_needs) rest ≡ [] = ap (λ (cs : List NetNeed). placed_by cs rest) (drop_all at net_needs past) in
     let counted = subst (λ (ns : List Placed). AreCounted axis begun ended ns all) none was.counted in
     ((λ line. let e = counted.first line in omega (arith, e)), (λ line. let e = counted.last line in omega (arith, e)))
 
-pub no-counted-to : (axis : Axis) (lines : ℕ) (claims : List Claim) (tiles rest : List Tile) (begun ended : List ℕ) → rest ≡ tiles →
-    pins_claimed claims ≡ length tiles → All (λ (net : Placed). 0 < length net.tiles) (placed_by claims tiles) →
-    All (λ (net : Placed). AreWithin axis lines net.tiles) (placed_by claims tiles) → begun ≡ replicate lines 0 → ended ≡ replicate lines 0 →
-    AreCountedTo axis lines claims 0 rest begun ended (placed_by claims tiles)
-no-counted-to axis lines claims tiles rest begun ended same whole some within is is' =
-    subst (λ (ts : List Tile). AreCountedTo axis lines claims 0 ts begun ended (placed_by claims tiles)) (sym same) (record {
+pub no-counted-to : (axis : Axis) (lines : ℕ) (net_needs : List NetNeed) (tiles rest : List Tile) (begun ended : List ℕ) → rest ≡ tiles →
+    pins_counted net_needs ≡ length tiles → All (λ (net : Placed). 0 < length net.tiles) (placed_by net_needs tiles) →
+    All (λ (net : Placed). AreWithin axis lines net.tiles) (placed_by net_needs tiles) → begun ≡ replicate lines 0 → ended ≡ replicate lines 0 →
+    AreCountedTo axis lines net_needs 0 rest begun ended (placed_by net_needs tiles)
+no-counted-to axis lines net_needs tiles rest begun ended same whole some within is is' =
+    subst (λ (ts : List Tile). AreCountedTo axis lines net_needs 0 ts begun ended (placed_by net_needs tiles)) (sym same) (record {
       whole = whole;
       some = some;
       within = within;
       begun_long = ap (λ (xs : List ℕ). length xs) is ∙ length-replicate lines 0;
       ended_long = ap (λ (xs : List ℕ). length xs) is' ∙ length-replicate lines 0;
-      counted = none-counted axis lines lines begun ended (placed_by claims tiles) is is';
+      counted = none-counted axis lines lines begun ended (placed_by net_needs tiles) is is';
     })
 
 -- ---- the running need

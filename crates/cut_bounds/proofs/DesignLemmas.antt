@@ -27,7 +27,7 @@ use Rattle.cut_bounds.specs.Candidates.{candidates_on, AreMeasured}
 use Rattle.cut_bounds.specs.Crossings.{is_boxed, out_holds}
 use Rattle.cut_bounds.specs.Cuts.{AreWithin, along, lines_of}
 use Rattle.cut_bounds.specs.NetTiles.{Placed, placed_by, placed_net, placed_nets, tile_in}
-use Rattle.cut_bounds.specs.declared.net_tiles.Claim.{Claim}
+use Rattle.cut_bounds.specs.declared.net_tiles.NetNeed.{NetNeed}
 use Rattle.cut_bounds.specs.declared.wall.MeasuredWall.{MeasuredWall}
 use Rattle.cut_bounds.specs.TileWires.{AreTileWires, held_by, sum_below, tiles_of}
 use Rattle.cut_bounds.specs.declared.axis.Axis.{Axis}
@@ -126,9 +126,9 @@ wires-few d wires is are =
     omega (arith, a, b, p, q)) in
     omega (arith, all, cells, most, few_cells d.frame.shape)
 
-pub length-placed : (claims : List Claim) (tiles : List Tile) → length (placed_by claims tiles) ≡ length claims
+pub length-placed : (net_needs : List NetNeed) (tiles : List Tile) → length (placed_by net_needs tiles) ≡ length net_needs
 length-placed [] tiles = refl
-length-placed (claim ∷ claims) tiles = let rest = length-placed claims (drop claim.pins tiles) in omega (arith, rest)
+length-placed (net_need ∷ net_needs) tiles = let rest = length-placed net_needs (drop net_need.pins tiles) in omega (arith, rest)
 
 -- ---- the boxes of a side
 
@@ -192,9 +192,9 @@ code-some d nets placed = subst (λ (ns : List Placed). All (λ (net : Placed). 
 pub code-few : (d : DesignView) (nets : List Placed) → IsDesign d → nets ≡ placed_nets d → sum_by (λ (net : Placed). net.need) nets < 2 ^ 63
 code-few d nets is placed = subst (λ (ns : List Placed). sum_by (λ (net : Placed). net.need) ns < 2 ^ 63) (sym placed) (needs-few d is)
 
-pub code-claims : (d : DesignView) (claims : List Claim) (tiles : List Tile) → IsDesign d → placed_by claims tiles ≡ placed_nets d → length claims < 2 ^ 31
-code-claims d claims tiles is placed =
-    let a = length-placed claims tiles in
+pub code-net_needs : (d : DesignView) (net_needs : List NetNeed) (tiles : List Tile) → IsDesign d → placed_by net_needs tiles ≡ placed_nets d → length net_needs < 2 ^ 31
+code-net_needs d net_needs tiles is placed =
+    let a = length-placed net_needs tiles in
     let b = ap (λ (ns : List Placed). length ns) placed in
     omega (arith, a, b, nets-few d is)
 

@@ -13,13 +13,13 @@ use Rattle.wall_laws.proofs.SumLemmas.{sum-filter, sum-le}
 use Rattle.wall_laws.specs.Walls.{is_parted}
 use Rattle.cut_bounds.specs.Boxes.{across_of, box_needs, box_number, is_parted_on, lies_in_one, IsOnChip}
 use Rattle.cut_bounds.specs.Candidates.{AreLeft}
-use Rattle.cut_bounds.specs.NetTiles.{Placed, AreWhole, pins_claimed, placed_by, placed_in, placed_nets}
+use Rattle.cut_bounds.specs.NetTiles.{Placed, AreWhole, pins_counted, placed_by, placed_in, placed_nets}
 use Rattle.cut_bounds.specs.TileWires.{where_so}
 use Rattle.cut_bounds.specs.declared.axis.Tile.{Tile}
-use Rattle.cut_bounds.specs.declared.net_tiles.Claim.{Claim}
+use Rattle.cut_bounds.specs.declared.net_tiles.NetNeed.{NetNeed}
 use Rattle.cut_bounds.specs.declared.net_tiles.NetTiles.{NetTiles}
 use Rattle.cut_bounds.proofs.BoxLemmas.{box-column-below, parted-none}
-use Rattle.cut_bounds.proofs.DesignLemmas.{code-claims, code-few, code-some, code-within, length-placed}
+use Rattle.cut_bounds.proofs.DesignLemmas.{code-net_needs, code-few, code-some, code-within, length-placed}
 use Rattle.cut_bounds.proofs.NetLemmas.{IsNext, placed-push, whole-push}
 use Rattle.cut_bounds.proofs.SumLemmas.{where-le, where-no}
 
@@ -87,7 +87,7 @@ all-left d nets is placed whole = record {
   within = code-within d d.frame.shape (placed_in nets) is refl placed;
   some = code-some d (placed_in nets) placed;
   few = code-few d (placed_in nets) is placed;
-  few_nets = code-claims d nets.claims.items nets.tiles.items is placed;
+  few_nets = code-net_needs d nets.net_needs.items nets.tiles.items is placed;
   same = λ up n low. ap (λ (ns : List Placed). box_needs d.frame.shape up n ns) placed;
 }
 
@@ -116,8 +116,8 @@ less-left d level nets new was is whole =
             arith,
             e,
             f,
-            length-placed new.claims.items new.tiles.items,
-            length-placed nets.claims.items nets.tiles.items,
+            length-placed new.net_needs.items new.tiles.items,
+            length-placed nets.net_needs.items nets.tiles.items,
             length-filter p ns,
             count_by-le-length p ns,
           );
@@ -144,32 +144,32 @@ left-above d level nets was = record {
 -- ---- a loop over the nets
 
 -- the parted ones of the first nets are kept
-pub record ArePartedTo (g : Shape) (level : ℕ) (claims : List Claim) (at : ℕ) (rest : List Tile) (kept : NetTiles) (all : List Placed) : Type 0 where
-  pub whole : pins_claimed (drop at claims) ≡ length rest
-  pub some : All (λ (net : Placed). 0 < length net.tiles) (placed_by (drop at claims) rest)
-  pub within : All (λ (net : Placed). All (IsOnChip g) net.tiles) (placed_by (drop at claims) rest)
+pub record ArePartedTo (g : Shape) (level : ℕ) (net_needs : List NetNeed) (at : ℕ) (rest : List Tile) (kept : NetTiles) (all : List Placed) : Type 0 where
+  pub whole : pins_counted (drop at net_needs) ≡ length rest
+  pub some : All (λ (net : Placed). 0 < length net.tiles) (placed_by (drop at net_needs) rest)
+  pub within : All (λ (net : Placed). All (IsOnChip g) net.tiles) (placed_by (drop at net_needs) rest)
   pub filled : AreWhole kept
-  pub goes_on : placed_in kept ++ filter (is_parted_on g level) (placed_by (drop at claims) rest) ≡ filter (is_parted_on g level) all
+  pub goes_on : placed_in kept ++ filter (is_parted_on g level) (placed_by (drop at net_needs) rest) ≡ filter (is_parted_on g level) all
 
-pub next-parts : (g : Shape) (level : ℕ) (claims : List Claim) (at : ℕ) (claim : Claim) (rest tiles others : List Tile) (kept : NetTiles) (all : List Placed) →
-    ArePartedTo g level claims at rest kept all → IsNext claims at claim rest tiles others → (0 < length tiles) × All (IsOnChip g) tiles
-next-parts g level claims at claim rest tiles others kept all was next =
-    let net : Placed = record { need = claim.need; tiles = tiles } in
-    let ns : List Placed = placed_by (drop (at + 1) claims) others in (
+pub next-parts : (g : Shape) (level : ℕ) (net_needs : List NetNeed) (at : ℕ) (net_need : NetNeed) (rest tiles others : List Tile) (kept : NetTiles) (all : List Placed) →
+    ArePartedTo g level net_needs at rest kept all → IsNext net_needs at net_need rest tiles others → (0 < length tiles) × All (IsOnChip g) tiles
+next-parts g level net_needs at net_need rest tiles others kept all was next =
+    let net : Placed = record { need = net_need.need; tiles = tiles } in
+    let ns : List Placed = placed_by (drop (at + 1) net_needs) others in (
       All-head (λ (p : Placed). 0 < length p.tiles) net ns (subst (λ (ps : List Placed). All (λ (p : Placed). 0 < length p.tiles) ps) next.is was.some),
       All-head (λ (p : Placed). All (IsOnChip g) p.tiles) net ns
           (subst (λ (ps : List Placed). All (λ (p : Placed). All (IsOnChip g) p.tiles) ps) next.is was.within),
     )
 
 -- the facts of the other nets, whatever is kept of the next one
-step-parted : (g : Shape) (level : ℕ) (claims : List Claim) (at : ℕ) (claim : Claim) (rest tiles others : List Tile) (kept new : NetTiles) (all : List Placed) →
-    ArePartedTo g level claims at rest kept all → IsNext claims at claim rest tiles others → AreWhole new →
-    placed_in new ++ filter (is_parted_on g level) (placed_by (drop (at + 1) claims) others)
-    ≡ placed_in kept ++ filter (is_parted_on g level) (record { need = claim.need; tiles = tiles } ∷ placed_by (drop (at + 1) claims) others) →
-    ArePartedTo g level claims (at + 1) others new all
-step-parted g level claims at claim rest tiles others kept new all was next whole same =
-    let net : Placed = record { need = claim.need; tiles = tiles } in
-    let ns : List Placed = placed_by (drop (at + 1) claims) others in
+step-parted : (g : Shape) (level : ℕ) (net_needs : List NetNeed) (at : ℕ) (net_need : NetNeed) (rest tiles others : List Tile) (kept new : NetTiles) (all : List Placed) →
+    ArePartedTo g level net_needs at rest kept all → IsNext net_needs at net_need rest tiles others → AreWhole new →
+    placed_in new ++ filter (is_parted_on g level) (placed_by (drop (at + 1) net_needs) others)
+    ≡ placed_in kept ++ filter (is_parted_on g level) (record { need = net_need.need; tiles = tiles } ∷ placed_by (drop (at + 1) net_needs) others) →
+    ArePartedTo g level net_needs (at + 1) others new all
+step-parted g level net_needs at net_need rest tiles others kept new all was next whole same =
+    let net : Placed = record { need = net_need.need; tiles = tiles } in
+    let ns : List Placed = placed_by (drop (at + 1) net_needs) others in
     record {
       whole = next.whole;
       some = All-tail (λ (p : Placed). 0 < length p.tiles) net ns
@@ -180,31 +180,31 @@ step-parted g level claims at claim rest tiles others kept new all was next whol
       goes_on = same ∙ sym (ap (λ (ps : List Placed). placed_in kept ++ filter (is_parted_on g level) ps) next.is) ∙ was.goes_on;
     }
 
-pub held-passed : (g : Shape) (level : ℕ) (claims : List Claim) (at : ℕ) (claim : Claim) (rest tiles others : List Tile) (kept : NetTiles) (all : List Placed) →
-    ArePartedTo g level claims at rest kept all → IsNext claims at claim rest tiles others → lies_in_one (map (box_number g level) tiles) ≡ true →
-    ArePartedTo g level claims (at + 1) others kept all
-held-passed g level claims at claim rest tiles others kept all was next held =
-    step-parted g level claims at claim rest tiles others kept kept all was next was.filled
+pub held-passed : (g : Shape) (level : ℕ) (net_needs : List NetNeed) (at : ℕ) (net_need : NetNeed) (rest tiles others : List Tile) (kept : NetTiles) (all : List Placed) →
+    ArePartedTo g level net_needs at rest kept all → IsNext net_needs at net_need rest tiles others → lies_in_one (map (box_number g level) tiles) ≡ true →
+    ArePartedTo g level net_needs (at + 1) others kept all
+held-passed g level net_needs at net_need rest tiles others kept all was next held =
+    step-parted g level net_needs at net_need rest tiles others kept kept all was next was.filled
     (let fails = not_from_true (lies_in_one (map (box_number g level) tiles)) held in rw fails refl)
 
-pub parted-kept : (g : Shape) (level : ℕ) (claims : List Claim) (at : ℕ) (claim : Claim) (rest tiles others : List Tile) (kept new : NetTiles) (all : List Placed) →
-    ArePartedTo g level claims at rest kept all → IsNext claims at claim rest tiles others → lies_in_one (map (box_number g level) tiles) ≡ false →
-    claim.pins ≡ length tiles → new.claims.items ≡ kept.claims.items ++ claim ∷ [] → new.tiles.items ≡ kept.tiles.items ++ tiles →
-    ArePartedTo g level claims (at + 1) others new all
-parted-kept g level claims at claim rest tiles others kept new all was next parts long is is' =
-    let net : Placed = record { need = claim.need; tiles = tiles } in
-    let ns : List Placed = filter (is_parted_on g level) (placed_by (drop (at + 1) claims) others) in
+pub parted-kept : (g : Shape) (level : ℕ) (net_needs : List NetNeed) (at : ℕ) (net_need : NetNeed) (rest tiles others : List Tile) (kept new : NetTiles) (all : List Placed) →
+    ArePartedTo g level net_needs at rest kept all → IsNext net_needs at net_need rest tiles others → lies_in_one (map (box_number g level) tiles) ≡ false →
+    net_need.pins ≡ length tiles → new.net_needs.items ≡ kept.net_needs.items ++ net_need ∷ [] → new.tiles.items ≡ kept.tiles.items ++ tiles →
+    ArePartedTo g level net_needs (at + 1) others new all
+parted-kept g level net_needs at net_need rest tiles others kept new all was next parts long is is' =
+    let net : Placed = record { need = net_need.need; tiles = tiles } in
+    let ns : List Placed = filter (is_parted_on g level) (placed_by (drop (at + 1) net_needs) others) in
     let passes = not_from_false (lies_in_one (map (box_number g level) tiles)) parts in
     let pushed : placed_in new ≡ placed_in kept ++ net ∷ [] =
-    ap (λ (cs : List Claim). placed_by cs new.tiles.items) is ∙ ap (λ (ts : List Tile). placed_by (kept.claims.items ++ claim ∷ []) ts) is'
-    ∙ placed-push kept.claims.items kept.tiles.items tiles claim was.filled long in
-    let split : filter (is_parted_on g level) (net ∷ placed_by (drop (at + 1) claims) others) ≡ net ∷ ns = rw passes refl in
-    step-parted g level claims at claim rest tiles others kept new all was next
-    (ap (λ (cs : List Claim). pins_claimed cs) is ∙ whole-push kept.claims.items kept.tiles.items tiles claim was.filled long ∙ ap (λ (ts : List Tile). length ts) (sym is'))
+    ap (λ (cs : List NetNeed). placed_by cs new.tiles.items) is ∙ ap (λ (ts : List Tile). placed_by (kept.net_needs.items ++ net_need ∷ []) ts) is'
+    ∙ placed-push kept.net_needs.items kept.tiles.items tiles net_need was.filled long in
+    let split : filter (is_parted_on g level) (net ∷ placed_by (drop (at + 1) net_needs) others) ≡ net ∷ ns = rw passes refl in
+    step-parted g level net_needs at net_need rest tiles others kept new all was next
+    (ap (λ (cs : List NetNeed). pins_counted cs) is ∙ whole-push kept.net_needs.items kept.tiles.items tiles net_need was.filled long ∙ ap (λ (ts : List Tile). length ts) (sym is'))
     (ap (λ (ps : List Placed). ps ++ ns) pushed ∙ append_assoc (placed_in kept) (net ∷ []) ns ∙ ap (λ (ps : List Placed). placed_in kept ++ ps) (sym split))
 
-pub all-parted : (g : Shape) (level : ℕ) (claims : List Claim) (at : ℕ) (rest : List Tile) (kept : NetTiles) (all : List Placed) → length claims ≤ at →
-    ArePartedTo g level claims at rest kept all → placed_in kept ≡ filter (is_parted_on g level) all
-all-parted g level claims at rest kept all past was =
-    let none : placed_by (drop at claims) rest ≡ [] = ap (λ (cs : List Claim). placed_by cs rest) (drop_all at claims past) in
+pub all-parted : (g : Shape) (level : ℕ) (net_needs : List NetNeed) (at : ℕ) (rest : List Tile) (kept : NetTiles) (all : List Placed) → length net_needs ≤ at →
+    ArePartedTo g level net_needs at rest kept all → placed_in kept ≡ filter (is_parted_on g level) all
+all-parted g level net_needs at rest kept all past was =
+    let none : placed_by (drop at net_needs) rest ≡ [] = ap (λ (cs : List NetNeed). placed_by cs rest) (drop_all at net_needs past) in
     sym (append-nil (placed_in kept)) ∙ ap (λ (ps : List Placed). placed_in kept ++ filter (is_parted_on g level) ps) (sym none) ∙ was.goes_on

@@ -117,10 +117,6 @@ pub any-if : (so : Bool) (p : ℕ → Bool) (xs : List ℕ) → list_any p (if s
 any-if true p xs = refl
 any-if false p xs = refl
 
-pub or-off : (b : Bool) → (b || false) ≡ b
-or-off true = refl
-or-off false = refl
-
 -- along one axis: where a range is left or entered
 pub range-left : (low high x count : ℕ) → low ≤ high → high < count →
     (nat_lt (x + 1) count && differ (nat_le low x && nat_le x high) (nat_le low (x + 1) && nat_le (x + 1) high))

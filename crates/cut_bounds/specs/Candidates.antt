@@ -83,6 +83,6 @@ pub record AreLeft (d : DesignView) (level : ℕ) (nets : NetTiles) : Type 0 whe
   pub within : All (λ (net : Placed). All (IsOnChip d.frame.shape) net.tiles) (placed_in nets)
   pub some : All (λ (net : Placed). 0 < length net.tiles) (placed_in nets)
   pub few : sum_by (λ (net : Placed). net.need) (placed_in nets) < 2 ^ 63
-  pub few_nets : length nets.claims.items < 2 ^ 31
+  pub few_nets : length nets.net_needs.items < 2 ^ 31
   pub same : (up n : ℕ) → level ≤ up →
       box_needs d.frame.shape up n (placed_in nets) ≡ box_needs d.frame.shape up n (placed_nets d)

@@ -6,7 +6,7 @@ use Rattle.gr_base.specs.Grid.{place_at}
 use Rattle.gr_base.specs.declared.grid.Shape.{Shape}
 use Rattle.wall_laws.specs.Walls.{least_need}
 use Rattle.cut_bounds.specs.declared.axis.Tile.{Tile}
-use Rattle.cut_bounds.specs.declared.net_tiles.Claim.{Claim}
+use Rattle.cut_bounds.specs.declared.net_tiles.NetNeed.{NetNeed}
 use Rattle.cut_bounds.specs.declared.net_tiles.NetTiles.{NetTiles}
 
 -- a net with what it needs of an edge at least, and with the tiles of its pins
@@ -26,18 +26,18 @@ abbrev pub placed_nets : DesignView → List Placed
 placed_nets d = map (placed_net d) (filter (is_routed d) (range_with_len 0 (length d.nets)))
 
 -- nets whose tiles stand one after another
-abbrev pub placed_by : List Claim → List Tile → List Placed
+abbrev pub placed_by : List NetNeed → List Tile → List Placed
 placed_by [] tiles = []
-placed_by (claim ∷ claims) tiles =
-    record { need = claim.need; tiles = take claim.pins tiles } ∷ placed_by claims (drop claim.pins tiles)
+placed_by (net_need ∷ net_needs) tiles =
+    record { need = net_need.need; tiles = take net_need.pins tiles } ∷ placed_by net_needs (drop net_need.pins tiles)
 
 -- how many pins nets have together
-abbrev pub pins_claimed : List Claim → ℕ
-pins_claimed claims = sum_by (λ (claim : Claim). claim.pins) claims
+abbrev pub pins_counted : List NetNeed → ℕ
+pins_counted net_needs = sum_by (λ (net_need : NetNeed). net_need.pins) net_needs
 
 abbrev pub placed_in : NetTiles → List Placed
-placed_in nets = placed_by nets.claims.items nets.tiles.items
+placed_in nets = placed_by nets.net_needs.items nets.tiles.items
 
 -- there is a tile for each pin
 abbrev pub AreWhole : NetTiles → Type 0
-AreWhole nets = pins_claimed nets.claims.items ≡ length nets.tiles.items
+AreWhole nets = pins_counted nets.net_needs.items ≡ length nets.tiles.items

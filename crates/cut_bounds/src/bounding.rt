@@ -31,7 +31,8 @@ struct Walls {
 
 /// The bounds of a design: figures that total overflow, wirelength and wirelength along usable edges are
 /// at least, whatever edges the nets take that join their pins; how many walls of each kind show the
-/// overflow; and the fullest walls. The only error is want of memory.
+/// overflow; and the fullest walls. A via edge counts as `via_cost` wire edges, at most 1,000. The only
+/// error is want of memory.
 pub fn bounds_of(alloc: Global, design: &Design, via_cost: u32) -> Result<Bounds, AllocError>
     requires { via_cost ≤ 1000 }
     ensures value { IfOk result (λ bounds. bounds ≡ bounds_of design.now via_cost) }
@@ -70,8 +71,8 @@ fn walls_of(alloc: Global, design: &Design) -> Result<Walls, AllocError>
     Ok(Walls { straight, taken })
 }
 
-/// The overfull ones of straight cuts and boxes by falling excess, of which no two share an edge. The
-/// only error is want of memory.
+/// Of the overfull straight cuts as they stand, and then the boxes by falling excess, those that share no
+/// edge with one before. The only error is want of memory.
 fn taken_of(
     alloc: Global,
     shape: Shape,

@@ -31,7 +31,7 @@ pub(crate) fn needs_by_box(
     requires within { All (λ net. All (IsOnChip boxes.shape) net.tiles) (placed_in nets.now) }
     requires parted { All (λ net. is_parted_on boxes.shape boxes.level net ≡ true) (placed_in nets.now) }
     requires few { sum_by (λ net. net.need) (placed_in nets.now) < 2 ^ 63 }
-    requires few_nets { length nets.now.claims.items < 2 ^ 31 }
+    requires few_nets { length nets.now.net_needs.items < 2 ^ 31 }
     ensures long { IfOk result (λ needs. length needs.items ≡ boxes_on boxes.shape boxes.level) }
     ensures needs { (n : ℕ) → n < boxes_on boxes.shape boxes.level → IfOk result (λ needs.
         slice_index needs.items n ≡ box_needs boxes.shape boxes.level n (placed_in nets.now)) }
@@ -42,10 +42,10 @@ pub(crate) fn needs_by_box(
     };
     let mut rest = nets.tiles.as_slice();
     let mut mark = 0;
-    for claim in &nets.claims {
-        let (tiles, others) = rest.split_at(claim.pins as usize);
+    for net_need in &nets.net_needs {
+        let (tiles, others) = rest.split_at(net_need.pins as usize);
         mark += 1;
-        found.add_net(boxes, tiles, claim.need, mark);
+        found.add_net(boxes, tiles, net_need.need, mark);
         rest = others;
     }
     Ok(found.needs)

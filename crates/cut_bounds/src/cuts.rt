@@ -122,9 +122,9 @@ fn ends_by_line(
         ended: vec![in alloc; 0; lines as usize]?,
     };
     let mut rest = nets.tiles.as_slice();
-    for claim in &nets.claims {
-        let (tiles, others) = rest.split_at(claim.pins as usize);
-        add_net(&mut ends, tiles, claim.need, axis);
+    for net_need in &nets.net_needs {
+        let (tiles, others) = rest.split_at(net_need.pins as usize);
+        add_net(&mut ends, tiles, net_need.need, axis);
         rest = others;
     }
     Ok(ends)

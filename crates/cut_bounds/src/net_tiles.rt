@@ -12,7 +12,7 @@ use std::alloc::{AllocError, Global};
 
 /// What a net needs of an edge that it takes at least, and how many pins it has.
 #[derive(Clone, Copy, Debug)]
-pub(crate) struct Claim {
+pub(crate) struct NetNeed {
     pub need: u32,
     pub pins: u32,
 }
@@ -20,7 +20,7 @@ pub(crate) struct Claim {
 /// The routed nets, and the tiles of their pins one after another.
 #[derive(Drop)]
 pub(crate) struct NetTiles {
-    pub claims: Vec<Claim>,
+    pub net_needs: Vec<NetNeed>,
     pub tiles: Vec<Tile>,
 }
 
@@ -31,7 +31,7 @@ impl NetTiles {
         ensures whole { IfOk result AreWhole }
     {
         let mut nets = NetTiles {
-            claims: Vec::new(alloc),
+            net_needs: Vec::new(alloc),
             tiles: Vec::new(alloc),
         };
         for net in 0..design.nets() {
@@ -54,7 +54,7 @@ impl NetTiles {
         let net = design.net(number);
         let need = least_need(frame, net.width);
         let pins = net.pins.as_slice();
-        self.claims.push(Claim {
+        self.net_needs.push(NetNeed {
             need,
             pins: pins.len() as u32,
         })?;

@@ -20,17 +20,17 @@ impl NetTiles {
         ensures whole { IfOk result AreWhole }
     {
         let mut parted = NetTiles {
-            claims: Vec::with_capacity(alloc, self.claims.len())?,
+            net_needs: Vec::with_capacity(alloc, self.net_needs.len())?,
             tiles: Vec::with_capacity(alloc, self.tiles.len())?,
         };
         let mut rest = self.tiles.as_slice();
-        for claim in &self.claims {
-            let (tiles, others) = rest.split_at(claim.pins as usize);
+        for net_need in &self.net_needs {
+            let (tiles, others) = rest.split_at(net_need.pins as usize);
             rest = others;
             if boxes.hold_in_one(tiles) {
                 continue;
             }
-            parted.claims.push(*claim)?;
+            parted.net_needs.push(*net_need)?;
             parted.tiles.extend_from_slice(tiles)?;
         }
         Ok(parted)

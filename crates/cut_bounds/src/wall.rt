@@ -1,4 +1,5 @@
-/// The tiles from a first to a last column, in the rows from a first to a last.
+/// The tiles from column `x0` to column `x1`, in the rows from `y0` to `y1`: these four too. Columns and
+/// rows count from 0.
 #[derive(Clone, Copy, Debug, PartialEq, Eq)]
 pub struct TileBox {
     pub x0: u32,
@@ -7,7 +8,7 @@ pub struct TileBox {
     pub y1: u32,
 }
 
-/// A wall: the straight cut behind a column or behind a row, or a box.
+/// A wall: the straight cut behind a column or behind a row, which count from 0, or a box.
 #[derive(Clone, Copy, Debug, PartialEq, Eq)]
 pub enum Wall {
     Column(u32),
@@ -15,7 +16,7 @@ pub enum Wall {
     Box(TileBox),
 }
 
-/// A wall with what the routed nets need of its edges, and what these hold.
+/// A wall with what the routed nets need of its edges, and what these hold, in units of width.
 #[derive(Clone, Copy, Debug, PartialEq, Eq)]
 pub struct MeasuredWall {
     pub wall: Wall,

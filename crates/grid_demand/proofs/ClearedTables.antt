@@ -4,30 +4,31 @@ use Rattle.std.proofs.lemmas.Bool.{cases_eq, cases_lt}
 use Rattle.std.proofs.lemmas.Bool.Decides.{nat_tests}
 use Rattle.std.proofs.lemmas.List.{take_more, get_or-set_same, get_or-set_other, get_or_past}
 use Rattle.std.proofs.lemmas.List.Folds.{list_any-append}
+use Rattle.gr_base.specs.Trees.{is_among}
 use Rattle.grid_demand.proofs.OverfullSteps.{told-place}
 use Rattle.grid_demand.proofs.PlaneLemmas.{length-by_number}
 use Rattle.grid_demand.proofs.RangeFilters.{filter-has, filter-below}
-use Rattle.grid_demand.specs.Overfull.{is_told, has_number, told_places}
+use Rattle.grid_demand.specs.Overfull.{is_told, told_places}
 use Rattle.grid_demand.specs.Planes.{by_number, edge_placed}
 
 -- what the table says once one more of the places is cleared
 pub cleared-more : (places : List ℕ) (over old : List Bool) (at : ℕ) → at < length places → get_or places at 0 < length over →
-    ((n : ℕ) → slice_index_or over n false ≡ cond (has_number (take at places) n) false (slice_index_or old n false)) →
-    (n : ℕ) → slice_index_or (slice_set over (get_or places at 0) false) n false ≡ cond (has_number (take (at + 1) places) n) false (slice_index_or old n false)
+    ((n : ℕ) → slice_index_or over n false ≡ cond (is_among (take at places) n) false (slice_index_or old n false)) →
+    (n : ℕ) → slice_index_or (slice_set over (get_or places at 0) false) n false ≡ cond (is_among (take (at + 1) places) n) false (slice_index_or old n false)
 cleared-more places over old at inside below each n =
     let place : ℕ = get_or places at 0 in
-    let more : has_number (take (at + 1) places) n ≡ (has_number (take at places) n || (place == n || false)) =
-    ap (λ (xs : List ℕ). has_number xs n) (take_more places at 0 inside) ∙ list_any-append (λ (p : ℕ). p == n) (take at places) (place ∷ []) in
+    let more : is_among (take (at + 1) places) n ≡ (is_among (take at places) n || (place == n || false)) =
+    ap (λ (xs : List ℕ). is_among xs n) (take_more places at 0 inside) ∙ list_any-append (λ (p : ℕ). p == n) (take at places) (place ∷ []) in
     elim (cases_eq n place) [
       | inl same ↦
           let here : (place == n) ≡ true = grind (arith, nat_tests) in
-          let now : has_number (take (at + 1) places) n ≡ true = more ∙ last (has_number (take at places) n) (place == n) here in
+          let now : is_among (take (at + 1) places) n ≡ true = more ∙ last (is_among (take at places) n) (place == n) here in
           ap (λ (k : ℕ). slice_index_or (slice_set over place false) k false) same
           ∙ get_or-set_same over place false false below
           ∙ sym (ap (λ (b : Bool). cond b false (slice_index_or old n false)) now)
       | inr other ↦
           let apart : (place == n) ≡ false = grind (arith, nat_tests) in
-          let now : has_number (take (at + 1) places) n ≡ has_number (take at places) n = more ∙ first (has_number (take at places) n) (place == n) apart in
+          let now : is_among (take (at + 1) places) n ≡ is_among (take at places) n = more ∙ first (is_among (take at places) n) (place == n) apart in
           get_or-set_other over place n false false other ∙ each n ∙ ap (λ (b : Bool). cond b false (slice_index_or old n false)) (sym now)
     ]
   where
@@ -42,12 +43,12 @@ cleared-more places over old at inside below each n =
 -- a table says nothing once all the places are cleared of which it said so
 pub cleared-all : (over old : List Bool) (places : List ℕ) (cells n : ℕ) → length old ≡ 2 * cells → length over ≡ length old →
     places ≡ told_places (by_number false old) →
-    ((n : ℕ) → slice_index_or over n false ≡ cond (has_number places n) false (slice_index_or old n false)) →
+    ((n : ℕ) → slice_index_or over n false ≡ cond (is_among places n) false (slice_index_or old n false)) →
     slice_index_or over n false ≡ false
 cleared-all over old places cells n long same listed each = elim (cases_lt n (length old)) [
   | inl below ↦
-      let told : has_number places n ≡ slice_index_or old n false =
-      ap (λ (xs : List ℕ). has_number xs n) listed
+      let told : is_among places n ≡ slice_index_or old n false =
+      ap (λ (xs : List ℕ). is_among xs n) listed
       ∙ filter-has (λ place. is_told (by_number false old) (edge_placed (length (by_number false old)) place)) 0 (length (by_number false old)) n (omega arith)
       (let whole = length-by_number false old in omega (arith, below, whole))
       ∙ ap (λ (w : ℕ). is_told (by_number false old) (edge_placed w n)) (length-by_number false old)

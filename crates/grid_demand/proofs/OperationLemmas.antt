@@ -1,16 +1,16 @@
 -- Loads after a list of operations.
-use Rattle.std.proofs.Common.{◌≡◌, ℕ, ◌+◌, ◌-◌, ◌*◌, ◌^◌, ◌≤◌, inl, inr, min, nat_lt, List, [], ◌∷◌, ◌++◌, fold, get_or, All, slice_get, Option, Some, None, IfSome, unwrap_or, if◌then◌else◌, IsTrue, refl, ap, subst, ◌∙◌, arith}
+use Rattle.std.proofs.Common.{◌≡◌, ℕ, ◌+◌, ◌-◌, ◌*◌, ◌^◌, ◌≤◌, inl, inr, min, nat_lt, List, [], ◌∷◌, ◌++◌, fold, All, slice_get, Option, Some, None, IfSome, unwrap_or, if◌then◌else◌, IsTrue, refl, ap, subst, ◌∙◌, arith}
 use Rattle.std.proofs.lemmas.Bool.{cases_Bool}
 use Rattle.std.proofs.lemmas.List.{get_or-replicate}
-use Rattle.std.proofs.lemmas.List.Elements.{All-map, All-replicate}
+use Rattle.std.proofs.lemmas.List.Elements.{All-replicate}
 use Rattle.std.proofs.lemmas.List.Sums.{sum_by-append, sum_by-cons}
 use Rattle.gr_base.proofs.TreeEdges.{tree-grid_edges}
 use Rattle.gr_base.specs.Capacities.{need_along, width_in}
 use Rattle.gr_base.specs.Designs.{IsLayer}
 use Rattle.gr_base.specs.Grid.{cells_of, place_at, has_edge, is_wire}
 use Rattle.gr_base.specs.Limits.{most_width}
-use Rattle.gr_base.specs.Sums.{wire_number, wires_from_cells}
-use Rattle.gr_base.specs.Trees.{TreeView, IsTree, edges_of}
+use Rattle.gr_base.specs.Sums.{wire_number}
+use Rattle.gr_base.specs.Trees.{TreeView, IsTree}
 use Rattle.gr_base.specs.declared.frame.Layer.{Layer}
 use Rattle.gr_base.specs.declared.grid.Edge.{Edge}
 use Rattle.gr_base.specs.declared.grid.Shape.{Shape}
@@ -126,29 +126,12 @@ need-most c net e tables =
     (width-most (slice_get c.widths net) (get-all (λ (width : ℕ). width ≤ most_width) c.widths net tables.widths))
     (get-all IsLayer c.layers (place_at c.shape e.low).layer tables.in_range)
 
-share-most : (c : CapacityView) (net : ℕ) (t : TreeView) (e : Edge) → IsCapacity c → share c net t e ≤ 2 * most_width
-share-most c net t e tables =
-    elim (cases_Bool (edges_of t e)) [
-      | inl inside ↦ rw inside (need-most c net e tables)
-      | inr outside ↦ rw outside (omega arith)
-    ]
-
 -- no demand is above a bound
 abbrev pub AreBelow : ℕ → LoadsView → Type 0
 AreBelow most l = All (λ demand. demand ≤ most) l.demands
 
 pub below-none : (g : Shape) → AreBelow 0 (no_loads g)
 below-none g = All-replicate (λ (demand : ℕ). demand ≤ 0) (2 * cells_of g) 0 (omega arith)
-
-pub below-added : (most : ℕ) (c : CapacityView) (net : ℕ) (t : TreeView) (l : LoadsView) → IsCapacity c → AreBelow most l →
-    AreBelow (most + 2 * most_width) (added c net t l)
-below-added most c net t l tables below =
-    All-map (λ (demand : ℕ). demand ≤ most + 2 * most_width) (λ (e : Edge). demand_at l e + share c net t e) (wires_from_cells l.shape)
-    (λ k e within.
-    let wire : Edge = get_or (wires_from_cells l.shape) k e in
-    let old = index-most most l.demands (wire_number wire) below in
-    let more = share-most c net t wire tables in
-    omega (arith, old, more))
 
 -- where no demand is above 2^47, any tree has room
 pub room-below : (most : ℕ) (t : TreeView) (l : LoadsView) → most ≤ 2 ^ 47 → AreBelow most l → HasRoom l t

@@ -9,7 +9,7 @@ use Rattle.std.proofs.lemmas.List.Elements.{All-filter, filter-append}
 use Rattle.std.proofs.lemmas.List.FromFn.{length-range_with_len, get_or-range_with_len}
 use Rattle.std.proofs.lemmas.List.Kept.{IsStrictlyIncreasing-filter}
 use Rattle.gr_base.proofs.General.{range-more}
-use Rattle.grid_demand.specs.Overfull.{has_number}
+use Rattle.gr_base.specs.Trees.{is_among}
 
 -- the numbers of a range that pass a test, with one number more
 filter-more : (p : ℕ → Bool) (n : ℕ) → filter p (range_with_len 0 (n + 1)) ≡ filter p (range_with_len 0 n) ++ cond (p n) (n ∷ []) []
@@ -53,7 +53,7 @@ filter-below p n =
     omega (arith, at, below, long))
 
 -- they have each number of the range that passes the test, and no other
-filter-lacks : (p : ℕ → Bool) (a n m : ℕ) → m < a → has_number (filter p (range_with_len a n)) m ≡ false
+filter-lacks : (p : ℕ → Bool) (a n m : ℕ) → m < a → is_among (filter p (range_with_len a n)) m ≡ false
 filter-lacks p a zero m low = refl
 filter-lacks p a (suc n) m low =
     let rest = filter-lacks p (a + 1) n m (omega arith) in
@@ -63,7 +63,7 @@ filter-lacks p a (suc n) m low =
       | inr fails ↦ rw fails rest
     ]
 
-pub filter-has : (p : ℕ → Bool) (a n m : ℕ) → a ≤ m → m < a + n → has_number (filter p (range_with_len a n)) m ≡ p m
+pub filter-has : (p : ℕ → Bool) (a n m : ℕ) → a ≤ m → m < a + n → is_among (filter p (range_with_len a n)) m ≡ p m
 filter-has p a zero m low high = absurd (omega arith)
 filter-has p a (suc n) m low high =
     elim (cases_eq a m) [

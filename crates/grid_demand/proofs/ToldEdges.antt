@@ -6,17 +6,18 @@ use Rattle.std.proofs.lemmas.List.Folds.{Any-from_list_any}
 use Rattle.std.proofs.lemmas.Option.{slice_get-map, slice_get-get_or, slice_get_within, same_Some}
 use Rattle.gr_base.specs.Grid.{is_wire}
 use Rattle.gr_base.specs.Sums.{wire_number}
+use Rattle.gr_base.specs.Trees.{is_among}
 use Rattle.gr_base.specs.declared.grid.Edge.{Edge}
 use Rattle.grid_demand.proofs.PlacedEdges.{is-placed, placed-wire}
 use Rattle.grid_demand.proofs.PlaneLemmas.{place-below, length-by_number}
 use Rattle.grid_demand.proofs.RangeFilters.{filter-below, filter-has}
 use Rattle.grid_demand.proofs.WireLemmas.{number-wire_at, wire_at-number}
-use Rattle.grid_demand.specs.Overfull.{has_number, is_told, told_places, told_edges}
+use Rattle.grid_demand.specs.Overfull.{is_told, told_places, told_edges}
 use Rattle.grid_demand.specs.Planes.{place_of, by_number, edge_placed}
 
 -- a table tells a place where it tells the number that stands there
 pub told-number : (table : List Bool) (cells n : ℕ) → length table ≡ 2 * cells → n < 2 * cells →
-    has_number (told_places table) (place_of (2 * cells) n) ≡ slice_index_or table n false
+    is_among (told_places table) (place_of (2 * cells) n) ≡ slice_index_or table n false
 told-number table cells n long below =
     let p : ℕ = place_of (2 * cells) n in
     let there : p < 2 * cells = place-below (2 * cells) n below in
@@ -31,7 +32,7 @@ pub told-found : (table : List Bool) (cells : ℕ) (e : Edge) → length table �
 told-found table cells e long wire below told =
     let places : List ℕ = told_places table in
     let p : ℕ = place_of (2 * cells) (wire_number e) in
-    let has : has_number places p ≡ true = told-number table cells (wire_number e) long below ∙ told in
+    let has : is_among places p ≡ true = told-number table cells (wire_number e) long below ∙ told in
     let at = Any-from_list_any (λ (n : ℕ). n == p) places has in
     let same : at.1 ≡ p = let test = at.4 in grind (arith, nat_tests, test) in
     let whole = length-map places (edge_placed (length table)) in

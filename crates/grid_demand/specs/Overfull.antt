@@ -1,6 +1,6 @@
 -- Which wire edges have more demand than capacity.
-use Rattle.std.specs.Prelude.{◌≡◌, ℕ, ◌*◌, ◌<◌, Bool, false, ◌==◌, nat_lt, List, map, length, slice_index, slice_index_or}
-use Rattle.std.specs.List.{filter, list_any, range_with_len}
+use Rattle.std.specs.Prelude.{◌≡◌, ℕ, ◌*◌, ◌<◌, Bool, false, nat_lt, List, map, length, slice_index, slice_index_or}
+use Rattle.std.specs.List.{filter, range_with_len}
 use Rattle.gr_base.specs.Grid.{cells_of}
 use Rattle.gr_base.specs.Sums.{wire_number, total_overflow}
 use Rattle.gr_base.specs.declared.grid.Edge.{Edge}
@@ -24,10 +24,6 @@ told_places table =
 
 abbrev pub told_edges : List Bool → List Edge
 told_edges table = map (edge_placed (length table)) (told_places table)
-
--- a list of numbers has a number
-abbrev pub has_number : List ℕ → ℕ → Bool
-has_number numbers n = list_any (λ number. number == n) numbers
 
 -- the table and the sum are those of loads
 pub record AreOverfull (c : CapacityView) (l : LoadsView) (over : OverfullView) : Type 0 where

@@ -6,12 +6,12 @@ ghost use Rattle.gr_base.specs.Designs.{DesignView};
 ghost use Rattle.gr_base.specs.Grid.{cells_of, has_edge, is_wire};
 ghost use Rattle.gr_base.specs.Sums.{wires_from_cells, total_overflow, most_overflow};
 ghost use Rattle.gr_base.specs.Limits.{most_marks, most_width};
-ghost use Rattle.gr_base.specs.Trees.{IsTree, edges_of};
+ghost use Rattle.gr_base.specs.Trees.{IsTree, edges_of, is_among};
 ghost use Rattle.grid_demand.specs.Planes.{by_number, in_planes};
 ghost use Rattle.grid_demand.specs.Tables.{capacity_of, capacity_at, need_at};
 ghost use Rattle.grid_demand.specs.LoadSums.{no_loads, demand_at, marks_at, share, charged, added, taken, marked, mark_of, mark_where, HasRoom, HasShare, AreLoads, Fits, changed_by};
 ghost use Rattle.grid_demand.specs.Runs.{AreBeside, IsRunOf};
-ghost use Rattle.grid_demand.specs.Overfull.{AreOverfull, has_number};
+ghost use Rattle.grid_demand.specs.Overfull.{AreOverfull};
 
 use crate::capacity::{Capacity, LayerNeed};
 use crate::numbers::Numbers;
@@ -94,7 +94,7 @@ impl Loads {
         self.marks.run(first, first + count as usize)
     }
 
-    /// Puts one wire edge of a net in: the edge gains the net's need.
+    /// Puts one wire edge of a net in: the edge gains the net's need. The edge's demand is at most 2^47.
     pub fn charge(&mut self, capacity: &Capacity, net: u32, e: Edge)
         requires capacity { capacity.now.shape ≡ self.old.shape }
         requires edge { IsTrue (has_edge self.old.shape e) }
@@ -109,7 +109,8 @@ impl Loads {
         self.demands.put(at, demand + need);
     }
 
-    /// Puts a net's tree in: each wire edge of the tree gains the net's need.
+    /// Puts a net's tree in: each wire edge of the tree gains the net's need. No edge of the tree has a
+    /// demand above 2^47.
     pub fn add(&mut self, capacity: &Capacity, net: u32, tree: &RouteTree)
         requires capacity { capacity.now.shape ≡ self.old.shape }
         requires tree { tree.now.shape ≡ self.old.shape }
@@ -121,7 +122,8 @@ impl Loads {
         change_along(&mut self.demands, capacity, net, tree, Change::Gain);
     }
 
-    /// Takes a net's tree out: each wire edge of the tree loses the net's need.
+    /// Takes a net's tree out: each wire edge of the tree loses the net's need. Each has at least that
+    /// demand.
     pub fn take(&mut self, capacity: &Capacity, net: u32, tree: &RouteTree)
         requires capacity { capacity.now.shape ≡ self.old.shape }
         requires tree { tree.now.shape ≡ self.old.shape }
@@ -132,7 +134,8 @@ impl Loads {
         change_along(&mut self.demands, capacity, net, tree, Change::Lose);
     }
 
-    /// Marks each wire edge whose demand is above its capacity. Marks stop at 1,048,576.
+    /// Marks each wire edge whose demand is above its capacity, which is that of the same grid. Marks
+    /// stop at 1,048,576.
     ///
     /// After the history of congestion of McMurchie and Ebeling, "PathFinder", 1995.
     pub fn mark(&mut self, capacity: &Capacity)
@@ -144,7 +147,8 @@ impl Loads {
         self.marked = self.marked || any;
     }
 
-    /// The same, where the edges are told whose demand is above their capacity: it touches these alone.
+    /// The same, where the edges are told whose demand is above their capacity in the same grid: it touches
+    /// these alone.
     pub fn mark_overfull(&mut self, capacity: &Capacity, over: &Overfull)
         requires { AreOverfull capacity.now self.old over.now }
         ensures loads { self.new ≡ marked capacity.now self.old }
@@ -273,7 +277,7 @@ fn mark_places(marks: &mut Numbers, places: &[u32])
     requires rising { IsStrictlyIncreasing places.now }
     ensures long { length marks.new ≡ length marks.old }
     ensures each { (n : ℕ) → n < length marks.old → slice_index marks.new n
-        ≡ mark_where (has_number places.now n) (slice_index marks.old n) }
+        ≡ mark_where (is_among places.now n) (slice_index marks.old n) }
 {
     for place in places {
         add_mark(marks, *place as usize);

@@ -3,7 +3,8 @@ ghost use Rattle.std.specs.Prelude.{◌≡◌, ℕ, ◌-◌, ◌*◌, ◌/◌, �
 ghost use Rattle.gr_base.specs.Sums.{wire_number as number_of};
 ghost use Rattle.grid_demand.specs.Listings.{Lists, AreTables, AreCalm};
 ghost use Rattle.gr_base.specs.Grid.{cells_of};
-ghost use Rattle.grid_demand.specs.Overfull.{has_number, is_told, told_places, told_edges, AreOverfull};
+ghost use Rattle.gr_base.specs.Trees.{is_among};
+ghost use Rattle.grid_demand.specs.Overfull.{is_told, told_places, told_edges, AreOverfull};
 ghost use Rattle.grid_demand.specs.Planes.{by_number};
 
 use crate::calm::{RUN, calm_runs, calm_runs_by};
@@ -109,7 +110,8 @@ impl Overfull {
         self.places.len()
     }
 
-    /// One of the wire edges with more demand than capacity. They go by place.
+    /// One of the wire edges with more demand than capacity. They go by way, East first, and then by low
+    /// cell.
     pub fn edge(&self, at: usize) -> Edge
         requires { at < length (told_edges self.now.table) }
         ensures { slice_get (told_edges self.now.table) at ≡ Some result }
@@ -230,7 +232,8 @@ fn overfull_beside(
     ensures long { IfOk result (λ over. length over.table ≡ length demands.now) }
     ensures each { IfOk result (λ over. (n : ℕ) → n < length demands.now → slice_index_or over.table n false
         ≡ nat_lt (slice_index (by_number 0 capacities.now) n) (slice_index (by_number 0 demands.now) n)) }
-    ensures total { IfOk result (λ over. over.total ≡ sum_by (λ (p : ℕ × ℕ). p.0 - p.1) (zip demands.now capacities.now)) }
+    ensures total { IfOk result (λ over.
+        over.total ≡ sum_by (λ (p : ℕ × ℕ). p.0 - p.1) (zip demands.now capacities.now)) }
 {
     let listing = Listing::none_in(alloc, demands.len(), spent)?;
     overfull_of(listing, demands, capacities, calm)
@@ -253,7 +256,8 @@ fn overfull_of(
     ensures long { IfOk result (λ over. length over.table ≡ length demands.now) }
     ensures each { IfOk result (λ over. (n : ℕ) → n < length demands.now → slice_index_or over.table n false
         ≡ nat_lt (slice_index (by_number 0 capacities.now) n) (slice_index (by_number 0 demands.now) n)) }
-    ensures total { IfOk result (λ over. over.total ≡ sum_by (λ (p : ℕ × ℕ). p.0 - p.1) (zip demands.now capacities.now)) }
+    ensures total { IfOk result (λ over.
+        over.total ≡ sum_by (λ (p : ℕ × ℕ). p.0 - p.1) (zip demands.now capacities.now)) }
 {
     let wires = demands.len();
     let mut listing = listing;
@@ -286,7 +290,7 @@ fn clear_places(over: &mut Vec<bool>, places: &[u32])
     requires { All (λ place. place < length over.old.items) places.now }
     ensures long { length over.new.items ≡ length over.old.items }
     ensures each { (n : ℕ) → slice_index_or over.new.items n false
-        ≡ cond (has_number places.now n) false (slice_index_or over.old.items n false) }
+        ≡ cond (is_among places.now n) false (slice_index_or over.old.items n false) }
 {
     for place in places {
         over[*place as usize] = false;

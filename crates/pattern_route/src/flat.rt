@@ -49,7 +49,8 @@ fn best_crossing<C: Costs>(costs: &C, shape: Shape, from: Cell, to: Cell) -> Cro
     requires from { IsInside shape from }
     requires to { IsInside shape to }
     ensures crossing { IsCrossing shape (C.price costs.now) result }
-    ensures first { walk_at shape result ≡ first_least (walk_cost shape (C.price costs.now)) (flat_walks shape from to) }
+    ensures first { walk_at shape result
+        ≡ first_least (walk_cost shape (C.price costs.now)) (flat_walks shape from to) }
 {
     let by_column = least_crossing(costs, shape, Span::new(Axis::Columns, from, to));
     least_with(costs, shape, by_column, Span::new(Axis::Rows, from, to))

@@ -23,8 +23,8 @@ struct NetBounds {
     usable: u64,
 }
 
-/// The bounds of a design's wirelength, where a via edge counts as `via_cost` wire edges. A pass over
-/// the nets, which sorts each net's pins. The only error is want of memory.
+/// The bounds of a design's wirelength, where a via edge counts as `via_cost` wire edges, at most 1,000.
+/// A pass over the nets, which sorts each net's pins. The only error is want of memory.
 pub fn wire_bounds(alloc: Global, design: &Design, via_cost: u32) -> Result<WireBounds, AllocError>
     requires { via_cost ≤ 1000 }
     ensures wirelength { IfOk result (λ bounds. bounds.wirelength ≡ least_wirelength design.now via_cost) }

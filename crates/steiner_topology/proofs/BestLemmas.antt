@@ -4,9 +4,10 @@ use Rattle.std.specs.List.{range_with_len}
 use Rattle.std.proofs.lemmas.Bool.{cases_Bool, cases_eq}
 use Rattle.std.proofs.lemmas.Bool.Decides.{nat_tests}
 use Rattle.std.proofs.lemmas.Map.Views.{any-filter_same}
+use Rattle.gr_base.specs.Trees.{is_among}
 use Rattle.steiner_topology.specs.declared.point.Point.{Point}
 use Rattle.steiner_topology.specs.Topology.{parent_of, is_neighbour, neighbours, saving, better, best_neighbour}
-use Rattle.steiner_topology.specs.Children.{is_child, is_listed, without, list_at, AreChildren, is_better, preferred, best_of}
+use Rattle.steiner_topology.specs.Children.{is_child, without, list_at, AreChildren, is_better, preferred, best_of}
 use Rattle.steiner_topology.proofs.Order.{by_same, asym_by, same_by, trans_by}
 
 -- the laws of the comparison
@@ -79,15 +80,15 @@ best-step points j P (Some kept) q is = elim (cases_Bool (is_better points j kep
       )
 ]
 
-is_listed-cons : (x v : ℕ) (xs : List ℕ) → is_listed (x ∷ xs) v ≡ true → (v ≡ x) ⊎ (is_listed xs v ≡ true)
-is_listed-cons x v xs is = elim (cases_eq v x) [ inl same ↦ inl same | inr other ↦ inr (grind (arith, nat_tests)) ]
+is_among-cons : (x v : ℕ) (xs : List ℕ) → is_among (x ∷ xs) v ≡ true → (v ≡ x) ⊎ (is_among xs v ≡ true)
+is_among-cons x v xs is = elim (cases_eq v x) [ inl same ↦ inl same | inr other ↦ inr (grind (arith, nat_tests)) ]
 
 best-fold : (points : List Point) (j : ℕ) (xs : List ℕ) (P : ℕ → Type 0) (a : Option ℕ) → IsBest points j P a →
-    IsBest points j (λ v. P v ⊎ (is_listed xs v ≡ true)) (fold (preferred points j) a xs)
+    IsBest points j (λ v. P v ⊎ (is_among xs v ≡ true)) (fold (preferred points j) a xs)
 best-fold points j [] P a is =
     best-alike points j P (λ v. P v ⊎ (false ≡ true)) a (λ v has. inl has) (λ v now. elim now [ inl was ↦ was | inr never ↦ grind arith ]) is
 best-fold points j (x ∷ xs) P a is =
-    best-alike points j (λ v. (P v ⊎ (v ≡ x)) ⊎ (is_listed xs v ≡ true)) (λ v. P v ⊎ (is_listed (x ∷ xs) v ≡ true))
+    best-alike points j (λ v. (P v ⊎ (v ≡ x)) ⊎ (is_among xs v ≡ true)) (λ v. P v ⊎ (is_among (x ∷ xs) v ≡ true))
     (fold (preferred points j) (preferred points j a x) xs)
     (λ v now. elim now [
       | inl head ↦ elim head [ inl was ↦ inl was | inr same ↦ inr (grind (arith, nat_tests)) ]
@@ -95,14 +96,14 @@ best-fold points j (x ∷ xs) P a is =
     ])
     (λ v now. elim now [
       | inl was ↦ inl (inl was)
-      | inr listed ↦ elim (is_listed-cons x v xs listed) [ inl same ↦ inl (inr same) | inr tail ↦ inr tail ]
+      | inr listed ↦ elim (is_among-cons x v xs listed) [ inl same ↦ inl (inr same) | inr tail ↦ inr tail ]
     ])
     (best-fold points j xs (λ v. P v ⊎ (v ≡ x)) (preferred points j a x) (best-step points j P a x is))
 
 -- the best of a list
-pub best_of-best : (points : List Point) (j : ℕ) (xs : List ℕ) → IsBest points j (λ v. is_listed xs v ≡ true) (best_of points j xs)
+pub best_of-best : (points : List Point) (j : ℕ) (xs : List ℕ) → IsBest points j (λ v. is_among xs v ≡ true) (best_of points j xs)
 best_of-best points j xs =
-    best-alike points j (λ v. ⊥ ⊎ (is_listed xs v ≡ true)) (λ v. is_listed xs v ≡ true) (best_of points j xs)
+    best-alike points j (λ v. ⊥ ⊎ (is_among xs v ≡ true)) (λ v. is_among xs v ≡ true) (best_of points j xs)
     (λ v now. elim now [ inl never ↦ absurd never | inr listed ↦ listed ]) (λ v listed. inr listed)
     (best-fold points j xs (λ v. ⊥) None (λ v never. never))
 
@@ -142,14 +143,14 @@ fold-rising points j p (suc n) b a before = elim (cases_Bool (p b)) [
       ap (fold (better points j) a) all ∙ fold-rising points j p n (b + 1) a (wider a b before) ∙ sym (ap (fold (preferred points j) a) all)
 ]
 
-is_listed-range : (n b v : ℕ) → is_listed (range_with_len b n) v ≡ (not (nat_lt v b) && nat_lt v (b + n))
-is_listed-range zero b v = grind (arith, nat_tests)
-is_listed-range (suc n) b v = let rest = is_listed-range n (b + 1) v in grind (arith, nat_tests)
+is_among-range : (n b v : ℕ) → is_among (range_with_len b n) v ≡ (not (nat_lt v b) && nat_lt v (b + n))
+is_among-range zero b v = grind (arith, nat_tests)
+is_among-range (suc n) b v = let rest = is_among-range n (b + 1) v in grind (arith, nat_tests)
 
-is_listed-neighbours : (points : List Point) (j v : ℕ) → is_listed (neighbours points j) v ≡ (is_neighbour points j v && nat_lt v (length points))
-is_listed-neighbours points j v =
+is_among-neighbours : (points : List Point) (j v : ℕ) → is_among (neighbours points j) v ≡ (is_neighbour points j v && nat_lt v (length points))
+is_among-neighbours points j v =
     let test : ℕ → Bool = is_neighbour points j in
-    let range = is_listed-range (length points) 0 v in
+    let range = is_among-range (length points) 0 v in
     any-filter_same (λ x. x == v) test (test v) (λ x is. let same : x ≡ v = grind (arith, nat_tests) in ap test same) (range_with_len 0 (length points)) ∙
     ap (λ (b : Bool). test v && b) (range ∙ grind (arith, nat_tests))
 
@@ -157,9 +158,9 @@ is_listed-neighbours points j v =
 pub best_neighbour-best : (points : List Point) (j : ℕ) →
     IsBest points j (λ v. (is_neighbour points j v && nat_lt v (length points)) ≡ true) (best_neighbour points j)
 best_neighbour-best points j =
-    let Q : Option ℕ → Type 0 = λ o. IsBest points j (λ v. is_listed (neighbours points j) v ≡ true) o in
-    best-alike points j (λ v. is_listed (neighbours points j) v ≡ true) (λ v. (is_neighbour points j v && nat_lt v (length points)) ≡ true) (best_neighbour points j)
-    (λ v listed. sym (is_listed-neighbours points j v) ∙ listed) (λ v is. is_listed-neighbours points j v ∙ is)
+    let Q : Option ℕ → Type 0 = λ o. IsBest points j (λ v. is_among (neighbours points j) v ≡ true) o in
+    best-alike points j (λ v. is_among (neighbours points j) v ≡ true) (λ v. (is_neighbour points j v && nat_lt v (length points)) ≡ true) (best_neighbour points j)
+    (λ v listed. sym (is_among-neighbours points j v) ∙ listed) (λ v is. is_among-neighbours points j v ∙ is)
     (subst Q (sym (fold-rising points j (is_neighbour points j) (length points) 0 None tt)) (best_of-best points j (neighbours points j)))
 
 first_holds : (a b : Bool) → (a && b) ≡ true → a ≡ true
@@ -173,15 +174,15 @@ best_neighbour-is points j q is =
     first_holds (is_neighbour points j q) (nat_lt q (length points)) found.0
 
 -- where a number is listed after one is left out
-pub is_listed-without : (list : List ℕ) (x v : ℕ) → is_listed (without x list) v ≡ (not (v == x) && is_listed list v)
-is_listed-without list x v =
+pub is_among-without : (list : List ℕ) (x v : ℕ) → is_among (without x list) v ≡ (not (v == x) && is_among list v)
+is_among-without list x v =
     any-filter_same (λ y. y == v) (λ y. not (y == x)) (not (v == x))
     (λ y is. let same : y ≡ v = grind (arith, nat_tests) in ap (λ (n : ℕ). not (n == x)) same) list
 
-is_listed-siblings : (points : List Point) (lists : List (List ℕ)) (i j v : ℕ) → AreChildren points lists → i < length points →
-    is_listed (without j (list_at lists i)) v ≡ (not (v == j) && is_child points i v)
-is_listed-siblings points lists i j v are below =
-    is_listed-without (list_at lists i) j v ∙ ap (λ (b : Bool). not (v == j) && b) (are.listed i v below)
+is_among-siblings : (points : List Point) (lists : List (List ℕ)) (i j v : ℕ) → AreChildren points lists → i < length points →
+    is_among (without j (list_at lists i)) v ≡ (not (v == j) && is_child points i v)
+is_among-siblings points lists i j v are below =
+    is_among-without (list_at lists i) j v ∙ ap (λ (b : Bool). not (v == j) && b) (are.listed i v below)
 
 -- a neighbour is a child, unless it is the parent
 alone : (n i j above back v : ℕ) → (above ≡ i) ⊎ (above ≡ j) →
@@ -196,10 +197,10 @@ best-alone points lists j are below either =
     let n = length points in
     let list = without j (list_at lists i) in
     let P : ℕ → Type 0 = λ v. (is_neighbour points j v && nat_lt v n) ≡ true in
-    let same : (v : ℕ) → is_listed list v ≡ (is_neighbour points j v && nat_lt v n) =
-    λ v. is_listed-siblings points lists i j v are below ∙ alone n i j (parent_of points i) (parent_of points v) v either in
+    let same : (v : ℕ) → is_among list v ≡ (is_neighbour points j v && nat_lt v n) =
+    λ v. is_among-siblings points lists i j v are below ∙ alone n i j (parent_of points i) (parent_of points v) v either in
     best-unique points j P (best_of points j list) (best_neighbour points j)
-    (best-alike points j (λ v. is_listed list v ≡ true) P (best_of points j list) (λ v listed. sym (same v) ∙ listed) (λ v is. same v ∙ is) (best_of-best points j list))
+    (best-alike points j (λ v. is_among list v ≡ true) P (best_of points j list) (λ v listed. sym (same v) ∙ listed) (λ v is. same v ∙ is) (best_of-best points j list))
     (best_neighbour-best points j)
 
 with_above : (n i j above back v : ℕ) → (above ≡ i → ⊥) → (above ≡ j → ⊥) → above < n →
@@ -222,9 +223,9 @@ best-with_above points lists j are below inside not_i not_j =
     let list = without j (list_at lists i) in
     let best = best_of points j list in
     let P : ℕ → Type 0 = λ v. (is_neighbour points j v && nat_lt v n) ≡ true in
-    let L : ℕ → Type 0 = λ v. is_listed list v ≡ true in
+    let L : ℕ → Type 0 = λ v. is_among list v ≡ true in
     let C : ℕ → Type 0 = λ v. (not (v == j) && is_child points i v) ≡ true in
-    let same : (v : ℕ) → is_listed list v ≡ (not (v == j) && is_child points i v) = λ v. is_listed-siblings points lists i j v are below in
+    let same : (v : ℕ) → is_among list v ≡ (not (v == j) && is_child points i v) = λ v. is_among-siblings points lists i j v are below in
     let children : IsBest points j C best =
     best-alike points j L C best (λ v listed. sym (same v) ∙ listed) (λ v is. same v ∙ is) (best_of-best points j list) in
     best-unique points j P (preferred points j best above) (best_neighbour points j)

@@ -6,12 +6,13 @@ use Rattle.std.proofs.lemmas.Bool.Decides.{nat_tests}
 use Rattle.std.proofs.lemmas.List.{map-set, get_or-map, length-replicate, get_or-replicate, length-set, length_push, length-map, get_or_push, get_or_append_left, get_or-set_same, get_or-set_other}
 use Rattle.std.proofs.lemmas.List.Elements.{All-from_get_or, All-get_or}
 use Rattle.std.proofs.lemmas.List.Folds.{list_any-append, list_any_at}
+use Rattle.gr_base.specs.Trees.{is_among}
 use Rattle.smallvec.specs.SmallVec.{SmallVec}
 use Rattle.steiner_topology.specs.declared.point.Point.{Point}
 use Rattle.steiner_topology.specs.Tile.{Tile}
 use Rattle.steiner_topology.specs.Topology.{point, parent_of, is_neighbour}
-use Rattle.steiner_topology.specs.Children.{is_child, lists_of, list_at, is_listed, AreChildren, without, unlisted, listed, branch_listed}
-use Rattle.steiner_topology.proofs.BestLemmas.{is_listed-without}
+use Rattle.steiner_topology.specs.Children.{is_child, lists_of, list_at, AreChildren, without, unlisted, listed, branch_listed}
+use Rattle.steiner_topology.proofs.BestLemmas.{is_among-without}
 use Rattle.steiner_topology.proofs.TopologyLemmas.{read_parent}
 use Rattle.steiner_topology.proofs.TreeLemmas.{Branches, rival}
 
@@ -24,8 +25,8 @@ lists-written vectors at old new f below old_is new_is =
     let here : old.items ≡ list_at (lists_of vectors) at = ap items old_is ∙ sym (get_or-map items vectors at old [] below) in
     map-set items vectors at new ∙ ap (set (lists_of vectors) at) (new_is ∙ ap f here)
 
-is_listed-push : (list : List ℕ) (x v : ℕ) → is_listed (list ++ x ∷ []) v ≡ (is_listed list v || x == v)
-is_listed-push list x v = list_any-append (λ y. y == v) list (x ∷ []) ∙ grind (arith, nat_tests)
+is_among-push : (list : List ℕ) (x v : ℕ) → is_among (list ++ x ∷ []) v ≡ (is_among list v || x == v)
+is_among-push list x v = list_any-append (λ y. y == v) list (x ∷ []) ∙ grind (arith, nat_tests)
 
 -- what a list has is below a bound
 pub children-inside : (points : List Point) (lists : List (List ℕ)) (v : ℕ) → AreChildren points lists → v < length points →
@@ -53,7 +54,7 @@ retained R test f says (x ∷ xs) ys kept =
 -- each of n lists has what passes a test
 pub record Hold (n : ℕ) (p : ℕ → ℕ → Bool) (lists : List (List ℕ)) : Type 0 where
   pub size : length lists ≡ n
-  pub each : (v c : ℕ) → v < n → is_listed (list_at lists v) c ≡ p v c
+  pub each : (v c : ℕ) → v < n → is_among (list_at lists v) c ≡ p v c
 
 skip : (c child : ℕ) (b : Bool) → (c ≡ child → b ≡ false) → b ≡ (not (c == child) && b)
 skip c child b none = elim (cases_eq c child) [
@@ -70,13 +71,13 @@ hold-unlisted n p lists parent child hold parent_in elsewhere =
       size = length-set lists parent list ∙ size;
       each = λ v c below. elim (cases_eq v parent) [
         | inl is ↦
-            ap (λ (u : ℕ). is_listed (list_at (unlisted lists parent child) u) c) is ∙
-            ap (λ (xs : List ℕ). is_listed xs c) (get_or-set_same lists parent list [] (omega arith)) ∙
-            is_listed-without (list_at lists parent) child c ∙
+            ap (λ (u : ℕ). is_among (list_at (unlisted lists parent child) u) c) is ∙
+            ap (λ (xs : List ℕ). is_among xs c) (get_or-set_same lists parent list [] (omega arith)) ∙
+            is_among-without (list_at lists parent) child c ∙
             ap (λ (b : Bool). not (c == child) && b) (hold.each parent c parent_in) ∙
             ap (λ (u : ℕ). not (c == child) && p u c) (sym is)
         | inr other ↦
-            ap (λ (xs : List ℕ). is_listed xs c) (get_or-set_other lists parent v list [] other) ∙
+            ap (λ (xs : List ℕ). is_among xs c) (get_or-set_other lists parent v list [] other) ∙
             hold.each v c below ∙
             skip c child (p v c) (λ is. ap (p v) is ∙ elsewhere v other)
       ];
@@ -91,14 +92,14 @@ hold-listed n p lists parent child hold parent_in =
       size = length-set lists parent list ∙ size;
       each = λ v c below. elim (cases_eq v parent) [
         | inl is ↦
-            let here : is_listed (list_at (listed lists parent child) v) c ≡ (is_listed (list_at lists parent) c || child == c) =
-            ap (λ (u : ℕ). is_listed (list_at (listed lists parent child) u) c) is ∙
-            ap (λ (xs : List ℕ). is_listed xs c) (get_or-set_same lists parent list [] (omega arith)) ∙
-            is_listed-push (list_at lists parent) child c in
-            let old : is_listed (list_at lists parent) c ≡ p v c = hold.each parent c parent_in ∙ ap (λ (u : ℕ). p u c) (sym is) in
+            let here : is_among (list_at (listed lists parent child) v) c ≡ (is_among (list_at lists parent) c || child == c) =
+            ap (λ (u : ℕ). is_among (list_at (listed lists parent child) u) c) is ∙
+            ap (λ (xs : List ℕ). is_among xs c) (get_or-set_same lists parent list [] (omega arith)) ∙
+            is_among-push (list_at lists parent) child c in
+            let old : is_among (list_at lists parent) c ≡ p v c = hold.each parent c parent_in ∙ ap (λ (u : ℕ). p u c) (sym is) in
             here ∙ ap (λ (b : Bool). b || child == c) old ∙ grind (arith, nat_tests)
         | inr other ↦
-            ap (λ (xs : List ℕ). is_listed xs c) (get_or-set_other lists parent v list [] other) ∙
+            ap (λ (xs : List ℕ). is_among xs c) (get_or-set_other lists parent v list [] other) ∙
             hold.each v c below ∙ grind (arith, nat_tests)
       ];
     }
@@ -173,14 +174,14 @@ branch-children points new tile upper lower j lists branch parents are upper_in 
       size = length_push kept (lower ∷ j ∷ []) ∙ omega arith;
       listed = λ v c v_in. elim (cases_lt v n) [
         | inl was ↦
-            ap (λ (xs : List ℕ). is_listed xs c) (get_or_append_left kept ((lower ∷ j ∷ []) ∷ []) [] v (omega arith)) ∙
+            ap (λ (xs : List ℕ). is_among xs c) (get_or_append_left kept ((lower ∷ j ∷ []) ∷ []) [] v (omega arith)) ∙
             fourth.each v c was ∙
             old_list n (length new) v c upper lower j (parent_of points c) (parent_of new c) size was lower_in j_in
             (on c).0 (on c).1 (on c).2 (branch.others c)
         | inr past ↦
             let is : v ≡ n = omega arith in
-            ap (λ (u : ℕ). is_listed (list_at all u) c) is ∙
-            ap (λ (xs : List ℕ). is_listed xs c) (get_or_push kept (lower ∷ j ∷ []) [] n many) ∙
+            ap (λ (u : ℕ). is_among (list_at all u) c) is ∙
+            ap (λ (xs : List ℕ). is_among xs c) (get_or_push kept (lower ∷ j ∷ []) [] n many) ∙
             new_list n (length new) c upper lower j (parent_of points c) (parent_of new c) size lower_in j_in (below c)
             (on c).0 (on c).1 (branch.others c) ∙
             ap (λ (u : ℕ). is_child new u c) (sym is)
@@ -229,7 +230,7 @@ child-empty points lists is =
     let H : List (List ℕ) → Type 0 = λ xs. Hold (length points) (child_below points 0) xs in
     subst H (sym is) (record {
       size = length-replicate (length points) [];
-      each = λ v c below. ap (λ (xs : List ℕ). is_listed xs c) (get_or-replicate (length points) v [] [] below) ∙ grind (arith, nat_tests);
+      each = λ v c below. ap (λ (xs : List ℕ). is_among xs c) (get_or-replicate (length points) v [] [] below) ∙ grind (arith, nat_tests);
     })
 
 pub child-all : (points : List Point) (k : ℕ) (lists : List (List ℕ)) → k ≡ length points → Hold (length points) (child_below points k) lists →

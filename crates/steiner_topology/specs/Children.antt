@@ -1,6 +1,6 @@
 -- The children of points: one list for each point, kept while branches are added.
 use Rattle.std.specs.Prelude.{◌≡◌, ℕ, ◌<◌, Bool, not, ◌&&◌, ◌==◌, nat_lt, if◌then◌else◌, Option, Some, None, List, [], ◌∷◌, ◌++◌, length, map, filter, fold, slice_index_or, slice_set}
-use Rattle.std.specs.List.{list_any}
+use Rattle.gr_base.specs.Trees.{is_among}
 use Rattle.smallvec.specs.SmallVec.{SmallVec}
 use Rattle.steiner_topology.specs.declared.point.Point.{Point}
 use Rattle.steiner_topology.specs.Joins.{by_number}
@@ -18,14 +18,10 @@ lists_of children = map (λ list. list.items) children
 abbrev pub list_at : List (List ℕ) → ℕ → List ℕ
 list_at lists v = slice_index_or lists v []
 
--- the list has this number
-abbrev pub is_listed : List ℕ → ℕ → Bool
-is_listed list c = list_any (λ x. x == c) list
-
 -- there is a list for each point, and it holds the point's children and no other number
 pub record AreChildren (points : List Point) (lists : List (List ℕ)) : Type 0 where
   pub size : length lists ≡ length points
-  pub listed : (v c : ℕ) → v < length points → is_listed (list_at lists v) c ≡ is_child points v c
+  pub listed : (v c : ℕ) → v < length points → is_among (list_at lists v) c ≡ is_child points v c
 
 -- the numbers but this one
 abbrev pub without : ℕ → List ℕ → List ℕ

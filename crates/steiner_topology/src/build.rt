@@ -14,8 +14,8 @@ use std::mem;
 
 /// The topology of the tiles, of which the first is the driver's: Prim's tree, then for each point
 /// in the order of joining a point more where its way to its parent can be shared with that of
-/// another neighbour of the parent. Takes time in the square of the number of tiles. The only
-/// error is want of memory.
+/// another neighbour of the parent. There is at least one tile, and fewer than 2^31. Takes time in
+/// the square of the number of tiles. The only error is want of memory.
 pub fn topology(
     alloc: Global,
     tiles: &[Tile],

@@ -9,7 +9,7 @@ use Rattle.cut_bounds.proofs.net_tiles.NetTiles.add.Goals as goal
 pub returns-clause-placed : goal.returns-clause-placed
 returns-clause-placed c =
     let net = c.net-net.result.now in
-    (net-added c.args.design.now c.args.number net c.args.self.now.claims.items c.push.new.self.items
+    (net-added c.args.design.now c.args.number net c.args.self.now.net_needs.items c.push.new.self.items
     c.args.self.now.tiles.items c.push_tiles.new.tiles.items _ c.as_slice-pins.result.now
     c.net-net.ensures.net c.as_slice-pins.ensures c.requires.whole c.in_ok-push.ensures.items
     (c.least_need-need.ensures.least ∙ ap (λ (f : Frame). least_on net.width (layers_of f)) c.frame-frame.ensures.frame)
