@@ -3,7 +3,7 @@ use crate::cells::Cells;
 use crate::grid::{Edge, Shape};
 use crate::name::Name;
 
-/// What a design says of one layer: its capacities along columns and along rows in units of width,
+/// What a design says of one layer, in units of width: its capacities along columns and along rows,
 /// from 0 to 1,000,000, its least width and spacing of wires, from 0 to 1,000, and its spacing of vias,
 /// from 0 to 1,000, which nothing uses.
 #[derive(Clone, Copy, Debug, PartialEq, Eq)]
@@ -36,7 +36,7 @@ pub struct Net {
     pub name: Name,
     /// From 0 to 2,147,483,647. No other net has it.
     pub id: u32,
-    /// The least width of its wires, from 0 to 1,000.
+    /// The least width of its wires, from 0 to 1,000, in units of width.
     pub width: u32,
     /// At least one.
     pub pins: Cells,
