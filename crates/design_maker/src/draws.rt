@@ -2,7 +2,9 @@
 ghost use Rattle.std.specs.Prelude.{◌≡◌, ◌<◌, ◌%◌, ◌^◌};
 ghost use Rattle.design_maker.specs.Draws.{draw};
 
-/// The draws to come: a linear congruential generator, whose states are numbers below 2^31.
+/// The draws to come: a linear congruential generator, whose states are numbers below 2^31. Factor,
+/// step and the 15 upper bits of a state, of which a draw is made, are those of the example of `rand` in
+/// the C standard.
 #[derive(Clone, Copy)]
 pub(crate) struct Draws {
     pub state: u32,

@@ -28,7 +28,7 @@ pub struct Count {
 const FULL: usize = 65_536;
 
 /// Writes what was gathered, and empties the text. At an error the sink holds a first part of it.
-fn flush<K: Sink>(alloc: Global, sink: &mut K, text: &mut Text) -> Result<(), Failed>
+fn flush<K: Sink>(sink: &mut K, text: &mut Text) -> Result<(), Failed>
     ensures ok { OnOk result (IsTrue K.tells → K.written sink.new ≡ K.written sink.old ++ text.old) }
     ensures empty { OnOk result (text.new ≡ []) }
     ensures quiet { OnOk result (K.faults sink.new ≡ K.faults sink.old) }
@@ -38,7 +38,7 @@ fn flush<K: Sink>(alloc: Global, sink: &mut K, text: &mut Text) -> Result<(), Fa
     ensures faults_kept { K.faults sink.old ≤ K.faults sink.new }
 {
     write_whole(sink, text.bytes())?;
-    *text = Text::new(alloc);
+    text.clear();
     Ok(())
 }
 
@@ -68,10 +68,10 @@ pub fn make<K: Sink>(alloc: Global, sink: &mut K, made: Made) -> Result<Count, W
         if text.bytes().len() < FULL {
             continue;
         }
-        flush(alloc, sink, &mut text)?;
+        flush(sink, &mut text)?;
     }
     put_end(&mut text)?;
-    flush(alloc, sink, &mut text)?;
+    flush(sink, &mut text)?;
     Ok(Count {
         nets: made.nets,
         pins,

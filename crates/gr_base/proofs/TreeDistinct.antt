@@ -58,7 +58,7 @@ gives f e [] is = absurd (both_ways false refl is)
 gives f e (x ∷ xs) is = gives_either f e x xs (f x) refl is (λ later. gives f e xs later)
 
 -- the two cells that a node's edge joins
-edge-parts : (g : Shape) (node : Node) (o : Option ℕ) (e : Edge) → option_and_then (λ cell. edge_of g node.cell cell) o ≡ Some e →
+pub edge-parts : (g : Shape) (node : Node) (o : Option ℕ) (e : Edge) → option_and_then (λ cell. edge_of g node.cell cell) o ≡ Some e →
     (c : ℕ) × ((o ≡ Some c) × (edge_of g node.cell c ≡ Some e))
 edge-parts g node None e is = absurd (none-some e is)
 edge-parts g node (Some c) e is = (c, (refl, is))

@@ -22,7 +22,7 @@ most_adjustments = 16777216
 abbrev pub most_routed_pins : ℕ
 most_routed_pins = 1000
 
--- the greatest id of a net
+-- the greatest id of a net, and the greatest number that a text may write for a column, a row or a layer
 abbrev pub most_id : ℕ
 most_id = 2147483647
 

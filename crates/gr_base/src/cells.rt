@@ -35,6 +35,7 @@ impl Cells {
         Ok(())
     }
 
+    /// The cells, in order.
     pub fn as_slice(&self) -> &[u32]
         ensures { result.now ≡ self.now }
     {

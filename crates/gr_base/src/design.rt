@@ -27,7 +27,7 @@ pub struct Design {
 }
 
 impl Design {
-    /// A design without nets and adjustments.
+    /// A design without nets and adjustments. The only error is want of memory.
     pub fn new(alloc: Global, frame: Frame) -> Result<Self, AllocError>
         requires { IsFrame frame }
         ensures { IfOk result (λ d. d ≡ record { frame = frame; nets = []; adjustments = [] }) }
@@ -71,6 +71,7 @@ impl Design {
         Ok(())
     }
 
+    /// The grid, its layers, and where its tiles lie.
     pub fn frame(&self) -> &Frame
         ensures frame { result.now ≡ self.now.frame }
         ensures design { IsDesign self.now }
@@ -86,6 +87,7 @@ impl Design {
         self.nets.len() as u32
     }
 
+    /// The net with a number, which counts from 0 in the order of the text.
     pub fn net(&self, net: u32) -> &Net
         requires { net < length self.now.nets }
         ensures net { slice_get self.now.nets net ≡ Some result.now }
@@ -102,6 +104,7 @@ impl Design {
         self.adjustments.len() as u32
     }
 
+    /// The adjustment at a place, which counts from 0 in the order of the text.
     pub fn adjustment(&self, at: u32) -> Adjustment
         requires { at < length self.now.adjustments }
         ensures adjustment { slice_get self.now.adjustments at ≡ Some result }

@@ -31,6 +31,7 @@ impl Shape {
         }
     }
 
+    /// How many columns the grid has.
     pub fn columns(self) -> u32
         ensures columns { result ≡ self.columns }
         ensures some { 0 < result }
@@ -39,6 +40,7 @@ impl Shape {
         self.columns
     }
 
+    /// How many rows the grid has.
     pub fn rows(self) -> u32
         ensures rows { result ≡ self.rows }
         ensures some { 0 < result }
@@ -47,6 +49,7 @@ impl Shape {
         self.rows
     }
 
+    /// How many layers the grid has.
     pub fn layers(self) -> u32
         ensures layers { result ≡ self.layers }
         ensures some { 0 < result }

@@ -18,7 +18,8 @@ pub const MOST_ROUTED_PINS: u32 = 1_000;
 /// The most adjustments of a design.
 pub const MOST_ADJUSTMENTS: u32 = 16_777_216;
 
-/// The greatest id of a net.
+/// The greatest id of a net, and the greatest number that a text may write for a column, a row or a
+/// layer.
 pub const MOST_ID: u32 = 2_147_483_647;
 
 /// The greatest capacity, in units of width.

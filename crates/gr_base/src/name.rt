@@ -26,6 +26,7 @@ impl Name {
         })
     }
 
+    /// The bytes of the name.
     pub fn bytes(&self) -> &[u8]
         ensures { result.now ≡ self.now }
     {

@@ -1,7 +1,7 @@
 -- The counts of a device, which stand still at the end of u64.
 use Rattle.std.specs.Prelude.{◌≡◌, ℕ, ◌+◌, ◌-◌, ◌^◌, ◌<◌, ◌⊎◌, min}
 
--- a count of faults rose in a call; one that stands at the end of u64 can't grow any more, and counts as risen
+-- a count rose in a call; one that stands at the end of u64 can't grow any more, and counts as risen
 abbrev pub Rose : ℕ → ℕ → Type 0
 Rose before after = (before < after) ⊎ (after ≡ 2 ^ 64 - 1)
 

@@ -104,6 +104,7 @@ impl Shelf for SureShelf {
 pub struct SureSink;
 
 impl SureSink {
+    /// A sink that takes all and keeps nothing.
     pub fn new() -> Self {
         SureSink
     }

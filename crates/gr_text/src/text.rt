@@ -55,6 +55,14 @@ impl Text {
         put_number(&mut self.written, n)
     }
 
+    /// Takes all bytes out; the memory stays.
+    pub fn clear(&mut self)
+        ensures { self.new ≡ [] }
+    {
+        self.written.clear();
+    }
+
+    /// The bytes of the text.
     pub fn bytes(&self) -> &[u8]
         ensures { result.now ≡ self.now }
     {

@@ -1,7 +1,8 @@
 -- The adjustments of a design text, and its end.
-use Rattle.std.specs.Prelude.{ℕ, nat_lt, pos, nat_abs, List, [], Option, Some, None, option_and_then, if◌then◌else◌}
+use Rattle.std.specs.Prelude.{ℕ, nat_lt, pos, nat_abs, List, [], Option, Some, None}
 use Rattle.gr_base.specs.Limits.{most_id, most_capacity, most_adjustments}
-use Rattle.gr_base.specs.Grid.{number_of, edge_of, is_wire}
+use Rattle.gr_base.specs.Grid.{number_of, edge_of}
+use Rattle.gr_base.specs.ParentEdges.{wire_only}
 use Rattle.gr_base.specs.declared.frame.Adjustment.{Adjustment}
 use Rattle.gr_base.specs.declared.grid.Edge.{Edge}
 use Rattle.gr_base.specs.declared.grid.Shape.{Shape}
@@ -22,12 +23,9 @@ place shape = do
   layer ← layer_in shape Adjust
   pure (number_of shape (record { x = column; y = row; layer = layer }))
 
-abbrev pub wire_only : Edge → Option Edge
-wire_only edge = if is_wire edge then Some edge else None
-
 -- the edge between two cells, if they are neighbours on one layer
 abbrev pub wire_between : Shape → ℕ → ℕ → Option Edge
-wire_between shape from to = option_and_then wire_only (edge_of shape from to)
+wire_between shape from to = wire_only (edge_of shape from to)
 
 -- an adjustment: two neighbouring places of one layer, and the capacity between them
 unfoldable pub adjustment : Shape → Reader DesignFault Adjustment

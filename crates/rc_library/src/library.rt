@@ -88,6 +88,7 @@ impl Library {
         self.kinds.len()
     }
 
+    /// The kind with a number.
     pub fn kind(&self, kind: u32) -> Kind
         requires { kind < length self.now.kinds }
         ensures kind { kind_of self.now kind ≡ Some result }
@@ -97,6 +98,7 @@ impl Library {
         self.kinds.at(kind).kind
     }
 
+    /// The name of the kind with a number.
     pub fn name(&self, kind: u32) -> &Name
         requires { kind < length self.now.kinds }
         ensures name { name_of self.now kind ≡ Some result.now }

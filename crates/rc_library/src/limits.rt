@@ -1,4 +1,4 @@
-//! The limits of libraries, each said once.
+//! The limits of libraries, as the specs state them.
 
 /// The greatest resistance, in ohms.
 pub const MOST_RESISTANCE: u32 = 1_000_000;

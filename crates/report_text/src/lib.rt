@@ -1,4 +1,4 @@
-//! The texts that tell a verdict on routes.
+//! The texts of a verdict on routes, and of the buffers of plans.
 #![tactic(auto)]
 
 mod buffer_blocks;

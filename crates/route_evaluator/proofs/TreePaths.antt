@@ -6,7 +6,7 @@ use Rattle.std.proofs.lemmas.Bool.{cases_Bool, or_cases, or_left, or_right, eqb-
 use Rattle.std.proofs.lemmas.List.{take_more, take_all, length-take-le}
 use Rattle.std.proofs.lemmas.List.Elements.{filter_map-append}
 use Rattle.std.proofs.lemmas.List.Folds.{list_any-append}
-use Rattle.std.proofs.lemmas.Option.{none-some, same_Some, slice_get-get_or}
+use Rattle.std.proofs.lemmas.Option.{same_Some, slice_get-get_or}
 use Rattle.gr_base.specs.declared.grid.Edge.{Edge}
 use Rattle.gr_base.specs.declared.grid.Shape.{Shape}
 use Rattle.gr_base.specs.declared.tree.Node.{Node}
@@ -16,16 +16,10 @@ use Rattle.gr_base.specs.Trees.{TreeView, node_of, cell_at, node_with, holds, Al
 use Rattle.gr_base.proofs.GridLemmas.{joins-swap}
 use Rattle.gr_base.proofs.TreeLemmas.{root-cell, cell_at-take, cell-inside, hangs-at, read-cell, found-append, parent-of}
 use Rattle.gr_base.proofs.TreeEdges.{found-at, edge_of-some, is_edge-refl}
-use Rattle.gr_base.proofs.TreeDistinct.{is_edge-same, gives, joins-of, AllHang-take}
+use Rattle.gr_base.proofs.TreeDistinct.{is_edge-same, gives, edge-parts, joins-of, AllHang-take}
 use Rattle.gr_base.proofs.TreeGrowth.{parent-held}
 use Rattle.route_evaluator.specs.NetTrees.{StepsTo, OnePath}
 use Rattle.route_evaluator.proofs.PathLemmas.{step-more, joins-apart, joins-other, joins-same, path-more, SomePath, path-before, path-join, path-back, path-none, Sprouts, NoTwo, no-two-more}
-
--- the two cells that a node's edge joins
-edge-parts : (g : Shape) (node : Node) (o : Option ℕ) (e : Edge) → option_and_then (λ cell. edge_of g node.cell cell) o ≡ Some e →
-    (c : ℕ) × (o ≡ Some c) × (edge_of g node.cell c ≡ Some e)
-edge-parts g node None e is = absurd (none-some e is)
-edge-parts g node (Some c) e is = (c, refl, is)
 
 -- an edge that was added at the end is in the list
 last-edge : (edges : List Edge) (o : Option Edge) (e : Edge) → o ≡ Some e → set_of (edges ++ cons_option o []) e ≡ true
@@ -53,11 +47,11 @@ module _ (g : Shape) (nodes : List Node) (hanging : AllHang g [] nodes) where
       let own = read-cell (take k nodes) j x at in
       let parent = parent-held g (take k nodes) j x (AllHang-take g [] nodes k hanging) at in
       let whole = cell_at-take nodes k x.parent parent.0 parent.1 in
-      let same : parent.0 ≡ parts.0 = same_Some parent.0 parts.0 (sym whole ∙ parts.1) in
+      let same : parent.0 ≡ parts.0 = same_Some parent.0 parts.0 (sym whole ∙ parts.1.0) in
       let P : ℕ → Type 0 = λ c. held k c in
       record {
         other = parts.0;
-        joins = joins-of g x.cell parts.0 e (cell-inside g nodes j x.cell hanging (cell_at-take nodes k j x.cell own)) (cell-inside g nodes x.parent parts.0 hanging parts.1) parts.2;
+        joins = joins-of g x.cell parts.0 e (cell-inside g nodes j x.cell hanging (cell_at-take nodes k j x.cell own)) (cell-inside g nodes x.parent parts.0 hanging parts.1.0) parts.1.1;
         near = subst P same (found-at (take k nodes) x.parent parent.0 parent.1);
       }
 

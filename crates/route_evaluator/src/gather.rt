@@ -15,7 +15,7 @@ use route_reader::Solution;
 use solution_text::Run;
 use std::alloc::AllocError;
 
-/// Puts the edges that a run covers into a set of edges.
+/// Puts the edges that a run covers into a set of edges. At an error a part of them may have been put.
 fn add_run(edges: &mut NumberSet, shape: Shape, run: Run) -> Result<(), AllocError>
     requires bound { edges.old.bound ≡ 3 * cells_of shape }
     requires run { IsRun shape run }
@@ -33,7 +33,7 @@ fn add_run(edges: &mut NumberSet, shape: Shape, run: Run) -> Result<(), AllocErr
     Ok(())
 }
 
-/// Puts the edges that runs cover into a set of edges.
+/// Puts the edges that runs cover into a set of edges. At an error a part of them may have been put.
 pub(crate) fn gather(edges: &mut NumberSet, shape: Shape, runs: &[Run]) -> Result<(), AllocError>
     requires bound { edges.old.bound ≡ 3 * cells_of shape }
     requires runs { All (IsRun shape) runs.now }
@@ -47,7 +47,7 @@ pub(crate) fn gather(edges: &mut NumberSet, shape: Shape, runs: &[Run]) -> Resul
 }
 
 /// Puts the edges that the runs of a net in a solution cover into an empty set. The only error is
-/// want of memory.
+/// want of memory. At an error a part of the edges may have been put.
 pub(crate) fn gather_net(
     edges: &mut NumberSet,
     design: &Design,

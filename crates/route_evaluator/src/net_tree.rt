@@ -40,7 +40,8 @@ impl TreeMaker {
 
     /// The tree of a routed net's edges in a solution, from the cell of its first pin. `NotTree`
     /// comes exactly where they are no tree: where, between some two of the cells that are ends of
-    /// the edges or cells of the pins, no path leads along them or more than one.
+    /// the edges or cells of the pins, no path leads along them or more than one. After want of memory
+    /// the sets mean nothing, and the maker is of no further use.
     pub fn tree_of(
         &mut self,
         alloc: Global,
@@ -58,6 +59,7 @@ impl TreeMaker {
         ensures not_tree { result ≡ Err TreeError.NotTree →
             ¬ AreTree design.now.frame.shape (edges_by solution.now net) (pins_at design.now net) }
         ensures sets { OnOk result (AreSetsOf design.now.frame.shape self.new) }
+        ensures sets_stay { result ≡ Err TreeError.NotTree → AreSetsOf design.now.frame.shape self.new }
     {
         self.edges.clear();
         self.reached.cells.clear();
@@ -115,6 +117,7 @@ fn tree_along(
     ensures ok { OnOk result (AreTree shape (edges_numbered edges.now.numbers) pins.now) }
     ensures not_tree { result ≡ Err TreeError.NotTree → ¬ AreTree shape (edges_numbered edges.now.numbers) pins.now }
     ensures bound { OnOk result (reached.new.cells.bound ≡ cells_of shape) }
+    ensures bound_stays { result ≡ Err TreeError.NotTree → reached.new.cells.bound ≡ cells_of shape }
 {
     let tree = tree_from(alloc, reached, edges, shape, pins[0])?;
     if edges.numbers().len() + 1 != tree.len() as usize || !reached.cells.has_all(pins) {

@@ -35,7 +35,8 @@ impl RunMaker {
     }
 
     /// Gathers the edges of a net in a solution, in the place of those gathered last. The only error is
-    /// want of memory. The time is that of these edges, whatever the size of the grid.
+    /// want of memory. At an error a part of the edges may have been gathered, and the maker is of no
+    /// further use. The time is that of these edges, whatever the size of the grid.
     pub fn gather(
         &mut self,
         design: &Design,
@@ -55,7 +56,8 @@ impl RunMaker {
     }
 
     /// Adds the maximal straight runs of the gathered edges that go this way, each once, rising by
-    /// their low ends. The only error is want of memory. The time is that of sorting the edges.
+    /// their low ends. The only error is want of memory. At an error the first of the runs may have
+    /// been added. The time is that of sorting the edges.
     pub fn push_way(
         &mut self,
         runs: &mut Vec<Run>,

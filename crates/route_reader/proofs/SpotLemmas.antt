@@ -16,7 +16,7 @@ use Rattle.solution_text.specs.declared.fault.SolutionFault.TheVariants.{Form, N
 use Rattle.solution_text.specs.Grammar.{Checked, ◌>>=◌, ◌>>◌, check, given, is_in_range, spot_of, layer_of, cell_of, is_straight, run_between}
 use Rattle.solution_text.specs.Grammar as grammar
 use Rattle.route_reader.specs.declared.segment.Written.{Written}
-use Rattle.route_reader.specs.declared.segment.Ends.{Ends}
+use Rattle.route_reader.specs.declared.segment.Points.{Points}
 use Rattle.route_reader.specs.declared.spot.Spot.{Spot}
 use Rattle.route_reader.specs.Segments.{run_of_ends}
 use Rattle.route_reader.specs.Spots.{are_whole, spot_in, layer_in, place_of, run_of_places, run_of_spots}
@@ -177,7 +177,7 @@ no-form point other = other-form (whole_value point.x.now) (whole_value point.y.
 
 -- ---- the checks in their order
 
-module _ (frame : Frame) (ends : Ends) where
+module _ (frame : Frame) (ends : Points) where
   pub first-form : are_whole ends.from ≡ false → Err Form ≡ run_of_ends frame (Some ends)
   first-form other = rw (no-form ends.from other) refl
 

@@ -8,7 +8,7 @@ use Rattle.solution_text.specs.declared.fault.SolutionFault.TheVariants.{Form}
 use Rattle.solution_text.specs.Grammar.{Checked, ◌>>=◌, is_mark, spot_of, run_between}
 use Rattle.route_reader.specs.declared.segment.Cut.{Cut}
 use Rattle.route_reader.specs.declared.segment.Written.{Written}
-use Rattle.route_reader.specs.declared.segment.Ends.{Ends}
+use Rattle.route_reader.specs.declared.segment.Points.{Points}
 
 -- the parts between the marks of a text, if its marks are these
 abbrev pub parted : (marks : List ℕ) → List ℕ → Option (List (List ℕ))
@@ -27,7 +27,7 @@ after_point marks (Some point) =
     (parted marks point.rest.now)
 
 -- the run between two ends that were taken apart
-abbrev pub run_of_ends : Frame → Option Ends → Checked Run
+abbrev pub run_of_ends : Frame → Option Points → Checked Run
 run_of_ends frame None = Err Form
 run_of_ends frame (Some ends) = do
   a ← spot_of ends.from.x.now ends.from.y.now ends.from.layer.now

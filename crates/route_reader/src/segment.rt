@@ -24,7 +24,7 @@ pub(crate) struct Written<'t> {
 
 /// The two points of a segment.
 #[derive(Clone, Copy)]
-pub(crate) struct Ends<'t> {
+pub(crate) struct Points<'t> {
     pub(crate) from: Written<'t>,
     pub(crate) to: Written<'t>,
 }
@@ -75,7 +75,7 @@ fn point<'t>(text: &'t [u8]) -> Option<Written<'t>>
 
 /// The two points of a segment, if the token's marks are those of a segment, with a hyphen alone
 /// between the points.
-pub(crate) fn ends_of<'t>(token: &'t [u8]) -> Option<Ends<'t>>
+pub(crate) fn ends_of<'t>(token: &'t [u8]) -> Option<Points<'t>>
     ensures { (frame : Frame) → segment frame token.now ≡ run_of_ends frame result }
 {
     let from = point(token)?;
@@ -83,5 +83,5 @@ pub(crate) fn ends_of<'t>(token: &'t [u8]) -> Option<Ends<'t>>
     if !from.lead.is_empty() || to.lead != b"-".as_slice() || !to.rest.is_empty() {
         return None;
     }
-    Some(Ends { from, to })
+    Some(Points { from, to })
 }

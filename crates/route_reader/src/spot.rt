@@ -7,7 +7,7 @@ ghost use Rattle.route_reader.specs.Segments.{run_of_ends};
 ghost use Rattle.route_reader.specs.Solutions.{IsRun};
 ghost use Rattle.route_reader.specs.Spots.{are_whole, spot_in, place_of, run_of_spots, run_of_places};
 
-use crate::segment::{Ends, Written, ends_of};
+use crate::segment::{Points, Written, ends_of};
 use gr_base::{Cell, Design, MOST_COORDINATE, MOST_ID, Shape};
 use gr_text::{is_whole, whole_of};
 use solution_text::{Run, SolutionFault};
@@ -97,7 +97,7 @@ fn run_of_spots(design: &Design, from: Spot, to: Spot) -> Result<Run, SolutionFa
 }
 
 /// The run between two ends that are written.
-fn run_of_ends(design: &Design, ends: Ends<'_>) -> Result<Run, SolutionFault>
+fn run_of_ends(design: &Design, ends: Points<'_>) -> Result<Run, SolutionFault>
     ensures run { result ≡ run_of_ends design.now.frame (Some ends.entry) }
     ensures of { IfOk result (IsRun design.now.frame.shape) }
 {

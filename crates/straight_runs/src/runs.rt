@@ -33,7 +33,8 @@ fn end_of_run(lows: &[u32], shape: Shape, way: Way, low: u32) -> u32
     end
 }
 
-/// Adds the maximal runs of the edges that go this way from these low ends.
+/// Adds the maximal runs of the edges that go this way from these low ends. At an error the first of
+/// them may have been added.
 fn push_runs(runs: &mut Vec<Run>, lows: &[u32], shape: Shape, way: Way) -> Result<(), AllocError>
     requires { AreLows shape way lows.now }
     ensures { OnOk result (runs.new.items ≡ runs.old.items ++ runs_of_way shape (edges_from way lows.now) way) }
@@ -51,7 +52,8 @@ fn push_runs(runs: &mut Vec<Run>, lows: &[u32], shape: Shape, way: Way) -> Resul
 
 /// Adds the maximal straight runs of the edges that go this way, each once, rising by their low ends.
 /// An edge may stand among the edges more than once. `lows` is room that is used anew. The only error
-/// is want of memory. The time is that of sorting the edges.
+/// is want of memory. At an error the first of the runs may have been added. The time is that of
+/// sorting the edges.
 pub fn push_way(
     runs: &mut Vec<Run>,
     lows: &mut Vec<u32>,

@@ -8,10 +8,11 @@ use crate::open_tracks::OpenTracks;
 use crate::piece::Piece;
 use std::alloc::{AllocError, Global};
 
-/// The left-edge numbering of a panel's pieces, which go by rising low ends: each piece gets the least
-/// track whose pieces so far all end below its low end. Pieces with a common tile have different
-/// tracks, and no such numbering uses fewer. The time is n log n for n pieces. The only error is want
-/// of memory. From Hashimoto and Stevens, 1971.
+/// The left-edge numbering of a panel's pieces: each piece gets the least track whose pieces so far all
+/// end below its low end. The pieces are at least one and fewer than 2^31, and go by rising low ends;
+/// each one's low end is below its high end, which is below 8,388,608, the most cells of a grid. Pieces
+/// with a common tile have different tracks, and no such numbering uses fewer. The time is n log n for
+/// n pieces. The only error is want of memory. From Hashimoto and Stevens, 1971.
 pub fn panel(alloc: Global, pieces: &[Piece]) -> Result<Panel, AllocError>
     requires { ArePieces pieces.now }
     ensures { IfOk result (IsPanel pieces.now) }

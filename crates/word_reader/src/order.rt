@@ -21,17 +21,17 @@ use gr_text::natural_of;
 pub struct Options {
     /// The most rounds of rip-up and reroute, from 0 to 64.
     pub rounds: u32,
-    /// How many hands route, from 1 to 16; 1 where N isn't given.
+    /// How many workers route, from 1 to 16; 1 where `--workers` isn't given.
     pub workers: u32,
-    /// As how many wire edges a via edge counts in the report, from 0 to 1,000; 1 where V isn't
-    /// given.
+    /// As how many wire edges a via edge counts in the report, from 0 to 1,000; 1 where `--via-cost`
+    /// isn't given.
     pub via_cost: u32,
     /// How many nets are planned over one state of the demand, from 1 to 65,536, where rounds go in
-    /// batches; they do where B is given.
+    /// batches; they do where `--batch` is given.
     pub batch: Option<u32>,
     /// The rule of the edges' costs; the first where none is named.
     pub rule: Formula,
-    /// When the rounds are to stop early; never where V isn't given.
+    /// When the rounds are to stop early; never where `--stop` isn't given.
     pub stop: Stopping,
 }
 
@@ -52,8 +52,8 @@ const EVERY_RULE: [Formula; 3] = [Formula::First, Formula::Steep, Formula::Flat]
 #[derive(Clone, Copy, Debug)]
 pub enum Order<'w> {
     /// `route DESIGN LIBRARY ROUNDS [--workers N] [--via-cost V] [--batch B] [--rule NAME] [--stop V]`
-    /// routes the design. The library is that of its wires and buffers. B and a V that stops the rounds
-    /// can't be given both.
+    /// routes the design. The library is that of its wires and buffers. `--batch` and `--stop` can't be
+    /// given both.
     Route {
         design: &'w str,
         library: &'w str,
@@ -63,7 +63,7 @@ pub enum Order<'w> {
     Evaluate {
         design: &'w str,
         solution: &'w str,
-        /// As how many wire edges a via edge counts, from 0 to 1,000; 1 where V isn't given.
+        /// As how many wire edges a via edge counts, from 0 to 1,000; 1 where `--via-cost` isn't given.
         via_cost: u32,
     },
     /// `buffer DESIGN LIBRARY SOLUTION` places buffers of the library on the routes of a solution of
