@@ -34,7 +34,8 @@ FAULTS = {
         "the text is too long"],
     "library": [
         "the text ends where a token is due",
-        "the word is no item of this version, or the second `via`, `driver` or `sink`",
+        "`library` or a version from 1 to 3 is due, the word is no item of this version, or it is the second `via`, "
+        "`driver` or `sink`",
         "a whole number in its range is due",
         "the design has no such layer, or the layer has its wire already",
         "an earlier kind has this name",

@@ -29,7 +29,7 @@ use word_reader::{Order, read_words};
 pub struct Ended {
     /// The status that the program ends with.
     pub status: u8,
-    /// The book of the rounds of `route`, once its routes are made.
+    /// The book of the rounds: of `route` once its report is made, of `trial` once its routes are judged.
     pub book: Option<ClosedBook>,
     /// Which entries of the book's history are whose: the marks are those of number 0, the claims
     /// and releases those of the workers, from number 1, and in batches all of number 1. Empty without a
@@ -69,14 +69,15 @@ impl Ended {
 /// `route DESIGN LIBRARY ROUNDS` reads the design of that name and the library of its wires and
 /// buffers. It gives each routed net a pattern plan over the loads of the nets before it, by the
 /// rule that `--rule` names. Then, in up to ROUNDS rounds (0 to 64), each net on an edge over its
-/// capacity is released and rerouted by a maze plan. As many threads as `--workers` says (1 to 16)
-/// do it, each over what it has seen of the others' routes. In the first pass each takes the nets
-/// that can least go another way first, and in the rounds those that most can. Each passes the gate
-/// before it searches a plan, and before it claims a net. Where `--batch` says a number of nets, so many
-/// are planned over one state and then claimed in the design's order; what is written is then the same
-/// for every number of threads, and nobody passes the gate.
+/// capacity is released and rerouted by a maze plan. The rounds end early where `--stop` says so: once
+/// one hasn't lowered the total overflow, or once it is at most a number. As many threads as `--workers`
+/// says (1 to 16) do it, each over what it has seen of the others' routes. In the first pass each takes
+/// the nets that can least go another way first, and in the rounds those that most can. Each passes the
+/// gate before it searches a plan, and before it claims a net. Where `--batch` says a number of nets, so
+/// many are planned over one state and then claimed in the design's order; what is written is then the
+/// same for every number of threads, and nobody passes the gate.
 /// It writes the routes of the first round of least overflow on out, and on err their report of
-/// demand, overflow, wirelength and vias, and each routed net's buffers and required time.
+/// overflow, wirelength and vias, and each routed net's buffers and required time.
 ///
 /// `evaluate DESIGN SOLUTION` reads a design and any router's solution for it, and writes on out
 /// the report, and the routed nets that the solution leaves unjoined. In both reports a via edge
