@@ -1,16 +1,18 @@
 -- A time is seen at node 0 exactly where a net has a sink.
-use Rattle.std.proofs.Common.{◌≡◌, ℕ, zero, suc, ◌+◌, ◌-◌, ◌<◌, ℤ, inl, inr, Bool, true, false, ◌==◌, nat_lt, List, [], ◌∷◌, length, map, filter, All, Option, Some, None, is_some, refl, sym, ap, subst, ◌∙◌, arith}
+use Rattle.std.proofs.Common.{◌≡◌, ℕ, zero, suc, ◌+◌, ◌-◌, ◌<◌, ℤ, inl, inr, Bool, true, false, ◌==◌, nat_lt, List, [], ◌∷◌, length, map, filter, sum_by, All, Option, Some, None, is_some, refl, sym, ap, subst, ◌∙◌, arith}
 use Rattle.std.specs.List.{range_with_len}
 use Rattle.std.proofs.lemmas.Bool.{cases_eq, true≢false, lt-ltb, eq-eqb}
 use Rattle.std.proofs.lemmas.Bool.Decides.{nat_tests}
 use Rattle.gr_base.proofs.General.{filter-yes}
 use Rattle.rc_library.specs.declared.parts.Kind.{Kind}
-use Rattle.elmore_delay.specs.RcTrees.{Sink, RcTree, Buffers, IsRcTree, buffer_delay, edge_delay, soonest, sooner, twice}
+use Rattle.elmore_delay.specs.RcTrees.{Sink, RcTree, Buffers, IsRcTree, buffer_delay, edge_delay, sinks_at, sinks_load, soonest, sooner, twice}
 use Rattle.elmore_delay.specs.FromLeaves.{less, behind, hanging, seen_of_last, seen_whole}
 use Rattle.elmore_delay.specs.Loadings.{LoadingView, sink_at, sinks_of}
 use Rattle.elmore_delay.specs.declared.seen.Seen.{Seen}
 use Rattle.elmore_delay.proofs.Loads.{seen-other}
+use Rattle.ginneken_lists.specs.declared.pair.Pair.{Pair}
 use Rattle.buffer_plan.specs.Best.{has_sinks}
+use Rattle.buffer_plan.specs.Gathered.{no_pairs}
 use Rattle.buffer_plan.proofs.HungLemmas.{seen-hung}
 
 -- delays take no time away, nor add one
@@ -124,3 +126,18 @@ sinks-known l = by_number (length l.pins - 1) ∙ less_one
 
     less_one : nat_lt 0 (length l.pins - 1) ≡ nat_lt 1 (length l.pins)
     less_one = grind (arith, nat_tests)
+
+-- sinks without a time are none
+no-time : (sinks : List Sink) → soonest (map twice sinks) ≡ None → sinks ≡ []
+no-time [] none = refl
+no-time (sink ∷ sinks) none =
+    let some : is_some (soonest (map twice (sink ∷ sinks))) ≡ true = sooner-left (Some (twice sink)) (soonest (map twice sinks)) refl in
+    absurd (true≢false (sym some ∙ ap (λ (o : Option ℤ). is_some o) none))
+
+-- so the pair of the sinks at a node without a time is that of a branch without sinks
+abbrev pair_of_sinks : List Sink → Pair
+pair_of_sinks sinks = record { load = sum_by (λ (sink : Sink). sink.c) sinks; time = soonest (map twice sinks); mark = 0 }
+
+pub no-pair : (t : RcTree) (v : ℕ) → soonest (map twice (sinks_at t v)) ≡ None →
+    no_pairs ≡ record { load = sinks_load t v; time = soonest (map twice (sinks_at t v)); mark = 0 } ∷ []
+no-pair t v none = ap (λ (sinks : List Sink). pair_of_sinks sinks ∷ []) (sym (no-time (sinks_at t v) none))

@@ -46,12 +46,11 @@ fn of_sinks(
       mark = 0;
     } ∷ []) }
 {
+    let Some(time) = loading.time(node) else {
+        return Ok(None);
+    };
     let load = loading.load(node);
-    match loading.time(node) {
-        None if load == 0 => Ok(None),
-        None => Ok(Some(OptionList::leaf(alloc, load, None, pool)?)),
-        Some(time) => Ok(Some(OptionList::leaf(alloc, load, Some(i128::from(time)), pool)?)),
-    }
+    Ok(Some(OptionList::leaf(alloc, load, Some(i128::from(time)), pool)?))
 }
 
 /// Takes the list of a node out of the lists, if it has one.

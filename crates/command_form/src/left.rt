@@ -12,7 +12,7 @@ use track_book::ClosedBook;
 pub struct Kept {
     pub book: ClosedBook,
     /// Which entries of the book's history are whose: the marks are those of number 0, the claims and
-    /// releases those of the workers, from number 1.
+    /// releases those of the workers, from number 1, and in batches all of number 1.
     pub hands: Vec<HandLog>,
 }
 
