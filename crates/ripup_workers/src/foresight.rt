@@ -39,8 +39,8 @@ pub(crate) struct Foreseen {
 
 impl<N: BookName, R: Threads + Wait + Sync, G: Gate> Ground<'_, N, R, G> {
     /// The plan that the net will have once it is released. It is made anew, but not without end, where
-    /// what others added while it was made may change it. None where that went on, or the net isn't
-    /// booked.
+    /// what others added while it was made may change it. None where that went on, the net isn't booked,
+    /// or the plan is a pattern's, which has no window.
     pub(crate) fn foresee(
         &self,
         wish: &Wish<'_>,

@@ -125,10 +125,10 @@ fn run_rounds<N: BookName + Send + Sync, R: Threads + Wait + Sync, G: Gate + Syn
         let end = run_round(ground, asked, round, &survey, nets, coordinator, workers)?;
         workers = end.workers;
         nets = end.nets;
-        if nets.is_empty() {
+        if is_stopped(asked, end.overflow, before) {
             return Ok(workers);
         }
-        if is_stopped(asked, end.overflow, before) {
+        if nets.is_empty() {
             return Ok(workers);
         }
         before = Some(end.overflow);
