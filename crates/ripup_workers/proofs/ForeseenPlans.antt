@@ -1,7 +1,7 @@
 -- Plans for a net that are made before it is released.
 use Rattle.std.proofs.Common.{◌≡◌, ℕ, ◌<◌, List, [], ◌∷◌, ◌++◌, length, take, Option, Some, None, IfSome, sym, subst}
 use mathlib.Core.List.{IsPrefix}
-use Rattle.book_front.proofs.Prefixes.{prefix-all}
+use Rattle.book_front.proofs.Prefixes.{prefix-all, prefix-then}
 use Rattle.cost_rules.specs.declared.site.Formula.{Formula}
 use Rattle.gr_base.specs.Designs.{DesignView}
 use Rattle.grid_demand.specs.LoadSums.{LoadsView}
@@ -21,7 +21,7 @@ use Rattle.round_core.specs.Rounds.{IsPlanFor}
 use Rattle.ripup_workers.specs.Foresight.{IsForeseen}
 use Rattle.ripup_workers.specs.Turning.{IsPlanWithout, IsWindowOf}
 use Rattle.ripup_workers.specs.declared.foresight.Foreseen.{Foreseen}
-use Rattle.ripup_workers.proofs.TurningPlans.{still-plan, prefix-more, take-first}
+use Rattle.ripup_workers.proofs.TurningPlans.{still-plan, take-first}
 
 pub lifted-loads : (c : CapacityView) (h : List Entry) (net : ℕ) (r : ReplicaView) → IsLifted c h net r → AreLoadsOf c (h ++ entry_of 0 (Release net) Released ∷ []) r.loads
 lifted-loads c h net r lifted = lifted.loads (entry_of 0 (Release net) Released) (freeing-entry net)
@@ -49,7 +49,7 @@ foreseen-more d formula net kind seen now f more was = record {
   later = was.later;
   still = was.still;
   front_is = was.front_is;
-  begins = prefix-more was.later seen now was.begins more;
+  begins = prefix-then was.later seen now was.begins more;
 }
 
 -- what was seen since leaves the plan the best
@@ -58,7 +58,7 @@ pub foreseen-later : (d : DesignView) (formula : Formula) (net : ℕ) (kind : Pl
     IsForeseen d formula net kind now g
 foreseen-later d formula net kind seen now f g same_tree same_window long within was more still =
     let c = capacity_of d in
-    let later_is = take-first was.later now f.front (prefix-more was.later seen now was.begins more) was.front_is in
+    let later_is = take-first was.later now f.front (prefix-then was.later seen now was.begins more) was.front_is in
     let since : StaysBest c net f.window f.tree was.later now = subst (λ (h : List Entry). StaysBest c net f.window f.tree h now) later_is still in
     record {
       window_of_net = subst (λ w. IsWindowOf d net kind w) (sym same_window) was.window_of_net;
@@ -80,7 +80,7 @@ pub foreseen-plan : (d : DesignView) (formula : Formula) (net : ℕ) (kind : Pla
 foreseen-plan d formula net kind seen now f loads was more of still =
     let c = capacity_of d in
     let e : Entry = entry_of 0 (Release net) Released in
-    let later_is = take-first was.later now f.front (prefix-more was.later seen now was.begins more) was.front_is in
+    let later_is = take-first was.later now f.front (prefix-then was.later seen now was.begins more) was.front_is in
     still-plan d formula net kind f.tree f.window (was.first ++ e ∷ []) now loads (was.plan e (freeing-entry net)) was.window_of_net of
     (still-then c net f.window f.tree (was.first ++ e ∷ []) (was.later ++ e ∷ []) now (was.still e (freeing-entry net))
     (subst (λ (h : List Entry). StaysBest c net f.window f.tree (h ++ e ∷ []) now) later_is (still e (freeing-entry net))))

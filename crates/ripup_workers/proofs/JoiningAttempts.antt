@@ -19,7 +19,7 @@ use Rattle.work_share.specs.Views.{ShareView, HandView, IsHandOf, IsNewHand, Are
 use Rattle.ripup_workers.specs.Crews.{IsWorked, HasAttemptedOver}
 use Rattle.ripup_workers.specs.Rounding.{HaveAttempted}
 use Rattle.ripup_workers.specs.Working.{HasAttempted}
-use Rattle.ripup_workers.proofs.JoiningPasses.{item-at}
+use Rattle.track_book.proofs.Dealing.{get-there}
 use Rattle.ripup_workers.proofs.TurningStages.{led-nothing, led-then}
 
 -- parts of items that are taken off a list one by one
@@ -107,13 +107,13 @@ module _ {M E : Type 0} (hand : M → HandView) (pass : M → PassView) (done : 
     numbers = λ at h there. (
         let y = part-at hand ys at h there in
         let within = slice_get_within ys at y.0 y.1 in
-        let x = item-at xs at (omega (arith, within, count)) in
+        let x = get-there xs at (omega (arith, within, count)) in
         let w = worked-at at x.0 y.0 x.1 y.1 in
         ap (λ (k : HandView). k.number) (sym y.2) ∙ w.number ∙ (new at (hand x.0) (part-of hand xs at x.0 x.1)).number_is);
     each = λ at h there. (
         let y = part-at hand ys at h there in
         let within = slice_get_within ys at y.0 y.1 in
-        let x = item-at xs at (omega (arith, within, count)) in
+        let x = get-there xs at (omega (arith, within, count)) in
         subst (IsHandOf s) y.2 (worked-at at x.0 y.0 x.1 y.1).hand_of);
   }
 
@@ -171,8 +171,8 @@ crew-some worker hand seen xs ys before after hands count before_is after_is han
     let all = crew-count worker seen xs ys before after count before_is after_is in
     let old = length-map after seen in
     let taken = hands-count worker hand seen xs ys before hands count before_is hands_are in
-    let p = item-at (map seen before) 0 (omega (arith, all, old, some)) in
-    let h = item-at hands 0 (omega (arith, all, old, some, taken)) in
+    let p = get-there (map seen before) 0 (omega (arith, all, old, some)) in
+    let h = get-there hands 0 (omega (arith, all, old, some, taken)) in
     record { p = p.0; h = h.0; p_there = p.1; h_there = h.1 }
 
 pub tried-legal : (d : DesignView) (formula : Formula) (c : CapacityView) (round : ℕ) → c ≡ capacity_of d → (old : List PassView) (hands : List HandView) (q : PassView) → HasFirst old hands →

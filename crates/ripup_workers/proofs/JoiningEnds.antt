@@ -35,11 +35,11 @@ use Rattle.round_core.proofs.StandLemmas.{victims-routed, mark-stands, least-pla
 use Rattle.round_core.proofs.TurnLemmas.{routed-below, routed-within}
 use Rattle.round_core.proofs.WorldEnds.{first-rules}
 use Rattle.track_book.specs.Passes.{PassView, IsNew, IsIn, IsClosed}
+use Rattle.track_book.proofs.Dealing.{get-there}
 use Rattle.ripup_workers.specs.Closing.{AreNew}
 use Rattle.ripup_workers.specs.Rounding.{AreOf, HasSeen, IsNext, HasEnded, AreBefore, AreBehind, IsRoundOver, HaveRun, is_stop, is_stop_at}
 use Rattle.work_share.specs.Views.{times}
 use Rattle.ripup_workers.proofs.JoiningLists.{all-prefix, same-history}
-use Rattle.ripup_workers.proofs.JoiningPasses.{item-at}
 use Rattle.ripup_workers.proofs.JoiningSegments.{mark-call}
 
 -- at the begin nothing is seen
@@ -228,7 +228,7 @@ run-closed t coordinator workers h run closed =
         ∙ ap (λ (n : ℕ). calls_of n run.h) run.at.number
     same (suc place) less =
         let count = run.at.count in
-        let p = item-at workers place (omega (arith, less, count)) in
+        let p = get-there workers place (omega (arith, less, count)) in
         let worker = run.at.each place p.0 p.1 in
         let own = closed.passes (suc place) p.0 p.1 in
         let next : place + 1 ≡ suc place = omega arith in

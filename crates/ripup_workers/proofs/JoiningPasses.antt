@@ -1,8 +1,7 @@
 -- What passes learn, and what stays true of their own entries.
-use Rattle.std.proofs.Common.{◌≡◌, ℕ, ◌<◌, inl, inr, List, [], ◌∷◌, ◌++◌, length, All, Some, slice_get, refl, sym, ap, subst, ◌∙◌, arith, length-append}
+use Rattle.std.proofs.Common.{◌≡◌, ℕ, inl, inr, List, [], ◌∷◌, ◌++◌, length, All, refl, sym, ap, subst, ◌∙◌, arith, length-append}
 use Rattle.std.proofs.lemmas.Bool.{cases_eq}
 use Rattle.std.proofs.lemmas.List.Elements.{All-nil, All-cons}
-use Rattle.std.proofs.lemmas.Option.{slice_get_cases}
 use Rattle.grid_demand.specs.Tables.{CapacityView}
 use Rattle.book_state.specs.Entries.{AtEach, calls_of}
 use Rattle.book_state.specs.declared.entry.Call.TheVariants.{Claim as Claims}
@@ -14,13 +13,6 @@ use Rattle.ripup_workers.specs.Meetings.{Learns}
 use Rattle.ripup_workers.specs.Working.{ArePlanned}
 use Rattle.ripup_workers.proofs.JoiningLists.{calls-append, calls-first, calls-after}
 use Rattle.ripup_workers.proofs.JoiningSegments.{each-more}
-
--- a list has an item at each of its places
-pub item-at : {A : Type 0} (xs : List A) (at : ℕ) → at < length xs → (x : A) × (slice_get xs at ≡ Some x)
-item-at xs at within = elim (slice_get_cases xs at).1 [
-  | inl found ↦ (found.0, found.2)
-  | inr past ↦ absurd (omega (arith, past.0, within))
-]
 
 -- of what a pass learns nothing is its own
 pub learns-own : (c : CapacityView) (old new : PassView) → Learns c old new → calls_of new.number new.seen ≡ calls_of old.number old.seen

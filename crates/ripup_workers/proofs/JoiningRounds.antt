@@ -31,6 +31,7 @@ use Rattle.round_core.proofs.RoutedTrees.{attempts-stand}
 use Rattle.round_core.proofs.StandLemmas.{mark-stands}
 use Rattle.round_core.proofs.WorldFields.{overflows-push}
 use Rattle.track_book.specs.Passes.{PassView, IsAnswered}
+use Rattle.track_book.proofs.Dealing.{get-there}
 use Rattle.ripup_workers.specs.Marking.{AreMarked}
 use Rattle.ripup_workers.specs.Meetings.{HasMet}
 use Rattle.ripup_workers.specs.Rounding.{AreOf, HasSeen, IsWorkerAt, AreAt, HaveAttempted, IsNext, HasEnded, AreBefore, AreBehind, overflows}
@@ -38,7 +39,7 @@ use Rattle.work_share.specs.Views.{times}
 use Rattle.ripup_workers.specs.Working.{HasAttempted}
 use Rattle.ripup_workers.specs.declared.team.Marked.{Marked}
 use Rattle.ripup_workers.proofs.JoiningLists.{all-at, all-prefix, all-second, calls-append, prefix-calls, prefix-long, squeeze, same-history, calls-first, calls-after, count-parts, sum-places}
-use Rattle.ripup_workers.proofs.JoiningPasses.{item-at, learns-own, nothing-more, planned-learns}
+use Rattle.ripup_workers.proofs.JoiningPasses.{learns-own, nothing-more, planned-learns}
 use Rattle.ripup_workers.proofs.JoiningSegments.{whole-unmarked, calls-all, calls-none, each-more, marks-more, cut-more, numbered, overflows-more}
 
 abbrev cut_of : ℕ → List Entry → List Entry → Cut
@@ -148,11 +149,11 @@ module _ (t : Setting) (round : ℕ) (nets : List ℕ) (h : List Entry) (coordin
       let parts_few = tried.parts_count in
       let between_few = m.before.count in
       let after_few = m.behind.count in
-      let p = item-at workers place (omega (arith, within, few)) in
-      let q = item-at worked place (omega (arith, within, few, worked_few)) in
-      let part = item-at tried.parts place (omega (arith, within, few, parts_few)) in
-      let r = item-at m.between place (omega (arith, within, few, worked_few, between_few)) in
-      let s = item-at after place (omega (arith, within, few, worked_few, between_few, after_few)) in
+      let p = get-there workers place (omega (arith, within, few)) in
+      let q = get-there worked place (omega (arith, within, few, worked_few)) in
+      let part = get-there tried.parts place (omega (arith, within, few, parts_few)) in
+      let r = get-there m.between place (omega (arith, within, few, worked_few, between_few)) in
+      let s = get-there after place (omega (arith, within, few, worked_few, between_few, after_few)) in
       record {
         first = p.0;
         part = part.0;

@@ -1,8 +1,8 @@
 -- Plans that stay the same while the history goes on.
-use Rattle.std.proofs.Common.{◌≡◌, ℕ, List, [], ◌∷◌, ◌++◌, take, length, Option, refl, sym, ap, subst, ◌∙◌, append_assoc, arith}
+use Rattle.std.proofs.Common.{◌≡◌, ℕ, List, [], ◌∷◌, take, length, Option, refl, sym, ap, subst, ◌∙◌, arith}
 use Rattle.std.proofs.lemmas.List.{take-append-le, take_all}
 use mathlib.Core.List.{IsPrefix}
-use Rattle.book_front.proofs.Prefixes.{prefix-all}
+use Rattle.book_front.proofs.Prefixes.{prefix-all, prefix-then}
 use Rattle.cost_rules.specs.declared.site.Formula.{Formula}
 use Rattle.gr_base.specs.Designs.{DesignView, pins_at}
 use Rattle.gr_base.specs.Trees.{TreeView}
@@ -51,11 +51,6 @@ still-plan d formula net kind tree w first now loads was of_net of still =
       routes = was.routes;
     }
 
--- a first part of a list that goes on is one of the longer list
-pub prefix-more : (xs ys zs : List Entry) → IsPrefix xs ys → IsPrefix ys zs → IsPrefix xs zs
-prefix-more xs ys zs one two =
-    (one.0 ++ two.0, sym (append_assoc xs one.0 two.0) ∙ ap (λ (h : List Entry). h ++ two.0) one.1 ∙ two.1)
-
 -- a plan over all that was seen is one over a first part of it
 pub planned-now : (d : DesignView) (formula : Formula) (net : ℕ) (kind : PlanKind) (tree : TreeView) (front : ℕ) (seen : List Entry) → IsPlanFor d formula seen net kind tree →
     front ≡ length seen → WasPlanned d formula net kind tree front seen
@@ -64,14 +59,14 @@ planned-now d formula net kind tree front seen plan long = record { first = seen
 -- what a pass had seen begins what it has seen after a call
 pub answered-begins : (c : CapacityView) (p q : PassView) (call : Call) (reply : Reply) → IsAnswered c p q call reply → IsPrefix p.seen q.seen
 answered-begins c p q call reply answered =
-    prefix-more p.seen answered.before q.seen answered.begins (entry_of p.number call reply ∷ [], sym answered.seen)
+    prefix-then p.seen answered.before q.seen answered.begins (entry_of p.number call reply ∷ [], sym answered.seen)
 
 -- where what was seen since leaves it the best in its window, the plan is the same
 pub same-plan : (d : DesignView) (formula : Formula) (net : ℕ) (kind : PlanKind) (tree : TreeView) (front : ℕ) (w : Window) (seen now : List Entry) (loads : LoadsView) →
     WasPlanned d formula net kind tree front seen → IsPrefix seen now → IsWindowOf d net kind w → AreLoadsOf (capacity_of d) now loads →
     StaysBest (capacity_of d) net w tree (take front now) now → IsPlanFor d formula now net kind tree
 same-plan d formula net kind tree front w seen now loads was more of_net of still =
-    let first_is = take-first was.first now front (prefix-more was.first seen now was.begins more) was.front_is in
+    let first_is = take-first was.first now front (prefix-then was.first seen now was.begins more) was.front_is in
     still-plan d formula net kind tree w was.first now loads was.plan of_net of
     (subst (λ (h : List Entry). StaysBest (capacity_of d) net w tree h now) first_is still)
 

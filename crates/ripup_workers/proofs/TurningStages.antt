@@ -27,6 +27,7 @@ use Rattle.book_state.specs.declared.entry.Reply.TheVariants.{Claimed, Taken, Fu
 use Rattle.round_core.specs.Attempts.{Stage, Rests, Claiming, Broken, kind_of, is_kind, is_slack, is_claim_for, stage_replied, stage_after, begins, attempts_at}
 use Rattle.round_core.specs.Rounds.{IsFull, claim_of, slacks_of_turn, IsPlanFor}
 use Rattle.round_core.specs.RunHistories.{Setting, IsPlanOver, IsPlanned}
+use Rattle.round_core.proofs.Answered.{full-goes}
 use Rattle.round_core.proofs.StageSteps.{attempts-push}
 use Rattle.track_book.specs.Passes.{PassView, IsPass, IsAnswered, HasLearnt}
 use Rattle.ripup_workers.specs.Turning.{IsOver, HasFollowed, HasTried}
@@ -186,18 +187,10 @@ got-led t r net slack slacks reply p q later tried got =
     subst (λ (stage : Stage). HasLed t r (Claiming net (slack ∷ slacks)) stage [] p q) (replied-rests net slacks reply got)
     (tried-led t r net slack slacks reply p q later tried)
 
-replied-goes_on : (net : ℕ) (slacks : List (Option ℕ)) (reply : Reply) → IsFull reply → stage_replied net slacks reply ≡ Claiming net slacks
-replied-goes_on net slacks Claimed full = absurd (both_ways false refl full)
-replied-goes_on net slacks Taken full = absurd (both_ways false refl full)
-replied-goes_on net slacks (Full edge demand) full = refl
-replied-goes_on net slacks Released full = absurd (both_ways false refl full)
-replied-goes_on net slacks NotBooked full = absurd (both_ways false refl full)
-replied-goes_on net slacks (Marked overflow) full = absurd (both_ways false refl full)
-
 pub full-led : (t : Setting) (r net : ℕ) (slack : Option ℕ) (slacks : List (Option ℕ)) (reply : Reply) (p q : PassView) → 0 < r → HasTried t net (kind_of r) slack reply p q →
     IsFull reply → HasLed t r (Claiming net (slack ∷ slacks)) (Claiming net slacks) [] p q
 full-led t r net slack slacks reply p q later tried full =
-    subst (λ (stage : Stage). HasLed t r (Claiming net (slack ∷ slacks)) stage [] p q) (replied-goes_on net slacks reply full)
+    subst (λ (stage : Stage). HasLed t r (Claiming net (slack ∷ slacks)) stage [] p q) (full-goes net slacks reply full)
     (tried-led t r net slack slacks reply p q later tried)
 
 -- a claim at any demand is never answered Full
