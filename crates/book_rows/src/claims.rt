@@ -55,20 +55,24 @@ fn repeat<N: BookName, R: Wait>(
     Ok(())
 }
 
-/// The replica follows the book if one turn is left. The answer is how many are left then.
+/// The replica follows the book if one turn is left. The answer is how many are left then, if it follows
+/// at all.
 fn follow<N: BookName, R: Wait>(
     rt: &R,
     book: &TrackBook<N>,
     pass: &mut Pass<N>,
     replica: &mut Replica,
-    left: u32,
-    every: u32,
-) -> Result<u32, AllocError>
+    left: Option<u32>,
+    every: Option<u32>,
+) -> Result<Option<u32>, AllocError>
     requires { StandsFor N.capacity (take replica.old.front pass.old.seen) replica.old }
     ensures { OnOk result (StandsFor N.capacity (take replica.new.front pass.new.seen) replica.new) }
 {
+    let Some(left) = left else {
+        return Ok(None);
+    };
     if left != 1 {
-        return Ok(left.saturating_sub(1));
+        return Ok(Some(left.saturating_sub(1)));
     }
     book.sync(rt, pass, replica)?;
     Ok(every)

@@ -110,7 +110,8 @@ fn make<N: BookName, R: Wait>(
         let reply = reply_to(rt, alloc, book, &mut heard.pass, tree, step)?;
         heard.hear(reply)?;
         if turn % 3000 == 0 {
-            heard.grew = heard.grew && is_followed(rt, alloc, book, &mut heard.pass, design)?;
+            let stands = is_followed(rt, alloc, book, &mut heard.pass, design)?;
+            heard.follow(stands);
         }
     }
     Ok(())
@@ -137,6 +138,7 @@ struct Answers<N: BookName> {
     passes: Vec<Pass<N>>,
     replies: Vec<Vec<Reply>>,
     grew: bool,
+    followed: bool,
 }
 
 fn answers_of<N: BookName>(
@@ -147,10 +149,12 @@ fn answers_of<N: BookName>(
         passes: Vec::new(alloc),
         replies: Vec::new(alloc),
         grew: true,
+        followed: true,
     };
     for heard in all {
         let heard = heard?;
         answers.grew = answers.grew && heard.grew;
+        answers.followed = answers.followed && heard.followed;
         answers.passes.push(heard.pass)?;
         answers.replies.push(heard.replies)?;
     }
@@ -173,28 +177,27 @@ fn report<N: BookName, R: Wait + Print>(
         mut passes,
         replies,
         grew,
+        followed,
     } = answers_of(alloc, all)?;
+    println!(rt; "each call is seen by its caller: {grew}")?;
+    println!(rt; "each replica follows its pass: {followed}")?;
     let known = met(rt, &book, &mut passes);
+    println!(rt; "the last pass meets the others: known {known}")?;
     let closed = closed(book, passes, threads)?;
-    let history = closed.state().history();
-    tell(rt, alloc, history, &replies, grew, known, design)
+    tell(rt, alloc, closed.state().history(), &replies, design)
 }
 
-/// Prints what the threads were told, whether the replies are those of the history, and whether a
-/// book for one thread gives them.
+/// Prints whether the threads were told the replies of the history, and whether a book for one thread
+/// gives them.
 fn tell<R: Print>(
     rt: &R,
     alloc: Global,
     history: &History,
     replies: &[Vec<Reply>],
-    grew: bool,
-    known: u64,
     design: &Design,
 ) -> io::Result<()>
     requires { IsLegal (capacity_of design.now) history.now }
 {
-    println!(rt; "each call is seen by its caller: {grew}")?;
-    println!(rt; "the last pass meets the others: known {known}")?;
     println!(rt;
         "closed: {} entries, replies as told: {}",
         history.len(),

@@ -61,8 +61,8 @@ fn crowd(turn: u32) -> Step {
 pub(crate) struct Claims {
     pub(crate) threads: u32,
     pub(crate) count: u32,
-    /// After how many of them the thread follows the book with a replica. If that is 0, it never does.
-    pub(crate) every: u32,
+    /// After how many of them the thread follows the book with a replica, if it does.
+    pub(crate) every: Option<u32>,
 }
 
 /// What the threads are started for.

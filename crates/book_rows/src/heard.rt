@@ -3,13 +3,15 @@ use book_state::{History, Reply};
 use std::alloc::{AllocError, Global};
 use track_book::{BookName, Pass};
 
-/// A pass, the replies to its calls, and whether it had seen more after each call than before.
+/// A pass, the replies to its calls, whether it had seen more after each call than before, and whether
+/// each replica that followed stood for as much as the pass had seen.
 #[derive(Drop)]
 pub(crate) struct Heard<N: BookName> {
     pub(crate) pass: Pass<N>,
     pub(crate) replies: Vec<Reply>,
     pub(crate) grew: bool,
-    pub(crate) known: u64,
+    pub(crate) followed: bool,
+    known: u64,
 }
 
 impl<N: BookName> Heard<N> {
@@ -19,6 +21,7 @@ impl<N: BookName> Heard<N> {
             pass,
             replies: Vec::new(alloc),
             grew: true,
+            followed: true,
             known,
         }
     }
@@ -30,6 +33,12 @@ impl<N: BookName> Heard<N> {
         self.known = known;
         self.replies.push(reply)?;
         Ok(())
+    }
+
+    /// Keeps whether a replica that followed stands for as much as the pass has seen by now.
+    pub(crate) fn follow(&mut self, stands: bool) {
+        self.followed = self.followed && stands;
+        self.known = self.pass.known();
     }
 }
 

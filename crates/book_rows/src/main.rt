@@ -49,7 +49,11 @@ fn order<R: Env + AllocGlobal>(rt: &R) -> io::Result<Order> {
     Ok(Order::Claims(Claims {
         threads: number(words.next()),
         count: number(words.next()),
-        every: if kind.as_str() == "syncs" { 64 } else { 0 },
+        every: if kind.as_str() == "syncs" {
+            Some(64)
+        } else {
+            None
+        },
     }))
 }
 
