@@ -149,14 +149,13 @@ impl<N: BookName, R: Threads + Wait + Sync, G: Gate> Ground<'_, N, R, G> {
         ensures foreseen { IfOk result (λ plan. IfSome plan (IsForeseen wish.now.design.now wish.now.rule.now.formula
             wish.now.net wish.now.kind worker.new.pass.seen)) }
     {
-        let read = worker.replica.front();
         let sought = Sought {
             net: wish.net,
             window: plan.window,
             tree: &plan.tree,
         };
-        let still = worker.sync_beside(self.rt, visit, &sought)?;
-        if still && read == plan.front {
+        let still = worker.sync_beside(self.rt, visit, plan.front, &sought)?;
+        if still {
             let front = worker.pass.known();
             return Ok(Some(Foreseen { front, ..plan }));
         }
@@ -186,14 +185,13 @@ impl<N: BookName, R: Threads + Wait + Sync, G: Gate> Ground<'_, N, R, G> {
         let Some(foreseen) = foreseen else {
             return self.search(wish, visit, worker, planner);
         };
-        let read = worker.replica.front();
         let sought = Sought {
             net: wish.net,
             window: foreseen.window,
             tree: &foreseen.tree,
         };
-        let still = worker.sync_freed(self.rt, visit, &sought)?;
-        if still && read == foreseen.front {
+        let still = worker.sync_freed(self.rt, visit, foreseen.front, &sought)?;
+        if still {
             return Ok(foreseen.tree);
         }
         self.plan(wish, visit, worker, planner)

@@ -214,14 +214,13 @@ impl<N: BookName, R: Threads + Wait + Sync, G: Gate> Ground<'_, N, R, G> {
         let Some(window) = wish.window() else {
             return self.search(wish, visit, worker, planner);
         };
-        let read = worker.replica.front();
         let sought = Sought {
             net: wish.net,
             window,
             tree: &tree,
         };
-        let still = worker.sync_beside(self.rt, visit, &sought)?;
-        if still && read == front {
+        let still = worker.sync_beside(self.rt, visit, front, &sought)?;
+        if still {
             return Ok(tree);
         }
         self.plan(wish, visit, worker, planner)

@@ -45,13 +45,15 @@ impl<N: BookName> Worker<N> {
         Ok(())
     }
 
-    /// The worker comes to know the whole history. The result is true only where the entries that the
-    /// replica read leave the net's booking, and what each wire edge that begins in the window costs the
-    /// net, or make it dearer where it doesn't join two cells of the tree.
+    /// The worker comes to know the whole history. The result is true only where the replica stood for the
+    /// first `front` entries, and those that it read since leave the net's booking, and what each wire edge
+    /// that begins in the window costs the net, or make it dearer where it doesn't join two cells of the
+    /// tree.
     pub(crate) fn sync_beside<R: Wait>(
         &mut self,
         rt: &R,
         visit: &mut Visit<'_, N>,
+        front: u64,
         sought: &Sought<'_>,
     ) -> Result<bool, AllocError>
         ensures before { IsPass N.capacity self.old.pass }
@@ -60,23 +62,25 @@ impl<N: BookName> Worker<N> {
         ensures held { OnOk result (self.new.pass.held ≡ length self.new.pass.seen) }
         ensures stands { OnOk result (StandsFor N.capacity self.new.pass.seen self.new.replica) }
         ensures still { IfOk result (λ still. IsTrue still → StaysBest N.capacity sought.now.net sought.now.window
-            sought.now.tree.now (take self.old.replica.front self.new.pass.seen) self.new.pass.seen) }
+            sought.now.tree.now (take front self.new.pass.seen) self.new.pass.seen) }
     {
         self.hold_more(rt, visit)?;
         let past = self.pass.past();
+        let read = self.replica.front();
         let still = self
             .replica
             .catch_up_beside(visit.capacity(), past, sought)?;
-        Ok(still)
+        Ok(still && read == front)
     }
 
     /// The worker comes to know the whole history as it stood at its last call, or later. The result is
-    /// true only where the last entry frees the net, and of the others that the replica read it says what
-    /// that of `sync_beside` says.
+    /// true only where the replica stood for the first `front` entries, the last entry frees the net, and
+    /// of the others that it read holds what `sync_beside` says.
     pub(crate) fn sync_freed<R: Wait>(
         &mut self,
         rt: &R,
         visit: &mut Visit<'_, N>,
+        front: u64,
         sought: &Sought<'_>,
     ) -> Result<bool, AllocError>
         requires { sought.now.net < nets_of N.capacity }
@@ -86,12 +90,13 @@ impl<N: BookName> Worker<N> {
         ensures stands { OnOk result (StandsFor N.capacity self.new.pass.seen self.new.replica) }
         ensures still { IfOk result (λ still. IsTrue still → (e : Entry) → IsFreeing sought.now.net e →
             StaysBest N.capacity sought.now.net sought.now.window sought.now.tree.now
-            (take self.old.replica.front self.new.pass.seen ++ e ∷ []) self.new.pass.seen) }
+            (take front self.new.pass.seen ++ e ∷ []) self.new.pass.seen) }
     {
         self.hold(rt, visit)?;
         let past = self.pass.past();
+        let read = self.replica.front();
         let still = self.replica.catch_up_freed(visit.capacity(), past, sought)?;
-        Ok(still)
+        Ok(still && read == front)
     }
 
     /// The net's plan over all that the worker knows, as if the net was released. None where it isn't

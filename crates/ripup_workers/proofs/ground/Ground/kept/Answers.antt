@@ -1,4 +1,4 @@
-use Rattle.std.proofs.Common.{◌≡◌, ℕ, ◌<◌, take, refl, sym, subst, ◌∙◌}
+use Rattle.std.proofs.Common.{◌<◌, take, refl, subst}
 use Rattle.grid_demand.specs.Tables.{CapacityView}
 use Rattle.book_state.specs.Books.{nets_of}
 use Rattle.book_state.specs.Still.{StaysBest}
@@ -6,21 +6,20 @@ use Rattle.ripup_workers.proofs.ForeseenPlans.{foreseen-later}
 use Rattle.ripup_workers.proofs.TurningStages.{followed}
 use Rattle.ripup_workers.proofs.ground.Ground.kept.Goals as goal
 
-pub returns-then-read-plan-clause-learnt : goal.returns-then-read-plan-clause-learnt
-returns-then-read-plan-clause-learnt g c = λ t over.
+pub returns-then-still-clause-learnt : goal.returns-then-still-clause-learnt
+returns-then-still-clause-learnt g c = λ t over.
     followed t _ _ _ _ _ over c.requires.design.capacity_is c.in_ok-still.ensures.learnt c.in_ok-still.ensures.before c.in_ok-still.ensures.pass
 
-pub returns-then-read-plan-clause-foreseen : goal.returns-then-read-plan-clause-foreseen
-returns-then-read-plan-clause-foreseen g c =
+pub returns-then-still-clause-foreseen : goal.returns-then-still-clause-foreseen
+returns-then-still-clause-foreseen g c =
     let net = c.args.wish.now.net in
     let seen = c.args.worker.now.pass.seen in
     let now = c.sync_beside.new.self.pass.seen in
-    let front_is : c.args.worker.now.replica.front ≡ c.args.plan.front = sym c.front-read.ensures ∙ c.if-read-plan.true in
     let capacity_is = c.requires.design.capacity_is in
     foreseen-later _ _ net _ seen now c.args.plan (record { tree = c.args.plan.tree; front = c.known-front.result; window = c.args.plan.window }) refl refl c.known-front.ensures.known
     (subst (λ (x : CapacityView). net < nets_of x) capacity_is c.requires.net) c.requires.foreseen c.in_ok-still.ensures.learnt.begins
     (subst (λ (x : CapacityView). StaysBest x net c.args.plan.window c.args.plan.tree (take c.args.plan.front now) now) capacity_is
-    (subst (λ (n : ℕ). StaysBest _ net c.args.plan.window c.args.plan.tree (take n now) now) front_is (c.in_ok-still.ensures.still c.if-still.true)))
+    (c.in_ok-still.ensures.still c.if-still.true))
 
 pub returns-clause-learnt : goal.returns-clause-learnt
 returns-clause-learnt g c = λ t over.

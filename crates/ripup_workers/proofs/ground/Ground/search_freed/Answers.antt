@@ -1,4 +1,4 @@
-use Rattle.std.proofs.Common.{◌≡◌, ℕ, [], ◌∷◌, ◌++◌, Option, IfSome, take, sym, subst, ◌∙◌}
+use Rattle.std.proofs.Common.{[], ◌∷◌, ◌++◌, Option, IfSome, take, subst}
 use Rattle.grid_demand.specs.Tables.{CapacityView}
 use Rattle.book_state.specs.Books.{AreLoadsOf}
 use Rattle.book_state.specs.Still.{StaysBest}
@@ -8,12 +8,12 @@ use Rattle.ripup_workers.proofs.ForeseenPlans.{foreseen-plan}
 use Rattle.ripup_workers.proofs.TurningStages.{followed, ok-all}
 use Rattle.ripup_workers.proofs.ground.Ground.search_freed.Goals as goal
 
-pub returns-then-read-foreseen-clause-learnt : goal.returns-then-read-foreseen-clause-learnt
-returns-then-read-foreseen-clause-learnt g c = λ t over.
+pub returns-then-still-clause-learnt : goal.returns-then-still-clause-learnt
+returns-then-still-clause-learnt g c = λ t over.
     followed t _ _ _ _ _ over c.requires.design.capacity_is c.in_ok-still.ensures.learnt c.in_ok-still.ensures.before c.in_ok-still.ensures.pass
 
-pub returns-then-read-foreseen-clause-plan : goal.returns-then-read-foreseen-clause-plan
-returns-then-read-foreseen-clause-plan g c =
+pub returns-then-still-clause-plan : goal.returns-then-still-clause-plan
+returns-then-still-clause-plan g c =
     let d = c.args.wish.now.design.now in
     let formula = c.args.wish.now.rule.now.formula in
     let net = c.args.wish.now.net in
@@ -23,13 +23,12 @@ returns-then-read-foreseen-clause-plan g c =
     let now = c.sync_freed.new.self.pass.seen in
     let loads = c.sync_freed.new.self.replica.loads in
     let capacity_is = c.requires.design.capacity_is in
-    let front_is : c.args.worker.now.replica.front ≡ f.front = sym c.front-read.ensures ∙ c.if-read-foreseen.true in
     foreseen-plan d formula net kind seen now f loads
     (subst (λ (o : Option Foreseen). IfSome o (IsForeseen d formula net kind seen)) c.in-Some.is c.requires.foreseen)
     c.in_ok-still.ensures.learnt.begins
     (subst (λ (x : CapacityView). AreLoadsOf x now loads) capacity_is c.in_ok-still.ensures.stands.loads)
     (λ e freeing. subst (λ (x : CapacityView). StaysBest x net f.window f.tree (take f.front now ++ e ∷ []) now) capacity_is
-    (subst (λ (n : ℕ). StaysBest g.N.BookName.capacity net f.window f.tree (take n now ++ e ∷ []) now) front_is (c.in_ok-still.ensures.still c.if-still.true e freeing)))
+    (c.in_ok-still.ensures.still c.if-still.true e freeing))
 
 pub returns-clause-learnt : goal.returns-clause-learnt
 returns-clause-learnt g c = λ t over.
