@@ -19,11 +19,11 @@ both-at (Both one two) Nothing u = sym (or-none (chosen_at (Both one two) u))
 both-at (Both one two) (Buffered at kind below) u = refl
 both-at (Both one two) (Both three four) u = refl
 
-over-here : (k : ℕ) (held : Option ℕ) (below : Chosen) → chosen_at below k ≡ None → chosen_at (over k held below) k ≡ held
+pub over-here : (k : ℕ) (held : Option ℕ) (below : Chosen) → chosen_at below k ≡ None → chosen_at (over k held below) k ≡ held
 over-here k None below none = none
 over-here k (Some kind) below none = if-same k k (Some kind) (chosen_at below k) refl
 
-over-other : (k u : ℕ) (held : Option ℕ) (below : Chosen) → u ≢ k → chosen_at (over k held below) u ≡ chosen_at below u
+pub over-other : (k u : ℕ) (held : Option ℕ) (below : Chosen) → u ≢ k → chosen_at (over k held below) u ≡ chosen_at below u
 over-other k u None below other = refl
 over-other k u (Some kind) below other = if-other u k (Some kind) (chosen_at below u) other
 

@@ -61,14 +61,14 @@ offers-few lib node all =
     let kinds = length-range_with_len 0 (length lib.kinds) in
     omega arith
 
-above-few : (s : Sites) (node : ℕ) (all : List Candidate) → length (all_above s node all) ≤ length all + length s.library.kinds
+pub above-few : (s : Sites) (node : ℕ) (all : List Candidate) → length (all_above s node all) ≤ length all + length s.library.kinds
 above-few s node all = by (s.free node)
   where
     by : (free : Bool) → length (if free then with_offers s.library node all else all) ≤ length all + length s.library.kinds
     by true = offers-few s.library node all
     by false = omega arith
 
-hanging-few : (s : Sites) (node : ℕ) (all : List Candidate) → length (all_hanging s node all) ≤ length all + length s.library.kinds
+pub hanging-few : (s : Sites) (node : ℕ) (all : List Candidate) → length (all_hanging s node all) ≤ length all + length s.library.kinds
 hanging-few s node all =
     let wire = s.tree.wire node in
     let kept = length-thinned (map (along_edge wire) (all_above s node all)) in
@@ -76,7 +76,7 @@ hanging-few s node all =
     let above = above-few s node all in
     omega arith
 
-hanging-rising : (s : Sites) (node : ℕ) (all : List Candidate) → AreRising (all_hanging s node all)
+pub hanging-rising : (s : Sites) (node : ℕ) (all : List Candidate) → AreRising (all_hanging s node all)
 hanging-rising s node all = thinned-rising (map (along_edge (s.tree.wire node)) (all_above s node all))
 
 -- how many candidates a node has beyond one, where so many last nodes are hung

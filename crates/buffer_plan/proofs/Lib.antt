@@ -11,6 +11,7 @@ pub mod TimeKnown
 pub mod BestLemmas
 pub mod NodeLists
 pub mod FewCandidates
+pub mod AboveLists
 pub mod Small
 pub mod Gathering
 pub mod TakenLemmas

@@ -26,7 +26,7 @@ use Rattle.buffer_plan.proofs.Complete.{complete}
 use Rattle.buffer_plan.proofs.HungLemmas.{if-same, if-other, buffers_by, seen-hung}
 use Rattle.buffer_plan.proofs.Real.{IsReal, real}
 
-any-has : {A : Type 0} (p : A → Bool) (xs : List A) (x : A) → Contains xs x → p x ≡ true → list_any p xs ≡ true
+pub any-has : {A : Type 0} (p : A → Bool) (xs : List A) (x : A) → Contains xs x → p x ≡ true → list_any p xs ≡ true
 any-has p xs x at is = list_any-from_Any p xs (at.0, x, at.1, at.2, is)
 
 pub complete-at : (l : LoadingView) (v : ℕ) → IsLoading l → v < length l.tree.nodes → AreComplete l v (candidates_at l v)
@@ -37,7 +37,7 @@ complete-at l v loading inside p allowed =
     (subst (λ (s : Seen). serves served.by.seen s ≡ true) (sym (seen-last n v (rc_of l) (buffers_of l.library p) (rc-tree l loading) (omega arith))) served.well)
 
 -- what is seen below v depends on the buffers below v alone
-seen-within : (n k v : ℕ) (t : RcTree) (b c : Buffers) → IsRcTree t → v < k → k + n ≡ t.nodes →
+pub seen-within : (n k v : ℕ) (t : RcTree) (b c : Buffers) → IsRcTree t → v < k → k + n ≡ t.nodes →
     ((node : ℕ) → k ≤ node → node < t.nodes → lies_below t v node ≡ true → b node ≡ c node) → seen_of_last n t b v ≡ seen_of_last n t c v
 seen-within zero k v t b c tree later at each = refl
 seen-within (suc n) k v t b c tree later at each =

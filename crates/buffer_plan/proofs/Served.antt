@@ -107,7 +107,7 @@ MayHold s node (Some number) = (s.free node ≡ true) × (number < length s.libr
 abbrev pub seen_above : Sites → Option ℕ → Seen → Seen
 seen_above s held u = behind (option_and_then (kind_of s.library) held) u
 
-served-above : (s : Sites) (node : ℕ) (held : Option ℕ) (all : List Candidate) (u : Seen) → MayHold s node held → IsServed all u →
+pub served-above : (s : Sites) (node : ℕ) (held : Option ℕ) (all : List Candidate) (u : Seen) → MayHold s node held → IsServed all u →
     IsServed (all_above s node all) (seen_above s held u)
 served-above s node None all u may h = without (s.free node)
   where
