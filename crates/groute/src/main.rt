@@ -1,7 +1,8 @@
 //! `groute`: a global router over files and standard streams.
 #![tactic(auto)]
 
-use gr_io::{HostShelf, HostSink, write_whole};
+use command_form::{Stop, finish};
+use gr_io::{HostShelf, HostSink};
 use ripup_workers::OpenGate;
 use router_top::{own_rules, run};
 use std::env::Env;
@@ -9,9 +10,6 @@ use std::io::ErrorKind;
 use std::mem::forget;
 use std::process::ExitCode;
 use std::{env, io};
-
-/// The status where memory is wanting for the words.
-const NO_MEMORY: u8 = 8;
 
 /// The words after the program's name.
 fn words<R: Env + AllocGlobal>(rt: &R) -> io::Result<Vec<String>> {
@@ -29,8 +27,7 @@ fn main(rt: HostRuntime) -> ExitCode {
     let words = match words(&rt) {
         Ok(words) => words,
         Err(error) if error.kind() == ErrorKind::OutOfMemory => {
-            let _ = write_whole(&mut err, b"groute: out of memory\n");
-            return ExitCode::from(NO_MEMORY);
+            return ExitCode::from(finish(rt.alloc(), &mut err, Err(Stop::NoMemory)));
         }
         // Words that are no text give no order.
         Err(_) => Vec::new(rt.alloc()),

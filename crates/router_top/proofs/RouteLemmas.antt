@@ -62,7 +62,7 @@ some-weaken P Q None all some = some
 some-weaken P Q (Some t) all some = all t some
 
 -- each routed net has a tree that routes it
-pub held-tree : (d : DesignView) (h : List Entry) (trees : List (Option TreeView)) → Stands d h → ((net : ℕ) → tree_at trees net ≡ booked h net) →
+held-tree : (d : DesignView) (h : List Entry) (trees : List (Option TreeView)) → Stands d h → ((net : ℕ) → tree_at trees net ≡ booked h net) →
     (net : ℕ) → IsTrue (is_routed d net) → IsSomeAnd (tree_at trees net) (IsRouteOfNet d net)
 held-tree d h trees stands same net routed = subst (λ (o : Option TreeView). IsSomeAnd o (IsRouteOfNet d net)) (sym (same net)) (stands.held net routed)
 

@@ -13,7 +13,6 @@ use Rattle.book_state.specs.Entries.{AtEach}
 use Rattle.book_state.specs.Marks.{least_mark}
 use Rattle.book_state.specs.Views.{BookView}
 use Rattle.book_state.specs.declared.entry.Entry.{Entry}
-use Rattle.buffer_plan.specs.Plans.{AreRoutesOf}
 use Rattle.route_evaluator.specs.NetTrees.{AreTrees as AreNetTrees}
 use Rattle.route_evaluator.specs.Verdicts.{IsVerdict}
 use Rattle.route_evaluator.specs.declared.verdict.Verdict.{Verdict}
@@ -25,7 +24,6 @@ use Rattle.round_core.specs.RunHistories.{Setting, asked_for, IsRunHistory}
 use Rattle.round_core.specs.Standing.{Stands}
 use Rattle.round_core.specs.declared.hands.HandLog.{HandLog}
 use Rattle.router_top.specs.declared.booking.BookedRoutes.{BookedRoutes}
-use Rattle.router_top.specs.declared.booking.JudgedRoutes.{JudgedRoutes}
 use Rattle.word_reader.specs.declared.order.Options.{Options}
 use Rattle.word_reader.specs.declared.order.Stopping.{Stopping}
 
@@ -111,11 +109,3 @@ IsVerdictOn d options trees v = IsVerdict d options.via_cost (route_edges trees)
 -- the verdict on a design's trees, each of which is one, where it is given
 abbrev pub GivesVerdict : {E : Type 0} → DesignView → Options → List (Option TreeView) → Result Verdict E → Type 0
 GivesVerdict d options trees given = IfOk given (IsVerdictOn d options trees) × OnOk given (AreNetTrees d trees)
-
--- a design's routes and the verdict on them, with the rounds that they are from
-pub record AreJudgedRoutes (d : DesignView) (options : Options) (r : JudgedRoutes) : Type 0 where
-  pub made : IsBookOf d options r.rounds.book.state r.rounds.hands.items
-  pub routes : AreChosenRoutes d r.rounds.book.state r.rounds.chosen r.routes
-  pub trees : AreTrees d.frame.shape r.routes
-  pub held : AreRoutesOf d r.routes
-  pub judged : IsVerdictOn d options r.routes r.verdict

@@ -4,7 +4,7 @@ ghost use Rattle.gr_base.specs.Designs.{IsDesign};
 ghost use Rattle.route_evaluator.specs.NetTrees.{AreTrees};
 ghost use Rattle.ripup_workers.specs.Made.{IsMade};
 ghost use Rattle.round_core.specs.RunHistories.{asked_for};
-ghost use Rattle.router_top.specs.Booking.{setting_of, AreBookedRoutes, AreJudgedRoutes, AreRoundsOf, IsVerdictOn};
+ghost use Rattle.router_top.specs.Booking.{setting_of, AreBookedRoutes, AreRoundsOf, IsVerdictOn};
 ghost use Rattle.word_reader.specs.Orders.{AreInRange};
 
 use crate::means::Means;
@@ -27,14 +27,6 @@ pub(crate) struct BookedRoutes {
     pub routes: Routes,
 }
 
-/// The same, and the verdict on the routes.
-#[derive(Drop)]
-pub(crate) struct JudgedRoutes {
-    pub rounds: Rounds,
-    pub routes: Routes,
-    pub verdict: Verdict,
-}
-
 /// Routes a design, and copies the trees that are booked at the first mark of least overflow. The
 /// only error is want of memory.
 pub(crate) fn booked_routes<R: Threads + Wait + Sync, G: Gate + Sync>(
@@ -51,25 +43,6 @@ pub(crate) fn booked_routes<R: Threads + Wait + Sync, G: Gate + Sync>(
     let parts = parts_for(options.workers);
     let routes = book.routes_at(means.rt, rounds.chosen, parts)?;
     Ok(BookedRoutes { rounds, routes })
-}
-
-/// Judges booked routes. The only error is want of memory.
-pub(crate) fn judged_routes(
-    alloc: Global,
-    design: &Design,
-    booked: BookedRoutes,
-    options: Options,
-) -> Result<JudgedRoutes, AllocError>
-    requires booked { AreBookedRoutes design.now options booked }
-    requires options { AreInRange options }
-    ensures { IfOk result (AreJudgedRoutes design.now options) }
-{
-    let verdict = verdict_on(alloc, design, &booked, options)?;
-    Ok(JudgedRoutes {
-        rounds: booked.rounds,
-        routes: booked.routes,
-        verdict,
-    })
 }
 
 /// The rounds that are asked for, in batches or by workers side by side. The only error is want of

@@ -8,5 +8,4 @@ mod rules;
 mod top;
 mod trying;
 
-pub use command_form::Spent;
 pub use top::{Ended, run};

@@ -11,7 +11,7 @@ ghost use Rattle.router_top.specs.Trying.{trying};
 ghost use Rattle.text_commands.specs.Judging.{report_of};
 ghost use Rattle.word_reader.specs.Orders.{AreInRange};
 
-use crate::booking::{booked_routes, judged_routes};
+use crate::booking::{booked_routes, verdict_on};
 use crate::means::Means;
 use command_form::{Kept, Left, Outcome, Stop};
 use design_maker::{Made, made_text};
@@ -45,15 +45,15 @@ pub(crate) fn trial<R: Threads + Wait + Sync, O: Sink, G: Gate + Sync>(
     let Ok(booked) = booked_routes(means, &design, options) else {
         return Left::without_book(Err(Stop::NoMemory));
     };
-    let Ok(judged) = judged_routes(means.alloc, &design, booked, options) else {
+    let Ok(verdict) = verdict_on(means.alloc, &design, &booked, options) else {
         return Left::without_book(Err(Stop::NoMemory));
     };
-    let end = write_report(means.alloc, out, &judged.verdict);
+    let end = write_report(means.alloc, out, &verdict);
     Left {
         end,
         kept: Some(Kept {
-            book: judged.rounds.book,
-            hands: judged.rounds.hands,
+            book: booked.rounds.book,
+            hands: booked.rounds.hands,
         }),
         spent: None,
     }

@@ -12,10 +12,11 @@ use Rattle.text_commands.specs.Judging.{report_of}
 pub returns : goal.returns
 returns g c =
     let d = c.in-Ok.design in
-    let r = c.in-Ok-judged_routes.judged in
-    let is = c.in-Ok-judged_routes.ensures in
+    let r = c.in-Ok-booked_routes.booked in
+    let are = c.in-Ok-booked_routes.ensures in
+    let v = c.in-Ok-verdict_on.verdict in
     let h = take r.rounds.chosen r.rounds.book.state.history in
-    leaves-alone (trying c.args.made c.args.options) _ (kept_back (Some (record { book = r.rounds.book; hands = r.rounds.hands }))) (report_of r.verdict)
+    leaves-alone (trying c.args.made c.args.options) _ (kept_back (Some (record { book = r.rounds.book; hands = r.rounds.hands }))) (report_of v)
     c.write_report-end.result
     (λ shelf. (
       refl,
@@ -23,11 +24,11 @@ returns g c =
       record {
         design = d;
         said = c.in-Ok.ensures.said;
-        rounds_are = is.made;
+        rounds_are = are.rounds.made;
         chosen = r.rounds.chosen;
-        least = is.routes.least;
-        verdict = r.verdict;
-        judged = subst (λ (sets : ℕ → Edges). IsVerdict d c.args.options.via_cost sets r.verdict) (fun_ext (λ net. fun_ext (λ e. booked-same d h r.routes is.routes.booked net e))) is.judged;
+        least = are.rounds.least;
+        verdict = v;
+        judged = subst (λ (sets : ℕ → Edges). IsVerdict d c.args.options.via_cost sets v) (fun_ext (λ net. fun_ext (λ e. booked-same d h r.routes are.booked net e))) c.in-Ok-verdict_on.ensures.verdict;
         says = refl;
       },
     ))
