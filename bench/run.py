@@ -338,7 +338,8 @@ def machine():
     """What the times were taken on, and when."""
     with open("/proc/cpuinfo") as info:
         names = [line.split(":", 1)[1].strip() for line in info if line.startswith("model name")]
-    return f"{len(names)} processors ({names[0]}), {datetime.date.today():%d %B %Y}"
+    today = datetime.date.today()
+    return f"{len(names)} processors ({names[0]}), {today.day} {today:%B %Y}"
 
 
 def by_hand():
