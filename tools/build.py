@@ -1,21 +1,19 @@
 #!/usr/bin/env python3
-"""Proves and builds a program: tools/build.py [--note] [PROGRAM], else groute
+"""Proves and builds programs: tools/build.py [--anew] [PROGRAM ..], else groute
 
-What the program's crate stands on is proved, and nothing else: lowest crates first, as many side by side as there are
+What a program's crate stands on is proved, and nothing else: lowest crates first, as many side by side as there are
 processors and memory for, those first that the longest chain of crates waits for. Each is proved in a folder of its own
 below one beside the repository that has its name and .build, since of two runs of rt that share a crate one waits. What
-is proved stays, so that a build that was stopped goes on where it was. A second build waits for the first. On a terminal
-it tells how far it is. The prover's words go to build.log. The status is 0 where the program is there.
-
---note says that the program that lies in its crate's folder out was proved and built from the sources as they stand,
-as after `rt ci`; then ./groute or ./grbound takes it as it is.
+is proved stays, so that a build that was stopped goes on where it was; --anew begins from nothing. A second build waits
+for the first. How far it is, crate by crate, it tells once a minute on standard error where that is no regular file.
+The prover's words go to build.log. The status is 0 where the programs are there.
 """
 import argparse
 import fcntl
-import hashlib
 import os
 import re
 import shutil
+import stat
 import subprocess
 import sys
 import threading
@@ -28,6 +26,7 @@ PROGRAMS = ["groute", "grbound"]
 PARTS = ["src", "specs", "proofs"]
 GIGABYTES = 3       # what a proof takes of memory, but for few
 MANY = 20           # of a process that holds so many crates copies take longer to make than they save
+RATE = 0.009        # processor seconds that a byte of code takes, until some are measured
 
 
 def folder_of(name, root=ROOT):
@@ -38,11 +37,6 @@ def folder_of(name, root=ROOT):
 def path_of(program):
     """Where the program lies once it is built."""
     return os.path.join(folder_of(program), "out", program)
-
-
-def note_path(program):
-    """Where it is noted what the program was built from."""
-    return path_of(program) + ".sources"
 
 
 def rows():
@@ -56,10 +50,10 @@ def rows():
     return found
 
 
-def crates(program):
-    """By name the crates of this repository that the program stands on, and itself: what each one uses of these."""
+def crates(programs):
+    """By name the crates of this repository that the programs stand on, and themselves: what each one uses of these."""
     uses = {name: lower for name, (_, lower) in rows().items()}
-    found, new = set(), [program]
+    found, new = set(), list(programs)
     while new:
         name = new.pop()
         if name in uses and name not in found:
@@ -68,50 +62,20 @@ def crates(program):
     return {name: [low for low in uses[name] if low in found] for name in uses if name in found}
 
 
-def sources(name):
-    """The paths of a crate's files that a proof reads."""
-    for part in PARTS:
-        for folder, folders, files in os.walk(os.path.join(folder_of(name), part)):
-            folders.sort()
-            for file in sorted(files):
-                if file.endswith((".rt", ".antt")):
-                    yield os.path.join(folder, file)
+def release(word, program):
+    """Whether tools/release.sh, asked this of a program, says yes."""
+    return subprocess.run([os.path.join(ROOT, "tools", "release.sh"), word, program], check=False).returncode == 0
 
 
-def sum_of(paths):
-    """A sum of files, with their places."""
-    made = hashlib.sha256()
-    for path in paths:
-        with open(path, "rb") as file:
-            made.update(repr((os.path.relpath(path, ROOT), file.read())).encode())
-    return made.hexdigest()
-
-
-def note_of(program, uses):
-    """What a note says of the sources and of the program."""
-    paths = [os.path.join(ROOT, "crates.txt"), os.path.join(ROOT, "HANDLES")]
-    paths += [path for name in sorted(uses) for path in sources(name)]
-    return f"{sum_of(paths)}\n{sum_of([path_of(program)])}\n"
-
-
-def is_current(program, uses):
-    """Whether the program is noted as that of the sources."""
-    if not os.path.exists(path_of(program)) or not os.path.exists(note_path(program)):
-        return False
-    with open(note_path(program), encoding="utf-8") as file:
-        return file.read() == note_of(program, uses)
-
-
-def note(program, uses):
-    """Notes that the program is that of the sources."""
-    with open(note_path(program), "w", encoding="utf-8") as file:
-        file.write(note_of(program, uses))
-    os.utime(path_of(program))
+def size_of(name):
+    """Of how many bytes a crate's code is: what its proof takes goes by them."""
+    return sum(os.path.getsize(os.path.join(folder, file)) for folder, _, files in
+               os.walk(os.path.join(folder_of(name), "src")) for file in files)
 
 
 def heights(uses):
-    """By crate, how much is to prove from it up to the program, in bytes of code along the longest chain."""
-    sizes = {name: sum(os.path.getsize(path) for path in sources(name) if path.endswith(".rt")) for name in uses}
+    """By crate, how much is to prove from it up to the programs, in bytes of code along the longest chain."""
+    sizes = {name: size_of(name) for name in uses}
     above = {name: [high for high in uses if name in uses[high]] for name in uses}
     known = {}
 
@@ -176,111 +140,140 @@ def most_at_once():
     return max(1, min(len(os.sched_getaffinity(0)), int(free / GIGABYTES)))
 
 
+def tells():
+    """Whether standard error is read by somebody: a terminal, or a program behind a pipe."""
+    return not stat.S_ISREG(os.fstat(sys.stderr.fileno()).st_mode)
+
+
 class Build:
     """The proofs of crates, side by side."""
 
-    def __init__(self, program, uses, log):
-        self.program, self.uses, self.log, self.begun = program, uses, log, time.time()
-        self.heights = heights(uses)
-        self.proved, self.running, self.waiting, self.failed = set(), set(), set(uses), []
-        self.changed = threading.Condition()
+    def __init__(self, programs, uses, log):
+        self.programs, self.uses, self.log, self.begun = programs, uses, log, time.time()
+        self.heights, self.most = heights(uses), most_at_once()
+        self.proved, self.running, self.waiting, self.failed = set(), {}, set(uses), []
+        self.changed, self.is_over = threading.Condition(), threading.Event()
 
     def say(self, text):
-        """Tells how far it is, on a terminal."""
-        if sys.stderr.isatty():
-            minutes, seconds = divmod(int(time.time() - self.begun), 60)
-            print(f"{self.program}: {minutes}:{seconds:02} {text}", file=sys.stderr, flush=True)
+        """Tells how far it is."""
+        minutes, seconds = divmod(int(time.time() - self.begun), 60)
+        print(f"{' '.join(self.programs)}: {minutes}:{seconds:02} {text}", file=sys.stderr, flush=True)
+
+    def left(self):
+        """About how many minutes are left: all that is to prove by all processors, or the longest chain by one."""
+        spent = time.time() - self.begun
+        done = sum(map(size_of, self.proved))
+        rate = spent * self.most / done if done > sum(map(size_of, self.uses)) / 10 else RATE
+        rest = sum(size_of(name) for name in self.uses if name not in self.proved)
+        chain = max((self.heights[name] for name in self.uses if name not in self.proved), default=0)
+        return int(max(rest / self.most, chain) * rate / 60) + 1
+
+    def tell(self):
+        """Tells each minute which crates are proved, which are being proved, and what is left, until it is over."""
+        while not self.is_over.wait(60):
+            with self.changed:
+                names = ", ".join(f"{name} ({int(time.time() - begun)} s)" for name, begun in self.running.items())
+                self.say(f"{len(self.proved)} of {len(self.uses)} crates are proved; at {names}; some {self.left()} "
+                         "minutes are left")
 
     def ready(self):
         """The crates that can be proved now, those first that most waits for."""
         ready = [name for name in self.waiting if all(low in self.proved for low in self.uses[name])]
         return sorted(ready, key=lambda name: -self.heights[name])
 
-    def jobs_for(self, name, most):
+    def jobs_for(self, name):
         """By how many processes a crate is proved: by all where the longest chain waits for it, else by its share."""
         if len(below(name, self.uses)) >= MANY:
             return 1
-        if all(self.heights[name] > self.heights[other] for other in self.running):
-            return most
-        return max(1, most // (len(self.running) + len(self.ready())))
+        if all(self.heights[name] > self.heights[other] for other in self.running if other != name):
+            return self.most
+        return max(1, self.most // (len(self.running) + len(self.ready())))
 
     def prove(self, name, jobs):
-        """Proves a crate by so many jobs, and tells it. Without words the program ends at once."""
-        words = ["run", "--jobs", str(jobs), "--", "usage"] if name == self.program else ["lib", "--jobs", str(jobs)]
-        folder = set_apart(name, below(name, self.uses))
-        done = subprocess.run(["rt", *words], cwd=folder, check=False, text=True,
-                              stdin=subprocess.DEVNULL, stdout=subprocess.PIPE, stderr=subprocess.STDOUT)
-        bring_back(name)
+        """Proves a crate by so many jobs, and says how it went. Without words a program ends at once."""
+        words = ["run", "--jobs", str(jobs), "--", "usage"] if name in self.programs else ["lib", "--jobs", str(jobs)]
+        text, is_there = "", False
+        try:
+            folder = set_apart(name, below(name, self.uses))
+            done = subprocess.run(["rt", *words], cwd=folder, check=False, text=True,
+                                  stdin=subprocess.DEVNULL, stdout=subprocess.PIPE, stderr=subprocess.STDOUT)
+            bring_back(name)
+            text = done.stdout
+            is_there = os.path.exists(path_of(name)) if name in self.programs else done.returncode == 0
+        except OSError as fault:
+            text = f"error: {fault}\n"
         with self.changed:
-            self.log.write(f"==== {name}\n{done.stdout}")
+            self.log.write(f"==== {name}\n{text}")
             self.log.flush()
-            self.running.remove(name)
-            is_there = os.path.exists(path_of(name)) if name == self.program else done.returncode == 0
+            del self.running[name]
             if is_there:
                 self.proved.add(name)
-                self.say(f"{name} is proved, {len(self.proved)} of {len(self.uses)}")
             else:
-                self.failed.append((name, re.search(r"^.*\berror\b.*$", done.stdout, re.MULTILINE)))
+                self.failed.append((name, re.search(r"^.*\berror\b.*$", text, re.MULTILINE)))
             self.changed.notify_all()
 
     def run(self):
         """Whether all crates are proved."""
-        threads, most = [], most_at_once()
-        self.say(f"{len(self.uses)} crates are to be proved, {most} at once")
+        threads = [threading.Thread(target=self.tell, daemon=True)] if tells() else []
+        for thread in threads:
+            thread.start()
         with self.changed:
             while self.waiting and not self.failed:
                 ready = self.ready()
-                if not ready or len(self.running) >= most:
+                if not ready or len(self.running) >= self.most:
                     self.changed.wait()
                     continue
                 name = ready[0]
-                jobs = self.jobs_for(name, most)
                 self.waiting.remove(name)
-                self.running.add(name)
-                threads.append(threading.Thread(target=self.prove, args=(name, jobs)))
+                self.running[name] = time.time()
+                threads.append(threading.Thread(target=self.prove, args=(name, self.jobs_for(name))))
                 threads[-1].start()
+            while self.running:
+                self.changed.wait()
+        self.is_over.set()
         for thread in threads:
             thread.join()
         shutil.rmtree(APART, ignore_errors=True)
         return not self.failed
 
 
-def build(program, uses):
-    """Whether the program was built."""
+def build(programs, uses, is_anew):
+    """Whether the programs were built."""
     with open(LOG, "a+", encoding="utf-8") as log:
         try:
             fcntl.flock(log, fcntl.LOCK_EX | fcntl.LOCK_NB)
         except BlockingIOError:
-            print(f"{program}: another build goes on here; this one waits for it", file=sys.stderr)
+            print(f"{programs[0]}: another build goes on here; this one waits for it", file=sys.stderr)
             fcntl.flock(log, fcntl.LOCK_EX)
-            if is_current(program, uses):
-                return True
+        if not is_anew and all(release("--built", program) for program in programs):
+            return True
         log.truncate(0)
         # What a build that was killed has left.
         for name in os.listdir(APART) if os.path.isdir(APART) else []:
             bring_back(name)
-        made = Build(program, uses, log)
+        for name in uses if is_anew else []:
+            shutil.rmtree(os.path.join(folder_of(name), "out"), ignore_errors=True)
+        made = Build(programs, uses, log)
         if made.run():
-            note(program, uses)
-            return True
+            return all([release("--note", program) for program in programs])
         for name, line in made.failed:
-            print(f"{program}: {name} isn't proved: {line.group() if line else 'see build.log'}", file=sys.stderr)
+            print(f"{programs[0]}: {name} isn't proved: {line.group() if line else 'see build.log'}", file=sys.stderr)
         return False
 
 
 def main():
+    """Builds. The answer is the status."""
     words = argparse.ArgumentParser(description=__doc__, formatter_class=argparse.RawDescriptionHelpFormatter)
-    words.add_argument("--note", action="store_true", help="note that the program that is there is that of the sources")
-    words.add_argument("program", nargs="?", choices=PROGRAMS, default=PROGRAMS[0], help="else groute")
+    words.add_argument("--anew", action="store_true", help="begin from nothing: what was built here goes")
+    words.add_argument("programs", metavar="PROGRAM", nargs="*", help="groute, grbound")
     asked = words.parse_args()
-    uses = crates(asked.program)
-    if asked.note:
-        note(asked.program, uses)
-    elif is_current(asked.program, uses):
-        os.utime(path_of(asked.program))
-    elif not build(asked.program, uses):
+    programs = asked.programs or PROGRAMS[:1]
+    if not set(programs) <= set(PROGRAMS):
+        words.error(f"the programs are {' and '.join(PROGRAMS)}")
+    if not shutil.which("rt"):
+        print(f"{programs[0]}: rt isn't on PATH: to prove and build takes Rattle's toolchain", file=sys.stderr)
         return 1
-    return 0
+    return 0 if build(programs, crates(programs), asked.anew) else 1
 
 
 if __name__ == "__main__":

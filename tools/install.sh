@@ -2,10 +2,9 @@
 # Installs the proved program: see --help.
 usage="tools/install.sh FOLDER
 
-Puts the proved programs with their tools, man pages, completion and documents into FOLDER/bin, lib/groute, share/groute,
-share/man, share/doc/groute and so on. Where a program isn't built yet, ./groute or ./grbound proves and builds it
-first. PROVED_WITH among the documents has the sums of the toolchain, of the sources and of the programs. It wants git, gzip and
-python3."
+Puts the programs that ./groute and ./grbound run with their tools, man pages, completion and documents into FOLDER/bin,
+lib/groute, share/groute, share/man, share/doc/groute and so on. PROVED_WITH among the documents has the revision, the
+kit that they were proved and built by, and the sums of their sources and of themselves. It wants git, gzip and python3."
 
 case ${1:--} in
 -*)
@@ -18,30 +17,21 @@ mkdir -p "$1" && root=$(cd "$1" && pwd) || exit 1
 cd "$here" || exit 1
 set -e
 
-# Without words groute ends with status 2, once it is built.
-status=0
-./groute >/dev/null 2>&1 || status=$?
-if [ "$status" -ne 2 ]; then
-    echo "install: ./groute couldn't build the program (status $status): see build.log" >&2
-    exit 1
-fi
-./grbound >/dev/null 2>&1 || status=$?
-if [ "$status" -ne 2 ]; then
-    echo "install: ./grbound couldn't build the program (status $status): see build.log" >&2
-    exit 1
-fi
-program=crates/groute/out/groute
-bounds=crates/grbound/out/grbound
+program=$(tools/release.sh --find groute)
+bounds=$(tools/release.sh --find grbound)
 share=$root/share
 doc=$share/doc/groute
 
-# What the program was proved with.
+# What the programs were proved and built with.
 proved_with() {
-    rt version
-    echo "sources $(git describe --always --dirty --abbrev=40)"
-    (cd "$(dirname "$(rt doc)")" && sha256sum KIT-ID bin/*)
-    git ls-files -z 'crates/*.rt' 'crates/*.antt' crates.txt HANDLES | xargs -0 sha256sum
-    sha256sum "$program" "$bounds"
+    echo "revision $(git describe --always --dirty --abbrev=40)"
+    case $program in
+    release/*) cat release/SUMS ;;
+    *)
+        echo "kit $(rt version)"
+        cat crates/groute/out/groute.sources crates/grbound/out/grbound.sources
+        ;;
+    esac
 }
 
 # Tools that are commands of their own; others are what these are made of.

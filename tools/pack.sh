@@ -2,10 +2,10 @@
 # Packs the proved program: see --help.
 usage="tools/pack.sh [FOLDER]
 
-Builds the proved program through ./groute, which proves it where that is needed, and packs it as tools/install.sh
-installs it, with its licence, documents, man pages, completion, examples, tools, and PROVED_WITH (the sums of the
-toolchain and of the sources that it was proved with), as FOLDER/groute-VERSION-linux-x86_64.tar.xz and
-FOLDER/groute_VERSION-1_amd64.deb. FOLDER is dist where none is given. It wants git, xz, gzip, python3 and dpkg-deb."
+Packs the programs that ./groute and ./grbound run as tools/install.sh installs them, with licence, documents, man pages,
+completion, examples, tools, and PROVED_WITH (what they were proved and built with), as
+FOLDER/groute-VERSION-linux-x86_64.tar.xz and FOLDER/groute_VERSION-1_amd64.deb. FOLDER is dist where none is given. It
+wants git, xz, gzip, python3 and dpkg-deb."
 
 here=$(cd "$(dirname "$0")/.." && pwd) || exit 1
 case ${1-} in
@@ -20,7 +20,6 @@ work=$(mktemp -d) || exit 1
 trap 'rm -rf "$work"' EXIT
 set -e
 
-echo "pack: where the program isn't built yet, it is proved and built first, which takes long" >&2
 version=$(cat VERSION)
 maintainer=$(git log -1 --format='%an <%ae>')
 SOURCE_DATE_EPOCH=$(git log -1 --format=%ct)
