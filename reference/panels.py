@@ -4,7 +4,8 @@
 For each seed random segments are written for the nets of a random design: most lie near one another, some overlap or
 close loops, some nets have none. Tiles are marked one by one: the edges that a net covers, the pieces that they make,
 and for each piece the first track, tried from the lowest on, on which none of its tiles is taken. The number of tracks
-has to be the greatest number of pieces at a tile. Texts on which the two differ are kept under the names of their seed.
+has to be the greatest number of pieces at a tile. The last seed's design is a large one, with more than 10,000 runs, of
+which more than 1,000 lie in one row. Texts on which the two differ are kept under the names of their seed.
 """
 import os
 import random
@@ -92,12 +93,33 @@ def panels_text(d, sets):
     return "".join(f"{text}\n" for text in [f"panels {len(panels)}", f"tracks {total}", *lines]).encode()
 
 
-def tried(program, seed):
-    """Whether the program agrees on a seed's texts."""
-    rng = random.Random(seed)
+def small(rng):
+    """A random design and a solution of it."""
     text = compare.design(rng)
     d = read_design(text)
-    solution = b"".join(record(rng, d, net) for net in d.nets if rng.random() < 0.9)
+    return text, b"".join(record(rng, d, net) for net in d.nets if rng.random() < 0.9)
+
+
+def large(rng):
+    """A design of 4,000 nets, each with a short line in the first row and two elsewhere."""
+    columns, rows, nets = 500, 20, 4000
+    text = (f"grid {columns} {rows} 2 vertical capacity 0 9 horizontal capacity 9 0 minimum width 1 1 minimum spacing 1 1 "
+            f"via spacing 1 1 0 0 10 10 num net {nets}\n" + "".join(f"n {net} 1 1 5 5 1\n" for net in range(nets)))
+    records = []
+    for net in range(nets):
+        records.append(f"n {net}")
+        for y in (0, rng.randrange(1, rows)):
+            x = rng.randrange(columns - 9)
+            records.append(f"({10 * x + 5},{10 * y + 5},1)-({10 * x + 10 * rng.randint(1, 9) + 5},{10 * y + 5},1)")
+        x, y = rng.randrange(columns), rng.randrange(rows - 1)
+        records += [f"({10 * x + 5},{10 * y + 5},2)-({10 * x + 5},{10 * rng.randrange(y + 1, rows) + 5},2)", "!"]
+    return text.encode(), "\n".join(records).encode()
+
+
+def tried(program, seed, made):
+    """Whether the program agrees on a seed's texts."""
+    text, solution = made(random.Random(seed))
+    d = read_design(text)
     paths = [f"{seed}.ispd", f"{seed}.solution"]
     for path, bytes_ in zip(paths, [text, solution]):
         with open(path, "wb") as file:
@@ -117,7 +139,8 @@ def main():
     program = os.path.abspath(sys.argv[1])
     first = int(sys.argv[2]) if len(sys.argv) > 2 else 1
     count = int(sys.argv[3]) if len(sys.argv) > 3 else 200
-    agree = sum(tried(program, seed) for seed in range(first, first + count))
+    last = first + count - 1
+    agree = sum(tried(program, seed, large if seed == last else small) for seed in range(first, last + 1))
     print(f"{count} cases: {agree} agree, {count - agree} differ")
     return 0 if agree == count else 1
 
