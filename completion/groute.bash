@@ -1,4 +1,4 @@
-# Completion of groute for bash, as tools/usage.py writes it.
+# Completion of groute for bash, as tools/dev/completion.py writes it.
 _groute() {
     local word=${COMP_WORDS[COMP_CWORD]} options
     if [ "$COMP_CWORD" -eq 1 ]; then

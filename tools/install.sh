@@ -39,20 +39,16 @@ tools="adjust congestion def_to_ispd flow guides hotspots liberty report slowest
 
 put_tools() {
     mkdir -p "$share/groute" "$share/man/man1"
-    for file in $(git ls-files 'tools/*.py' 'tools/page*'); do
-        case $file in
-        tools/test*.py | tools/klayout_shapes.py | tools/browser.py | tools/definitions.py | tools/man_page.py) continue ;;
-        esac
+    git ls-files -z tools/groute | tar -c --null -T - | tar -x --strip-components=1 -C "$share/groute"
+    for tool in $tools in_words; do
         # Debian's own python finds Debian's numpy and matplotlib, whatever stands first on PATH.
-        sed '1s|^#!/usr/bin/env python3$|#!/usr/bin/python3|' "$file" >"$share/groute/${file#tools/}"
-        mode=644
-        [ "$(head -c 2 "$file")" != '#!' ] || mode=755
-        chmod "$mode" "$share/groute/${file#tools/}"
+        sed '1s|^#!/usr/bin/env python3$|#!/usr/bin/python3|' "tools/$tool.py" >"$share/groute/$tool.py"
+        chmod 755 "$share/groute/$tool.py"
     done
     for tool in $tools; do
         name=groute-$(echo "$tool" | tr _ -)
         ln -sf "../share/groute/$tool.py" "$root/bin/$name"
-        python3 tools/man_page.py "$tool" | gzip -9n >"$share/man/man1/$name.1.gz"
+        python3 tools/dev/man_page.py "$tool" | gzip -9n >"$share/man/man1/$name.1.gz"
     done
 }
 

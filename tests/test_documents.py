@@ -1,0 +1,104 @@
+"""Tests of the samples in the documents, and of what stands in two places."""
+import glob
+import os
+import re
+import shlex
+import subprocess
+import sys
+import tempfile
+import unittest
+
+from dev import definitions
+from testing import PICTURES, ROOT, bounds, program, text_of
+
+DOCUMENTS = ["README.md", *(f"docs/{name}" for name in sorted(os.listdir(f"{ROOT}/docs")) if name.endswith(".md"))]
+QFLOW = os.path.exists("/usr/share/qflow/tech/osu035/osu035_stdcells.lef")     # of Debian's qflow-tech-osu035
+# Samples that want numpy, and what stands on a text of theirs.
+WANTS_NUMPY = re.compile(r"\.png\b|tools/(hotspots|slowest|report|adjust|flow)\.py|/less\.ispd|/flow/adder")
+
+
+class Samples(unittest.TestCase):
+    """What the documents show is what the commands write."""
+
+    def test_samples(self):
+        path = {**os.environ, "PATH": os.path.dirname(sys.executable) + os.pathsep + os.environ["PATH"]}
+        with tempfile.TemporaryDirectory() as folder:
+            for name, path_of in (("groute", program()), ("grbound", bounds())):
+                with open(f"{folder}/{name}", "w", encoding="utf-8") as file:
+                    file.write(f'#!/bin/sh\nexec {shlex.quote(path_of or "false")} "$@"\n')
+                os.chmod(f"{folder}/{name}", 0o755)
+            for name in ("examples", "tools", "docs"):
+                os.symlink(f"{ROOT}/{name}", f"{folder}/{name}")
+            for document in DOCUMENTS:
+                for command, wanted in samples(document):
+                    with self.subTest(document=document, command=command):
+                        if "./grbound" in command and not bounds():
+                            self.skipTest("grbound is not named")
+                        if WANTS_NUMPY.search(command) and not PICTURES:
+                            self.skipTest("numpy and matplotlib are not there")
+                        done = subprocess.run(["sh", "-c", command], cwd=folder, check=False, text=True, env=path,
+                                              stdout=subprocess.PIPE, stderr=subprocess.STDOUT)
+                        self.assertEqual(done.stdout, wanted)
+
+
+def samples(document):
+    """The commands of a document, and what they should write."""
+    lines = text_of(document).split("\n")
+    command, wanted = None, []
+    for line in [*lines, ""]:
+        if command is not None and (line[:6] == "    $ " or line[:4] != "    "):
+            yield command, "".join(f"{text}\n" for text in wanted)
+            command, wanted = None, []
+        if line[:6] == "    $ ":
+            command = line[6:]
+        elif command is not None:
+            wanted.append(line[4:])
+
+
+class Documents(unittest.TestCase):
+    """What stands in two places is the same, and what is named is there."""
+
+    def test_definitions(self):
+        self.assertEqual(text_of("docs/DEFINITIONS.md"), definitions.document())
+
+    def test_times(self):
+        """README's times are rows of bench/RESULTS.md."""
+        table = text_of("README.md").split("| run |", 1)[1].split("\n\n", 1)[0].splitlines()
+        self.assertEqual(len(table), 7)
+        results = text_of("bench/RESULTS.md").splitlines()
+        for line in [f"| run |{table[0]}", *table[2:]]:
+            self.assertIn(line, results)
+
+    def test_names_of_contracts(self):
+        """The names in docs/PROVED.md are those of definitions or of code."""
+        words = set()
+        for path in glob.glob(f"{ROOT}/crates/*/s*/**/*", recursive=True):
+            if path.endswith((".rt", ".antt")):
+                words.update(re.findall(r"\w+", text_of(os.path.relpath(path, ROOT))))
+        for name in re.findall(r"`([A-Z]\w+)`", text_of("docs/PROVED.md")):
+            self.assertIn(name, words)
+
+    def test_paths(self):
+        """Files that the documents name are there."""
+        for document in ["README.md", "examples/README.md", *DOCUMENTS]:
+            for path in re.findall(r"`((?:bench|docs|examples|man|reference|tools)/[\w./]+\w)", text_of(document)):
+                if not path.startswith("examples/smtbmc") and not path.endswith("/NAME"):
+                    with self.subTest(document=document, path=path):
+                        self.assertTrue(os.path.exists(f"{ROOT}/{path}"))
+
+
+class Manual(unittest.TestCase):
+    """The man page says what docs/FORMATS.md says."""
+
+    def test_faults_and_words(self):
+        formats = text_of("docs/FORMATS.md")
+        manual = re.sub(r"\\f[BIR]", "", text_of("man/groute.1")).replace("\\-", "-")
+        faults = re.findall(r"^\| ([0-9]+) \| ([^|]+) \|$", formats, re.MULTILINE)
+        self.assertEqual(len(faults), 13 + 9 + 12)
+        for number, says in faults:
+            says = re.sub(r"`(\w+)`", r"\\(oq\1\\(cq" if number in "67" else r"\1", says)
+            self.assertIn(f"{number:>2}  {re.sub(r'(?<=[0-9]),(?=[0-9])', '', says)}\n", manual)
+        words = re.findall(r"^    (groute [a-z]+ [A-Z].*)$", formats, re.MULTILINE)
+        self.assertEqual(len(words), 6)
+        for line in words:
+            self.assertIn(f"{line}\n", manual)

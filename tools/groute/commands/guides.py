@@ -1,0 +1,135 @@
+"""Writes the routes of a design as route guides, the text from which detailed routers such as OpenROAD's start.
+
+For each routed net: its name, `(`, a line `x1 y1 x2 y2 LAYER` for each rectangle of tiles on a layer, and `)`. A run of
+tiles is one rectangle; where a net changes layers its tile is one on each of them, and so is each tile of a pin, unless
+a run covers it. Coordinates are the design's, where the chip is known up to its edge; the layers' names are those of
+DESIGN.names, or of --names, or the LEF's routing layers in their order.
+"""
+from itertools import repeat
+
+from groute import frame
+from groute.placed.lef_text import Lef
+from groute.placed.statements import Notes
+from groute.texts.solutions import records
+from groute.texts.tokens import Fault
+from groute.texts.tiled import Tiled, names_of
+
+DIGITS = b"0123456789"
+FORM = b"(,,)-(,,)"
+
+
+class Tiles(dict):
+    """The tile's number of a coordinate along one way, by its bytes; of a layer, its number from 0."""
+
+    def __init__(self, start, side, count, last):
+        dict.__init__(self)
+        self.start, self.side, self.count, self.last = start, side, count, last
+
+    def __missing__(self, text):
+        value = int(text)
+        if not self.start <= value <= self.last:
+            raise Fault(f"{text.decode()} lies outside the chip")
+        return self.setdefault(text, min((value - self.start) // self.side, self.count - 1))
+
+
+class Routed(Tiled):
+    """A design with the tiles of the coordinates that its routes have."""
+
+    def __init__(self, path, names):
+        Tiled.__init__(self, path, names)
+        right, top = self.left + self.columns * self.tile_width, self.low + self.rows * self.tile_height
+        self.column_of = Tiles(self.left, self.tile_width, self.columns, right)
+        self.row_of = Tiles(self.low, self.tile_height, self.rows, top)
+        self.layer_of = Tiles(1, 1, self.layers, self.layers)
+
+    def ends_of(self, segments):
+        """Column, row and layer of both ends of each segment."""
+        text = b"".join(segments)
+        signs = text.translate(None, DIGITS).replace(b"(-", b"(").replace(b",-", b",")
+        try:
+            if signs != FORM * len(segments):
+                raise ValueError(text)
+            numbers = text.replace(b")-(", b",").replace(b")(", b",")[1:-1].split(b",")
+            ways = (self.column_of, self.row_of, self.layer_of) * 2
+            return list(zip(*(map(way.__getitem__, numbers[at::6]) for at, way in enumerate(ways))))
+        except (Fault, ValueError):
+            for segment in segments:
+                self.run(segment)       # finds the one that is wrong
+            raise
+
+
+def boxes(design, id_, segments):
+    """The rectangles of a net in their order, each its lower and its upper cell."""
+    rows, columns = {}, {}      # (layer, line) -> [(first, last)]
+    spots = {design.cell(*pin) for pin in design.pins(id_)}
+    for column, row, layer, column2, row2, layer2 in design.ends_of(segments) if segments else ():
+        if (column != column2) + (row != row2) + (layer != layer2) > 1:
+            raise Fault(f"a segment of the net {design.names[id_]} is not straight")
+        if column != column2:
+            rows.setdefault((layer, row), []).append((column, column2) if column < column2 else (column2, column))
+        elif row != row2:
+            columns.setdefault((layer, column), []).append((row, row2) if row < row2 else (row2, row))
+        else:
+            spots.update((column, row, at) for at in range(min(layer, layer2), max(layer, layer2) + 1))
+    found, covered = [], set()
+    for (layer, row), runs in rows.items():
+        for first, last in joined(runs):
+            found.append(((first, row, layer), (last, row, layer)))
+            covered.update(zip(range(first, last + 1), repeat(row), repeat(layer)))
+    for (layer, column), runs in columns.items():
+        for first, last in joined(runs):
+            found.append(((column, first, layer), (column, last, layer)))
+            covered.update(zip(repeat(column), range(first, last + 1), repeat(layer)))
+    found += [(spot, spot) for spot in spots - covered]
+    found.sort()
+    return found
+
+
+def joined(runs):
+    """Runs of a line, of which those that share a tile are one."""
+    if len(runs) == 1:
+        return runs
+    found = []
+    for first, last in sorted(runs):
+        if found and first <= found[-1][1]:
+            found[-1] = found[-1][0], max(last, found[-1][1])
+        else:
+            found.append((first, last))
+    return found
+
+
+def guides(design, solution, layers):
+    """The lines of the guides, net by net."""
+    xs, ys = design.xs, design.ys
+    for id_, segments in records(design, solution):
+        yield design.names[id_]
+        yield "("
+        for (column, row, layer), (last_column, last_row, _) in boxes(design, id_, segments):
+            yield f"{xs[column]} {ys[row]} {xs[last_column + 1]} {ys[last_row + 1]} {layers[layer]}"
+        yield ")"
+
+
+def asked_of(words):
+    """What is asked for."""
+    parser = frame.parser(__doc__)
+    parser.add_argument("design", metavar="DESIGN", help="a design text, as def_to_ispd.py makes it")
+    parser.add_argument("solution", metavar="SOLUTION", help="its routes")
+    parser.add_argument("lef", metavar="LEF", nargs="?", help="the LEF that names the layers, where nothing else does")
+    parser.add_argument("guides", metavar="GUIDES", help="the text that is written")
+    parser.add_argument("--names", metavar="FILE", help="the text beside the design; else DESIGN.names")
+    return parser.parse_args(words)
+
+
+def main(words):
+    """Reads the texts and writes the guides."""
+    asked = asked_of(words)
+    names = names_of(asked.design, asked.names)
+    if names is None and asked.lef is None:
+        raise Fault(f"{asked.design}.names isn't there, so that a LEF is wanted")
+    design = Routed(asked.design, names)
+    layers = names.layers if names else \
+        [layer.name for layer in Lef([asked.lef], 1000, Notes("guides", False)).routing]
+    if len(layers) != design.layers:
+        raise Fault(f"the LEF has {len(layers)} routing layers, and the design {design.layers}")
+    with open(asked.guides, "w", encoding="utf-8", errors="surrogateescape") as file:
+        file.writelines(f"{line}\n" for line in guides(design, asked.solution, layers))

@@ -1,0 +1,97 @@
+"""Tells where a solution is congested, and whose nets it is.
+
+It prints the totals of `groute evaluate`; a table by layer and direction; ACE, the average use of the 0.5, 1, 2 and 5 %
+fullest wire edges of capacity above 0, by which two placements compare; and the worst regions: windows of 8 by 8 tiles
+of most overflow, without a common tile, each with the nets through its overfull edges, those that need most of them
+first. Overflow on edges of capacity 0 is counted within the table's, once more in a column of its own, and not in the
+regions' overflow. A region's four numbers are the words that `congestion.py --region` takes.
+
+--openroad writes each overfull edge in the form of OpenROAD's `global_route -congestion_report_file`, --klayout the
+regions and the overfull edges as a report database of KLayout (.lyrdb); both are in microns and want --names.
+"""
+import csv
+import os
+import sys
+
+from groute import frame
+from groute.loads.edges import totals
+from groute.texts.names import Terms
+from groute.texts.designs import Netlist
+from groute.texts.tokens import Tokens
+
+SHOWN = 8       # names of nets that are printed of a region
+
+
+def asked_of(words):
+    """What is asked for."""
+    parser = frame.parser(__doc__)
+    parser.add_argument("design", metavar="DESIGN", help="a design text")
+    parser.add_argument("solution", metavar="SOLUTION", help="a solution text of it")
+    parser.add_argument("--worst", type=int, default=10, metavar="N", help="as many regions at most; else 10")
+    parser.add_argument("--csv", metavar="FILE", help="the regions, each with all its nets, as a table")
+    parser.add_argument("--openroad", metavar="FILE", help="the overfull edges as OpenROAD's congestion report")
+    parser.add_argument("--klayout", metavar="FILE", help="regions and overfull edges as a report database")
+    frame.add_names(parser)
+    return parser.parse_args(words)
+
+
+def printed(loads, regions, design, terms):
+    """The lines of the answer."""
+    from groute.show import tables
+    from groute.loads.regions import HEAD, SHARES
+    yield from totals(loads.edges).splitlines()
+    yield ""
+    yield from tables.lines(HEAD, [line.cells() for line in loads.table(terms.layers)])
+    yield ""
+    found = (f"{use:.1f} of {share} %" for share, use in zip(SHARES, loads.fullest()))
+    yield f"ACE, average use in % of the fullest edges: {', '.join(found)}"
+    if not regions:
+        return
+    yield ""
+    yield from tables.lines(["", "region", f"box, {terms.unit}", "overflow", "edges over", "at capacity 0", "nets"],
+                            [[number, " ".join(map(str, (*region.low, *region.high))),
+                              terms.words(region.low, region.high), region.overflow, region.over, region.closed,
+                              len(region.nets)] for number, region in enumerate(regions, 1)])
+    yield ""
+    yield "nets, and how many of the region's overfull edges they need"
+    width = len(str(len(regions)))
+    for number, region in enumerate(regions, 1):
+        names = [f"{design.names[id_]} {count}" for id_, count in region.nets[:SHOWN]]
+        more = len(region.nets) - SHOWN
+        yield f"{number:>{width}}  {', '.join(names)}" + (f", and {more:,} more" if more > 0 else "")
+
+
+def write_table(regions, design, terms, path):
+    """A line for each region."""
+    with open(path, "w", newline="", encoding="utf-8", errors="surrogateescape") as file:
+        table = csv.writer(file, lineterminator="\n")
+        table.writerow(["region", "column", "row", "to_column", "to_row",
+                        *(f"{name} ({terms.unit})" for name in ("x1", "y1", "x2", "y2")),
+                        "overflow", "edges_over", "overflow_at_capacity_0", "nets"])
+        for number, region in enumerate(regions, 1):
+            table.writerow([number, *region.low, *region.high, *terms.box(region.low, region.high), region.overflow,
+                            region.over, region.closed, " ".join(design.names[id_] for id_, _ in region.nets)])
+
+
+def main(words):
+    """Prints the answer and writes the files."""
+    asked = asked_of(words)
+    design = Netlist(Tokens(asked.design))
+    terms = Terms(design, asked.names)
+    for word in ("openroad", "klayout"):
+        if getattr(asked, word):
+            terms.want_microns(f"--{word}")
+    from groute.loads.edges_numpy import Edges
+    from groute.loads.regions import Loads
+    loads = Loads(Edges(design, asked.solution))
+    regions = loads.regions(asked.worst)
+    if asked.csv:
+        write_table(regions, design, terms, asked.csv)
+    if asked.openroad or asked.klayout:
+        from groute.show import viewers
+        found = viewers.overfull(loads, design, terms)
+        if asked.openroad:
+            viewers.write_openroad(found, asked.openroad)
+        if asked.klayout:
+            viewers.write_klayout(found, regions, design, terms, os.path.basename(asked.design), asked.klayout)
+    sys.stdout.writelines(f"{line}\n" for line in printed(loads, regions, design, terms))

@@ -1,0 +1,118 @@
+"""Tells which nets are slowest: those of least required time in a report of `groute route` or `groute buffer`.
+
+Of each it prints the required time, the delay to its worst sink (the time at which its sinks want the signal less the
+required time; `-` where they don't want it at one time), and what may explain it: pins, wire in steps from tile to
+tile, vias, buffers by kind, and the box of its pins. Below stands how many nets have which required time. Where the
+library has a time other than 0, the worst and the total negative slack come first: of nets, each by itself, and not of
+paths through several.
+
+Times are in picoseconds. Of a library that def_to_ispd.py made with --scale N say --scale N here too.
+"""
+import sys
+
+from groute import frame
+from groute.show import tables
+from groute.texts.names import Terms
+from groute.texts.designs import Netlist
+from groute.texts.libraries import Library
+from groute.texts.reports import buffered
+from groute.texts.tokens import Fault, Tokens
+
+HALVES = 2000       # half femtoseconds a picosecond
+BARS, WIDE = 10, 50     # of the histogram, how many, and how long the longest is
+
+
+class Timed:
+    """A net of a report, with the tokens of its buffers."""
+
+    def __init__(self, id_, required, buffers):
+        self.id, self.required, self.buffers = id_, required, buffers
+
+    def kinds(self):
+        """Its buffers by kind, as a text."""
+        kinds = self.buffers[1::2]
+        return ", ".join(f"{kind.decode(errors='surrogateescape')} {kinds.count(kind)}" for kind in sorted(set(kinds)))
+
+
+def asked_of(words):
+    """What is asked for."""
+    parser = frame.parser(__doc__)
+    parser.add_argument("design", metavar="DESIGN", help="a design text")
+    parser.add_argument("library", metavar="LIBRARY", help="the library of the report")
+    parser.add_argument("solution", metavar="SOLUTION", help="the routes of the report")
+    parser.add_argument("report", metavar="REPORT", help="what `route` wrote on standard error, or `buffer` on output")
+    parser.add_argument("--worst", type=int, default=10, metavar="N", help="as many nets at most; else 10")
+    parser.add_argument("--scale", type=int, default=1, metavar="N", help="of the library's numbers; else 1")
+    frame.add_names(parser)
+    return parser.parse_args(words)
+
+
+def delay(net, design, library):
+    """From its driver to its worst sink in half femtoseconds, or None."""
+    sinks = len(design.pins(net.id)) - 1
+    time = library.shared_time(net.id, sinks)
+    return None if time is None or sinks == 0 else 2 * time - net.required
+
+
+def box(design, id_):
+    """The lower and the upper corner of a net's pins, in tiles."""
+    cells = [design.cell(*pin)[:2] for pin in design.pins(id_)]
+    columns, rows = zip(*cells)
+    return (min(columns), min(rows)), (max(columns), max(rows))
+
+
+def slack(nets, half):
+    """Of nets that begin at time 0."""
+    late = [net.required for net in nets if net.required < 0]
+    return (f"slack of nets, not of paths, ps: worst {picoseconds(min(late, default=0), half)}, total negative "
+            f"{picoseconds(sum(late), half)} of {len(late):,} nets")
+
+
+def picoseconds(time, half):
+    """A time as a text; `half` of its units are a picosecond."""
+    return f"{time / half:,.1f}"
+
+
+def histogram(nets, half):
+    """The lines of a table: how many nets have which required time."""
+    times = [net.required / half for net in nets]
+    low, high = min(times), max(times)
+    step = (high - low) / BARS or 1.0
+    counts = [0] * BARS
+    for time in times:
+        counts[min(BARS - 1, int((time - low) / step))] += 1
+    borders = [f"{low + at * step:,.1f}" for at in range(BARS + 1)]
+    bars = ["#" * -(-count * WIDE // max(counts)) for count in counts]
+    yield from tables.lines(["from, ps", "to, ps", "nets", ""], list(zip(borders, borders[1:], counts, bars)))
+
+
+def printed(asked, nets, design, library, sizes, terms):
+    """The lines of the answer; sizes has steps of wire and vias by net."""
+    half = HALVES * asked.scale ** 2
+    if library.has_times():
+        yield from (slack(nets, half), "")
+    rows = []
+    for net in nets[:asked.worst]:
+        found = delay(net, design, library)
+        rows.append([design.names[net.id], picoseconds(net.required, half),
+                     "-" if found is None else picoseconds(found, half), len(design.pins(net.id)),
+                     *sizes.get(net.id, (0, 0)), terms.words(*box(design, net.id)), net.kinds()])
+    yield from tables.lines(["net", "required, ps", "delay, ps", "pins", "wire, tiles", "vias",
+                             f"box, {terms.unit}", "buffers"], rows)
+    yield ""
+    yield from histogram(nets, half)
+
+
+def main(words):
+    """Prints the answer."""
+    asked = asked_of(words)
+    design = Netlist(Tokens(asked.design))
+    terms = Terms(design, asked.names)
+    library = Library(Tokens(asked.library))
+    nets = sorted((Timed(*net) for net in buffered(design, asked.report)), key=lambda net: net.required)
+    if asked.scale < 1 or not nets:
+        raise Fault("the scale is at least 1" if asked.scale < 1 else f"{asked.report}: no net is told of")
+    from groute.loads.edges_numpy import Edges
+    edges = Edges(design, asked.solution)
+    sizes = dict(zip(edges.ids, zip(*(some.tolist() for some in edges.sizes()))))
+    sys.stdout.writelines(f"{line}\n" for line in printed(asked, nets, design, library, sizes, terms))

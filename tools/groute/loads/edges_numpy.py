@@ -1,0 +1,200 @@
+"""The demand of a solution's wire edges, in arrays of numpy: the same as edges_plain, for large designs."""
+import numpy
+
+from groute.texts.designs import EAST, NORTH, UP
+from groute.texts.solutions import records
+from groute.texts.tokens import Fault
+
+BATCH = 1 << 19     # segments that are gone through at once
+
+
+class Edges:
+    """demand[way] and capacity[way] by the numbers of wire edges, and how many wire edges and vias all nets have.
+
+    `ids` are the nets with a record. Their runs are five arrays side by side: whose run it is (by its place in ids),
+    its way, the number of its first edge, how many edges it has, and what the net takes of each. A net's runs share no
+    edge. Those of way UP are numbered as `numbers` says.
+    """
+
+    def __init__(self, design, solution):
+        self.design = design
+        self.cells = design.columns * design.rows * design.layers
+        self.ids = []
+        parts = [[numpy.zeros(0, numpy.int32)] * 5]
+        for ids, counts, segments in batches(design, solution):
+            parts.append(self.gather(ids, numpy.array(counts), ends(segments)))
+            self.ids += ids
+        self.net, self.way, self.number, self.length, self.need = map(numpy.concatenate, zip(*parts))
+        self.vias = int(self.length[self.way == UP].sum(dtype=numpy.int64))
+        self.wires = int(self.length.sum(dtype=numpy.int64)) - self.vias
+        self.demand = [self.summed(way) for way in (EAST, NORTH)]
+        self.capacity = [capacities(design, way) for way in (EAST, NORTH)]
+
+    def gather(self, ids, counts, points):
+        """The runs of a batch of nets, each edge of a net once."""
+        low, high = self.cells_of(points[:, :3]), self.cells_of(points[:, 3:])
+        differ = low != high
+        if (differ.sum(axis=1) > 1).any():
+            raise Fault("a segment of the solution is not straight")
+        straight = differ.any(axis=1)
+        net = numpy.repeat(numpy.arange(len(counts)), counts)[straight]
+        way = differ.argmax(axis=1)[straight]
+        one, other = self.numbers(way, low[straight]), self.numbers(way, high[straight])
+        base = (net * 3 + way) * self.cells
+        first, last = merged(base + numpy.minimum(one, other), base + numpy.maximum(one, other))
+        net, way, number = first // (3 * self.cells), first // self.cells % 3, first % self.cells
+        # Of a via this is no layer, and what is needed of it isn't asked for.
+        layer = number // (self.design.columns * self.design.rows)
+        width = numpy.array([self.design.widths[id_] for id_ in ids], numpy.int64)[net]
+        need = numpy.maximum(width, numpy.array(self.design.width)[layer]) + numpy.array(self.design.spacing)[layer]
+        return [some.astype(numpy.int32) for some in (net + len(self.ids), way, number, last - first, need)]
+
+    def cell_numbers(self, points):
+        """Of points of the text, by column, then row, then layer."""
+        column, row, layer = self.cells_of(points).T
+        return (layer * self.design.rows + row) * self.design.columns + column
+
+    def cells_of(self, points):
+        """Column, row and layer of points of the text."""
+        design = self.design
+        size = numpy.array([design.columns, design.rows, design.layers])
+        tile = numpy.array([design.tile_width, design.tile_height, 1])
+        away = points - numpy.array([design.left, design.low, 1])
+        border = size * tile - numpy.array([0, 0, 1])
+        if ((away < 0) | (away > border)).any():
+            raise Fault("a point lies outside the chip")
+        return numpy.minimum(away // tile, size - 1)
+
+    def numbers(self, way, cells):
+        """Of cells, going along each one's way first."""
+        column, row, layer = cells.T
+        design = self.design
+        east = (layer * design.rows + row) * design.columns + column
+        north = (layer * design.columns + column) * design.rows + row
+        up = (row * design.columns + column) * design.layers + layer
+        return numpy.choose(way, [east, north, up])
+
+    def summed(self, way):
+        """Demand by number: each run adds its need from its first number to before its last."""
+        mine = self.way == way
+        first, need = self.number[mine], self.need[mine]
+        change = numpy.bincount(first, need, self.cells)
+        change -= numpy.bincount(first + self.length[mine], need, self.cells)
+        return numpy.rint(change.cumsum()).astype(numpy.int64)
+
+    def through(self, marked, runs=None):
+        """Of each net of `ids`, through how many of the marked wire edges it goes: marked[way] is true or false by
+        number. Where the places of some runs are given, only these are looked at."""
+        runs = numpy.arange(len(self.net)) if runs is None else runs
+        return numpy.rint(numpy.bincount(self.net[runs], self.marks(marked, runs), len(self.ids))).astype(numpy.int64)
+
+    def marks(self, marked, runs):
+        """How many of the marked wire edges each of these runs has."""
+        found = numpy.zeros(len(runs), numpy.int64)
+        for way in (EAST, NORTH):
+            before = numpy.concatenate(([0], marked[way].cumsum(dtype=numpy.int64)))
+            mine = (self.way[runs] == way).nonzero()[0]
+            first = self.number[runs[mine]]
+            found[mine] = before[first + self.length[runs[mine]]] - before[first]
+        return found
+
+    def runs_of(self, id_):
+        """The first and the last cell of each run of a net: column, row and layer, from 0."""
+        design = self.design
+        mine = (self.net == self.ids.index(id_)).nonzero()[0] if id_ in self.ids else []
+        for way, number, length in zip(*(some[mine].tolist() for some in (self.way, self.number, self.length))):
+            if way == UP:
+                tile = number // design.layers
+                low = tile % design.columns, tile // design.columns, number % design.layers
+            else:
+                low = design.place(way, number)
+            yield low, (*low[:way], low[way] + length, *low[way + 1:])
+
+    def sizes(self):
+        """Of each net of `ids`, how many wire edges and how many vias it has."""
+        wires, vias = (numpy.bincount(self.net[mine], self.length[mine], len(self.ids)).astype(numpy.int64)
+                       for mine in (self.way != UP, self.way == UP))
+        return wires, vias
+
+    def used(self):
+        """Way, number, capacity and demand of each wire edge that is used."""
+        for way in (EAST, NORTH):
+            numbers = self.demand[way].nonzero()[0]
+            columns = numbers, self.capacity[way][numbers], self.demand[way][numbers]
+            for number, capacity, demand in zip(*(column.tolist() for column in columns)):
+                yield way, number, capacity, demand
+
+    def overflow(self):
+        """The sum and the greatest of what demand has above capacity."""
+        over = [numpy.maximum(self.demand[way] - self.capacity[way], 0) for way in (EAST, NORTH)]
+        return sum(int(some.sum()) for some in over), max(int(some.max()) for some in over)
+
+
+def capacities(design, way):
+    """Capacity by number; numbers at the border, where there is no edge, have none."""
+    line = design.columns if way == EAST else design.rows
+    stated = numpy.repeat(numpy.array(design.capacity[way]), design.columns * design.rows)
+    stated[line - 1::line] = 0
+    mine = {number: capacity for (at, number), capacity in design.adjusted.items() if at == way}
+    stated[list(mine)] = list(mine.values())
+    return stated
+
+
+def by_layer(design, way, values):
+    """Values by number as an array by layer, row and column, which shares their place."""
+    if way == EAST:
+        return values.reshape(design.layers, design.rows, design.columns)
+    return values.reshape(design.layers, design.columns, design.rows).transpose(0, 2, 1)
+
+
+def by_number(way, array):
+    """The values of such an array by number."""
+    return (array if way == EAST else array.transpose(0, 2, 1)).ravel()
+
+
+def batches(design, solution):
+    """Ids, counts of segments, and the segments, of many nets at once."""
+    ids, counts, segments = [], [], []
+    for id_, some in records(design, solution):
+        ids.append(id_)
+        counts.append(len(some))
+        segments += some
+        if len(segments) >= BATCH:
+            yield ids, counts, segments
+            ids, counts, segments = [], [], []
+    if segments:
+        yield ids, counts, segments
+
+
+def ends(segments):
+    """The six numbers of each segment's token."""
+    return parsed(segments, b"(,,)-(,,)", (b"\n(", b")-(", b")\n"), "a segment of the solution has not the form "
+                  "(x,y,layer)-(x,y,layer)")
+
+
+def points(tokens):
+    """The three numbers of each point's token."""
+    return parsed(tokens, b"(,,)", (b"\n(", b")\n"), "the place of a buffer has not the form (x,y,layer)")
+
+
+def parsed(tokens, form, marks, fault):
+    """The numbers of tokens, a row for each. `form` is one without its numbers, and marks are where none stand."""
+    each, count = form.count(b",") + form.count(b"("), len(tokens)
+    text = b"\n" + b"\n".join(tokens) + b"\n" * (count > 0)
+    signs = text.translate(None, b"0123456789").replace(b"(-", b"(").replace(b",-", b",")
+    has_form = signs == b"\n" + (form + b"\n") * count and all(text.count(mark) == count for mark in marks)
+    # A number that is left out would make too few.
+    blanks = text.replace(b")-(", b" ").translate(bytes.maketrans(b"(),", b"   "))
+    numbers = numpy.fromstring(blanks, numpy.int64, sep=" ") if has_form and count else numpy.zeros(0, int)
+    if len(numbers) != each * count:
+        raise Fault(fault)
+    return numbers.reshape(count, each)
+
+
+def merged(first, last):
+    """Runs from first to last, in order, where those that meet are one."""
+    order = first.argsort(kind="stable")
+    first, last = first[order], numpy.maximum.accumulate(last[order])
+    begins = numpy.ones(len(first), bool)
+    begins[1:] = first[1:] > last[:-1]
+    return first[begins], last[numpy.append(begins[1:], True)] if len(first) else last

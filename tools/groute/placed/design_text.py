@@ -1,0 +1,44 @@
+"""The design text of a placed design, and what its numbers are called outside."""
+from groute.texts.names import Names
+from groute.texts.tokens import Fault
+
+
+def design_text(chip):
+    """The lines of the design."""
+    grid, layers = chip.grid, chip.layers
+    found = [chip.capacities(at) for at in range(len(layers))]
+    most = [max((value for line in lines for value in line), default=0) for lines in found]
+    ones = " 1" * len(layers)
+    yield f"grid {grid.columns} {grid.rows} {len(layers)}"
+    for word, direction, tiles in (("vertical", "VERTICAL", grid.rows), ("horizontal", "HORIZONTAL", grid.columns)):
+        values = [value if layer.direction == direction else 0 for layer, value in zip(layers, most)]
+        if tiles > 1 and not any(values):
+            raise Fault(f"{chip.placed.path}: no {direction} layer has a free track between two tiles")
+        yield f"{word} capacity {' '.join(map(str, values))}"
+    yield from (f"minimum width{ones}", f"minimum spacing{ones}", f"via spacing{ones}")
+    yield f"{grid.left} {grid.low} {grid.tile[0]} {grid.tile[1]}"
+    nets = chip.nets()
+    yield f"num net {len(nets)}"
+    for at, net in enumerate(nets):
+        yield f"{net.name} {at} {len(net.connections)} {chip.width(net)}"
+        yield from (f"{x} {y} {layer}" for x, y, layer in chip.points(net))
+    adjusted = list(adjustments(layers, found, most))
+    yield str(len(adjusted))
+    yield from adjusted
+
+
+def adjustments(layers, found, most):
+    """Lines for the borders that hold less than the most of their layer."""
+    for at_layer, (layer, lines) in enumerate(zip(layers, found), 1):
+        for line, borders in enumerate(lines):
+            for at, capacity in enumerate(borders):
+                if capacity != most[at_layer - 1]:
+                    ends = (at, line, at + 1, line) if layer.is_horizontal() else (line, at, line, at + 1)
+                    yield f"{ends[0]} {ends[1]} {at_layer} {ends[2]} {ends[3]} {at_layer} {capacity}"
+
+
+def names_of(chip):
+    """What the design's numbers are called outside: the text beside the design."""
+    grid = chip.grid
+    return Names(chip.placed.units, (grid.left, grid.low), grid.tile, [layer.name for layer in chip.layers],
+                 chip.placed.area, chip.lower)

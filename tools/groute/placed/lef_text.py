@@ -1,0 +1,417 @@
+"""LEF texts: layers, vias, sites, cells and rules for wide nets, by the public LEF 5.8 language.
+
+Lengths of layers and rules are in micrometres, exactly; shapes and sizes of cells and vias are in the DEF's units.
+"""
+from dataclasses import dataclass, field
+from decimal import Decimal
+
+from groute.placed.statements import (MOST_REPEATS, Fault, Words, generated_via, moved, nearest, number, pairs, polygon,
+                                      positive, rectangle, split_at, turned, without_brackets)
+
+# Statements of the library that say nothing to a router.
+SILENT = {"VERSION", "NAMESCASESENSITIVE", "DIVIDERCHAR", "USEMINSPACING", "CLEARANCEMEASURE",
+          "MANUFACTURINGGRID", "NOWIREEXTENSIONATPIN", "MINFEATURE", "DIELECTRIC", "FIXEDMASK", "MAXVIASTACK",
+          "SYMMETRIC", "UNIVERSALNOISEMARGIN", "EDGERATETHRESHOLD1", "EDGERATETHRESHOLD2", "EDGERATESCALEFACTOR"}
+# Of these blocks the form is skipped to END with their own word, or with the name that follows it.
+BLOCKS = {"UNITS", "PROPERTYDEFINITIONS", "SPACING", "NOISETABLE", "CORRECTIONTABLE", "IRDROP"}
+NAMED_BLOCKS = {"VIARULE", "ARRAY"}
+# Of a routing layer: rules of the detailed router.
+LAYER_RULES = {"OFFSET", "MASK", "DIAGPITCH", "DIAGWIDTH", "DIAGSPACING", "DIAGMINEDGELENGTH", "AREA", "MINSIZE",
+               "WIREEXTENSION", "MINIMUMCUT", "MAXWIDTH", "MINWIDTH", "MINSTEP", "MINENCLOSEDAREA", "PROTRUSIONWIDTH",
+               "HEIGHT", "THICKNESS", "SHRINKAGE", "CAPMULTIPLIER", "SLOTWIREWIDTH", "SLOTWIRELENGTH", "SLOTWIDTH",
+               "SLOTLENGTH", "MAXADJACENTSLOTSPACING", "MAXCOAXIALSLOTSPACING", "MAXEDGESLOTSPACING", "SPLITWIREWIDTH",
+               "MINIMUMDENSITY", "MAXIMUMDENSITY", "DENSITYCHECKWINDOW", "DENSITYCHECKSTEP", "FILLACTIVESPACING"}
+CURRENT = {"ACCURRENTDENSITY", "DCCURRENTDENSITY"}
+MACRO_SILENT = {"CLASS", "FOREIGN", "SYMMETRY", "EEQ", "LEQ", "SOURCE", "CLOCKTYPE", "POWER", "FIXEDMASK", "GENERATOR",
+                "GENERATE"}
+PIN_SILENT = {"USE", "SHAPE", "TAPERRULE", "NETEXPR", "SUPPLYSENSITIVITY", "GROUNDSENSITIVITY", "MUSTJOIN", "LEQ",
+              "CAPACITANCE", "RESISTANCE"}
+
+
+@dataclass
+class Layer:
+    """A layer; of a routing layer resistance is in ohms a square, capacitance in picofarads a square micrometre, and
+    along each edge in picofarads a micrometre. Resistance of a cut layer is that of one cut, in ohms."""
+    name: str
+    kind: str = None
+    direction: str = None
+    pitch: tuple = None         # (of tracks side by side, of tracks one above the other)
+    width: Decimal = None
+    spacing: Decimal = None     # of the plain rule
+    least: Decimal = None       # of the tables
+    resistance: Decimal = None
+    capacitance: Decimal = Decimal(0)
+    edge_capacitance: Decimal = Decimal(0)
+
+    def is_horizontal(self):
+        """Whether its wires go along rows."""
+        return self.direction == "HORIZONTAL"
+
+    def apart(self):
+        """The least spacing of wires of this layer, or None."""
+        return self.least if self.spacing is None else self.spacing
+
+    def track_pitch(self):
+        """From track to track, or None."""
+        return self.pitch and self.pitch[self.is_horizontal()]
+
+
+@dataclass
+class Via:
+    """Shapes of a via, and its resistance in ohms."""
+    shapes: list = field(default_factory=list)
+    resistance: Decimal = None
+
+
+@dataclass
+class Pin:
+    """Direction and shapes of a cell's pin."""
+    direction: str = None
+    shapes: list = field(default_factory=list)
+
+
+@dataclass
+class Macro:
+    """A cell: its size, its pins by name and what else it has of metal."""
+    width: int = 0
+    height: int = 0
+    pins: dict = field(default_factory=dict)
+    obstructions: list = field(default_factory=list)
+    turned: dict = field(default_factory=dict, compare=False)
+
+    def in_place(self, shape, orientation):
+        """A shape, where the turned cell's lower left corner is (0, 0)."""
+        return turned(shape, orientation, self.width, self.height)
+
+    def metal(self, orientation):
+        """All its shapes in place."""
+        if orientation not in self.turned:
+            shapes = [shape for pin in self.pins.values() for shape in pin.shapes] + self.obstructions
+            self.turned[orientation] = [self.in_place(shape, orientation) for shape in shapes]
+        return self.turned[orientation]
+
+    def moved(self, x, y):
+        """Shapes from the cell's origin to its lower left corner."""
+        for pin in self.pins.values():
+            pin.shapes = [moved(shape, x, y) for shape in pin.shapes]
+        self.obstructions = [moved(shape, x, y) for shape in self.obstructions]
+
+
+class Lef:
+    """What LEF texts say together, the technology first. `routing` has the routing layers in their order."""
+
+    def __init__(self, paths, units, notes):
+        self.units, self.notes = units, notes
+        self.layers, self.macros, self.vias, self.rules = {}, {}, {}, {}
+        self.sites = {}         # name -> (class, height)
+        self.bus_bits = "[]"    # the letters around the number of a bus's bit
+        for path in paths:
+            self.read_text(Words(path, notes))
+        self.routing = [layer for layer in self.layers.values() if layer.kind == "ROUTING"]
+
+    def read_text(self, words):
+        """One text."""
+        while not words.ended():
+            word = words.begin()
+            if word == "END":
+                break           # of the library
+            words.read_by(self.read, word, words)
+
+    def read(self, word, words):
+        """One statement of the library."""
+        readers = {"LAYER": (self.layers, read_layer), "MACRO": (self.macros, self.read_macro),
+                   "VIA": (self.vias, self.read_via), "NONDEFAULTRULE": (self.rules, read_rule),
+                   "SITE": (self.sites, read_site)}
+        if word in SILENT or word[:7] == "ANTENNA" or word[-7:] == "ANTENNASIZE":
+            words.until(";")
+        elif word == "BUSBITCHARS":
+            self.bus_bits = words.until(";")[0].strip('"')
+        elif word in BLOCKS:
+            words.until("END", word)
+        elif word in NAMED_BLOCKS:
+            words.skip(f"{word} GENERATE" if word == "VIARULE" else word)
+            words.until("END", words.take())
+        elif word == "BEGINEXT":
+            words.skip(word)
+            words.until("ENDEXT")
+        elif word in readers:
+            found, read = readers[word]
+            name, place = words.take(), words.place()
+            value = read(words, name)
+            if found.setdefault(name, value) != value:
+                raise Fault(f"{place}: {word} {name} stands here again, and says something else")
+        else:
+            raise words.refuse(word)
+
+    def shape(self, layer, values, spacing, of=rectangle):
+        """A shape of micrometres in the DEF's units."""
+        return of(layer, [nearest(number(value) * self.units) for value in values], spacing)
+
+    def read_via(self, words, name):
+        """A via, from behind its name on."""
+        via, parts = Via(), {}
+        while words.words[words.at] in ("DEFAULT", "TOPOFSTACKONLY", "GENERATED"):
+            words.take()
+        layer = None
+        for word, values in statements(words, name):
+            if word == "LAYER":
+                layer = values[0]
+            elif word in ("RECT", "POLYGON"):
+                values = without_brackets(values)
+                values = values[2:] if values[0] == "MASK" else values
+                shape = self.shape(layer, values, None, rectangle if word == "RECT" else polygon)
+                via.shapes += shape if word == "POLYGON" else [shape]
+            elif word == "RESISTANCE":
+                via.resistance = positive(values[0]) if number(values[0]) else Decimal(0)
+            elif word == "PROPERTY":
+                words.skip(word)
+            elif word in ("VIARULE", "CUTSIZE", "LAYERS", "CUTSPACING", "ENCLOSURE", "ROWCOL", "ORIGIN", "OFFSET",
+                          "PATTERN", "FOREIGN"):
+                parts[word] = values
+            else:
+                raise words.refuse(f"{word} of VIA {name}")
+        if "CUTSIZE" in parts:
+            via.shapes = generated_via(parts, lambda value: nearest(number(value) * self.units))
+        return via
+
+    def read_macro(self, words, name):
+        """A cell, from behind its name on."""
+        macro, origin = Macro(), (0, 0)
+        while (word := words.begin()) != "END":
+            if word == "PIN":
+                pin = words.take()
+                macro.pins.setdefault(pin, Pin())
+                self.read_pin(words, pin, macro.pins[pin])
+            elif word == "OBS":
+                macro.obstructions += self.read_shapes(words)
+            elif word == "DENSITY":
+                words.until("END")
+            elif word == "TIMING":
+                words.until("END", "TIMING")
+            elif word == "SIZE":
+                width, by, height = words.until(";")
+                if by != "BY":
+                    raise words.refuse(by)
+                macro.width, macro.height = (nearest(positive(value) * self.units) for value in (width, height))
+            elif word == "ORIGIN":
+                origin = [nearest(number(value) * self.units) for value in without_brackets(words.until(";"))]
+            elif word == "SITE" or word in MACRO_SILENT:
+                words.until(";")
+            elif word == "PROPERTY":
+                words.skip(word)
+                words.until(";")
+            else:
+                raise words.refuse(f"{word} of MACRO {name}")
+        due(words, name)
+        if not macro.width:
+            raise words.fault(f"MACRO {name} has no SIZE before")
+        macro.moved(*origin)
+        return macro
+
+    def read_pin(self, words, name, pin):
+        """Direction and shapes of a pin, from behind its name on."""
+        while (word := words.begin()) != "END":
+            if word == "DIRECTION":
+                pin.direction = words.until(";")[0]
+            elif word == "PORT":
+                pin.shapes += self.read_shapes(words)
+            elif word in PIN_SILENT:
+                words.until(";")
+            elif word == "PROPERTY" or word[:7] == "ANTENNA":
+                words.skip(word if word == "PROPERTY" else "ANTENNA..")
+                words.until(";")
+            else:
+                raise words.refuse(f"{word} of PIN {name}")
+        due(words, name)
+
+    def read_shapes(self, words):
+        """Rectangles by layer, to the word END."""
+        layer = spacing = width = None
+        shapes = []
+        while (word := words.begin()) != "END":
+            values = without_brackets(words.until(";"))
+            if word == "LAYER":
+                layer, width = values[0], None
+                spacing = nearest(number(values[values.index("SPACING") + 1]) * self.units) if "SPACING" in values \
+                    else None
+            elif word == "WIDTH":
+                width = positive(values[0])
+            elif word in ("RECT", "POLYGON", "PATH", "VIA"):
+                shapes += self.repeated(word, values, (layer, spacing, width), words)
+            elif word != "CLASS":
+                raise words.refuse(f"{word} among shapes")
+        return shapes
+
+    def repeated(self, word, values, of, words):
+        """The rectangles of one statement of shapes, which may be repeated in rows and columns."""
+        values = values[2:] if values[0] == "MASK" else values
+        steps = [(0, 0)]
+        if values[0] == "ITERATE":
+            do = values.index("DO")
+            columns, rows = int(values[do + 1]), int(values[do + 3])
+            x, y = (nearest(number(value) * self.units) for value in values[do + 5:])
+            if not 0 < columns * rows <= MOST_REPEATS:
+                raise words.refuse("so many shapes")
+            steps = [(column * x, row * y) for column in range(columns) for row in range(rows)]
+            values = values[1:do]
+        shapes = self.shapes_of(word, values, of, words)
+        return [moved(shape, *step) for shape in shapes for step in steps]
+
+    def shapes_of(self, word, values, of, words):
+        """The rectangles of one statement of shapes."""
+        layer, spacing, width = of
+        if layer is None and word != "VIA":
+            raise words.fault("LAYER is due before")
+        if word == "RECT":
+            return [self.shape(layer, values, spacing)]
+        if word == "POLYGON":
+            return self.shape(layer, values, spacing, polygon)
+        if word == "PATH":
+            wide = width or self.layers[layer].width
+            return path(layer, [nearest(number(value) * self.units) for value in values], nearest(wide * self.units))
+        if values[2] not in self.vias:
+            raise words.refuse(f"the via {values[2]}")
+        place = [nearest(number(value) * self.units) for value in values[:2]]
+        return [moved(shape, *place) for shape in self.vias[values[2]].shapes]
+
+
+def path(layer, values, width):
+    """The rectangles of a path, which ends half its width behind its ends."""
+    points, low = pairs(values), width // 2
+    high = width - low
+    ends = list(zip(points, points[1:])) or [(points[0], points[0])]
+    if any(x1 != x2 and y1 != y2 for (x1, y1), (x2, y2) in ends):
+        raise ValueError(values)
+    return [rectangle(layer, (min(x1, x2) - low, min(y1, y2) - low, max(x1, x2) + high, max(y1, y2) + high))
+            for (x1, y1), (x2, y2) in ends]
+
+
+def due(words, name):
+    """The name behind END."""
+    if words.take() != name:
+        raise words.fault(f"END {name} is due")
+
+
+def statements(words, name):
+    """The statements to END and the name, each its first word and its values."""
+    while (word := words.begin()) != "END":
+        yield word, words.until(";")
+    due(words, name)
+
+
+def read_site(words, name):
+    """Class and height of a site."""
+    says = dict((word, values) for word, values in site_statements(words, name))
+    return says["CLASS"][0], positive(says["SIZE"][2])
+
+
+def site_statements(words, name):
+    """The statements of a site that count."""
+    for word, values in statements(words, name):
+        if word not in ("CLASS", "SIZE", "SYMMETRY", "ROWPATTERN"):
+            raise words.refuse(f"{word} of SITE {name}")
+        yield word, values
+
+
+def read_layer(words, name):
+    """A layer, from behind its name on."""
+    layer = Layer(name)
+    while (word := words.begin()) != "END":
+        if word in CURRENT:
+            words.skip(word)
+            skip_current(words)
+            continue
+        values = words.until(";")
+        if word == "TYPE":
+            layer.kind = values[0]
+            if layer.kind != "ROUTING":
+                words.skip(f"LAYER of TYPE {layer.kind}")
+        elif word == "PROPERTY":
+            words.skip("PROPERTY" if values[0][:6] != "LEF58_" else "PROPERTY LEF58_..")
+        elif word[:7] == "ANTENNA":
+            words.skip("ANTENNA..")
+        elif layer.kind == "ROUTING":
+            read_routing(layer, word, values, words)
+        elif layer.kind == "CUT" and word == "RESISTANCE":
+            layer.resistance = number(values[0])
+    due(words, name)
+    return layer
+
+
+def read_routing(layer, word, values, words):
+    """A statement of a routing layer."""
+    said = {"DIRECTION": ("direction", lambda: one_of(values[0], "HORIZONTAL", "VERTICAL")),
+            "PITCH": ("pitch", lambda: tuple(positive(value) for value in (values * 2)[:2])),
+            "WIDTH": ("width", lambda: positive(values[0])),
+            "EDGECAPACITANCE": ("edge_capacitance", lambda: number(values[0]))}
+    if word in said:
+        name, value = said[word]
+        once(layer, name, value(), words)
+    elif word == "SPACING":
+        if len(values) == 1:
+            once(layer, "spacing", number(values[0]), words)
+    elif word == "SPACINGTABLE":
+        layer.least = min(filter(None, (layer.least, least_of_table(values))), default=None)
+    elif word == "RESISTANCE" and values[0] == "RPERSQ":
+        once(layer, "resistance", number(values[1]), words)
+    elif word == "CAPACITANCE" and values[0] == "CPERSQDIST":
+        once(layer, "capacitance", number(values[1]), words)
+    elif word not in LAYER_RULES:
+        raise words.refuse(f"{word} of LAYER {layer.name}")
+
+
+def one_of(value, *values):
+    """The value, which is one of these."""
+    if value not in values:
+        raise ValueError(value)
+    return value
+
+
+def once(thing, name, value, words):
+    """Keeps what is said of a thing, which isn't said otherwise before."""
+    if getattr(thing, name) not in (None, Decimal(0), value):
+        raise words.fault(f"{name} of {thing.name} is said again, and otherwise")
+    setattr(thing, name, value)
+
+
+def least_of_table(values):
+    """The least spacing of a SPACINGTABLE, or None where it is of another kind."""
+    if values[0] == "PARALLELRUNLENGTH":
+        rows = split_at(values, "WIDTH")[1:]
+        return min(number(value) for row in rows for value in row[1:])
+    if values[0] == "TWOWIDTHS":
+        rows = split_at(values, "WIDTH")[1:]
+        return min(number(value) for row in rows for value in (row[3:] if row[1] == "PRL" else row[1:]))
+    return None
+
+
+def skip_current(words):
+    """A table of current densities, from behind its first word on: a number, or statements to that of TABLEENTRIES."""
+    values = words.until(";")
+    if len(values) == 2 and values[1][0] in "0123456789.+-":
+        return
+    while words.take() != "TABLEENTRIES":
+        words.until(";")
+    words.until(";")
+
+
+def read_rule(words, name):
+    """Of a rule for wide nets: width and spacing by layer, in micrometres."""
+    rule = {}
+    while (word := words.begin()) != "END":
+        if word == "LAYER":
+            layer = words.take()
+            said = dict((word, values) for word, values in statements(words, layer))
+            spacing = number(said["SPACING"][0]) if "SPACING" in said else None
+            rule[layer] = positive(said["WIDTH"][0]), spacing
+        elif word == "VIA":
+            words.until("END", words.take())
+        elif word == "SPACING":
+            words.until("END", "SPACING")
+        elif word in ("HARDSPACING", "USEVIA", "USEVIARULE", "MINCUTS", "PROPERTY"):
+            words.until(";")
+        else:
+            raise words.refuse(f"{word} of NONDEFAULTRULE {name}")
+    if words.words[words.at:words.at + 1] == [name]:
+        words.take()
+    return rule

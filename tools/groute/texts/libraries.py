@@ -1,0 +1,37 @@
+"""Libraries: what of them the tools want."""
+
+
+class Library:
+    """What is known of a library: its kinds of buffers, and the times at which sinks want their signals.
+
+    `time` is that of all sinks, `times` has by net's id those of single sinks by their number; all in femtoseconds.
+    """
+    SIZES = {b"wire": 3, b"via": 2, b"driver": 1, b"sink": 2, b"kind": 4, b"inverter": 4, b"block": 2, b"drive": 2,
+             b"pin": 4, b"flip": 2}     # how many tokens stand behind an item's word
+
+    def __init__(self, tokens):
+        tokens.words(b"library")
+        tokens.numbers(1)
+        self.kinds, self.time, self.times = [], 0, {}
+        while (word := tokens.take(1)[0]) != b"end":
+            if word not in self.SIZES:
+                raise tokens.fault("an item of a library is due")
+            if word in (b"kind", b"inverter"):
+                self.kinds.append(tokens.take(4)[0].decode(errors="surrogateescape"))
+            elif word == b"sink":
+                self.time = tokens.numbers(2)[1]
+            elif word == b"pin":
+                net, pin, _, time = tokens.numbers(4)
+                self.times.setdefault(net, {})[pin] = time
+            else:
+                tokens.take(self.SIZES[word])
+
+    def shared_time(self, id_, sinks):
+        """The time that all sinks of a net share, or None."""
+        own = self.times.get(id_, {})
+        times = set(own.values()) | ({self.time} if len(own) < sinks else set())
+        return times.pop() if len(times) == 1 else None
+
+    def has_times(self):
+        """Whether a time isn't 0."""
+        return self.time != 0 or any(time for own in self.times.values() for time in own.values())
