@@ -4,6 +4,7 @@ The repositories are small ones with the real scripts, two crates and programs t
 take a clone of this one.
 """
 import os
+import pty
 import re
 import shutil
 import subprocess
@@ -214,6 +215,17 @@ class Launcher(Small):
                               (["sh", "groute"], self.root), (["../groute"], self.path("crates"))):
             done = subprocess.run([*words, "a"], cwd=folder, env={"PATH": PLAIN}, check=False, capture_output=True)
             self.assertTrue(done.stdout.endswith(b"released a\n"), (words, done))
+
+    def test_on_a_terminal(self):
+        """What is wrong with groute's words is told by another script; the rest is the program's."""
+        self.put("tools/in_words.py", "import sys\nprint('in words', *sys.argv[2:])\n")
+        for name, shown in (("groute", "in words a\n"), ("grbound", "released a\n")):
+            mine, theirs = pty.openpty()
+            done = subprocess.run([self.path(name), "a"], stderr=theirs, stdout=subprocess.PIPE, check=False,
+                                  env={"PATH": PLAIN})
+            os.close(theirs)
+            os.close(mine)
+            self.assertTrue(done.stdout.decode().endswith(shown), done)
 
     def test_a_build(self):
         self.put("crates/low/src/lib.rt", "// lou\n")
