@@ -45,7 +45,7 @@ class Tables(unittest.TestCase):
     def completed(self, *words):
         """What bash completes of the last word."""
         quoted = " ".join(f"'{word}'" for word in words)
-        script = f"source {ROOT}/completion/groute.bash; cd {ROOT}/examples; COMP_WORDS=({quoted}); " \
+        script = f"cd {shlex.quote(ROOT)}; source completion/groute.bash; cd examples; COMP_WORDS=({quoted}); " \
                  f"COMP_CWORD={len(words) - 1}; _groute; printf '%s\\n' \"${{COMPREPLY[@]}}\""
         return run("bash", "-c", script)[1].split()
 
@@ -64,7 +64,7 @@ class Tables(unittest.TestCase):
         stub = "_describe() { print -l -- ${(P)2} }; _arguments() { print -l -- \"$@\" }; _files() { }; "
         for words, wanted in (("CURRENT=2; words=(groute '')", "route:routes a design"),
                               ("CURRENT=3; words=(groute evaluate '')", "3:SOLUTION:_files")):
-            status, out, err = run("zsh", "-fc", f"{stub}f() {{ {words}; source {ROOT}/completion/_groute }}; f")
+            status, out, err = run("zsh", "-fc", f"{stub}f() {{ {words}; source {shlex.quote(ROOT)}/completion/_groute }}; f")
             self.assertEqual((status, err), (0, ""))
             self.assertIn(wanted, out.splitlines())
 
@@ -77,8 +77,8 @@ class Scripts(InFolder):
             line = re.search(r"^groute route DESIGN .*$", file.read(), re.MULTILINE).group()
         line = line.replace("\\-", "-").replace("\\(aq", "'")
         for rounds, status in ((0, 1), (1, 0)):
-            crowd = f"{ROOT}/examples/crowd.ispd {ROOT}/examples/crowd.library {rounds}"
-            line_of_it = line.replace("groute ", f"{program()} ", 1).replace("DESIGN LIBRARY 8", crowd)
+            crowd = f"{shlex.quote(ROOT)}/examples/crowd.ispd {shlex.quote(ROOT)}/examples/crowd.library {rounds}"
+            line_of_it = line.replace("groute ", f"{shlex.quote(program())} ", 1).replace("DESIGN LIBRARY 8", crowd)
             self.assertEqual(run("sh", "-c", line_of_it, folder=self.folder.name)[0], status)
 
 
@@ -87,7 +87,7 @@ class Terminal(InFolder):
 
     def setUp(self):
         super().setUp()
-        words = f"{shlex.quote(sys.executable)} {TOOLS}/in_words.py {shlex.quote(program())}"
+        words = f"{shlex.quote(sys.executable)} {shlex.quote(TOOLS)}/in_words.py {shlex.quote(program())}"
         self.path = self.put("groute", f'#!/bin/sh\n[ ! -t 2 ] || exec {words} "$@"\n'
                              f'exec {shlex.quote(program())} "$@"\n')
         os.chmod(self.path, 0o755)
