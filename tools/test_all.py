@@ -85,8 +85,7 @@ def tried(part):
 
 def path_of(name):
     """The path of the program that ./groute or ./grbound runs, which is built first where it has to be; else None."""
-    subprocess.run([os.path.join(ROOT, name)], check=False, stdin=subprocess.DEVNULL, stdout=subprocess.DEVNULL)
-    found = subprocess.run([os.path.join(ROOT, "tools", "release.sh"), "--which", name], check=False, text=True,
+    found = subprocess.run([os.path.join(ROOT, "tools", "release.sh"), "--find", name], check=False, text=True,
                            stdout=subprocess.PIPE)
     return os.path.join(ROOT, found.stdout.strip()) if found.returncode == 0 else None
 
