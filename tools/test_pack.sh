@@ -2,9 +2,10 @@
 # Tests tools/pack.sh: see --help.
 usage="tools/test_pack.sh
 
-Packs the program into an empty folder, unpacks the archive, installs the Debian package with dpkg in a scratch root,
-and routes README's chip with each, with nothing of the toolchain on PATH; make install puts the same files; lintian,
-where it is there, finds no error. The last line is 'packed program: passed'."
+Packs the programs into an empty folder, unpacks the archive, installs the Debian package with dpkg in a scratch root,
+and routes README's chip with each, with nothing of the toolchain on PATH; make install puts the same files; the
+programs are those of release/, where they aren't built here; lintian, where it is there, finds no error. The last line
+is 'packed program: passed'."
 
 case ${1-} in
 -*)
@@ -65,8 +66,13 @@ try() {
     [ "$(head -n 2 "$work/err")" = "routed 1
 overflow 0" ]
     alone groute-where examples/small.ispd 2 >/dev/null
-    grep -q '^rattle-kit' PROVED_WITH
-    grep -q "^$(sha256sum "$work/$1/lib/groute/groute" | cut -d ' ' -f 1) " PROVED_WITH
+    grep -q '^kit rattle-kit' PROVED_WITH
+    grep -q "^groute .* $(sha256sum <"$work/$1/lib/groute/groute" | cut -d ' ' -f 1)\$" PROVED_WITH
+    grep -q "^grbound .* $(sha256sum <"$work/$1/bin/grbound" | cut -d ' ' -f 1)\$" PROVED_WITH
+    if "$here/tools/release.sh" --current 2>/dev/null && [ ! -e "$here/crates/groute/out/groute" ]; then
+        cmp "$work/$1/lib/groute/groute" "$here/release/groute"
+        cmp "$work/$1/bin/grbound" "$here/release/grbound"
+    fi
     # README's chip
     xz -dc examples/grom_osu035.ispd.xz >"$work/grom.ispd"
     alone groute route "$work/grom.ispd" examples/osu035.library 5 >"$work/grom.solution" 2>"$work/grom.report"
