@@ -78,6 +78,16 @@ class Documents(unittest.TestCase):
         for name in re.findall(r"`([A-Z]\w+)`", text_of("docs/PROVED.md")):
             self.assertIn(name, words)
 
+    def test_glossary(self):
+        """The files that the glossary names are there, and each word has one row."""
+        rows = re.findall(r"^\| ([^|]+) \| [^|]+ \| [^|]+ \| ([^|]+) \|$", text_of("docs/GLOSSARY.md"), re.MULTILINE)
+        rows = [row for row in rows if row[0] != "word"]
+        words = [word for row in rows for word in row[0].split(", ")]
+        self.assertEqual(len(words), len(set(words)))
+        for _, place in rows:
+            path = place if "." in place else "crates/{}/specs/{}.antt".format(*place.split("/"))
+            self.assertTrue(os.path.exists(f"{ROOT}/{path}"), path)
+
     def test_paths(self):
         """Files that the documents name are there."""
         for document in ["README.md", "examples/README.md", *DOCUMENTS]:
