@@ -14,7 +14,7 @@ from groute.placed.def_text import Def
 from groute.placed.lef_text import Lef
 from groute.placed.statements import Notes, moved, polygon, turned
 from testing import HERE, ROOT, InFolder, program, run, tool
-from groute.texts.tokens import Fault
+from groute.texts.files import Fault
 
 SKY = [f"{ROOT}/examples/sky/{name}" for name in ("adder.def", "tech.lef", "cells.lef")]
 OSU035 = "/usr/share/qflow/tech/osu035/osu035_stdcells.lef"
@@ -194,7 +194,7 @@ out
             self.assertIn(old, text)
             changed = text.replace(old, new, 1)
             (status, _, err), made = self.made(changed if text is DEF else DEF, changed if text is LEF else LEF)
-            self.assertEqual(status, 1 if says is None else 0)
+            self.assertEqual(status, 3 if says is None else 0)
             self.assertIn("LAYER m2 has no TRACKS X, and so no room for wires" if says is None else says, err)
             self.assertEqual(made[:1], [] if says is None else [TINY])
 
@@ -231,7 +231,7 @@ out
         ):
             self.assertIn(old, DEF)
             (status, _, err), _ = self.made(DEF.replace(old, new, 1), LEF)
-            self.assertEqual(status, 1)
+            self.assertEqual(status, 3)
             self.assertIn(says, err)
         for old, new, says in (
             ("PITCH 2 ;", "COLOUR 2 ;", ":5: COLOUR of LAYER m1 is not read here"),
@@ -245,7 +245,7 @@ out
         ):
             self.assertIn(old, LEF)
             (status, _, err), _ = self.made(DEF, LEF.replace(old, new, 1))
-            self.assertEqual(status, 1)
+            self.assertEqual(status, 3)
             self.assertIn(says, err)
 
     def test_blockages(self):
@@ -357,7 +357,7 @@ class Technologies(InFolder):
         for words, says in ((("--layers", "met1-met9"), "routing layers are li1 met1"),
                             (("--adjust", "tin=0.5"), "tin")):
             status, _, err = tool("def_to_ispd.py", *SKY[:2], "design", "--lef", SKY[2], *words)
-            self.assertEqual(status, 1)
+            self.assertEqual(status, 3)
             self.assertIn(says, err)
         self.assertEqual(tool("def_to_ispd.py", *SKY[:2], "design", "--adjust", "met1=2")[0], 2)
 
@@ -416,7 +416,7 @@ class Shapes(InFolder):
             for shape in pin.shapes:
                 yield "PIN", shape
         for component in chip.placed.components.values():
-            if component.x is not None:
+            if component.orientation is not None:
                 macro = chip.macro(component)
                 kinds = [("LEFPIN", shape) for pin in macro.pins.values() for shape in pin.shapes]
                 for kind, shape in kinds + [("OBS", shape) for shape in macro.obstructions]:
@@ -484,7 +484,7 @@ class Shapes(InFolder):
                 _, name, layer, *corners = line.split()
                 boxes.setdefault((name, layer), []).append(tuple(map(int, corners)))
         count = 0
-        for net in chip.nets():
+        for net in chip.nets:
             for (component, name), (x, y, level) in zip(chip.ordered(net), chip.points(net)):
                 if component != "PIN":
                     layer = chip.layers[level - 1].name
