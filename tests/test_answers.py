@@ -44,10 +44,20 @@ class Names(InFolder):
         with open(path, encoding="utf-8") as file:
             self.assertEqual(file.read(), "units 100\norigin -50 70\ntile 15 20\nlayer 1 metal1\nlayer 2 m2\n")
         more = self.put("more", f"names 1\ndie 1 2 3 4\n{NAMES}lower 0 li1\nlower 0 poly\nend\n")
-        names.write_names(names.read_names(more), path)
+        with Outputs() as outputs:
+            outputs.lines(path, names.read_names(more).lines())
         with open(path, encoding="utf-8") as file:
             self.assertEqual(file.read(), "units 100\norigin -50 70\ntile 15 20\ndie 1 2 3 4\nlower 0 li1\n"
                                           "lower 0 poly\nlayer 1 metal1\nlayer 2 m2\n")
+
+    def test_nets(self):
+        """In version 2 something is said of nets, and what isn't known is passed over and kept."""
+        said = "net 7 use 1 clock\nnet 7 pins 2 u1/A PIN/b\nnet 9 use 1 signal\nnet 3 note 0\n"
+        read = names.read_names(self.put("names", f"names 2\n{said}{NAMES}end\n"))
+        self.assertEqual(read.clocks(), {7})
+        self.assertEqual(read.nets[7]["pins"], ["u1/A", "PIN/b"])
+        text = "".join(f"{line}\n" for line in read.lines())
+        self.assertEqual(text, f"names 2\nunits 100\norigin -50 70\ntile 15 20\nlayer 1 metal1\nlayer 2 m2\n{said}")
 
     def test_microns(self):
         design = Design(Tokens(SMALL))
@@ -74,7 +84,7 @@ class Names(InFolder):
                 names.read_names(self.put("names", NAMES.replace(old, new, 1)))
         status, out, err = tool("hotspots.py", CROWD, self.put("none", ""), "--names", self.put("names", NAMES))
         self.assertEqual((status, out), (3, ""))
-        self.assertIn("names of 2 layers, and the design has 1", err)
+        self.assertIn("2 layers have names, and the design has 1", err)
 
 
 CROWDED = """routed 2

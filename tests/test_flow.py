@@ -31,7 +31,8 @@ class Flow(InFolder):
         self.assertEqual(status, 0, err)
         shown = ["hotspots.txt", "index.html"] if PICTURES else ["congestion.csv"]
         self.assertEqual(sorted(os.listdir(folder)), sorted([*FILES, *shown]))
-        self.assertRegex(out, r"^adder: overflow 0; fullest tile [0-9]+ %; worst net delay [0-9]+ ps\n$" if PICTURES else
+        verdict = r"^adder: overflow 0; fullest tile [0-9]+ %; worst net delay [0-9]+ ps\n$"
+        self.assertRegex(out, verdict if PICTURES else
                          r"^adder: routed 44, overflow 0, maximum 0, wirelength [0-9]+, vias [0-9]+\n$")
         paths = [os.path.join(folder, name) for name in ("design.ispd", "routes.solution")]
         self.assertEqual(run(program(), "evaluate", *paths)[0], 0)

@@ -319,8 +319,9 @@ class Technologies(InFolder):
         design, names, library, err = self.made(SKY, "--layers", "met1-met5", "--scale", "10")
         self.assertEqual(design[0], "grid 8 7 5")
         self.assertEqual(design[6], "0 0 6900 6900")
-        self.assertEqual(names, ["units 1000", "origin 0 0", "tile 6900 6900", "die 0 0 55200 54400", "lower 0 li1",
-                                 *(f"layer {at} met{at}" for at in range(1, 6))])
+        self.assertEqual(names, ["names 2", "units 1000", "origin 0 0", "tile 6900 6900", "die 0 0 55200 54400",
+                                 "lower 0 li1", *(f"layer {at} met{at}" for at in range(1, 6)),
+                                 "net 0 use 1 clock", "net 1 use 1 clock"])
         nets = design[8:]
         # By its rule a wire and its spacing take 0.84 micrometres of met1, whose pitch is 0.34: 4.94 of a track's 2.
         self.assertEqual(nets[:3], ["clk 0 2 4", "27830 480 2", "30845 45045 1"])
@@ -365,7 +366,7 @@ class Technologies(InFolder):
         design, names, library, _ = self.made(GF)
         # GCELLGRID isn't regular: 15 pitches of Metal3, 0.56 micrometres at 2000 units, of a die of 61600 by 60000.
         self.assertEqual((design[0], design[6]), ("grid 4 4 4", "0 0 16800 16800"))
-        self.assertEqual((names[0], names[3]), ("units 2000", "die 0 0 61600 60000"))
+        self.assertEqual((names[1], names[4]), ("units 2000", "die 0 0 61600 60000"))
         self.assertEqual(design[8:10], ["clk 0 5 1", "20160 500 2"])
         # g0 lies mirrored at ( 4480 7840 ): its CLK is the first shape, 2.15 from its side of 8.4, 2 high.
         self.assertEqual(design[10], "16980 11840 1")

@@ -42,11 +42,12 @@ class Report(InFolder):
             reports.append(self.put(f"report{rounds}", err))
             solution = self.put(f"solution{rounds}", out)
         out, _ = self.page(crowd, solution, library, reports[1], "--before", reports[0])
-        self.assertEqual(out, "overflow 0 after 1 round (4, 0); fullest tile 100 %; worst net -125 ps\n")
+        self.assertEqual(out, "overflow 0 after 1 round (4, 0); fullest tile 100 %; worst net delay 125 ps\n")
         out, _ = self.page(crowd, solution)
         self.assertEqual(out, "overflow 0; fullest tile 100 %\n")
         status, _, err = tool("report.py", crowd, solution, library, reports[0], "-o", self.put("page", ""))
-        self.assertEqual((status, err), (3, f"report: {reports[0]}: it is of other routes: it tells overflow 4, the solution has 0\n"))
+        says = "it is of other routes: it tells overflow 4, the solution has 0"
+        self.assertEqual((status, err), (3, f"report: {reports[0]}: {says}\n"))
 
     def test_nothing_from_a_network(self):
         """One script and one style, by their hashes, and no address."""
