@@ -14,7 +14,8 @@ from groute.loads import edges_plain
 from groute.texts import names
 from groute.texts.designs import EAST, NORTH, Design, Netlist
 from groute.texts.solutions import records
-from groute.texts.tokens import Fault, Tokens
+from groute.texts.files import Fault, Outputs
+from groute.texts.tokens import Tokens
 from testing import PICTURES, ROOT, InFolder, run, tool
 
 SMALL = f"{ROOT}/examples/small.ispd"
@@ -38,26 +39,38 @@ class Names(InFolder):
         self.assertEqual((read.units, read.origin, read.tile), (100, (-50, 70), (15, 20)))
         self.assertEqual(read.layers, ["metal1", "m2"])
         path = os.path.join(self.folder.name, "written")
-        names.write_names(names.Names(read.units, read.origin, read.tile, read.layers), path)
+        with Outputs() as outputs:
+            outputs.lines(path, names.Names(read.units, read.origin, read.tile, read.layers).lines())
         with open(path, encoding="utf-8") as file:
             self.assertEqual(file.read(), "units 100\norigin -50 70\ntile 15 20\nlayer 1 metal1\nlayer 2 m2\n")
         more = self.put("more", f"names 1\ndie 1 2 3 4\n{NAMES}lower 0 li1\nlower 0 poly\nend\n")
-        names.write_names(names.read_names(more), path)
+        with Outputs() as outputs:
+            outputs.lines(path, names.read_names(more).lines())
         with open(path, encoding="utf-8") as file:
             self.assertEqual(file.read(), "units 100\norigin -50 70\ntile 15 20\ndie 1 2 3 4\nlower 0 li1\n"
                                           "lower 0 poly\nlayer 1 metal1\nlayer 2 m2\n")
 
+    def test_nets(self):
+        """In version 2 something is said of nets, and what isn't known is passed over and kept."""
+        said = "net 7 use 1 clock\nnet 7 pins 2 u1/A PIN/b\nnet 9 use 1 signal\nnet 3 note 0\n"
+        read = names.read_names(self.put("names", f"names 2\n{said}{NAMES}end\n"))
+        self.assertEqual(read.clocks(), {7})
+        self.assertEqual(read.nets[7]["pins"], ["u1/A", "PIN/b"])
+        text = "".join(f"{line}\n" for line in read.lines())
+        self.assertEqual(text, f"names 2\nunits 100\norigin -50 70\ntile 15 20\nlayer 1 metal1\nlayer 2 m2\n{said}")
+
     def test_microns(self):
         design = Design(Tokens(SMALL))
         self.assertEqual(names.Terms(design).words((1, 0), (2, 1)), "(10, 0) - (30, 20)")
-        self.assertEqual(names.Terms(design, self.put("names", NAMES)).words((1, 0), (2, 1)),
+        self.assertEqual(names.Terms(design, names.read_names(self.put("names", NAMES))).words((1, 0), (2, 1)),
                          "(-0.35, 0.7) - (-0.05, 1.1)")
 
     def test_faults(self):
         for old, new, says in (
             ("units 100\n", "", "units, origin and tile are due"),
             ("units 100", "units 0", "at least 1"),
-            ("units 100", "names 2\nunits 100", "are due"),
+            ("units 100", "names 3\nunits 100", "are due"),
+            ("units 100", "net 0 use 1 clock\nunits 100", "version 2"),
             ("units 100", "units 100\nunits 100", "token 3: units begins no .* or stands twice"),
             ("tile 15 20", "tile 15 wide", "token 8: a whole number"),
             ("tile 15 20", "tile 15", "token 8: a whole number"),
@@ -70,8 +83,8 @@ class Names(InFolder):
             with self.assertRaisesRegex(Fault, says):
                 names.read_names(self.put("names", NAMES.replace(old, new, 1)))
         status, out, err = tool("hotspots.py", CROWD, self.put("none", ""), "--names", self.put("names", NAMES))
-        self.assertEqual((status, out), (1, ""))
-        self.assertIn("names of 2 layers, and the design has 1", err)
+        self.assertEqual((status, out), (3, ""))
+        self.assertIn("2 layers have names, and the design has 1", err)
 
 
 CROWDED = """routed 2
@@ -132,11 +145,11 @@ class Hotspots(InFolder):
             design = Netlist(Tokens(path))
             edges = edges_plain.Edges(design, solution)
             over = {edge[:2]: edge[3] - edge[2] for edge in edges.used() if edge[3] > edge[2]}
-            covered = {id_: {edge for segment in segments for edge in edges.covered(segment)}
+            covered = {id_: {edge for segment in segments for edge in edges.covered(*design.run(segment))}
                        for id_, segments in records(design, solution)}
             mine = loads.Loads(edges_numpy.Edges(design, solution))
             with self.subTest(seed=seed):
-                left = {edge for edge in over if edges.capacity(*edge)}
+                left = {edge for edge in over if edges.capacity_of(*edge)}
                 for region in mine.regions(10):
                     regions += 1
                     inside = {edge for edge in over if is_in(region, design.place(*edge))}
@@ -209,12 +222,12 @@ class Hotspots(InFolder):
             called = shell_words(f"{name}.py", *words)
             self.assertEqual(run("sh", "-c", f"{called} | true"), (0, "", ""))
             status, _, err = run("sh", "-c", f"{called} > /dev/full")
-            self.assertEqual((status, err), (1, f"{name}: [Errno 28] No space left on device\n"))
+            self.assertEqual((status, err), (3, f"{name}: No space left on device\n"))
             status, _, err = tool(f"{name}.py", "missing", *words[1:])
-            self.assertEqual((status, err), (1, f"{name}: [Errno 2] No such file or directory: 'missing'\n"))
+            self.assertEqual((status, err), (3, f"{name}: missing: No such file or directory\n"))
         for words in (["hotspots.py", *crowd, "--csv"], ["report.py", *crowd, "-o"], ["adjust.py", CROWD, "-o"]):
             self.assertEqual(tool(*words, "/dev/full")[::2],
-                             (1, f"{words[0][:-3]}: [Errno 28] No space left on device\n"))
+                             (3, f"{words[0][:-3]}: /dev/full: No space left on device\n"))
 
 
 # Worked out by hand. Sink 1 of net a is in the same row as its driver, four steps away; its delay without buffers is
@@ -315,7 +328,7 @@ class Slowest(InFolder):
                                ("net c 3 required 0 buffers 0", "net c", "ends after")):
             self.assertIn(old, TIMED_REPORT)
             status, out, err = self.slowest(report=TIMED_REPORT.replace(old, new, 1))
-            self.assertEqual((status, out), (1, ""))
+            self.assertEqual((status, out), (3, ""))
             self.assertIn(says, err)
 
 
@@ -340,7 +353,7 @@ class Pictures(InFolder):
         for seed, text in random_designs(20):
             path = self.put("design", text)
             solution = self.routed(path, int(text.split()[3]))
-            design = Design(Tokens(path))
+            design = Netlist(Tokens(path))
             edges = edges_plain.Edges(design, solution)
             layers, ways = seed % design.layers, [(0, 1), (0,), (1,)][seed % 3]
             wanted = {}
@@ -348,7 +361,7 @@ class Pictures(InFolder):
                 for column in range(design.columns - (way == 0)):
                     for row in range(design.rows - (way == 1)):
                         number = design.number(way, column, row, layers)
-                        capacity, demand = edges.capacity(way, number), edges.demand.get((way, number), 0)
+                        capacity, demand = edges.capacity_of(way, number), edges.demand.get((way, number), 0)
                         over = max(0, demand - capacity)
                         found = (demand / capacity, over, 0) if capacity else (-1, 0, over)
                         for tile in ((row, column), (row + (way == 1), column + (way == 0))):
@@ -397,7 +410,7 @@ class Adjusted(InFolder):
 
     def capacities(self, path):
         """Of a design, the capacity of each wire edge that is there, by way, layer, column and row."""
-        design = Design(Tokens(path))
+        design = Netlist(Tokens(path))
         return design, {
             (way, layer, column, row): design.adjusted.get((way, design.number(way, column, row, layer)),
                                                            design.capacity[way][layer])
@@ -458,7 +471,7 @@ class Adjusted(InFolder):
                             (("--region", "0", "0", "3", "1", "1"), "3 is no column"),
                             (("--region", "1", "0", "0", "1", "1"), "lower left")):
             status, out, err = tool("adjust.py", SMALL, *words)
-            self.assertEqual((status, out), (1, ""))
+            self.assertEqual((status, out), (3, ""))
             self.assertIn(says, err)
 
     def test_layers_by_name(self):

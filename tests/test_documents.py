@@ -24,8 +24,10 @@ class Samples(unittest.TestCase):
         path = {**os.environ, "PATH": os.path.dirname(sys.executable) + os.pathsep + os.environ["PATH"]}
         with tempfile.TemporaryDirectory() as folder:
             for name, path_of in (("groute", program()), ("grbound", bounds())):
+                if path_of is None:
+                    continue
                 with open(f"{folder}/{name}", "w", encoding="utf-8") as file:
-                    file.write(f'#!/bin/sh\nexec {shlex.quote(path_of or "false")} "$@"\n')
+                    file.write(f'#!/bin/sh\nexec {shlex.quote(path_of)} "$@"\n')
                 os.chmod(f"{folder}/{name}", 0o755)
             for name in ("examples", "tools", "docs"):
                 os.symlink(f"{ROOT}/{name}", f"{folder}/{name}")

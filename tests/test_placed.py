@@ -14,7 +14,7 @@ from groute.placed.def_text import Def
 from groute.placed.lef_text import Lef
 from groute.placed.statements import Notes, moved, polygon, turned
 from testing import HERE, ROOT, InFolder, program, run, tool
-from groute.texts.tokens import Fault
+from groute.texts.files import Fault
 
 SKY = [f"{ROOT}/examples/sky/{name}" for name in ("adder.def", "tech.lef", "cells.lef")]
 OSU035 = "/usr/share/qflow/tech/osu035/osu035_stdcells.lef"
@@ -194,7 +194,7 @@ out
             self.assertIn(old, text)
             changed = text.replace(old, new, 1)
             (status, _, err), made = self.made(changed if text is DEF else DEF, changed if text is LEF else LEF)
-            self.assertEqual(status, 1 if says is None else 0)
+            self.assertEqual(status, 3 if says is None else 0)
             self.assertIn("LAYER m2 has no TRACKS X, and so no room for wires" if says is None else says, err)
             self.assertEqual(made[:1], [] if says is None else [TINY])
 
@@ -231,7 +231,7 @@ out
         ):
             self.assertIn(old, DEF)
             (status, _, err), _ = self.made(DEF.replace(old, new, 1), LEF)
-            self.assertEqual(status, 1)
+            self.assertEqual(status, 3)
             self.assertIn(says, err)
         for old, new, says in (
             ("PITCH 2 ;", "COLOUR 2 ;", ":5: COLOUR of LAYER m1 is not read here"),
@@ -245,7 +245,7 @@ out
         ):
             self.assertIn(old, LEF)
             (status, _, err), _ = self.made(DEF, LEF.replace(old, new, 1))
-            self.assertEqual(status, 1)
+            self.assertEqual(status, 3)
             self.assertIn(says, err)
 
     def test_blockages(self):
@@ -319,8 +319,9 @@ class Technologies(InFolder):
         design, names, library, err = self.made(SKY, "--layers", "met1-met5", "--scale", "10")
         self.assertEqual(design[0], "grid 8 7 5")
         self.assertEqual(design[6], "0 0 6900 6900")
-        self.assertEqual(names, ["units 1000", "origin 0 0", "tile 6900 6900", "die 0 0 55200 54400", "lower 0 li1",
-                                 *(f"layer {at} met{at}" for at in range(1, 6))])
+        self.assertEqual(names, ["names 2", "units 1000", "origin 0 0", "tile 6900 6900", "die 0 0 55200 54400",
+                                 "lower 0 li1", *(f"layer {at} met{at}" for at in range(1, 6)),
+                                 "net 0 use 1 clock", "net 1 use 1 clock"])
         nets = design[8:]
         # By its rule a wire and its spacing take 0.84 micrometres of met1, whose pitch is 0.34: 4.94 of a track's 2.
         self.assertEqual(nets[:3], ["clk 0 2 4", "27830 480 2", "30845 45045 1"])
@@ -357,7 +358,7 @@ class Technologies(InFolder):
         for words, says in ((("--layers", "met1-met9"), "routing layers are li1 met1"),
                             (("--adjust", "tin=0.5"), "tin")):
             status, _, err = tool("def_to_ispd.py", *SKY[:2], "design", "--lef", SKY[2], *words)
-            self.assertEqual(status, 1)
+            self.assertEqual(status, 3)
             self.assertIn(says, err)
         self.assertEqual(tool("def_to_ispd.py", *SKY[:2], "design", "--adjust", "met1=2")[0], 2)
 
@@ -365,7 +366,7 @@ class Technologies(InFolder):
         design, names, library, _ = self.made(GF)
         # GCELLGRID isn't regular: 15 pitches of Metal3, 0.56 micrometres at 2000 units, of a die of 61600 by 60000.
         self.assertEqual((design[0], design[6]), ("grid 4 4 4", "0 0 16800 16800"))
-        self.assertEqual((names[0], names[3]), ("units 2000", "die 0 0 61600 60000"))
+        self.assertEqual((names[1], names[4]), ("units 2000", "die 0 0 61600 60000"))
         self.assertEqual(design[8:10], ["clk 0 5 1", "20160 500 2"])
         # g0 lies mirrored at ( 4480 7840 ): its CLK is the first shape, 2.15 from its side of 8.4, 2 high.
         self.assertEqual(design[10], "16980 11840 1")
@@ -416,7 +417,7 @@ class Shapes(InFolder):
             for shape in pin.shapes:
                 yield "PIN", shape
         for component in chip.placed.components.values():
-            if component.x is not None:
+            if component.orientation is not None:
                 macro = chip.macro(component)
                 kinds = [("LEFPIN", shape) for pin in macro.pins.values() for shape in pin.shapes]
                 for kind, shape in kinds + [("OBS", shape) for shape in macro.obstructions]:
@@ -484,7 +485,7 @@ class Shapes(InFolder):
                 _, name, layer, *corners = line.split()
                 boxes.setdefault((name, layer), []).append(tuple(map(int, corners)))
         count = 0
-        for net in chip.nets():
+        for net in chip.nets:
             for (component, name), (x, y, level) in zip(chip.ordered(net), chip.points(net)):
                 if component != "PIN":
                     layer = chip.layers[level - 1].name

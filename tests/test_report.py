@@ -13,7 +13,8 @@ import browser
 import testing
 from groute.commands import report
 from groute.texts.designs import Netlist
-from groute.texts.tokens import Fault, Tokens
+from groute.texts.files import Fault
+from groute.texts.tokens import Tokens
 from test_answers import random_designs
 from testing import PICTURES, ROOT, InFolder, run, tool
 
@@ -41,11 +42,12 @@ class Report(InFolder):
             reports.append(self.put(f"report{rounds}", err))
             solution = self.put(f"solution{rounds}", out)
         out, _ = self.page(crowd, solution, library, reports[1], "--before", reports[0])
-        self.assertEqual(out, "overflow 0 after 1 round (4, 0); fullest tile 100 %; worst net -125 ps\n")
+        self.assertEqual(out, "overflow 0 after 1 round (4, 0); fullest tile 100 %; worst net delay 125 ps\n")
         out, _ = self.page(crowd, solution)
         self.assertEqual(out, "overflow 0; fullest tile 100 %\n")
         status, _, err = tool("report.py", crowd, solution, library, reports[0], "-o", self.put("page", ""))
-        self.assertEqual((status, err), (1, f"report: {reports[0]} tells another overflow than the solution has\n"))
+        says = "it is of other routes: it tells overflow 4, the solution has 0"
+        self.assertEqual((status, err), (3, f"report: {reports[0]}: {says}\n"))
 
     def test_nothing_from_a_network(self):
         """One script and one style, by their hashes, and no address."""
@@ -98,7 +100,7 @@ class Report(InFolder):
         head, _ = self.data(self.page(*words)[1])
         self.assertEqual((head["least"], head["walls"]), (None, []))
         status, _, err = tool("report.py", *words, "--bound", words[0], "-o", self.put("page", ""))
-        self.assertEqual((status, err), (1, f"report: {words[0]}: it isn't what grbound writes\n"))
+        self.assertEqual((status, err), (3, f"report: {words[0]}: it isn't what grbound writes\n"))
 
     def test_most_nets(self):
         """Of a larger design, and where the page is too large, the nets of regions and the slowest alone are there."""

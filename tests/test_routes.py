@@ -8,7 +8,8 @@ import sys
 from testing import ROOT, InFolder, program, run, tool
 from groute.texts.designs import ends
 from groute.texts.tokens import Tokens
-from groute.texts.tiled import Tiled, names_of
+from groute.texts.names import names_beside
+from groute.texts.tiled import Tiled
 
 SKY = [f"{ROOT}/examples/sky/{name}" for name in ("adder.def", "tech.lef", "cells.lef")]
 GF = [f"{ROOT}/examples/gf/{name}" for name in ("ring.def", "all.lef")]
@@ -41,7 +42,7 @@ class Guides(InFolder):
         """Each rectangle is whole tiles, each pin is covered, and so are both ends of each segment."""
         guides = os.path.join(self.folder.name, "guides")
         self.assertEqual(tool("guides.py", design, solution, guides, *names or ())[1:], ("", ""))
-        known = names_of(design, names and names[1])
+        known = names_beside(design, names and names[1])
         chip, found = Tiled(design, known), read_guides(guides)
         self.assertEqual(set(found), {chip.names[id_] for id_, width in chip.widths.items() if width is not None})
         tokens = Tokens(solution)
@@ -99,11 +100,11 @@ class Guides(InFolder):
                               ("(5,5,1)-(25,5,1", "form"), ("(5,5)-(25,5,1,1)", "form"),
                               ("(5,5,1)-(25,5,3)", "outside")):
             status, _, err = tool("guides.py", design, self.put("solution", f"a 0 {segment} !"), "none")
-            self.assertEqual((status, "design.names isn't there" in err), (1, True))
+            self.assertEqual((status, "design.names isn't there" in err), (3, True))
             names = self.put("names", NAMES)
             status, _, err = tool("guides.py", design, self.put("solution", f"a 0 {segment} !"),
                                   os.path.join(self.folder.name, "out"), "--names", names)
-            self.assertEqual(status, 1)
+            self.assertEqual(status, 3)
             self.assertIn(says, err)
 
 
@@ -149,5 +150,5 @@ class Back(InFolder):
             ("a\n(\n)\na\n(\n)\n", "a second time"), ("a\n(\n0 0 10 10 m1\n0 0 m1 25 5 m1\n)\n", "form"),
         ):
             status, _, err = self.made(routes)
-            self.assertEqual(status, 1)
+            self.assertEqual(status, 3)
             self.assertIn(says, err)

@@ -1,5 +1,5 @@
 #!/usr/bin/env python3
 """A command: with --help it says what it does."""
-from groute import frame
+from groute import start
 
-frame.run("hotspots")
+start.run("hotspots")

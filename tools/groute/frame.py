@@ -1,47 +1,184 @@
-"""What all commands have in common: their words, and an end with a line that says why."""
+"""What all commands have in common: their words, statuses, and an end that says in a line why."""
 import argparse
 import importlib
+import importlib.util
+import io
 import os
+import signal
+import subprocess
 import sys
+import traceback
+from contextlib import contextmanager
+from types import FrameType
+from typing import Any, Callable, Iterator, NoReturn, Sequence
 
-from groute.texts.tokens import Fault
+from groute import start
+from groute.options import Status
+from groute.texts.designs import Netlist
+from groute.texts.files import MOST_LETTERS, Fault, one_line
+from groute.texts.solutions import unjoined_words
 
 TOOLS = os.path.dirname(os.path.dirname(os.path.realpath(__file__)))    # the folder of the scripts
+ENDING = (signal.SIGINT, signal.SIGTERM, signal.SIGHUP)
+SHOWN = 5       # names of nets in a line
 
 
-def parser(doc):
+class Ended(BaseException):
+    """That a signal asks for the end."""
+
+    def __init__(self, number: int) -> None:
+        BaseException.__init__(self, number)
+        self.number = number
+
+
+class Parser(argparse.ArgumentParser):
+    """A parser of words that says in one line what is wrong with them."""
+
+    def error(self, message: str) -> NoReturn:
+        """Ends with the usage and a line."""
+        self.print_usage(sys.stderr)
+        self.exit(Status.WORDS, f"{one_line(f'{self.prog}: error: {message}')}\n")
+
+
+def parser(doc: str | None) -> Parser:
     """A parser of words, with a module's text as its help."""
-    return argparse.ArgumentParser(description=doc, formatter_class=argparse.RawDescriptionHelpFormatter)
+    return Parser(description=doc, formatter_class=argparse.RawDescriptionHelpFormatter)
 
 
-def add_names(words):
-    """The option that each tool has."""
-    words.add_argument("--names", metavar="FILE", help="a text with names of layers and microns (docs/FLOW.md)")
+def add_names(words: argparse.ArgumentParser) -> None:
+    """The option of tools that speak of a chip."""
+    words.add_argument("--names", metavar="FILE", help="a text with names of layers and microns; else DESIGN.names")
 
 
-def run(name):
-    """Runs the command of this name by the words of this process, and ends with its status."""
-    sys.exit(done(name, sys.argv[1:]))
+def add_nets(words: argparse.ArgumentParser) -> None:
+    """The option of tools that list nets."""
+    words.add_argument("--nets", choices=("clocks", "signals"), help="list nets of this use alone, by the names text")
 
 
-def done(name, words):
-    """Does the work of a command; the answer is its status."""
-    sys.stdout.reconfigure(encoding="utf-8", errors="surrogateescape")
+def add_scale(words: argparse.ArgumentParser) -> None:
+    """The option of tools that tell times."""
+    words.add_argument("--scale", type=number(1), default=1, metavar="N", help="of the library's numbers; else 1")
+
+
+def number(least: int, most: int = 10 ** 9) -> Callable[[str], int]:
+    """The reader of a whole number in a range."""
+    def read(word: str) -> int:
+        if not (word.isascii() and word.isdecimal() and len(word) < 20 and least <= int(word) <= most):
+            raise argparse.ArgumentTypeError(f"{word} is no number from {least} to {most}")
+        return int(word)
+    return read
+
+
+def say(name: str, text: str) -> None:
+    """A line on standard error."""
     try:
-        status = importlib.import_module(f"groute.commands.{name}").main(words)
-        sys.stdout.flush()
-        return status or 0
+        print(one_line(f"{name}: {text}"), file=sys.stderr, flush=True)
+    except OSError:
+        pass    # nobody reads it
+
+
+def tell_unjoined(name: str, design: Netlist, ids: Sequence[int]) -> int:
+    """Names nets that aren't joined; the answer is the status of the tool."""
+    if not ids:
+        return Status.DONE
+    names = ", ".join(design.names[id_] for id_ in ids[:SHOWN])
+    say(name, f"{unjoined_words(len(ids))}: {names}{', ..' if len(ids) > SHOWN else ''}")
+    return Status.UNJOINED
+
+
+def done(name: str, words: Sequence[str]) -> int:
+    """Does the work of a command; the answer is its status."""
+    if isinstance(sys.stdout, io.TextIOWrapper):
+        sys.stdout.reconfigure(encoding="utf-8", errors="surrogateescape")
+    try:
+        with signals():
+            return ended(name, words)
+    except Ended as asked:
+        end_by(asked.number)
     except BrokenPipeError:
-        closed()
-    except (Fault, OSError) as fault:
-        print(f"{name}: {fault}", file=sys.stderr)
-        closed()
+        end_by(signal.SIGPIPE)
+    return Status.FAULT
+
+
+def ended(name: str, words: Sequence[str]) -> int:
+    """The same, but for what ends by a signal."""
+    try:
+        status: int | None = importlib.import_module(f"groute.commands.{name}").main(words)
+        sys.stdout.flush()
+        return status or Status.DONE
+    except BrokenPipeError:
+        raise
+    except Fault as fault:
+        for line in fault.args:
+            say(name, line)
+    except MemoryError:
+        say(name, "there isn't enough memory")
+    except OSError as fault:
+        say(name, f"{fault.filename}: {fault.strerror}" if fault.filename else fault.strerror or str(fault))
     except ImportError as fault:
-        print(f"{name}: {sys.executable} has no {fault.name}: Debian's python3-numpy and python3-matplotlib are "
-              "wanted, which /usr/bin/python3 finds", file=sys.stderr)
-    return 1
+        lacking = [module for module in start.PACKAGES if importlib.util.find_spec(module) is None]
+        if not lacking:
+            say(name, told(fault))
+        else:
+            start.again(*lacking)
+            say(name, start.lacks(*lacking))
+    except Exception as fault:      # an error of the tool itself
+        say(name, told(fault))
+    closed()
+    return Status.FAULT
 
 
-def closed():
+def told(fault: Exception) -> str:
+    """An error of the tool itself, in words."""
+    last = traceback.extract_tb(fault.__traceback__)[-1]
+    place = f"{os.path.basename(last.filename)}:{last.lineno}"
+    return f"an error of this tool, at {place}: {type(fault).__name__}: {str(fault)[:MOST_LETTERS]}"
+
+
+def closed() -> None:
     """Nothing more is written, so that no later flush fails again."""
-    os.dup2(os.open(os.devnull, os.O_WRONLY), sys.stdout.fileno())
+    try:
+        sys.stdout.flush()
+    except (OSError, ValueError):
+        try:
+            os.dup2(os.open(os.devnull, os.O_WRONLY), sys.stdout.fileno())
+        except (OSError, ValueError):
+            pass    # it is no file
+
+
+@contextmanager
+def signals() -> Iterator[None]:
+    """Where signals that ask for the end do so in order, and files that are half written go."""
+    def ask(number: int, _: FrameType | None) -> None:
+        raise Ended(number)
+    before: dict[int, Any] = {}
+    for one in ENDING:
+        if signal.getsignal(one) != signal.SIG_IGN:
+            before[one] = signal.signal(one, ask)
+    try:
+        yield
+    finally:
+        for each, handler in before.items():
+            signal.signal(each, handler)
+
+
+def end_by(number: int) -> None:
+    """Ends this process by a signal."""
+    signal.signal(number, signal.SIG_DFL)
+    os.kill(os.getpid(), number)
+
+
+def run(words: Sequence[str], **options: Any) -> tuple[int, bytes]:
+    """Runs a program to its end; a signal that ends this one reaches it too. The answer is its status, as a shell has
+    it, and what it wrote where `stdout` is a pipe."""
+    with subprocess.Popen(words, **options) as process:
+        try:
+            written = process.communicate()[0] or b""
+        except BaseException as fault:
+            process.send_signal(fault.number if isinstance(fault, Ended) else signal.SIGTERM)
+            try:
+                process.wait(5)
+            except subprocess.TimeoutExpired:
+                process.kill()
+            raise
+    return process.returncode if process.returncode >= 0 else 128 - process.returncode, written

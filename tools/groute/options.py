@@ -1,8 +1,19 @@
-"""The commands of groute with their words, and its faults in words: what shells complete and terminals are told.
+"""The commands of groute and grbound with their words, the tools, statuses, and faults in words.
 
 tests/ compare the words with the tables of word_reader, the faults with docs/FORMATS.md, and the files of completion/
-with what tools/dev/completion.py prints.
+with what tools/dev/completion.py prints of this table.
 """
+import enum
+from typing import Iterator, NamedTuple
+
+
+class Status(enum.IntEnum):
+    """How a tool ends."""
+    DONE = 0
+    UNJOINED = 1    # all is done, and routes leave nets unjoined
+    WORDS = 2
+    FAULT = 3
+
 
 # The words of each command, and what it does.
 USAGE = {
@@ -14,8 +25,12 @@ USAGE = {
     "trial SEED X Y L NETS ROUNDS [--workers N] [--rule first|steep|flat]": "makes a design and routes it",
     "panels DESIGN SOLUTION": "gives straight runs the fewest tracks",
 }
+BOUNDS = "DESIGN [--via-cost V]"     # the words of grbound
+# The tools that are commands of their own, installed as groute-NAME.
+TOOLS = ("adjust", "congestion", "def_to_ispd", "flow", "guides", "hotspots", "liberty", "report", "slowest",
+         "to_solution", "where")
 TEXTS = ("DESIGN", "LIBRARY", "SOLUTION")   # words that are files
-FAULTS = {
+FAULTS: dict[str, list[str]] = {
     "design": [
         "the text ends where a token is due",
         "another word is due",
@@ -57,9 +72,34 @@ FAULTS = {
 }
 
 
-def rows():
-    """Of each command: its word, its positionals, its options with their values, and what it does."""
+class Row(NamedTuple):
+    """A command: its word, its positionals, its options with their values, and what it does."""
+    word: str
+    positionals: list[str]
+    options: list[tuple[str, str]]
+    does: str
+
+
+def rows() -> Iterator[Row]:
+    """The commands of groute."""
     for line, does in USAGE.items():
-        word, *rest = line.replace("[", "").replace("]", "").split()
-        first = next((at for at, part in enumerate(rest) if part.startswith("-")), len(rest))
-        yield word, rest[:first], list(zip(rest[first::2], rest[first + 1::2])), does
+        word, _, rest = line.partition(" ")
+        yield Row(word, *parted(rest), does)
+
+
+def parted(line: str) -> tuple[list[str], list[tuple[str, str]]]:
+    """The positionals and the options of a line of usage."""
+    words = line.replace("[", "").replace("]", "").split()
+    first = next((at for at, part in enumerate(words) if part.startswith("-")), len(words))
+    return words[:first], list(zip(words[first::2], words[first + 1::2]))
+
+
+def values(option: str) -> list[str]:
+    """The words that an option of `route` takes, but numbers."""
+    found = [value for row in rows() for word, value in row.options if word == option]
+    return chosen(found[0]) if found else []
+
+
+def chosen(value: str) -> list[str]:
+    """The words among an option's values."""
+    return [word for word in value.split("|") if word.islower()]

@@ -6,9 +6,9 @@ is hatched and doesn't count for the colour. Of large designs a dot is the mean 
 edge has its own place, between its two tiles, and a dot of large designs is the fullest of several. A table (.csv) has
 a line for each wire edge that is used; columns and rows count from 0, layers from 1.
 
---tracks reads what `groute panels` wrote of the solution and prints, fullest first, the tracks of each row and column
-beside those that it holds: its least capacity along it over the layer's minimum width and spacing. One of more tracks
-than it holds can't be routed in detail as it is.
+--tracks reads what `groute panels` wrote of the solution and prints of each row and column, fullest first, the tile
+where most of its tracks are used: how many are, and how many it holds, the capacity of its fuller border over the
+layer's minimum width and spacing. One of more tracks than it holds can't be routed in detail as it is.
 
 --bound draws the fullest walls of what `grbound` wrote of the design: those that need more than they hold in orange.
 
@@ -17,54 +17,64 @@ Pictures want Debian's python3-numpy and python3-matplotlib. Tables and totals d
 import csv
 import os
 import sys
+from argparse import Namespace
+from typing import Sequence
 
 from groute import frame
-from groute.loads.edges import Edges, totals
-from groute.texts.names import Terms
-from groute.texts.designs import EAST, Design, Netlist
-from groute.texts.reports import bounds_in, buffer_of, buffered
-from groute.texts.tokens import Fault, Tokens
+from groute.loads import tracks
+from groute.loads.edges import Counted, counted, totals
+from groute.texts.designs import EAST, Cell, Netlist
+from groute.texts.files import Fault, Outputs
+from groute.texts.names import Terms, names_beside
+from groute.texts.reports import bounds_in, buffer_of, buffered, check_report
+from groute.texts.tokens import Tokens
 
 
-def write_table(edges, path, layer, terms):
+def write_table(edges: Counted, path: str, outputs: Outputs, layer: int | None, terms: Terms) -> None:
     """A line for each wire edge that is used, of one layer or of all."""
-    with open(path, "w", newline="", encoding="ascii") as file:
-        table = csv.writer(file, lineterminator="\n")
-        table.writerow(["layer", "column", "row", "to_column", "to_row", "capacity", "demand", "overflow"])
-        for way, number, capacity, demand in edges.used():
-            column, row, at = edges.design.place(way, number)
-            if layer in (None, at + 1):
-                to = (column + 1, row) if way == EAST else (column, row + 1)
-                table.writerow([terms.layers[at], column, row, *to, capacity, demand, max(0, demand - capacity)])
+    table = csv.writer(outputs.text(path), lineterminator="\n")
+    table.writerow(["layer", "column", "row", "to_column", "to_row", "capacity", "demand", "overflow"])
+    for way, number, capacity, demand in edges.used():
+        column, row, at = edges.design.place(way, number)
+        if layer in (None, at + 1):
+            to = (column + 1, row) if way == EAST else (column, row + 1)
+            table.writerow([terms.layers[at], column, row, *to, capacity, demand, max(0, demand - capacity)])
 
 
-def asked_of(words):
+def parser() -> frame.Parser:
+    """The reader of the words."""
+    words = frame.parser(__doc__)
+    words.add_argument("design", metavar="DESIGN", help="a design text")
+    words.add_argument("solution", metavar="SOLUTION", help="a solution text of it")
+    words.add_argument("-o", "--output", metavar="FILE", help="a file .png, .svg or .csv; without it, only the totals")
+    words.add_argument("--layer", metavar="N", help="show this layer alone, from 1 or by its name")
+    words.add_argument("--edges", action="store_true", help="a picture of wire edges and not of tiles")
+    words.add_argument("--direction", choices=("h", "v"), help="show horizontal or vertical wire edges alone")
+    words.add_argument("--region", nargs=4, type=int, metavar=("X0", "Y0", "X1", "Y1"),
+                       help="show the tiles from one to another alone")
+    words.add_argument("--worst", type=frame.number(0), default=0, metavar="N",
+                       help="frame the N worst regions of hotspots.py")
+    words.add_argument("--net", metavar="NAME", help="draw this net")
+    words.add_argument("--buffers", metavar="REPORT", help="draw the buffers that a report tells of")
+    words.add_argument("--bound", metavar="BOUNDS", help="draw the fullest walls that grbound tells of")
+    words.add_argument("--tracks", metavar="PANELS", help="print the tracks of rows and columns beside what they hold")
+    frame.add_names(words)
+    return words
+
+
+def asked_of(words: Sequence[str]) -> Namespace:
     """What is asked for."""
-    parser = frame.parser(__doc__)
-    parser.add_argument("design", metavar="DESIGN", help="a design text")
-    parser.add_argument("solution", metavar="SOLUTION", help="a solution text of it")
-    parser.add_argument("-o", "--output", metavar="FILE", help="a file .png, .svg or .csv; without it, only the totals")
-    parser.add_argument("--layer", metavar="N", help="show this layer alone, from 1 or by its name")
-    parser.add_argument("--edges", action="store_true", help="a picture of wire edges and not of tiles")
-    parser.add_argument("--direction", choices=("h", "v"), help="show horizontal or vertical wire edges alone")
-    parser.add_argument("--region", nargs=4, type=int, metavar=("X0", "Y0", "X1", "Y1"),
-                        help="show the tiles from one to another alone")
-    parser.add_argument("--worst", type=int, default=0, metavar="N", help="frame the N worst regions of hotspots.py")
-    parser.add_argument("--net", metavar="NAME", help="draw this net")
-    parser.add_argument("--buffers", metavar="REPORT", help="draw the buffers that a report tells of")
-    parser.add_argument("--bound", metavar="BOUNDS", help="draw the fullest walls that grbound tells of")
-    parser.add_argument("--tracks", metavar="PANELS", help="print the tracks of rows and columns beside what they hold")
-    frame.add_names(parser)
-    asked = parser.parse_args(words)
+    reader = parser()
+    asked = reader.parse_args(words)
     if asked.output and os.path.splitext(asked.output)[1] not in (".png", ".svg", ".csv"):
-        parser.error("the output ends in .png, .svg or .csv")
+        reader.error("the output ends in .png, .svg or .csv")
     of_tiles = [asked.direction, asked.region, asked.worst, asked.net, asked.buffers, asked.bound]
     if any(of_tiles) and (asked.edges or not asked.output or asked.output.endswith(".csv")):
-        parser.error("--direction, --region, --worst, --net, --buffers and --bound are of pictures of tiles")
+        reader.error("--direction, --region, --worst, --net, --buffers and --bound are of pictures of tiles")
     return asked
 
 
-def checked(asked, design, terms):
+def checked(asked: Namespace, design: Netlist, terms: Terms) -> None:
     """Refuses what the design doesn't have; the layer becomes its number, and the net its id."""
     if asked.layer is not None:
         asked.layer = terms.layer(asked.layer)
@@ -73,38 +83,48 @@ def checked(asked, design, terms):
         if not (0 <= x0 <= x1 < design.columns and 0 <= y0 <= y1 < design.rows):
             raise Fault(f"the design has the tiles 0 0 to {design.columns - 1} {design.rows - 1}")
     if asked.net is not None:
-        found = [id_ for id_, name in design.names.items() if name == asked.net]
-        if not found:
-            raise Fault(f"the design has no net {asked.net}")
-        asked.net = found[0]
+        asked.net = design.named(asked.net)
 
 
-def buffers(asked, design):
+def buffers(asked: Namespace, design: Netlist) -> list[Cell]:
     """The cells of the buffers that are asked for."""
     tokens = (some for id_, _, some in buffered(design, asked.buffers) if asked.net in (None, id_))
     return [buffer_of(design, *pair)[0] for some in tokens for pair in zip(some[::2], some[1::2])]
 
 
-def main(words):
+def draw(asked: Namespace, edges: Counted, outputs: Outputs, terms: Terms) -> None:
+    """Writes the picture."""
+    from groute.loads import edges_numpy
+    from groute.show import edge_map, tile_map
+    assert isinstance(edges, edges_numpy.Edges)     # as numpy is there
+    name = os.path.basename(asked.design)
+    if asked.edges:
+        edge_map.write_picture(edges, asked.output, outputs, asked.layer, name, terms)
+        return
+    asked.bound = bounds_in(asked.bound)[1] if asked.bound else []
+    found = buffers(asked, edges.design) if asked.buffers else None
+    tile_map.write_picture(edges, asked.output, outputs, asked, name, terms, found)
+
+
+def main(words: Sequence[str]) -> int:
     """Prints the totals and writes the file."""
     asked = asked_of(words)
-    design = (Design if asked.net is None else Netlist)(Tokens(asked.design))
-    terms = Terms(design, asked.names)
+    design = Netlist(Tokens(asked.design))
+    terms = Terms(design, names_beside(asked.design, asked.names))
     checked(asked, design, terms)
-    edges = Edges(design, asked.solution)
-    name = os.path.basename(asked.design)
-    if asked.output and asked.output.endswith(".csv"):
-        write_table(edges, asked.output, asked.layer, terms)
-    elif asked.output and asked.edges:
-        from groute.show.edge_map import write_picture      # wants numpy and matplotlib
-        write_picture(edges, asked.output, asked.layer, name, terms)
-    elif asked.output:
-        from groute.show.tile_map import write_picture      # as above
-        asked.bound = bounds_in(asked.bound)[1] if asked.bound else []
-        write_picture(edges, asked.output, asked, name, terms, asked.buffers and buffers(asked, design))
+    edges = counted(design, asked.solution)
+    if asked.buffers:
+        check_report(asked.buffers, design.routed, edges.overflow(), edges.vias)
+    if asked.output:
+        inputs = [asked.design, asked.solution, asked.buffers, asked.bound, asked.tracks, asked.names]
+        with Outputs(filter(None, inputs)) as outputs:
+            if asked.output.endswith(".csv"):
+                write_table(edges, asked.output, outputs, asked.layer, terms)
+            else:
+                draw(asked, edges, outputs, terms)
     sys.stdout.write(totals(edges))
     if asked.tracks:
-        from groute.loads import tracks as panel_tracks
         from groute.show import tables
-        table = panel_tracks.rows(design, asked.tracks, terms)
-        sys.stdout.writelines(f"{line}\n" for line in ["", *tables.lines(panel_tracks.HEAD, table)])
+        table = tracks.rows(design, asked.tracks, terms)
+        sys.stdout.writelines(f"{line}\n" for line in ["", *tables.lines(tracks.HEAD, table)])
+    return frame.tell_unjoined("congestion", design, edges.unjoined)

@@ -8,131 +8,216 @@ congested (hotspots.py) and a page to look at (report.py):
   routes.guide                                      for a detailed router
   hotspots.txt, index.html                          where it is full; congestion.csv instead, without numpy
 
-It stops at the first step that fails, with that tool's message and status.
+It stops at the first step that fails, with that tool's message and status; what an earlier run wrote is gone then. Else
+the status is 1 where routes leave nets unjoined, and 0.
+
+Without --rounds there are up to 64, which end once the overflow is 0, but 16 by --rule steep where grbound proves that
+there is overflow in any routes; with --batch, which takes no --stop, 8.
 """
+import importlib.util
 import os
 import shutil
 import subprocess
 import sys
+from argparse import Namespace
+from typing import Any, Sequence
 
-from groute import frame
-from groute.texts.tokens import Fault
+from groute import frame, start
+from groute.options import Status, values
+from groute.texts.files import Fault, Outputs
+from groute.texts.reports import bounds_in
 
-PASSED = ("--tile", "--layers", "--adjust", "--kinds", "--driver", "--sink", "--kind", "--via")     # to def_to_ispd.py
-LENGTHS = {"--tile": 2, "--via": 2, "--kind": 4}
+# Passed on to def_to_ispd.py, and how many words stand behind each.
+PASSED = {"--tile": 2, "--layers": 1, "--adjust": 1, "--kinds": 1, "--driver": 1, "--sink": 1, "--kind": 4, "--via": 2,
+          "--keep-supply": 0}
+WRITTEN = ("design.ispd", "design.ispd.names", "design.library", "routes.solution", "report.txt", "routes.guide",
+           "bounds.txt", "hotspots.txt", "index.html", "congestion.csv")
+MOST_ROUNDS, MOST_WORKERS, MOST_BATCH, MOST_STOP = 64, 16, 65536, (1 << 64) - 1
+OVERFULL_ROUNDS, OVERFULL_RULE = 16, "steep"    # where no routes are without overflow
+BATCH_ROUNDS = 8
+USAGE = b"groute: usage\n", b"grbound: usage\n"
 
 
 class Stopped(Exception):
     """A step that failed: its name and its status."""
 
 
-def step(name, words, **options):
-    """Runs a step to its end."""
-    status = subprocess.run(words, check=False, **options).returncode
-    if status:
-        raise Stopped(name, status if status > 0 else 128 - status)
+def step(name: str, words: Sequence[str], also: tuple[int, ...] = (), **options: Any) -> tuple[int, bytes]:
+    """Runs a step to its end: its status, which is 0 or one of some others, and what it wrote in a pipe."""
+    status, written = frame.run(words, **options)
+    if status not in (Status.DONE, *also):
+        raise Stopped(name, status)
+    return status, written
 
 
-def tool(name, *words):
-    """Runs one of the tools that stand beside this one."""
-    step(name, [sys.executable, os.path.join(frame.TOOLS, name), *words], stdout=subprocess.DEVNULL)
+def tool(name: str, *words: str) -> tuple[int, str]:
+    """Runs one of the tools that stand beside this one; the answer is its status and what it printed."""
+    path = os.path.join(frame.TOOLS, name)
+    status, written = step(name, [sys.executable, path, *words], (Status.UNJOINED,), stdout=subprocess.PIPE)
+    return status, written.decode("utf-8", "surrogateescape")
 
 
-def told(name, *words):
-    """Runs one of the tools; the answer is what it printed."""
-    words = [sys.executable, os.path.join(frame.TOOLS, name), *words]
-    done = subprocess.run(words, check=False, stdout=subprocess.PIPE)
-    if done.returncode:
-        raise Stopped(name, done.returncode if done.returncode > 0 else 128 - done.returncode)
-    return done.stdout.decode("utf-8", "surrogateescape")
-
-
-def groute(asked):
-    """The program: as asked, or beside the tools, or on PATH."""
+def programs(asked: Namespace) -> tuple[str, str | None]:
+    """groute, as asked or beside the tools or on PATH, and grbound beside it. Each is called once without words, so
+    that one that isn't built yet is built now."""
     beside = os.path.join(os.path.dirname(frame.TOOLS), "groute")
-    found = asked.program or (beside if os.path.isfile(beside) else shutil.which("groute"))
-    if found is None:
+    groute = asked.program or (beside if os.path.isfile(beside) else shutil.which("groute"))
+    if groute is None:
         raise Fault("groute is neither beside the tools nor on PATH: give --program")
-    return found
+    if not called(groute):
+        raise Fault(f"{groute} can't run")
+    bounds = os.path.join(os.path.dirname(groute), "grbound")
+    if os.access(bounds, os.X_OK) and called(bounds):
+        return groute, bounds
+    frame.say("flow", f"{bounds} isn't there or can't run: the page has no bounds")
+    return groute, None
 
 
-def steps(asked):
-    """Goes through all steps; the answer is the verdict."""
+def called(program: str) -> bool:
+    """Calls a program without words: whether it says its usage. All else that it tells is told."""
+    try:
+        with subprocess.Popen([program], stdin=subprocess.DEVNULL, stdout=subprocess.DEVNULL,
+                              stderr=subprocess.PIPE) as process:
+            for line in process.stderr or ():
+                if line not in USAGE:
+                    sys.stderr.buffer.write(line)
+                    sys.stderr.flush()
+    except OSError:
+        return False
+    return process.returncode == Status.WORDS
+
+
+def prepare(asked: Namespace, paths: dict[str, str]) -> None:
+    """Checks the inputs, and removes what an earlier run wrote."""
+    inputs = [asked.placed, *asked.lef, *asked.liberty]
+    for path in inputs:
+        with open(path, "rb"):
+            pass
     os.makedirs(asked.output, exist_ok=True)
-    paths = {name: os.path.join(asked.output, name) for name in (
-        "design.ispd", "design.ispd.names", "design.library", "routes.solution", "report.txt", "routes.guide",
-        "bounds.txt")}
+    with Outputs(inputs) as outputs:
+        for path in paths.values():
+            outputs.check(path)
+    for path in paths.values():
+        if os.path.isfile(path):
+            os.unlink(path)
+
+
+def steps(asked: Namespace) -> tuple[int, str]:
+    """Goes through all steps; the answer is the status and the verdict."""
+    paths = {name: os.path.join(asked.output, name) for name in WRITTEN}
+    groute, bounds = programs(asked)
+    prepare(asked, paths)
     words = [asked.placed, asked.lef[0], paths["design.ispd"], paths["design.library"], "--scale", str(asked.scale)]
     words += [word for lef in asked.lef[1:] for word in ("--lef", lef)]
     words += [word for liberty in asked.liberty for word in ("--liberty", liberty)] + asked.passed
     tool("def_to_ispd.py", *words)
-    route = [groute(asked), "route", paths["design.ispd"], paths["design.library"], str(asked.rounds), "--workers",
-             str(asked.workers)]
-    with open(paths["routes.solution"], "wb") as routes, open(paths["report.txt"], "wb") as report:
+    least = bound(bounds, paths) if bounds else 0
+    route(groute, asked, least, paths)
+    tool("guides.py", paths["design.ispd"], paths["routes.solution"], paths["routes.guide"])
+    status, verdict = judged(asked, bounds is not None, paths)
+    return status, f"{os.path.basename(asked.placed).split('.')[0]}: {verdict}"
+
+
+def bound(program: str, paths: dict[str, str]) -> int:
+    """Writes what no routes can be below; the answer is the least overflow."""
+    with Outputs() as outputs:
+        step("grbound", [program, paths["design.ispd"]], stdout=outputs.binary(paths["bounds.txt"]))
+    return bounds_in(paths["bounds.txt"])[0]
+
+
+def order(asked: Namespace, least: int) -> list[str]:
+    """The rounds and options of `route`."""
+    rounds, rule, stop = asked.rounds, asked.rule, asked.stop
+    if rounds is None and asked.batch is not None:
+        rounds = BATCH_ROUNDS
+    elif rounds is None and least > 0:
+        rounds, rule = OVERFULL_ROUNDS, rule or OVERFULL_RULE
+    elif rounds is None:
+        rounds, stop = MOST_ROUNDS, stop or "0"
+    given = {"--workers": asked.workers, "--rule": rule, "--stop": stop, "--batch": asked.batch}
+    return [str(rounds), *(str(word) for pair in given.items() if pair[1] is not None for word in pair)]
+
+
+def route(groute: str, asked: Namespace, least: int, paths: dict[str, str]) -> None:
+    """Writes the routes and the report, together or none."""
+    words = [groute, "route", paths["design.ispd"], paths["design.library"], *order(asked, least)]
+    with Outputs() as outputs:
+        report = outputs.binary(paths["report.txt"])
         try:
-            step("groute", route, stdout=routes, stderr=report)
+            step("groute", words, stdout=outputs.binary(paths["routes.solution"]), stderr=report)
         except Stopped:
-            with open(paths["report.txt"], encoding="utf-8", errors="replace") as file:
+            with open(report.name, encoding="utf-8", errors="replace") as file:
                 sys.stderr.write(file.read())
             raise
-    tool("guides.py", paths["design.ispd"], paths["routes.solution"], paths["routes.guide"])
-    return f"{os.path.basename(asked.placed).split('.')[0]}: {judged(asked, paths)}"
 
 
-def judged(asked, paths):
-    """Writes what shows where it is full. The answer is the verdict."""
+def judged(asked: Namespace, has_bounds: bool, paths: dict[str, str]) -> tuple[int, str]:
+    """Writes what shows where it is full. The answer is the status and the verdict."""
     routes = [paths["design.ispd"], paths["routes.solution"]]
-    names = ["--names", paths["design.ispd.names"]]
-    try:
-        import numpy                # noqa: F401
-    except ImportError as fault:
-        print(f"flow: {sys.executable} has no {fault.name}: a table takes the place of hot spots and page",
-              file=sys.stderr)
-        table = os.path.join(asked.output, "congestion.csv")
-        return ", ".join(told("congestion.py", *routes, *names, "-o", table).splitlines())
-    with open(os.path.join(asked.output, "hotspots.txt"), "w", encoding="utf-8", errors="surrogateescape") as file:
-        file.write(told("hotspots.py", *routes, *names))
-    page = os.path.join(asked.output, "index.html")
-    return told("report.py", *routes, paths["design.library"], paths["report.txt"], *names, *bound(asked, paths),
-                "--scale", str(asked.scale), "-o", page).strip()
+    if importlib.util.find_spec("numpy") is None:
+        frame.say("flow", f"{start.lacks('numpy')}: a table takes the place of hot spots and page")
+        status, totals = tool("congestion.py", *routes, "-o", paths["congestion.csv"])
+        return status, ", ".join(totals.splitlines())
+    with Outputs() as outputs:
+        outputs.text(paths["hotspots.txt"]).write(tool("hotspots.py", *routes)[1])
+    words = ["--bound", paths["bounds.txt"]] if has_bounds else []
+    status, verdict = tool("report.py", *routes, paths["design.library"], paths["report.txt"], *words,
+                           "--scale", str(asked.scale), "-o", paths["index.html"])
+    return status, verdict.strip()
 
 
-def bound(asked, paths):
-    """The words for what no routes can be below, where grbound stands beside groute."""
-    program = os.path.join(os.path.dirname(groute(asked)), "grbound")
-    if not os.access(program, os.X_OK):
-        return []
-    with open(paths["bounds.txt"], "wb") as file:
-        step("grbound", [program, paths["design.ispd"]], stdout=file)
-    return ["--bound", paths["bounds.txt"]]
+def stop(word: str) -> str:
+    """The value of --stop."""
+    return word if word in values("--stop") else str(frame.number(0, MOST_STOP)(word))
 
 
-def asked_of(words):
+def parser() -> frame.Parser:
+    """The reader of the words."""
+    words = frame.parser(__doc__)
+    words.add_argument("placed", metavar="PLACED.def", help="a placed design")
+    words.add_argument("--lef", action="append", required=True, metavar="FILE", help="the technology, then the cells")
+    words.add_argument("--liberty", action="append", default=[], metavar="FILE", help="delays of the cells")
+    words.add_argument("--rounds", type=frame.number(0, MOST_ROUNDS), metavar="N",
+                       help="of rip-up and reroute at most; else as above")
+    words.add_argument("--workers", type=frame.number(1, MOST_WORKERS), default=1, metavar="N",
+                       help="threads that route; else 1")
+    words.add_argument("--rule", choices=values("--rule"), help="as of groute route")
+    words.add_argument("--stop", type=stop, metavar="still|N", help="as of groute route")
+    words.add_argument("--batch", type=frame.number(1, MOST_BATCH), metavar="B", help="as of groute route")
+    words.add_argument("--scale", type=frame.number(1), default=100, metavar="N",
+                       help="of the library's numbers; else 100")
+    words.add_argument("--program", metavar="PATH", help="groute, where it is not beside the tools or on PATH")
+    words.add_argument("-o", "--output", required=True, metavar="DIR", help="the folder that is written")
+    for word, count in PASSED.items():
+        if count:
+            words.add_argument(word, action="append", nargs=count, default=[], metavar=("..",) * count,
+                               help="as of def_to_ispd.py")
+        else:
+            words.add_argument(word, action="append_const", const=[], default=[], help="as of def_to_ispd.py")
+    return words
+
+
+def asked_of(words: Sequence[str]) -> Namespace:
     """What is asked for."""
-    parser = frame.parser(__doc__)
-    parser.add_argument("placed", metavar="PLACED.def", help="a placed design")
-    parser.add_argument("--lef", action="append", required=True, metavar="FILE", help="the technology, then the cells")
-    parser.add_argument("--liberty", action="append", default=[], metavar="FILE", help="delays of the cells")
-    parser.add_argument("--rounds", type=int, default=8, metavar="N", help="of rip-up and reroute at most; else 8")
-    parser.add_argument("--workers", type=int, default=1, metavar="N", help="threads that route; else 1")
-    parser.add_argument("--scale", type=int, default=100, metavar="N", help="of the library's numbers; else 100")
-    parser.add_argument("--program", metavar="PATH", help="groute, where it is not beside the tools or on PATH")
-    parser.add_argument("-o", "--output", required=True, metavar="DIR", help="the folder that is written")
-    for word in PASSED:
-        parser.add_argument(word, action="append", nargs=LENGTHS.get(word, 1), default=[], metavar="..",
-                            help="as of def_to_ispd.py")
-    asked = parser.parse_args(words)
-    asked.passed = [part for word in PASSED for values in getattr(asked, word[2:]) for part in (word, *values)]
+    reader = parser()
+    asked = reader.parse_args(words)
+    if asked.batch is not None and asked.stop is not None:
+        reader.error("--batch and --stop exclude each other")
+    asked.passed = [part for word in PASSED for given in getattr(asked, word[2:].replace("-", "_"))
+                    for part in (word, *given)]
     return asked
 
 
-def main(words):
-    """Goes through the steps and prints the verdict. The answer is the status."""
+def main(words: Sequence[str]) -> int:
+    """Goes through the steps and prints the verdict."""
     asked = asked_of(words)
+    if importlib.util.find_spec("numpy") is None:
+        start.again("numpy")
     try:
-        print(steps(asked))
+        status, verdict = steps(asked)
     except Stopped as stopped:
-        name, status = stopped.args
-        print(f"flow: {name} ended with status {status}", file=sys.stderr)
-        return status
-    return 0
+        name, failed = stopped.args
+        frame.say("flow", f"{name} ended with status {failed}")
+        return int(failed)
+    print(verdict)
+    return status

@@ -6,28 +6,35 @@ a run covers it. Coordinates are the design's, where the chip is known up to its
 DESIGN.names, or of --names, or the LEF's routing layers in their order.
 """
 from itertools import repeat
+from typing import Iterator, Sequence
 
 from groute import frame
 from groute.placed.lef_text import Lef
 from groute.placed.statements import Notes
-from groute.texts.solutions import records
-from groute.texts.tokens import Fault
-from groute.texts.tiled import Tiled, names_of
+from groute.texts.designs import Cell
+from groute.texts.files import Fault, Outputs
+from groute.texts.names import Names, names_beside
+from groute.texts.solutions import Joined, records, unjoined_without
+from groute.texts.tiled import Tiled
+from groute.texts.tokens import whole
 
+Line = tuple[int, int]      # the layer, and the row or column
+Run = tuple[int, int]       # the first and the last tile
+Box = tuple[Cell, Cell]     # the lower and the upper cell
 DIGITS = b"0123456789"
 FORM = b"(,,)-(,,)"
 
 
-class Tiles(dict):
+class Tiles(dict[bytes, int]):
     """The tile's number of a coordinate along one way, by its bytes; of a layer, its number from 0."""
 
-    def __init__(self, start, side, count, last):
+    def __init__(self, start: int, side: int, count: int, last: int) -> None:
         dict.__init__(self)
         self.start, self.side, self.count, self.last = start, side, count, last
 
-    def __missing__(self, text):
-        value = int(text)
-        if not self.start <= value <= self.last:
+    def __missing__(self, text: bytes) -> int:
+        value = whole(text)
+        if value is None or not self.start <= value <= self.last:
             raise Fault(f"{text.decode()} lies outside the chip")
         return self.setdefault(text, min((value - self.start) // self.side, self.count - 1))
 
@@ -35,14 +42,14 @@ class Tiles(dict):
 class Routed(Tiled):
     """A design with the tiles of the coordinates that its routes have."""
 
-    def __init__(self, path, names):
+    def __init__(self, path: str, names: Names | None) -> None:
         Tiled.__init__(self, path, names)
         right, top = self.left + self.columns * self.tile_width, self.low + self.rows * self.tile_height
         self.column_of = Tiles(self.left, self.tile_width, self.columns, right)
         self.row_of = Tiles(self.low, self.tile_height, self.rows, top)
         self.layer_of = Tiles(1, 1, self.layers, self.layers)
 
-    def ends_of(self, segments):
+    def ends_of(self, segments: list[bytes]) -> list[tuple[int, ...]]:
         """Column, row and layer of both ends of each segment."""
         text = b"".join(segments)
         signs = text.translate(None, DIGITS).replace(b"(-", b"(").replace(b",-", b",")
@@ -57,10 +64,19 @@ class Routed(Tiled):
                 self.run(segment)       # finds the one that is wrong
             raise
 
+    def is_joined(self, id_: int, segments: list[bytes]) -> bool:
+        """Whether segments join a net's pins."""
+        joined = Joined(self)
+        for column, row, layer, column2, row2, layer2 in self.ends_of(segments) if segments else ():
+            one, other = (column, row, layer), (column2, row2, layer2)
+            joined.add(min(one, other), max(one, other))
+        return joined.has_joined(self.cell(*pin) for pin in self.pins(id_))
 
-def boxes(design, id_, segments):
+
+def boxes(design: Routed, id_: int, segments: list[bytes]) -> list[Box]:
     """The rectangles of a net in their order, each its lower and its upper cell."""
-    rows, columns = {}, {}      # (layer, line) -> [(first, last)]
+    rows: dict[Line, list[Run]] = {}
+    columns: dict[Line, list[Run]] = {}
     spots = {design.cell(*pin) for pin in design.pins(id_)}
     for column, row, layer, column2, row2, layer2 in design.ends_of(segments) if segments else ():
         if (column != column2) + (row != row2) + (layer != layer2) > 1:
@@ -71,7 +87,8 @@ def boxes(design, id_, segments):
             columns.setdefault((layer, column), []).append((row, row2) if row < row2 else (row2, row))
         else:
             spots.update((column, row, at) for at in range(min(layer, layer2), max(layer, layer2) + 1))
-    found, covered = [], set()
+    found: list[Box] = []
+    covered: set[Cell] = set()
     for (layer, row), runs in rows.items():
         for first, last in joined(runs):
             found.append(((first, row, layer), (last, row, layer)))
@@ -85,11 +102,11 @@ def boxes(design, id_, segments):
     return found
 
 
-def joined(runs):
+def joined(runs: list[Run]) -> list[Run]:
     """Runs of a line, of which those that share a tile are one."""
     if len(runs) == 1:
         return runs
-    found = []
+    found: list[Run] = []
     for first, last in sorted(runs):
         if found and first <= found[-1][1]:
             found[-1] = found[-1][0], max(last, found[-1][1])
@@ -98,32 +115,38 @@ def joined(runs):
     return found
 
 
-def guides(design, solution, layers):
-    """The lines of the guides, net by net."""
+def guides(design: Routed, solution: str, layers: Sequence[str], unjoined: list[int]) -> Iterator[str]:
+    """The lines of the guides, net by net; nets that aren't joined are added to a list."""
     xs, ys = design.xs, design.ys
+    ids = []
     for id_, segments in records(design, solution):
+        ids.append(id_)
+        found = boxes(design, id_, segments)
+        if not design.is_joined(id_, segments):
+            unjoined.append(id_)
         yield design.names[id_]
         yield "("
-        for (column, row, layer), (last_column, last_row, _) in boxes(design, id_, segments):
+        for (column, row, layer), (last_column, last_row, _) in found:
             yield f"{xs[column]} {ys[row]} {xs[last_column + 1]} {ys[last_row + 1]} {layers[layer]}"
         yield ")"
+    unjoined += unjoined_without(design, ids)
 
 
-def asked_of(words):
-    """What is asked for."""
-    parser = frame.parser(__doc__)
-    parser.add_argument("design", metavar="DESIGN", help="a design text, as def_to_ispd.py makes it")
-    parser.add_argument("solution", metavar="SOLUTION", help="its routes")
-    parser.add_argument("lef", metavar="LEF", nargs="?", help="the LEF that names the layers, where nothing else does")
-    parser.add_argument("guides", metavar="GUIDES", help="the text that is written")
-    parser.add_argument("--names", metavar="FILE", help="the text beside the design; else DESIGN.names")
-    return parser.parse_args(words)
+def parser() -> frame.Parser:
+    """The reader of the words."""
+    words = frame.parser(__doc__)
+    words.add_argument("design", metavar="DESIGN", help="a design text, as def_to_ispd.py makes it")
+    words.add_argument("solution", metavar="SOLUTION", help="its routes")
+    words.add_argument("lef", metavar="LEF", nargs="?", help="the LEF that names the layers, where nothing else does")
+    words.add_argument("guides", metavar="GUIDES", help="the text that is written")
+    words.add_argument("--names", metavar="FILE", help="the text beside the design; else DESIGN.names")
+    return words
 
 
-def main(words):
+def main(words: Sequence[str]) -> int:
     """Reads the texts and writes the guides."""
-    asked = asked_of(words)
-    names = names_of(asked.design, asked.names)
+    asked = parser().parse_args(words)
+    names = names_beside(asked.design, asked.names)
     if names is None and asked.lef is None:
         raise Fault(f"{asked.design}.names isn't there, so that a LEF is wanted")
     design = Routed(asked.design, names)
@@ -131,5 +154,7 @@ def main(words):
         [layer.name for layer in Lef([asked.lef], 1000, Notes("guides", False)).routing]
     if len(layers) != design.layers:
         raise Fault(f"the LEF has {len(layers)} routing layers, and the design {design.layers}")
-    with open(asked.guides, "w", encoding="utf-8", errors="surrogateescape") as file:
-        file.writelines(f"{line}\n" for line in guides(design, asked.solution, layers))
+    unjoined: list[int] = []
+    with Outputs(filter(None, [asked.design, asked.solution, asked.lef, asked.names])) as outputs:
+        outputs.lines(asked.guides, guides(design, asked.solution, layers, unjoined))
+    return frame.tell_unjoined("guides", design, unjoined)

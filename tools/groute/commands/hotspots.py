@@ -12,32 +12,39 @@ regions and the overfull edges as a report database of KLayout (.lyrdb); both ar
 import csv
 import os
 import sys
+from typing import TYPE_CHECKING, Iterator, Sequence
 
 from groute import frame
 from groute.loads.edges import totals
-from groute.texts.names import Terms
+from groute.show import tables
 from groute.texts.designs import Netlist
+from groute.texts.files import Outputs
+from groute.texts.names import Terms, chosen, names_beside
 from groute.texts.tokens import Tokens
+
+if TYPE_CHECKING:
+    from groute.loads.regions import Loads, Region
 
 SHOWN = 8       # names of nets that are printed of a region
 
 
-def asked_of(words):
-    """What is asked for."""
-    parser = frame.parser(__doc__)
-    parser.add_argument("design", metavar="DESIGN", help="a design text")
-    parser.add_argument("solution", metavar="SOLUTION", help="a solution text of it")
-    parser.add_argument("--worst", type=int, default=10, metavar="N", help="as many regions at most; else 10")
-    parser.add_argument("--csv", metavar="FILE", help="the regions, each with all its nets, as a table")
-    parser.add_argument("--openroad", metavar="FILE", help="the overfull edges as OpenROAD's congestion report")
-    parser.add_argument("--klayout", metavar="FILE", help="regions and overfull edges as a report database")
-    frame.add_names(parser)
-    return parser.parse_args(words)
+def parser() -> frame.Parser:
+    """The reader of the words."""
+    words = frame.parser(__doc__)
+    words.add_argument("design", metavar="DESIGN", help="a design text")
+    words.add_argument("solution", metavar="SOLUTION", help="a solution text of it")
+    words.add_argument("--worst", type=frame.number(0), default=10, metavar="N",
+                       help="as many regions at most; else 10")
+    words.add_argument("--csv", metavar="FILE", help="the regions, each with all its nets, as a table")
+    words.add_argument("--openroad", metavar="FILE", help="the overfull edges as OpenROAD's congestion report")
+    words.add_argument("--klayout", metavar="FILE", help="regions and overfull edges as a report database")
+    frame.add_nets(words)
+    frame.add_names(words)
+    return words
 
 
-def printed(loads, regions, design, terms):
+def printed(loads: "Loads", regions: "Sequence[Region]", design: Netlist, terms: Terms) -> Iterator[str]:
     """The lines of the answer."""
-    from groute.show import tables
     from groute.loads.regions import HEAD, SHARES
     yield from totals(loads.edges).splitlines()
     yield ""
@@ -61,23 +68,22 @@ def printed(loads, regions, design, terms):
         yield f"{number:>{width}}  {', '.join(names)}" + (f", and {more:,} more" if more > 0 else "")
 
 
-def write_table(regions, design, terms, path):
+def write_table(regions: "Sequence[Region]", design: Netlist, terms: Terms, path: str, outputs: Outputs) -> None:
     """A line for each region."""
-    with open(path, "w", newline="", encoding="utf-8", errors="surrogateescape") as file:
-        table = csv.writer(file, lineterminator="\n")
-        table.writerow(["region", "column", "row", "to_column", "to_row",
-                        *(f"{name} ({terms.unit})" for name in ("x1", "y1", "x2", "y2")),
-                        "overflow", "edges_over", "overflow_at_capacity_0", "nets"])
-        for number, region in enumerate(regions, 1):
-            table.writerow([number, *region.low, *region.high, *terms.box(region.low, region.high), region.overflow,
-                            region.over, region.closed, " ".join(design.names[id_] for id_, _ in region.nets)])
+    table = csv.writer(outputs.text(path), lineterminator="\n")
+    table.writerow(["region", "column", "row", "to_column", "to_row",
+                    *(f"{name} ({terms.unit})" for name in ("x1", "y1", "x2", "y2")),
+                    "overflow", "edges_over", "overflow_at_capacity_0", "nets"])
+    for number, region in enumerate(regions, 1):
+        table.writerow([number, *region.low, *region.high, *terms.box(region.low, region.high), region.overflow,
+                        region.over, region.closed, " ".join(design.names[id_] for id_, _ in region.nets)])
 
 
-def main(words):
+def main(words: Sequence[str]) -> int:
     """Prints the answer and writes the files."""
-    asked = asked_of(words)
+    asked = parser().parse_args(words)
     design = Netlist(Tokens(asked.design))
-    terms = Terms(design, asked.names)
+    terms = Terms(design, names_beside(asked.design, asked.names))
     for word in ("openroad", "klayout"):
         if getattr(asked, word):
             terms.want_microns(f"--{word}")
@@ -85,13 +91,19 @@ def main(words):
     from groute.loads.regions import Loads
     loads = Loads(Edges(design, asked.solution))
     regions = loads.regions(asked.worst)
-    if asked.csv:
-        write_table(regions, design, terms, asked.csv)
-    if asked.openroad or asked.klayout:
-        from groute.show import viewers
-        found = viewers.overfull(loads, design, terms)
-        if asked.openroad:
-            viewers.write_openroad(found, asked.openroad)
-        if asked.klayout:
-            viewers.write_klayout(found, regions, design, terms, os.path.basename(asked.design), asked.klayout)
+    for region in regions:
+        kept = set(chosen([id_ for id_, _ in region.nets], terms, asked.nets))
+        region.nets = [(id_, count) for id_, count in region.nets if id_ in kept]
+    with Outputs(filter(None, [asked.design, asked.solution, asked.names])) as outputs:
+        if asked.csv:
+            write_table(regions, design, terms, asked.csv, outputs)
+        if asked.openroad or asked.klayout:
+            from groute.show import viewers
+            found = viewers.overfull(loads, design, terms)
+            if asked.openroad:
+                outputs.lines(asked.openroad, viewers.openroad(found))
+            if asked.klayout:
+                cell = os.path.basename(asked.design)
+                outputs.text(asked.klayout).write(viewers.klayout(found, regions, design, terms, cell))
     sys.stdout.writelines(f"{line}\n" for line in printed(loads, regions, design, terms))
+    return frame.tell_unjoined("hotspots", design, loads.edges.unjoined)

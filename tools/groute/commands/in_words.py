@@ -9,9 +9,12 @@ import re
 import signal
 import subprocess
 import sys
+from types import FrameType
+from typing import Iterable, Iterator, Sequence
 
-from groute.options import FAULTS, USAGE, rows
 from groute.commands.where import bytes_of, line_and_column, place_of
+from groute.options import FAULTS, USAGE, rows
+from groute.texts.files import one_line
 
 PASSED = (signal.SIGINT, signal.SIGTERM, signal.SIGHUP, signal.SIGQUIT, signal.SIGUSR1, signal.SIGUSR2)
 FAULT = re.compile(rb"groute: (design|library|solution) fault ([0-9]+) at token ([0-9]+)\n")
@@ -22,28 +25,29 @@ READ_ON = "docs/FORMATS.md, or man groute, has the texts, their ranges and all f
 class Child:
     """The program while it runs."""
 
-    def __init__(self):
-        self.process = None
+    def __init__(self) -> None:
+        self.process: subprocess.Popen[bytes] | None = None
         for number in PASSED:
             signal.signal(number, self.hand_on)
 
-    def hand_on(self, number, _):
+    def hand_on(self, number: int, _: FrameType | None) -> None:
         """Hands a signal on."""
         if self.process is None:
             os._exit(128 + number)
         self.process.send_signal(number)
 
-    def run(self, words):
+    def run(self, words: Sequence[str]) -> tuple[int, bytes]:
         """Runs the program to its end: its status, below 0 for a signal, and the first bytes of what it told."""
         told = b""
-        with subprocess.Popen(words, stderr=subprocess.PIPE) as self.process:
-            while piece := os.read(self.process.stderr.fileno(), 1 << 16):
+        self.process = subprocess.Popen(words, stderr=subprocess.PIPE)
+        with self.process as process:
+            while process.stderr and (piece := os.read(process.stderr.fileno(), 1 << 16)):
                 told = (told + piece)[:4096]
                 write_all(piece)
-        return self.process.returncode, told
+        return process.returncode, told
 
 
-def write_all(piece):
+def write_all(piece: bytes) -> None:
     """Writes on standard error; where nobody reads it any more, nothing."""
     while piece:
         try:
@@ -52,10 +56,11 @@ def write_all(piece):
             return
 
 
-def positionals(words):
+def positionals(words: Sequence[str]) -> dict[str, str]:
     """By their names, the words of a command that are no options."""
-    names = {word: names for word, names, *_ in rows()}
-    found, at, is_option = [], 1, True
+    names = {row.word: row.positionals for row in rows()}
+    found: list[str] = []
+    at, is_option = 1, True
     while at < len(words):
         word = words[at]
         if is_option and word == "--":
@@ -68,7 +73,7 @@ def positionals(words):
     return dict(zip(names.get(words[0], []), found)) if words else {}
 
 
-def all_commands():
+def all_commands() -> Iterator[str]:
     """The lines of the commands."""
     yield "The commands:"
     for line, does in USAGE.items():
@@ -77,21 +82,21 @@ def all_commands():
     yield "man groute, or docs/FORMATS.md, has the words, their ranges and the texts."
 
 
-def of_fault(words, kind, number, token):
+def of_fault(words: Sequence[str], kind: str, number: int, token: int) -> Iterator[str]:
     """The lines that say a fault."""
     path = positionals(words).get(kind.upper(), "")
     says = FAULTS[kind][number - 1] if number <= len(FAULTS[kind]) else f"fault {number}"
     place, found = path, ""
     if os.path.isfile(path):
         data = bytes_of(path)
-        at, found = place_of(data, token)
+        at, found_token, _ = place_of(data, token)
         place = "{}:{}:{}".format(path, *line_and_column(data, len(data) if at is None else at))
-        found = "the text ends here" if at is None else found.decode(errors="replace")
-    yield f"{place}: {says}: {found}" if found else f"{place}: {says}"
+        found = "the text ends here" if at is None else found_token.decode(errors="replace")
+    yield one_line(f"{place}: {says}: {found}" if found else f"{place}: {says}")
     yield READ_ON
 
 
-def explained(words, status, told):
+def explained(words: Sequence[str], status: int, told: bytes) -> Iterable[str]:
     """The lines that say what is wrong."""
     if status == 2:
         return all_commands()
@@ -105,17 +110,17 @@ def explained(words, status, told):
     return []
 
 
-def end_by(number):
+def end_by(number: int) -> None:
     """Ends by a signal, as the program did."""
     if number != signal.SIGKILL:
         signal.signal(number, signal.SIG_DFL)
     os.kill(os.getpid(), number)
 
 
-def main(words):
+def main(words: Sequence[str]) -> int:
     """Runs the program; the answer is its status."""
     if not words or words[0] in ("-h", "--help"):
-        print(__doc__.strip())
+        print((__doc__ or "").strip())
         return 0
     try:
         status, told = Child().run(words)

@@ -7,15 +7,18 @@ rising and falling edges and of several inputs, the greatest delay counts at eac
 its capacitance, or the greater one of its two edges. Errors are those of the line against the greatest delay of the
 tables, in % of it: at the middle slew, and over all slews.
 """
+from typing import Iterator, Sequence
+
 from groute import frame
-from groute.placed.liberty import Liberty
-from groute.texts.tokens import Fault
+from groute.placed.liberty import Cell, Liberty
+from groute.texts.files import Fault
 
 
-def report(cells):
+def report(cells: Sequence[Cell]) -> Iterator[str]:
     """A line for each output, and the errors of all."""
     yield "cell pin load ohms delay error_% most_%"
-    at_middle, at_all = [], []
+    at_middle: list[float] = []
+    at_all: list[float] = []
     for cell in cells:
         load = round(max(cell.loads.values(), default=0))
         for pin, line in cell.lines.items():
@@ -29,14 +32,19 @@ def report(cells):
             yield f"{says}: mean {100 * sum(errors) / len(errors):.1f} %, most {100 * max(errors):.1f} %"
 
 
-def main(words):
+def parser() -> frame.Parser:
+    """The reader of the words."""
+    words = frame.parser(__doc__)
+    words.add_argument("liberty", metavar="LIBERTY", help="a liberty file")
+    words.add_argument("cells", metavar="CELL", nargs="*", help="cells; else all")
+    return words
+
+
+def main(words: Sequence[str]) -> None:
     """Prints the models."""
-    parser = frame.parser(__doc__)
-    parser.add_argument("liberty", metavar="LIBERTY", help="a liberty file")
-    parser.add_argument("cells", metavar="CELL", nargs="*", help="cells; else all")
-    asked = parser.parse_args(words)
+    asked = parser().parse_args(words)
     liberty = Liberty([asked.liberty])
     cells = [liberty.cell(name) for name in asked.cells] or list(liberty.cells.values())
     print("\n".join(report(cells)))
     if liberty.faults and not asked.cells:
-        raise Fault("\n".join(liberty.faults.values()))
+        raise Fault(*liberty.faults.values())

@@ -9,49 +9,46 @@ says so.
 
 Times are in picoseconds. Of a library that def_to_ispd.py made with --scale N say --scale N here too.
 """
+from argparse import Namespace
+from typing import Sequence
+
 from groute import frame
-from groute.texts.tokens import Fault
+from groute.texts.files import Outputs
 
 
-def asked_of(words):
+def parser() -> frame.Parser:
+    """The reader of the words."""
+    words = frame.parser(__doc__)
+    words.add_argument("design", metavar="DESIGN", help="a design text")
+    words.add_argument("solution", metavar="SOLUTION", help="a solution text of it")
+    words.add_argument("library", metavar="LIBRARY", nargs="?", help="the library of the report")
+    words.add_argument("report", metavar="REPORT", nargs="?",
+                       help="what `route` wrote on standard error, or `buffer` on output")
+    words.add_argument("--before", nargs="+", default=[], metavar="REPORT", help="reports of earlier rounds, from 0 on")
+    words.add_argument("--bound", metavar="BOUNDS", help="what grbound wrote of the design")
+    frame.add_scale(words)
+    words.add_argument("-o", "--output", metavar="FILE", required=True, help="the page, .html")
+    frame.add_names(words)
+    return words
+
+
+def asked_of(words: Sequence[str]) -> Namespace:
     """What is asked for."""
-    parser = frame.parser(__doc__)
-    parser.add_argument("design", metavar="DESIGN", help="a design text")
-    parser.add_argument("solution", metavar="SOLUTION", help="a solution text of it")
-    parser.add_argument("library", metavar="LIBRARY", nargs="?", help="the library of the report")
-    parser.add_argument("report", metavar="REPORT", nargs="?",
-                        help="what `route` wrote on standard error, or `buffer` on output")
-    parser.add_argument("--before", nargs="+", default=[], metavar="REPORT",
-                        help="reports of earlier rounds, from 0 on")
-    parser.add_argument("--bound", metavar="BOUNDS", help="what grbound wrote of the design")
-    parser.add_argument("--scale", type=int, default=1, metavar="N", help="of the library's numbers; else 1")
-    parser.add_argument("-o", "--output", metavar="FILE", required=True, help="the page, .html")
-    frame.add_names(parser)
-    asked = parser.parse_args(words)
+    reader = parser()
+    asked = reader.parse_args(words)
     if asked.library and not asked.report:
-        parser.error("LIBRARY and REPORT come together")
-    if asked.scale < 1:
-        parser.error("the scale is at least 1")
+        reader.error("LIBRARY and REPORT come together")
     return asked
 
 
-def main(words):
+def main(words: Sequence[str]) -> int:
     """Prints the verdict and writes the page."""
     asked = asked_of(words)
-    from groute.show.pages import MOST_BYTES, MOST_NETS, Packed, Routes, add_nets, add_planes, head, page
-    routes = Routes(asked)
-    for all_ in (True, False):
-        if all_ and len(routes.design.ids) > MOST_NETS:
-            continue
-        ids = routes.nets(all_)
-        packed = Packed()
-        planes = add_planes(packed, routes.loads)
-        add_nets(packed, routes, ids)
-        text = page(packed.text({**head(routes, ids, asked), "planes": planes}))
-        if len(text) <= MOST_BYTES:
-            break
-    else:
-        raise Fault(f"the page would have {len(text):,} bytes, and more than {MOST_BYTES:,} are not written")
-    with open(asked.output, "w", encoding="utf-8") as file:
-        file.write(text)
+    from groute.show import pages
+    routes = pages.Routes(asked)
+    text = pages.text_of(routes, asked)
+    inputs = [asked.design, asked.solution, asked.library, asked.report, asked.bound, asked.names, *asked.before]
+    with Outputs(filter(None, inputs)) as outputs:
+        outputs.text(asked.output).write(text)
     print(routes.verdict(asked.before))
+    return frame.tell_unjoined("report", routes.design, routes.edges.unjoined)

@@ -9,71 +9,77 @@ paths through several.
 Times are in picoseconds. Of a library that def_to_ispd.py made with --scale N say --scale N here too.
 """
 import sys
+from argparse import Namespace
+from dataclasses import dataclass
+from typing import Iterator, Mapping, Sequence
 
 from groute import frame
 from groute.show import tables
-from groute.texts.names import Terms
 from groute.texts.designs import Netlist
+from groute.texts.files import Fault
 from groute.texts.libraries import Library
-from groute.texts.reports import buffered
-from groute.texts.tokens import Fault, Tokens
+from groute.texts.names import Terms, chosen, names_beside
+from groute.texts.reports import buffered, check_report
+from groute.texts.tokens import Tokens
 
 HALVES = 2000       # half femtoseconds a picosecond
 BARS, WIDE = 10, 50     # of the histogram, how many, and how long the longest is
 
 
+@dataclass
 class Timed:
     """A net of a report, with the tokens of its buffers."""
+    id: int
+    required: int
+    buffers: list[bytes]
 
-    def __init__(self, id_, required, buffers):
-        self.id, self.required, self.buffers = id_, required, buffers
-
-    def kinds(self):
+    def kinds(self) -> str:
         """Its buffers by kind, as a text."""
         kinds = self.buffers[1::2]
         return ", ".join(f"{kind.decode(errors='surrogateescape')} {kinds.count(kind)}" for kind in sorted(set(kinds)))
 
 
-def asked_of(words):
-    """What is asked for."""
-    parser = frame.parser(__doc__)
-    parser.add_argument("design", metavar="DESIGN", help="a design text")
-    parser.add_argument("library", metavar="LIBRARY", help="the library of the report")
-    parser.add_argument("solution", metavar="SOLUTION", help="the routes of the report")
-    parser.add_argument("report", metavar="REPORT", help="what `route` wrote on standard error, or `buffer` on output")
-    parser.add_argument("--worst", type=int, default=10, metavar="N", help="as many nets at most; else 10")
-    parser.add_argument("--scale", type=int, default=1, metavar="N", help="of the library's numbers; else 1")
-    frame.add_names(parser)
-    return parser.parse_args(words)
+def parser() -> frame.Parser:
+    """The reader of the words."""
+    words = frame.parser(__doc__)
+    words.add_argument("design", metavar="DESIGN", help="a design text")
+    words.add_argument("library", metavar="LIBRARY", help="the library of the report")
+    words.add_argument("solution", metavar="SOLUTION", help="the routes of the report")
+    words.add_argument("report", metavar="REPORT", help="what `route` wrote on standard error, or `buffer` on output")
+    words.add_argument("--worst", type=frame.number(0), default=10, metavar="N", help="as many nets at most; else 10")
+    frame.add_scale(words)
+    frame.add_nets(words)
+    frame.add_names(words)
+    return words
 
 
-def delay(net, design, library):
+def delay(net: Timed, design: Netlist, library: Library) -> int | None:
     """From its driver to its worst sink in half femtoseconds, or None."""
     sinks = len(design.pins(net.id)) - 1
     time = library.shared_time(net.id, sinks)
     return None if time is None or sinks == 0 else 2 * time - net.required
 
 
-def box(design, id_):
+def box(design: Netlist, id_: int) -> tuple[tuple[int, int], tuple[int, int]]:
     """The lower and the upper corner of a net's pins, in tiles."""
     cells = [design.cell(*pin)[:2] for pin in design.pins(id_)]
     columns, rows = zip(*cells)
     return (min(columns), min(rows)), (max(columns), max(rows))
 
 
-def slack(nets, half):
+def slack(nets: Sequence[Timed], half: int) -> str:
     """Of nets that begin at time 0."""
     late = [net.required for net in nets if net.required < 0]
     return (f"slack of nets, not of paths, ps: worst {picoseconds(min(late, default=0), half)}, total negative "
             f"{picoseconds(sum(late), half)} of {len(late):,} nets")
 
 
-def picoseconds(time, half):
+def picoseconds(time: float, half: int) -> str:
     """A time as a text; `half` of its units are a picosecond."""
     return f"{time / half:,.1f}"
 
 
-def histogram(nets, half):
+def histogram(nets: Sequence[Timed], half: int) -> Iterator[str]:
     """The lines of a table: how many nets have which required time."""
     times = [net.required / half for net in nets]
     low, high = min(times), max(times)
@@ -83,15 +89,17 @@ def histogram(nets, half):
         counts[min(BARS - 1, int((time - low) / step))] += 1
     borders = [f"{low + at * step:,.1f}" for at in range(BARS + 1)]
     bars = ["#" * -(-count * WIDE // max(counts)) for count in counts]
-    yield from tables.lines(["from, ps", "to, ps", "nets", ""], list(zip(borders, borders[1:], counts, bars)))
+    rows = list(zip(borders, borders[1:], counts, bars))
+    yield from tables.lines(["from, ps", "to, ps", "nets", ""], rows)
 
 
-def printed(asked, nets, design, library, sizes, terms):
+def printed(asked: Namespace, nets: Sequence[Timed], design: Netlist, library: Library,
+            sizes: Mapping[int, tuple[int, int]], terms: Terms) -> Iterator[str]:
     """The lines of the answer; sizes has steps of wire and vias by net."""
     half = HALVES * asked.scale ** 2
     if library.has_times():
         yield from (slack(nets, half), "")
-    rows = []
+    rows: list[list[str | int]] = []
     for net in nets[:asked.worst]:
         found = delay(net, design, library)
         rows.append([design.names[net.id], picoseconds(net.required, half),
@@ -103,16 +111,19 @@ def printed(asked, nets, design, library, sizes, terms):
     yield from histogram(nets, half)
 
 
-def main(words):
+def main(words: Sequence[str]) -> int:
     """Prints the answer."""
-    asked = asked_of(words)
+    asked = parser().parse_args(words)
     design = Netlist(Tokens(asked.design))
-    terms = Terms(design, asked.names)
+    terms = Terms(design, names_beside(asked.design, asked.names))
     library = Library(Tokens(asked.library))
-    nets = sorted((Timed(*net) for net in buffered(design, asked.report)), key=lambda net: net.required)
-    if asked.scale < 1 or not nets:
-        raise Fault("the scale is at least 1" if asked.scale < 1 else f"{asked.report}: no net is told of")
+    timed = {net[0]: Timed(*net) for net in buffered(design, asked.report)}
+    nets = sorted((timed[id_] for id_ in chosen(timed, terms, asked.nets)), key=lambda net: net.required)
+    if not nets:
+        raise Fault(f"{asked.report}: no net is told of" + (f" that is among the {asked.nets}" if asked.nets else ""))
     from groute.loads.edges_numpy import Edges
     edges = Edges(design, asked.solution)
+    check_report(asked.report, design.routed, edges.overflow(), edges.vias)
     sizes = dict(zip(edges.ids, zip(*(some.tolist() for some in edges.sizes()))))
     sys.stdout.writelines(f"{line}\n" for line in printed(asked, nets, design, library, sizes, terms))
+    return frame.tell_unjoined("slowest", design, edges.unjoined)

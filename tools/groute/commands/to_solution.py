@@ -11,56 +11,62 @@ What lies on a layer below the grid's is lifted to its first layer. The layers' 
 """
 import sys
 from collections import deque
+from typing import Iterator, Sequence
 
 from groute import frame
-from groute.texts.designs import EAST, NORTH
-from groute.texts.tokens import Fault
-from groute.texts.tiled import Tiled, names_of
+from groute.texts.designs import EAST, MOST_DIGITS, NORTH, UP, Cell
+from groute.texts.files import Fault, Outputs
+from groute.texts.names import Names, names_beside
+from groute.texts.tiled import Tiled
+
+Near = dict[Cell, set[Cell]]    # neighbours by cell
 
 
 class Known(Tiled):
     """A design whose nets are found by name, and its layers too."""
 
-    def __init__(self, path, names):
+    def __init__(self, path: str, names: Names | None) -> None:
         if names is None:
             raise Fault(f"{path}.names isn't there: give --names")
         Tiled.__init__(self, path, names)
-        self.ids = {name: id_ for id_, name in self.names.items()}
+        self.id_of = {name: id_ for id_, name in self.names.items()}
         self.level = {**{name: 0 for name in names.lower}, **{name: at for at, name in enumerate(names.layers)}}
-        if len(self.ids) != len(self.names):
+        if len(self.id_of) != len(self.names):
             raise Fault(f"{path}: two nets have one name")
 
-    def driver(self, id_):
+    def driver(self, id_: int) -> Cell:
         """The cell of a net's driver."""
         return self.cell(*self.pins(id_)[0])
 
-    def inside(self, x, y):
+    def inside(self, x: int, y: int) -> tuple[int, int]:
         """A point of the chip, in the text's last tiles where it lies behind them."""
         if not (self.xs[0] <= x <= self.xs[-1] and self.ys[0] <= y <= self.ys[-1]):
             raise Fault(f"({x},{y}) lies outside the chip")
         right, top = self.left + self.columns * self.tile_width, self.low + self.rows * self.tile_height
         return min(max(x, self.left), right), min(max(y, self.low), top)
 
-    def is_along(self, way, layer):
+    def is_along(self, way: int, layer: int) -> bool:
         """Whether a layer has wires along this way."""
         return self.capacity[way][layer] > 0
 
-    def middle(self, cell):
+    def middle(self, cell: Cell) -> Cell:
         """The middle of a cell's tile, and the layer, as the solution has them."""
         column, row, layer = cell
         return (self.left + self.tile_width * column + self.tile_width // 2,
                 self.low + self.tile_height * row + self.tile_height // 2, layer + 1)
 
 
-def blocks(path):
+def blocks(path: str) -> Iterator[tuple[str, list[list[str]], int]]:
     """Of each net of the routes: its name, and the words of each of its lines, with the number of the first."""
     with open(path, encoding="utf-8", errors="surrogateescape") as file:
-        name, lines, first = None, None, 0
+        name: str | None = None
+        lines: list[list[str]] | None = None
+        first = 0
         for number, line in enumerate(file, 1):
             words = line.split()
             if not words:
                 continue
-            if lines is not None and words == [")"]:
+            if lines is not None and name is not None and words == [")"]:
                 yield name, lines, first
                 name = lines = None
             elif lines is not None:
@@ -75,18 +81,25 @@ def blocks(path):
             raise Fault(f"{path}: the text ends within the net {name}")
 
 
-def segments_of(design, lines):
+def segments_of(design: Known, lines: list[list[str]]) -> Iterator[tuple[Cell, Cell]]:
     """The segments of a net by OpenROAD's, `x y LAYER x y LAYER`."""
     for x, y, layer, x2, y2, layer2 in lines:
-        one = (*design.inside(int(x), int(y)), design.level[layer] + 1)
-        other = (*design.inside(int(x2), int(y2)), design.level[layer2] + 1)
+        one = (*design.inside(number(x), number(y)), design.level[layer] + 1)
+        other = (*design.inside(number(x2), number(y2)), design.level[layer2] + 1)
         if one != other:
             yield one, other
 
 
-def tiles_of(design, words):
+def number(word: str) -> int:
+    """A coordinate."""
+    if len(word) > MOST_DIGITS:
+        raise ValueError(word[:MOST_DIGITS])
+    return int(word)
+
+
+def tiles_of(design: Known, words: list[str]) -> tuple[range, range, int]:
     """Columns, rows and layer of the tiles that a rectangle of a guide covers."""
-    x1, y1, x2, y2 = map(int, words[:4])
+    x1, y1, x2, y2 = map(number, words[:4])
     layer = design.level[words[4]]
     low, high = design.inside(x1, y1), design.inside(x2, y2)
     if x1 >= x2 or y1 >= y2:
@@ -96,9 +109,9 @@ def tiles_of(design, words):
     return range(first[0], last[0] + 1), range(first[1], last[1] + 1), layer
 
 
-def edges_of(design, lines):
+def edges_of(design: Known, lines: list[list[str]]) -> Near:
     """Neighbours by cell: within rectangles along a layer's ways, and where layers share a tile."""
-    near = {}
+    near: Near = {}
     for columns, rows, layer in (tiles_of(design, words) for words in lines):
         for column in columns:
             for row in rows:
@@ -107,20 +120,20 @@ def edges_of(design, lines):
             join(near, [((column, row, layer), (column + 1, row, layer)) for column in columns[:-1] for row in rows])
         if design.is_along(NORTH, layer):
             join(near, [((column, row, layer), (column, row + 1, layer)) for column in columns for row in rows[:-1]])
-    join(near, [(cell, above) for cell in near if (above := (*cell[:2], cell[2] + 1)) in near])
+    join(near, [(cell, above) for cell in near if (above := (cell[0], cell[1], cell[2] + 1)) in near])
     return near
 
 
-def join(near, pairs):
+def join(near: Near, pairs: list[tuple[Cell, Cell]]) -> None:
     """Makes cells neighbours."""
     for one, other in pairs:
         near[one].add(other)
         near[other].add(one)
 
 
-def tree_of(near, root):
+def tree_of(near: Near, root: Cell) -> Iterator[tuple[Cell, Cell]]:
     """The edges of breadth-first trees, the first from the root, if it is there."""
-    seen = set()
+    seen: set[Cell] = set()
     for start in ([root] if root in near else []) + sorted(near):
         if start in seen:
             continue
@@ -134,30 +147,39 @@ def tree_of(near, root):
                 yield (cell, other) if cell < other else (other, cell)
 
 
-def runs_of(edges):
+def runs_of(edges: list[tuple[Cell, Cell]]) -> Iterator[tuple[Cell, Cell]]:
     """Straight runs of edges, each its lower and its upper cell."""
-    ways = [{}, {}, {}]     # by way: line -> the lower ends of its edges along the way
+    # By way and line, the lower ends of its edges along the way.
+    ways: list[dict[tuple[int, int], list[int]]] = [{}, {}, {}]
     for low, high in edges:
         way = [one != other for one, other in zip(low, high)].index(True)
-        ways[way].setdefault((*low[:way], *low[way + 1:]), []).append(low[way])
+        one, other = (low[at] for at in (EAST, NORTH, UP) if at != way)
+        ways[way].setdefault((one, other), []).append(low[way])
     for way, lines in enumerate(ways):
         for line, places in sorted(lines.items()):
             places.sort()
             begin = places[0]
             for at, place in enumerate(places):
                 if at + 1 == len(places) or places[at + 1] != place + 1:
-                    yield (*line[:way], begin, *line[way:]), (*line[:way], place + 1, *line[way:])
-                    begin = places[at + 1] if at + 1 < len(places) else None
+                    yield cell_of(way, begin, line), cell_of(way, place + 1, line)
+                    begin = places[min(at + 1, len(places) - 1)]
 
 
-def solution(design, path):
+def cell_of(way: int, place: int, line: tuple[int, int]) -> Cell:
+    """The cell at a place along a line of this way."""
+    cell = [*line[:way], place, *line[way:]]
+    return cell[0], cell[1], cell[2]
+
+
+def solution(design: Known, path: str) -> tuple[dict[int, list[tuple[Cell, Cell]]], int]:
     """The segments of each net by its id, and how many edges were dropped."""
-    found, dropped = {}, 0
+    found: dict[int, list[tuple[Cell, Cell]]] = {}
+    dropped = 0
     for name, lines, first in blocks(path):
         place = f"{path}:{first}: of the net {name}"
-        if name not in design.ids:
+        if name not in design.id_of:
             raise Fault(f"{place}: the design has no such net")
-        id_ = design.ids[name]
+        id_ = design.id_of[name]
         if id_ in found:
             raise Fault(f"{place}: it stands here a second time")
         try:
@@ -175,7 +197,7 @@ def solution(design, path):
     return found, dropped
 
 
-def text_of(design, found):
+def text_of(design: Known, found: dict[int, list[tuple[Cell, Cell]]]) -> Iterator[str]:
     """The lines of a solution."""
     for id_, segments in found.items():
         yield f"{design.names[id_]} {id_}"
@@ -184,16 +206,22 @@ def text_of(design, found):
         yield "!"
 
 
-def main(words):
-    """Reads the routes and writes the solution."""
-    parser = frame.parser(__doc__)
+def parser() -> frame.Parser:
+    """The reader of the words."""
+    words = frame.parser(__doc__)
     for name, says in (("DESIGN", "a design text, as def_to_ispd.py makes it"),
                        ("ROUTES", "OpenROAD's segments or guides"), ("SOLUTION", "the text that is written")):
-        parser.add_argument(name.lower(), metavar=name, help=says)
-    parser.add_argument("--names", metavar="FILE", help="the text beside the design; else DESIGN.names")
-    asked = parser.parse_args(words)
-    design = Known(asked.design, names_of(asked.design, asked.names))
+        words.add_argument(name.lower(), metavar=name, help=says)
+    words.add_argument("--names", metavar="FILE", help="the text beside the design; else DESIGN.names")
+    return words
+
+
+def main(words: Sequence[str]) -> None:
+    """Reads the routes and writes the solution."""
+    asked = parser().parse_args(words)
+    design = Known(asked.design, names_beside(asked.design, asked.names))
     found, dropped = solution(design, asked.routes)
-    with open(asked.solution, "w", encoding="utf-8", errors="surrogateescape") as file:
-        file.writelines(f"{line}\n" for line in text_of(design, found))
+    with Outputs(filter(None, [asked.design, asked.routes, asked.names])) as outputs:
+        outputs.lines(asked.solution, text_of(design, found))
+    # Lines of their own, which scripts read.
     print(f"nets {len(found)}\ndropped edges {dropped}", file=sys.stderr)

@@ -5,12 +5,16 @@ and columns count from 1, columns in bytes. Of the number behind the last token 
 """
 import mmap
 import os
+from typing import Sequence
 
 from groute import frame
-from groute.texts.tokens import TOKEN, Fault
+from groute.texts.files import Fault, one_line
+from groute.texts.tokens import TOKEN
+
+Text = bytes | mmap.mmap
 
 
-def bytes_of(path):
+def bytes_of(path: str) -> Text:
     """What a file holds, without a copy of it."""
     with open(path, "rb") as file:
         if os.fstat(file.fileno()).st_size == 0:
@@ -18,32 +22,32 @@ def bytes_of(path):
         return mmap.mmap(file.fileno(), 0, access=mmap.ACCESS_READ)
 
 
-def place_of(data, number):
-    """Where the token of this number begins, and the token; None, and how many there are, where there are fewer."""
+def place_of(data: Text, number: int) -> tuple[int | None, bytes, int]:
+    """Where the token of this number begins, the token, and its number; None where there are fewer, and how many."""
     count = 0
     for match in TOKEN.finditer(data):
         count += 1
         if count == number:
-            return match.start(), match.group()
-    return None, count
+            return match.start(), match.group(), count
+    return None, b"", count
 
 
-def line_and_column(data, at):
+def line_and_column(data: Text, at: int) -> tuple[int, int]:
     """Of a byte, both from 1."""
     begin = data.rfind(b"\n", 0, at) + 1
     return 1 + data[:begin].count(b"\n"), 1 + at - begin
 
 
-def main(words):
+def main(words: Sequence[str]) -> None:
     """Prints the place."""
     parser = frame.parser(__doc__)
     parser.add_argument("text", metavar="TEXT", help="a file")
-    parser.add_argument("token", metavar="TOKEN", type=int, help="the number of a token, from 1")
+    parser.add_argument("token", metavar="TOKEN", type=frame.number(1, 1 << 40), help="the number of a token, from 1")
     asked = parser.parse_args(words)
     data = bytes_of(asked.text)
-    at, found = place_of(data, asked.token)
-    if at is None and asked.token != found + 1:
-        raise Fault(f"{asked.text} has {found} tokens")
+    at, token, count = place_of(data, asked.token)
+    if at is None and asked.token != count + 1:
+        raise Fault(f"{asked.text} has {count} tokens")
     line, column = line_and_column(data, len(data) if at is None else at)
-    what = "the text ends here" if at is None else found.decode(errors="replace")
+    what = "the text ends here" if at is None else one_line(token.decode(errors="surrogateescape"))
     print(f"{asked.text}:{line}:{column}: {what}")

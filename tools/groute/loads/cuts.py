@@ -1,18 +1,24 @@
 """Designs with less capacity."""
 from fractions import Fraction
+from typing import Iterator, Sequence
 
 import numpy
 
-from groute.texts.designs import EAST, NORTH
-from groute.texts.tokens import Fault
+from groute.loads.edges_numpy import Array
+from groute.texts.designs import EAST, NORTH, Netlist
+from groute.texts.files import Fault
+from groute.texts.names import Terms
+
+Cut = tuple[str, list[str]]     # --layer or --region, and its words
 
 MOST = 10_000   # of which a share is so many parts
+MOST_WORD = 20  # letters of a number
 
 
-def share_of(word):
+def share_of(word: str) -> Fraction:
     """A share from 0 to 1 with at most four decimals."""
     try:
-        share = Fraction(word)
+        share = Fraction(word[:MOST_WORD])
     except (ValueError, ZeroDivisionError):
         share = Fraction(-1)
     if not 0 <= share <= 1 or MOST % share.denominator:
@@ -20,14 +26,14 @@ def share_of(word):
     return share
 
 
-def whole(word, least, most, what):
+def whole(word: str, least: int, most: int, what: str) -> int:
     """A whole number in this range."""
-    if not (word.isdecimal() and least <= int(word) <= most):
+    if not (word.isdecimal() and len(word) < MOST_WORD and least <= int(word) <= most):
         raise Fault(f"{word} is no {what} of the design, which has {least} to {most}")
     return int(word)
 
 
-def place(terms, cut):
+def place(terms: Terms, cut: Cut) -> tuple[slice, tuple[int, int], tuple[int, int]]:
     """The layers, rows and columns of a cut, the latter with all their tiles."""
     design, (option, values) = terms.design, cut
     if option == "--layer":
@@ -40,7 +46,7 @@ def place(terms, cut):
     return slice(None), (y0, y1), (x0, x1)
 
 
-def cut_edges(terms, capacity, cut, ways):
+def cut_edges(terms: Terms, capacity: list[Array], cut: Cut, ways: Sequence[int]) -> None:
     """Cuts capacities, by way arrays by layer, row and column, in place."""
     design = terms.design
     layers, rows, columns = place(terms, cut)
@@ -56,14 +62,15 @@ def cut_edges(terms, capacity, cut, ways):
                 across[:] = track * spread(across // track, share)
 
 
-def spread(tracks, share):
+def spread(tracks: Array, share: Fraction) -> Array:
     """So many tracks of each that all are their share to within one, and none more than before."""
     total = tracks.ravel().cumsum()
     kept = (2 * share.numerator * total + share.denominator) // (2 * share.denominator)
-    return numpy.diff(kept, prepend=0).reshape(tracks.shape)
+    few: Array = numpy.diff(kept, prepend=0).reshape(tracks.shape)
+    return few
 
 
-def stated(design, capacity):
+def stated(design: Sequence[int], capacity: Array) -> list[int]:
     """What the head says for each layer in a direction: the commonest capacity but 0, or what it said before."""
     found = []
     for before, some in zip(design, capacity):
@@ -72,7 +79,7 @@ def stated(design, capacity):
     return found
 
 
-def lines(design, capacity):
+def lines(design: Netlist, capacity: list[Array]) -> Iterator[str]:
     """The lines of the design with other capacities, by way by layer, row and column."""
     yield f"grid {design.columns} {design.rows} {design.layers}"
     head = [stated(design.capacity[way], inside(capacity[way], way)) for way in (EAST, NORTH)]
@@ -92,12 +99,12 @@ def lines(design, capacity):
     yield from adjusted
 
 
-def inside(capacity, way):
+def inside(capacity: Array, way: int) -> Array:
     """Without the places at the border, where there is no edge."""
     return capacity[:, :, :-1] if way == EAST else capacity[:, :-1]
 
 
-def adjustments(capacity, way, head):
+def adjustments(capacity: Array, way: int, head: Sequence[int]) -> Iterator[str]:
     """Lines for the wire edges that hold another number than their layer's."""
     different = (capacity != numpy.array(head)[:, None, None]).nonzero()
     for layer, row, column, value in zip(*(some.tolist() for some in (*different, capacity[different]))):

@@ -1,13 +1,36 @@
 """The demand of a solution's wire edges: in arrays of numpy, or where it isn't there in plain Python."""
+from typing import Iterator, Protocol
 
-try:
-    from groute.loads.edges_numpy import Edges
-except ImportError:
-    from groute.loads.edges_plain import Edges     # type: ignore
+from groute.texts.designs import Netlist
 
 
-def totals(edges):
-    """The lines of the report, as `groute evaluate` prints them."""
+class Counted(Protocol):
+    """What both ways to count have."""
+    design: Netlist
+    wires: int
+    vias: int
+    unjoined: list[int]     # the ids of routed nets with a pin that their edges don't join to the first
+
+    def used(self) -> Iterator[tuple[int, int, int, int]]:
+        """Way, number, capacity and demand of each wire edge that is used."""
+
+    def overflow(self) -> tuple[int, int]:
+        """The sum and the greatest of what demand has above capacity."""
+
+
+def counted(design: Netlist, solution: str) -> Counted:
+    """The demand of a solution's wire edges."""
+    try:
+        from groute.loads import edges_numpy
+    except ImportError:
+        from groute.loads import edges_plain
+        return edges_plain.Edges(design, solution)
+    return edges_numpy.Edges(design, solution)
+
+
+def totals(edges: Counted) -> str:
+    """The lines of the report, as `groute evaluate` prints them, behind how many nets aren't joined, if some are."""
     overflow, maximum = edges.overflow()
-    return (f"routed {edges.design.routed}\noverflow {overflow}\nmaximum {maximum}\n"
+    first = f"unjoined {len(edges.unjoined)}\n" if edges.unjoined else ""
+    return (f"{first}routed {edges.design.routed}\noverflow {overflow}\nmaximum {maximum}\n"
             f"wirelength {edges.wires + edges.vias}\nvias {edges.vias}\n")

@@ -1,11 +1,17 @@
 """The demand of a solution's wire edges, in arrays of numpy: the same as edges_plain, for large designs."""
-import numpy
+from typing import Any, Iterator, Sequence
 
-from groute.texts.designs import EAST, NORTH, UP
-from groute.texts.solutions import records
-from groute.texts.tokens import Fault
+import numpy
+import numpy.typing
+
+from groute.texts.designs import EAST, NORTH, UP, Cell, Design, Netlist
+from groute.texts.files import Fault
+from groute.texts.solutions import first_fault, records
+
+Array = numpy.typing.NDArray[Any]
 
 BATCH = 1 << 19     # segments that are gone through at once
+MOST_LETTERS = 20   # of a coordinate with its sign and a mark
 
 
 class Edges:
@@ -16,21 +22,25 @@ class Edges:
     edge. Those of way UP are numbered as `numbers` says.
     """
 
-    def __init__(self, design, solution):
+    def __init__(self, design: Netlist, solution: str) -> None:
         self.design = design
         self.cells = design.columns * design.rows * design.layers
-        self.ids = []
-        parts = [[numpy.zeros(0, numpy.int32)] * 5]
+        self.ids: list[int] = []
+        parts: list[list[Array]] = [[numpy.zeros(0, numpy.int32)] * 5]
         for ids, counts, segments in batches(design, solution):
-            parts.append(self.gather(ids, numpy.array(counts), ends(segments)))
+            try:
+                parts.append(self.gather(ids, numpy.array(counts), ends(segments)))
+            except Fault as fault:
+                raise first_fault(design, solution) or fault from None
             self.ids += ids
         self.net, self.way, self.number, self.length, self.need = map(numpy.concatenate, zip(*parts))
         self.vias = int(self.length[self.way == UP].sum(dtype=numpy.int64))
         self.wires = int(self.length.sum(dtype=numpy.int64)) - self.vias
         self.demand = [self.summed(way) for way in (EAST, NORTH)]
         self.capacity = [capacities(design, way) for way in (EAST, NORTH)]
+        self.unjoined = self.find_unjoined()
 
-    def gather(self, ids, counts, points):
+    def gather(self, ids: list[int], counts: Array, points: Array) -> list[Array]:
         """The runs of a batch of nets, each edge of a net once."""
         low, high = self.cells_of(points[:, :3]), self.cells_of(points[:, 3:])
         differ = low != high
@@ -49,12 +59,13 @@ class Edges:
         need = numpy.maximum(width, numpy.array(self.design.width)[layer]) + numpy.array(self.design.spacing)[layer]
         return [some.astype(numpy.int32) for some in (net + len(self.ids), way, number, last - first, need)]
 
-    def cell_numbers(self, points):
+    def cell_numbers(self, points: Array) -> Array:
         """Of points of the text, by column, then row, then layer."""
         column, row, layer = self.cells_of(points).T
-        return (layer * self.design.rows + row) * self.design.columns + column
+        numbers: Array = (layer * self.design.rows + row) * self.design.columns + column
+        return numbers
 
-    def cells_of(self, points):
+    def cells_of(self, points: Array) -> Array:
         """Column, row and layer of points of the text."""
         design = self.design
         size = numpy.array([design.columns, design.rows, design.layers])
@@ -63,60 +74,114 @@ class Edges:
         border = size * tile - numpy.array([0, 0, 1])
         if ((away < 0) | (away > border)).any():
             raise Fault("a point lies outside the chip")
-        return numpy.minimum(away // tile, size - 1)
+        cells: Array = numpy.minimum(away // tile, size - 1)
+        return cells
 
-    def numbers(self, way, cells):
+    def numbers(self, way: Array, cells: Array) -> Array:
         """Of cells, going along each one's way first."""
         column, row, layer = cells.T
         design = self.design
         east = (layer * design.rows + row) * design.columns + column
         north = (layer * design.columns + column) * design.rows + row
         up = (row * design.columns + column) * design.layers + layer
-        return numpy.choose(way, [east, north, up])
+        numbers: Array = numpy.choose(way, [east, north, up])
+        return numbers
 
-    def summed(self, way):
+    def summed(self, way: int) -> Array:
         """Demand by number: each run adds its need from its first number to before its last."""
         mine = self.way == way
         first, need = self.number[mine], self.need[mine]
         change = numpy.bincount(first, need, self.cells)
         change -= numpy.bincount(first + self.length[mine], need, self.cells)
-        return numpy.rint(change.cumsum()).astype(numpy.int64)
+        demand: Array = numpy.rint(change.cumsum()).astype(numpy.int64)
+        return demand
 
-    def through(self, marked, runs=None):
+    def through(self, marked: list[Array], runs: Array | None = None) -> Array:
         """Of each net of `ids`, through how many of the marked wire edges it goes: marked[way] is true or false by
         number. Where the places of some runs are given, only these are looked at."""
         runs = numpy.arange(len(self.net)) if runs is None else runs
         return numpy.rint(numpy.bincount(self.net[runs], self.marks(marked, runs), len(self.ids))).astype(numpy.int64)
 
-    def marks(self, marked, runs):
+    def marks(self, marked: list[Array], runs: Array) -> Array:
         """How many of the marked wire edges each of these runs has."""
         found = numpy.zeros(len(runs), numpy.int64)
         for way in (EAST, NORTH):
-            before = numpy.concatenate(([0], marked[way].cumsum(dtype=numpy.int64)))
+            before: Array = numpy.append(0, marked[way].cumsum(dtype=numpy.int64))
             mine = (self.way[runs] == way).nonzero()[0]
             first = self.number[runs[mine]]
             found[mine] = before[first + self.length[runs[mine]]] - before[first]
         return found
 
-    def runs_of(self, id_):
+    def runs_of(self, id_: int) -> Iterator[tuple[Cell, Cell]]:
         """The first and the last cell of each run of a net: column, row and layer, from 0."""
         design = self.design
-        mine = (self.net == self.ids.index(id_)).nonzero()[0] if id_ in self.ids else []
+        mine = (self.net == self.ids.index(id_)).nonzero()[0] if id_ in self.ids else numpy.zeros(0, int)
         for way, number, length in zip(*(some[mine].tolist() for some in (self.way, self.number, self.length))):
             if way == UP:
                 tile = number // design.layers
                 low = tile % design.columns, tile // design.columns, number % design.layers
             else:
                 low = design.place(way, number)
-            yield low, (*low[:way], low[way] + length, *low[way + 1:])
+            column, row, layer = (low[at] + length * (at == way) for at in (EAST, NORTH, UP))
+            yield low, (column, row, layer)
 
-    def sizes(self):
+    def find_unjoined(self) -> list[int]:
+        """The ids of the routed nets with a pin that their edges don't join to the first."""
+        design = self.design
+        place = {id_: at for at, id_ in enumerate(self.ids)}
+        counts = numpy.diff(numpy.array(design.first))
+        wanted = numpy.array([design.widths[id_] is not None for id_ in design.ids], bool) & (counts > 1)
+        # Nets without a record are numbered behind the others.
+        net = numpy.array([place.get(id_, len(place) + at) for at, id_ in enumerate(design.ids)], numpy.int64)
+        try:
+            cells = self.cell_numbers(numpy.array(design.points, numpy.int64).reshape(-1, 3))
+        except Fault:
+            design.check_pins()
+            raise
+        pins = numpy.repeat(net, counts), cells
+        asked = numpy.repeat(wanted, counts)
+        loose = self.loose(*(some[asked] for some in pins))
+        return [id_ for id_, number in zip(design.ids, net.tolist()) if number in loose]
+
+    def loose(self, net: Array, pin: Array) -> set[int]:
+        """Of nets with these pins, each with its net's number and its cell's, those whose pins aren't all joined."""
+        run, cell = self.cells_of_runs()
+        count = len(self.net)
+        # A pin is a run of one cell.
+        key = numpy.concatenate([self.net[run].astype(numpy.int64), net]) * self.cells + numpy.concatenate([cell, pin])
+        run = numpy.concatenate([run, numpy.arange(count, count + len(net))])
+        order = key.argsort(kind="stable")
+        key, run = key[order], run[order]
+        begins = numpy.append(True, key[1:] != key[:-1]) if len(key) else numpy.zeros(0, bool)
+        sizes = numpy.diff(numpy.append(begins.nonzero()[0], len(key)))
+        # Only where several runs share a cell, something is joined.
+        shared = numpy.repeat(sizes > 1, sizes)
+        group = groups(count + len(net), run[shared], begins[shared].cumsum() - 1)[count:]
+        lowest = numpy.full(int(net.max(initial=-1)) + 1, count + len(net))
+        numpy.minimum.at(lowest, net, group)
+        return set(net[group != lowest[net]].tolist())
+
+    def cells_of_runs(self) -> tuple[Array, Array]:
+        """The cells of all runs: the run of each, and its number by column, then row, then layer."""
+        design, length = self.design, self.length.astype(numpy.int64) + 1
+        number = self.number.astype(numpy.int64)
+        plane = design.columns * design.rows
+        north_row, north_line = number % design.rows, number // design.rows
+        north = (north_line // design.columns * design.rows + north_row) * design.columns + north_line % design.columns
+        up = number % design.layers * plane + number // design.layers
+        first: Array = numpy.choose(numpy.asarray(self.way, numpy.int64), [number, north, up])
+        step = numpy.array([1, design.columns, plane])[self.way]
+        run = numpy.repeat(numpy.arange(len(length)), length)
+        at = numpy.arange(len(run)) - numpy.repeat(length.cumsum() - length, length)
+        return run, first[run] + at * step[run]
+
+    def sizes(self) -> tuple[Array, Array]:
         """Of each net of `ids`, how many wire edges and how many vias it has."""
         wires, vias = (numpy.bincount(self.net[mine], self.length[mine], len(self.ids)).astype(numpy.int64)
                        for mine in (self.way != UP, self.way == UP))
         return wires, vias
 
-    def used(self):
+    def used(self) -> Iterator[tuple[int, int, int, int]]:
         """Way, number, capacity and demand of each wire edge that is used."""
         for way in (EAST, NORTH):
             numbers = self.demand[way].nonzero()[0]
@@ -124,13 +189,13 @@ class Edges:
             for number, capacity, demand in zip(*(column.tolist() for column in columns)):
                 yield way, number, capacity, demand
 
-    def overflow(self):
+    def overflow(self) -> tuple[int, int]:
         """The sum and the greatest of what demand has above capacity."""
         over = [numpy.maximum(self.demand[way] - self.capacity[way], 0) for way in (EAST, NORTH)]
         return sum(int(some.sum()) for some in over), max(int(some.max()) for some in over)
 
 
-def capacities(design, way):
+def capacities(design: Design, way: int) -> Array:
     """Capacity by number; numbers at the border, where there is no edge, have none."""
     line = design.columns if way == EAST else design.rows
     stated = numpy.repeat(numpy.array(design.capacity[way]), design.columns * design.rows)
@@ -140,21 +205,23 @@ def capacities(design, way):
     return stated
 
 
-def by_layer(design, way, values):
+def by_layer(design: Design, way: int, values: Array) -> Array:
     """Values by number as an array by layer, row and column, which shares their place."""
     if way == EAST:
         return values.reshape(design.layers, design.rows, design.columns)
     return values.reshape(design.layers, design.columns, design.rows).transpose(0, 2, 1)
 
 
-def by_number(way, array):
+def by_number(way: int, array: Array) -> Array:
     """The values of such an array by number."""
     return (array if way == EAST else array.transpose(0, 2, 1)).ravel()
 
 
-def batches(design, solution):
+def batches(design: Design, solution: str) -> Iterator[tuple[list[int], list[int], list[bytes]]]:
     """Ids, counts of segments, and the segments, of many nets at once."""
-    ids, counts, segments = [], [], []
+    ids: list[int] = []
+    counts: list[int] = []
+    segments: list[bytes] = []
     for id_, some in records(design, solution):
         ids.append(id_)
         counts.append(len(some))
@@ -162,27 +229,28 @@ def batches(design, solution):
         if len(segments) >= BATCH:
             yield ids, counts, segments
             ids, counts, segments = [], [], []
-    if segments:
+    if ids:
         yield ids, counts, segments
 
 
-def ends(segments):
+def ends(segments: Sequence[bytes]) -> Array:
     """The six numbers of each segment's token."""
     return parsed(segments, b"(,,)-(,,)", (b"\n(", b")-(", b")\n"), "a segment of the solution has not the form "
                   "(x,y,layer)-(x,y,layer)")
 
 
-def points(tokens):
+def points(tokens: Sequence[bytes]) -> Array:
     """The three numbers of each point's token."""
     return parsed(tokens, b"(,,)", (b"\n(", b")\n"), "the place of a buffer has not the form (x,y,layer)")
 
 
-def parsed(tokens, form, marks, fault):
+def parsed(tokens: Sequence[bytes], form: bytes, marks: tuple[bytes, ...], fault: str) -> Array:
     """The numbers of tokens, a row for each. `form` is one without its numbers, and marks are where none stand."""
     each, count = form.count(b",") + form.count(b"("), len(tokens)
     text = b"\n" + b"\n".join(tokens) + b"\n" * (count > 0)
     signs = text.translate(None, b"0123456789").replace(b"(-", b"(").replace(b",-", b",")
     has_form = signs == b"\n" + (form + b"\n") * count and all(text.count(mark) == count for mark in marks)
+    has_form = has_form and max(map(len, tokens), default=0) <= each * MOST_LETTERS
     # A number that is left out would make too few.
     blanks = text.replace(b")-(", b" ").translate(bytes.maketrans(b"(),", b"   "))
     numbers = numpy.fromstring(blanks, numpy.int64, sep=" ") if has_form and count else numpy.zeros(0, int)
@@ -191,10 +259,27 @@ def parsed(tokens, form, marks, fault):
     return numbers.reshape(count, each)
 
 
-def merged(first, last):
+def merged(first: Array, last: Array) -> tuple[Array, Array]:
     """Runs from first to last, in order, where those that meet are one."""
     order = first.argsort(kind="stable")
     first, last = first[order], numpy.maximum.accumulate(last[order])
     begins = numpy.ones(len(first), bool)
     begins[1:] = first[1:] > last[:-1]
     return first[begins], last[numpy.append(begins[1:], True)] if len(first) else last
+
+
+def groups(count: int, run: Array, cell: Array) -> Array:
+    """Of so many runs the least number of those that it is joined with, by pairs of a run and a cell that it has; cells
+    are numbered from 0 on, in order."""
+    group = numpy.arange(count)
+    if not len(run):
+        return group
+    first = numpy.append(True, cell[1:] != cell[:-1]).nonzero()[0]
+    while True:
+        least = numpy.minimum.reduceat(group[run], first)[cell]
+        found = group.copy()
+        numpy.minimum.at(found, run, least)
+        found = found[found]
+        if (found == group).all():
+            return group
+        group = found

@@ -6,10 +6,11 @@ that regions without a common tile have no common edge.
 """
 import functools
 from dataclasses import dataclass
+from typing import Any, Sequence
 
 import numpy
 
-from groute.loads.edges_numpy import by_layer, by_number
+from groute.loads.edges_numpy import Array, Edges, by_layer, by_number
 from groute.texts.designs import EAST, NORTH
 
 WAYS = {EAST: "horizontal", NORTH: "vertical"}
@@ -30,11 +31,11 @@ class Line:
     over: int = 0           # how many edges have more demand than capacity
     closed: int = 0         # the overflow on edges of capacity 0
 
-    def use(self):
+    def use(self) -> float | None:
         """Demand in percent of the resource, or None."""
         return 100 * self.demand / self.resource if self.resource else None
 
-    def cells(self):
+    def cells(self) -> list[str | int]:
         """As a row of a table under HEAD."""
         use = "-" if self.use() is None else f"{self.use():.1f}"
         return [self.layer, self.direction, self.resource, self.demand, use, self.maximum, self.overflow, self.over,
@@ -47,18 +48,18 @@ HEAD = ["layer", "direction", "resource", "demand", "use, %", "greatest", "overf
 @dataclass
 class Region:
     """A window of tiles, from a lower to an upper corner (column, row), and what is over capacity in it."""
-    low: tuple
-    high: tuple
+    low: tuple[int, int]
+    high: tuple[int, int]
     overflow: int       # on edges that have capacity
     over: int           # how many edges these are
     closed: int         # overflow on edges of capacity 0
-    nets: list          # (id, how many of these edges it needs), those that need most first
+    nets: list[tuple[int, int]]     # (id, how many of these edges it needs), those that need most first
 
 
 class Loads:
     """Demand, capacity and what demand has above capacity: by way, arrays by layer, row and column."""
 
-    def __init__(self, edges):
+    def __init__(self, edges: Edges) -> None:
         self.edges, self.design = edges, edges.design
         self.demand = [by_layer(edges.design, way, edges.demand[way]) for way in (EAST, NORTH)]
         self.capacity = [by_layer(edges.design, way, edges.capacity[way]) for way in (EAST, NORTH)]
@@ -66,15 +67,15 @@ class Loads:
         self.open = [capacity > 0 for capacity in self.capacity]
         self.room = [numpy.where(some, excess, 0) for some, excess in zip(self.open, self.excess)]
 
-    def overflow(self, layers):
+    def overflow(self, layers: slice) -> int:
         """Of these layers."""
         return sum(int(excess[layers].sum()) for excess in self.excess)
 
-    def overfull(self):
+    def overfull(self) -> int:
         """How many wire edges are over their capacity."""
         return sum(int((excess > 0).sum()) for excess in self.excess)
 
-    def table(self, layers):
+    def table(self, layers: Sequence[str]) -> list[Line]:
         """A line for each layer and direction that has wires, by the layers' names, and one of totals."""
         lines = []
         for at, name in enumerate(layers):
@@ -90,19 +91,19 @@ class Loads:
         return [*lines, total]
 
     @functools.cached_property
-    def uses(self):
+    def uses(self) -> Array:
         """Demand over capacity of each wire edge that has capacity, the fullest first."""
-        found = numpy.concatenate([self.demand[way][self.open[way]] / self.capacity[way][self.open[way]]
-                                   for way in (EAST, NORTH)])
+        found: Array = numpy.concatenate([self.demand[way][self.open[way]] / self.capacity[way][self.open[way]]
+                                          for way in (EAST, NORTH)])
         return numpy.sort(found)[::-1]
 
-    def fullest(self):
+    def fullest(self) -> list[float]:
         """The average use in percent of so many percent of the edges, the fullest ones, for each of SHARES."""
         uses = self.uses
         counts = [max(1, int(numpy.ceil(len(uses) * share / 100))) for share in SHARES]
         return [100 * float(uses[:count].mean()) if len(uses) else 0.0 for count in counts]
 
-    def by_tile(self, layers, ways=(EAST, NORTH)):
+    def by_tile(self, layers: slice, ways: Sequence[int] = (EAST, NORTH)) -> tuple[Array, Array, Array]:
         """Of the wire edges of each tile, by row and column: the greatest demand over capacity (no number where none
         has capacity), the greatest overflow on an edge that has capacity, and the greatest on one that has none."""
         shape = self.design.rows, self.design.columns
@@ -113,8 +114,9 @@ class Loads:
             use[use < 0] = numpy.nan
             room = self.room[way][layers].max(axis=0)
             shut = numpy.where(is_open, 0, self.excess[way][layers]).max(axis=0)
-            for all_, mine, larger in ((full, use, numpy.fmax), (over, room, numpy.maximum),
-                                       (closed, shut, numpy.maximum)):
+            ways_to_join: list[tuple[Array, Array, Any]] = [
+                (full, use, numpy.fmax), (over, room, numpy.maximum), (closed, shut, numpy.maximum)]
+            for all_, mine, larger in ways_to_join:
                 larger(all_, mine, out=all_)    # of the tile at the lower end, then of that at the upper one
                 if way == EAST:
                     larger(all_[:, 1:], mine[:, :-1], out=all_[:, 1:])
@@ -122,13 +124,13 @@ class Loads:
                     larger(all_[1:], mine[:-1], out=all_[1:])
         return full, over, closed
 
-    def regions(self, most):
+    def regions(self, most: int) -> list[Region]:
         """At most so many windows without a common tile, each time the one of most overflow that is left; the first by
         row and then by column where several have as much. Those without overflow are left out."""
         design = self.design
         high, wide = min(SIDE, design.rows), min(SIDE, design.columns)
-        left = windows(sum(room.sum(axis=0) for room in self.room), high, wide)
-        found = []
+        left = windows(self.room[EAST].sum(axis=0) + self.room[NORTH].sum(axis=0), high, wide)
+        found: list[Region] = []
         overfull = [by_number(way, room > 0) for way, room in enumerate(self.room)]
         runs = self.edges.marks(overfull, numpy.arange(len(self.edges.net))).nonzero()[0]
         while len(found) < most and left.max() > 0:
@@ -137,7 +139,7 @@ class Loads:
             left[max(0, row - high + 1):row + high, max(0, column - wide + 1):column + wide] = 0
         return found
 
-    def region(self, rows, columns, runs):
+    def region(self, rows: slice, columns: slice, runs: Array) -> Region:
         """The region of these tiles. `runs` has at least the places of the runs through its overfull edges."""
         place = slice(None), rows, columns
         room = [room[place] for room in self.room]
@@ -155,8 +157,9 @@ class Loads:
                       sum(int((some > 0).sum()) for some in room), total - overflow, nets)
 
 
-def windows(values, high, wide):
+def windows(values: Array, high: int, wide: int) -> Array:
     """The sums of all windows of this size, by their lower row and column."""
     sums = numpy.zeros((values.shape[0] + 1, values.shape[1] + 1), numpy.int64)
     sums[1:, 1:] = values.cumsum(axis=0).cumsum(axis=1)
-    return sums[high:, wide:] - sums[:-high, wide:] - sums[high:, :-wide] + sums[:-high, :-wide]
+    found: Array = sums[high:, wide:] - sums[:-high, wide:] - sums[high:, :-wide] + sums[:-high, :-wide]
+    return found

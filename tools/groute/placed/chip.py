@@ -2,9 +2,15 @@
 from bisect import bisect_left, bisect_right
 from decimal import Decimal
 from fractions import Fraction
+from functools import cached_property
 from math import ceil
+from typing import Iterator, Sequence
 
-from groute.placed.statements import Fault, moved, nearest, turned
+from groute.placed.def_text import Component, Def, Net, Run
+from groute.placed.def_text import Pin as ChipPin
+from groute.placed.lef_text import Layer, Lef, Macro, Pin
+from groute.placed.statements import Shape, moved, nearest, turned
+from groute.texts.files import Fault
 
 UNITS = 2               # what a wire with its spacing takes
 PITCHES = 15            # of a tile, where the DEF says nothing
@@ -13,20 +19,25 @@ MOST_LAYERS = 16
 MOST_WIDTH = 1000
 MOST_PLACES = 1 << 29   # where tracks cross tiles, each a byte
 MOST_TILE = MOST_CAPACITY = 1000000
+MOST_NETS, MOST_PINS = 4194304, 16777216
+SUPPLIES = ("POWER", "GROUND")      # what nets are used for that have no routes
+SHOWN = 5                           # supplies that are named
 
 
 class Grid:
     """Where tiles lie: (left, low) of the first, their size, and how many there are. The last ones of a row and of a
     column run to the edge of the die, where it lies nearer or farther than a whole tile."""
 
-    def __init__(self, placed, lef, tile):
+    def __init__(self, placed: Def, lef: Lef, tile: Sequence[int] | None) -> None:
         self.left, self.low, self.right, self.top = placed.area
-        ways = [regular(placed.gcells[way], placed.area[at], placed.area[at + 2]) for at, way in enumerate("XY")]
-        if tile is None and all(ways):
-            (self.left, across, self.columns), (self.low, up, self.rows) = ways
+        columns = regular(placed.gcells["X"], self.left, self.right)
+        rows = regular(placed.gcells["Y"], self.low, self.top)
+        if tile is None and columns and rows:
+            (self.left, across, self.columns), (self.low, up, self.rows) = columns, rows
             self.tile = across, up
         else:
-            self.tile = tuple(tile or 2 * (side_of_tile(placed, lef),))
+            side = 0 if tile else side_of_tile(placed, lef)
+            self.tile = (tile[0], tile[1]) if tile else (side, side)
             if min(self.tile) < 1:
                 raise Fault("a tile is at least 1 wide and high")
             self.columns = -(-(self.right - self.left) // self.tile[0])
@@ -34,13 +45,13 @@ class Grid:
         if max(self.tile) > MOST_TILE:
             raise Fault(f"{placed.path}: a tile may have at most {MOST_TILE} units on a side: give --tile")
 
-    def end(self, along):
+    def end(self, along: int) -> int:
         """The far edge of the last tile, of a row or of a column."""
         start, count, edge = (self.left, self.columns, self.right) if along == 0 else (self.low, self.rows, self.top)
         return max(edge, start + self.tile[along] * count)
 
 
-def regular(runs, low, high):
+def regular(runs: Sequence[Run], low: int, high: int) -> tuple[int, int, int] | None:
     """Start, side and number of tiles of GCELLGRID along one way of the die; None where they have not one side."""
     if sum(count for _, count, _ in runs) > 1 << 20:
         return None
@@ -55,7 +66,7 @@ def regular(runs, low, high):
     return lines[0], side, len(lines)
 
 
-def side_of_tile(placed, lef):
+def side_of_tile(placed: Def, lef: Lef) -> int:
     """Of a DEF that says nothing of tiles: a row of cells where it has no rows either, as qflow writes it; else 15
     pitches of the third routing layer."""
     heights = [height for kind, height in lef.sites.values() if kind == "CORE"]
@@ -64,16 +75,18 @@ def side_of_tile(placed, lef):
     if not lef.routing:
         raise Fault("the LEF has no routing layer")
     layer = lef.routing[min(2, len(lef.routing) - 1)]
-    if layer.track_pitch() is None:
+    pitch = layer.track_pitch()
+    if pitch is None:
         raise Fault(f"the LEF says no PITCH of LAYER {layer.name}: give --tile")
-    return nearest(PITCHES * layer.track_pitch() * placed.units)
+    return nearest(PITCHES * pitch * placed.units)
 
 
 class Chip:
     """A placed design, the routing layers of its grid, and what takes room on them."""
 
-    def __init__(self, placed, lef, tile=None, layers=None, adjust=()):
-        self.placed, self.lef = placed, lef
+    def __init__(self, placed: Def, lef: Lef, tile: Sequence[int] | None = None, layers: str | None = None,
+                 adjust: Sequence[tuple[str, Fraction]] = (), keeps_supplies: bool = False) -> None:
+        self.placed, self.lef, self.keeps_supplies = placed, lef, keeps_supplies
         self.grid = Grid(placed, lef, tile)
         self.layers = layers_of(lef, layers)
         self.level = {layer.name: at for at, layer in enumerate(self.layers)}
@@ -83,7 +96,7 @@ class Chip:
             raise Fault(f"{placed.path}: a grid of {self.grid.columns} by {self.grid.rows} tiles and "
                         f"{len(self.layers)} layers is more than groute takes: give --tile or --layers")
         self.shares = shares_of(adjust, self.level)
-        self.shapes = [[] for _ in self.layers]
+        self.shapes: list[list[Shape]] = [[] for _ in self.layers]
         for shape in self.metal():
             if shape[0] in self.level:
                 self.shapes[self.level[shape[0]]].append(shape)
@@ -91,7 +104,7 @@ class Chip:
                 lef.notes.once(("layer", shape[0]), placed.path, f"the LEF has no LAYER {shape[0]}: shapes on it are "
                                "skipped")
 
-    def metal(self):
+    def metal(self) -> Iterator[Shape]:
         """All shapes on the chip that take room for wires."""
         yield from self.placed.special
         yield from self.placed.blockages
@@ -101,11 +114,11 @@ class Chip:
         for pin in self.placed.pins.values():
             yield from pin.shapes
         for component in self.placed.components.values():
-            if component.x is not None:
+            if component.orientation is not None:
                 for shape in self.macro(component).metal(component.orientation):
                     yield moved(shape, component.x, component.y)
 
-    def via(self, name, place):
+    def via(self, name: str, place: str) -> list[Shape]:
         """The shapes of a via of the DEF or of the LEF."""
         if name in self.placed.vias:
             return self.placed.vias[name]
@@ -113,13 +126,13 @@ class Chip:
             raise Fault(f"{place}: neither VIAS nor the LEF has the via {name}")
         return self.lef.vias[name].shapes
 
-    def macro(self, component):
+    def macro(self, component: Component) -> Macro:
         """The cell that a component is of."""
         if component.macro not in self.lef.macros:
             raise Fault(f"{component.place}: the LEF has no cell {component.macro}")
         return self.lef.macros[component.macro]
 
-    def pin(self, net, component, name):
+    def pin(self, net: Net, component: str, name: str) -> tuple[Pin | ChipPin, Component | None]:
         """A net's pin, and the component that it is of, None of the chip's pins."""
         if component == "PIN":
             if name not in self.placed.pins:
@@ -131,32 +144,32 @@ class Chip:
         pin = self.pin_of(self.macro(cell), name)
         if pin is None:
             raise Fault(f"{net.place}: there is no pin {name} of component {component}")
-        if cell.x is None:
+        if cell.orientation is None:
             raise Fault(f"{net.place}: the net {net.name} needs the component {component}, which isn't placed")
         return pin, cell
 
-    def pin_of(self, macro, name):
+    def pin_of(self, macro: Macro, name: str) -> Pin | None:
         """A cell's pin, by the name that the DEF has; the two texts may write bits of buses in two ways."""
         ways = dict(zip(self.placed.bus_bits, self.lef.bus_bits))
         plain = name.replace("\\", "")
         return macro.pins.get(name) or macro.pins.get(plain) or \
             macro.pins.get("".join(ways.get(letter, letter) for letter in plain))
 
-    def ordered(self, net):
+    def ordered(self, net: Net) -> list[tuple[str, str]]:
         """A net's connections, its driver first: the output of a component, else a pin of the chip that is no output,
         else the first."""
         ranks = [self.rank(net, *connection) for connection in net.connections]
         driver = ranks.index(min(ranks))
         return [net.connections[driver], *net.connections[:driver], *net.connections[driver + 1:]]
 
-    def rank(self, net, component, name):
+    def rank(self, net: Net, component: str, name: str) -> int:
         """By which the driver is chosen: the least is it."""
         pin, cell = self.pin(net, component, name)
         if cell is None:
             return 2 if pin.direction == "OUTPUT" else 1
         return 0 if pin.direction == "OUTPUT" else 2
 
-    def points(self, net):
+    def points(self, net: Net) -> Iterator[tuple[int, int, int]]:
         """x, y and layer of a net's pins, the driver first; pins below the grid's layers are lifted to the first."""
         grid = self.grid
         for component, name in self.ordered(net):
@@ -167,7 +180,7 @@ class Chip:
                 raise Fault(f"{says} has no metal in a place")
             if shape[0] not in self.level and shape[0] not in self.lower:
                 raise Fault(f"{says} lies on {shape[0]}, which is no routing layer of the grid")
-            if cell is not None:
+            if cell is not None and cell.orientation is not None:
                 shape = moved(self.macro(cell).in_place(shape, cell.orientation), cell.x, cell.y)
             layer, x1, y1, x2, y2, _ = shape
             x, y = (x1 + x2) // 2, (y1 + y2) // 2
@@ -176,15 +189,17 @@ class Chip:
             yield (min(x, grid.left + grid.columns * grid.tile[0]), min(y, grid.low + grid.rows * grid.tile[1]),
                    self.level.get(layer, 0) + 1)
 
-    def first_shape(self, shapes):
+    def first_shape(self, shapes: Sequence[Shape]) -> Shape | None:
         """The first of a pin's shapes on a layer of the grid; else on a lower one; else the first; else None."""
-        for layers in (self.level, self.lower):
-            for shape in shapes:
-                if shape[0] in layers:
-                    return shape
+        for shape in shapes:
+            if shape.layer in self.level:
+                return shape
+        for shape in shapes:
+            if shape.layer in self.lower:
+                return shape
         return shapes[0] if shapes else None
 
-    def width(self, net):
+    def width(self, net: Net) -> int:
         """The net's width in the design: 1, or by its rule as much as on the layer where that takes most."""
         if net.rule is None:
             return 1
@@ -201,59 +216,110 @@ class Chip:
             raise Fault(f"{net.place}: by the rule {net.rule} the net {net.name} is wider than groute takes")
         return width
 
-    def pitch(self, layer):
+    def pitch(self, layer: Layer) -> Decimal:
         """From track to track, in micrometres."""
-        if layer.track_pitch() is not None:
-            return layer.track_pitch()
+        pitch = layer.track_pitch()
+        if pitch is not None:
+            return pitch
         runs = self.placed.tracks.get((layer.name, "XY"[layer.is_horizontal()]))
         if not runs:
             raise Fault(f"neither the LEF nor TRACKS says a pitch of LAYER {layer.name}")
         return Decimal(runs[0][2]) / self.placed.units
 
-    def spacing(self, layer):
+    def spacing(self, layer: Layer) -> Decimal:
         """Between wires of a layer, in micrometres."""
-        if layer.apart() is None:
+        apart = layer.apart()
+        if apart is None:
             raise Fault(f"the LEF says no SPACING of LAYER {layer.name}")
-        return layer.apart()
+        return apart
 
-    def tracks(self, layer, along):
+    def tracks(self, layer: Layer, along: int) -> list[int]:
         """Where the wires of a layer may go, of all its TRACKS: none nearer to the one before than wires may be."""
         runs = self.placed.tracks.get((layer.name, "YX"[along]), [])
         if not runs:
             self.lef.notes.once(("tracks", layer.name), self.placed.path, f"LAYER {layer.name} has no TRACKS "
                                 f"{'YX'[along]}, and so no room for wires")
         across, size = self.bounds(1 - along)
-        places = set()
+        places: set[int] = set()
         for first, count, step in runs:
             skipped = max(0, -(-(across - first) // step))
             kept = range(first + step * skipped, min(first + step * count, across + size), step)
             places.update(kept)
-        apart = nearest((layer.width + self.spacing(layer)) * self.placed.units) if len(runs) > 1 else 0
-        tracks = []
+        apart = nearest((wide(layer) + self.spacing(layer)) * self.placed.units) if len(runs) > 1 else 0
+        tracks: list[int] = []
         for place in sorted(places):
             if not tracks or place - tracks[-1] >= apart:
                 tracks.append(place)
         return tracks
 
-    def bounds(self, way):
+    def bounds(self, way: int) -> tuple[int, int]:
         """Where the grid begins along a way, and how far it goes."""
         start = (self.grid.left, self.grid.low)[way]
         return start, self.grid.end(way) - start
 
-    def nets(self):
-        """The nets that have pins, in their order."""
-        return [net for net in self.placed.nets.values() if net.connections]
+    @cached_property
+    def nets(self) -> list[Net]:
+        """The nets that have pins and are no supplies, in their order."""
+        found = [net for net in self.placed.nets.values() if net.connections]
+        if not found:
+            raise Fault(f"{self.placed.path}: no net of NETS has a pin")
+        supplies = [] if self.keeps_supplies else [net for net in found if self.supplies(net)]
+        for net in supplies[:SHOWN]:
+            says = f"the net {net.name} is a supply and left out; it ties off {self.tied(net):,} inputs of cells"
+            self.lef.notes.tell(net.place, f"{says} (--keep-supply keeps it)")
+        if len(supplies) > SHOWN:
+            self.lef.notes.tell(self.placed.path, f"{len(supplies) - SHOWN:,} more nets are supplies and left out")
+        names = {net.name for net in supplies}
+        found = [net for net in found if net.name not in names]
+        if not found:
+            raise Fault(f"{self.placed.path}: all nets of NETS that have a pin are supplies: --keep-supply keeps them")
+        if len(found) > MOST_NETS or sum(len(net.connections) for net in found) > MOST_PINS:
+            raise Fault(f"{self.placed.path}: more than groute's {MOST_NETS:,} nets, or {MOST_PINS:,} pins")
+        return found
 
-    def via_resistance(self):
+    @cached_property
+    def pin_uses(self) -> dict[str, set[str]]:
+        """What the chip's pins say that their nets are used for."""
+        found: dict[str, set[str]] = {}
+        for pin in self.placed.pins.values():
+            if pin.net is not None and pin.use is not None:
+                found.setdefault(pin.net, set()).add(pin.use)
+        return found
+
+    def uses(self, net: Net) -> set[str]:
+        """What a net is used for, by NETS, SPECIALNETS and PINS."""
+        said = {net.use, self.placed.special_uses.get(net.name), *self.pin_uses.get(net.name, ())}
+        return {use for use in said if use is not None}
+
+    def supplies(self, net: Net) -> bool:
+        """Whether a net is a supply: by what it is used for, or as qflow writes it, in SPECIALNETS without a word."""
+        uses = self.uses(net)
+        special = self.placed.special_uses
+        is_silent = net.use is None and "CLOCK" not in uses and special.get(net.name, "") is None
+        return is_silent or bool(uses & set(SUPPLIES))
+
+    def tied(self, net: Net) -> int:
+        """How many inputs of cells a net drives."""
+        pins = [self.pin(net, *connection) for connection in net.connections]
+        return sum(cell is not None and pin.direction == "INPUT" for pin, cell in pins)
+
+    def is_clock(self, net: Net) -> bool:
+        """Whether a net is a clock's, by what it is used for or by a sink in the LEF."""
+        if "CLOCK" in self.uses(net):
+            return True
+        pins = [self.pin(net, *connection) for connection in net.connections]
+        return any(cell is not None and pin.use == "CLOCK" and pin.direction != "OUTPUT" for pin, cell in pins)
+
+    def via_resistance(self) -> Decimal:
         """The greatest of a via, or of a cut, between two layers of the grid; 0 where none is said."""
         named = list(self.lef.layers)
         between = named[named.index(self.layers[0].name):named.index(self.layers[-1].name)]
         cuts = [self.lef.layers[name].resistance for name in between if self.lef.layers[name].kind == "CUT"]
         vias = [via.resistance for via in self.lef.vias.values()
                 if len({shape[0] for shape in via.shapes} & set(self.level)) > 1]
-        return max((value for value in cuts + vias if value is not None), default=0)
+        return max((value for value in cuts + vias if value is not None), default=Decimal(0))
 
-    def capacities(self, number):
+    def capacities(self, number: int) -> list[list[int]]:
         """Of the borders of tiles that a layer's tracks cross: by the number of the tiles' line (a row, or of a
         vertical layer a column), and by the lower tile's number in it."""
         layer = self.layers[number]
@@ -266,24 +332,25 @@ class Chip:
                         "more than is read here")
         middles = [start + self.grid.tile[along] * at + self.grid.tile[along] // 2 for at in range(size[along])]
         free = [bytearray(b"\1") * (size[along] - 1) for _ in tracks]
-        half = layer.width / 2
+        half = wide(layer) / 2
         usual = nearest((half + self.spacing(layer)) * self.placed.units)
         for shape in self.shapes[number]:
             room = usual if shape.spacing is None else nearest(half * self.placed.units) + shape.spacing
-            low, high = shape[1 + along] - room, shape[3 + along] + room
+            ends = shape.x1, shape.y1, shape.x2, shape.y2
+            low, high = ends[along] - room, ends[2 + along] + room
             borders = slice(max(0, bisect_right(middles, low) - 1), bisect_left(middles, high))
             taken = bytes(len(range(*borders.indices(size[along] - 1))))
-            first, last = shape[2 - along] - room, shape[4 - along] + room
+            first, last = ends[1 - along] - room, ends[3 - along] + room
             for at in range(bisect_right(tracks, first), bisect_left(tracks, last)):
                 free[at][borders] = taken
         found = [[0] * (size[along] - 1) for _ in range(size[1 - along])]
-        for track, borders in zip(tracks, free):
+        for track, mine in zip(tracks, free):
             line = found[min((track - across) // self.grid.tile[1 - along], size[1 - along] - 1)]
-            for at, is_free in enumerate(borders):
+            for at, is_free in enumerate(mine):
                 line[at] += UNITS * is_free
         return self.adjusted(found, layer)
 
-    def adjusted(self, lines, layer):
+    def adjusted(self, lines: list[list[int]], layer: Layer) -> list[list[int]]:
         """Capacities without the share that --adjust takes away."""
         share = self.shares.get(layer.name, Fraction(0))
         lines = [[int(value * (1 - share)) for value in line] for line in lines] if share else lines
@@ -292,13 +359,20 @@ class Chip:
         return lines
 
 
-def layers_of(lef, asked):
+def wide(layer: Layer) -> Decimal:
+    """The width of a layer's wires, in micrometres."""
+    if layer.width is None:
+        raise Fault(f"the LEF says no WIDTH of LAYER {layer.name}")
+    return layer.width
+
+
+def layers_of(lef: Lef, asked: str | None) -> list[Layer]:
     """The routing layers of the grid: all, or from one name to another."""
     routing = lef.routing
     if asked is not None:
         names = [layer.name for layer in routing]
-        ends = [(asked[:at], asked[at + 1:]) for at, mark in enumerate(asked) if mark == "-"]
-        ends = [(names.index(one), names.index(other)) for one, other in ends if one in names and other in names]
+        pairs = [(asked[:at], asked[at + 1:]) for at, mark in enumerate(asked) if mark == "-"]
+        ends = [(names.index(one), names.index(other)) for one, other in pairs if one in names and other in names]
         if not ends or ends[0][0] > ends[0][1]:
             raise Fault(f"--layers {asked}: routing layers are {' '.join(names)}")
         routing = routing[ends[0][0]:ends[0][1] + 1]
@@ -310,9 +384,9 @@ def layers_of(lef, asked):
     return routing
 
 
-def shares_of(adjust, levels):
+def shares_of(adjust: Sequence[tuple[str, Fraction]], levels: dict[str, int]) -> dict[str, Fraction]:
     """By layer, the share of its capacity that is taken away."""
-    shares = {}
+    shares: dict[str, Fraction] = {}
     for name, share in adjust:
         if name not in levels:
             raise Fault(f"--adjust {name}: layers are {' '.join(levels)}")

@@ -1,8 +1,15 @@
 """Placed designs in DEF, by the public DEF 5.8 language. All lengths are in the DEF's units."""
 from dataclasses import dataclass, field
+from decimal import Decimal
+from typing import Any, Callable, Sequence
 
-from groute.placed.statements import (MOST_REPEATS, ORIENTATIONS, Fault, Shape, Words, generated_via, moved, pairs,
-                                      polygon, positive, rectangle, split_at, turned, whole, without_brackets)
+from groute.placed.statements import (MOST_REPEATS, ORIENTATIONS, Notes, Shape, Words, generated_via, moved,
+                                      pairs, polygon, positive, rectangle, split_at, turned, whole, without_brackets)
+from groute.texts.files import Fault
+
+Run = tuple[int, int, int]                  # first, count and step
+Placement = tuple[int, int, str]            # x, y and orientation
+WirePoint = tuple[int, int, int | None]     # x, y, and how far the wire goes on behind
 
 SILENT = {"VERSION", "NAMESCASESENSITIVE", "DIVIDERCHAR", "DESIGN", "TECHNOLOGY", "HISTORY",
           "COMPONENTMASKSHIFT", "ARRAY", "FLOORPLAN"}
@@ -13,10 +20,10 @@ PLACED = {"PLACED", "FIXED", "COVER"}
 # What items may say behind a `+`, beside what is read.
 OF_COMPONENT = {"EEQMASTER", "SOURCE", "MASKSHIFT", "HALO", "WEIGHT", "REGION", "PROPERTY", "GENERATE", "FOREIGN",
                 "UNPLACED"}
-OF_PIN = {"NET", "SPECIAL", "USE", "NETEXPR", "SUPPLYSENSITIVITY", "GROUNDSENSITIVITY"}
-OF_NET = {"USE", "SOURCE", "WEIGHT", "XTALK", "FIXEDBUMP", "FREQUENCY", "ORIGINAL", "PATTERN", "ESTCAP", "PROPERTY",
+OF_PIN = {"SPECIAL", "NETEXPR", "SUPPLYSENSITIVITY", "GROUNDSENSITIVITY"}
+OF_NET = {"SOURCE", "WEIGHT", "XTALK", "FIXEDBUMP", "FREQUENCY", "ORIGINAL", "PATTERN", "ESTCAP", "PROPERTY",
           "SHIELDNET", "STYLE"}
-OF_SPECIAL = {"USE", "SOURCE", "VOLTAGE", "FIXEDBUMP", "ORIGINAL", "PATTERN", "ESTCAP", "WEIGHT", "PROPERTY"}
+OF_SPECIAL = {"SOURCE", "VOLTAGE", "FIXEDBUMP", "ORIGINAL", "PATTERN", "ESTCAP", "WEIGHT", "PROPERTY"}
 WIRED = {"ROUTED", "FIXED", "COVER", "NOSHIELD", "SHIELD"}
 OF_VIA = {"VIARULE", "CUTSIZE", "LAYERS", "CUTSPACING", "ENCLOSURE", "ROWCOL", "ORIGIN", "OFFSET", "PATTERN",
           "PATTERNNAME"}
@@ -24,54 +31,66 @@ OF_VIA = {"VIARULE", "CUTSIZE", "LAYERS", "CUTSPACING", "ENCLOSURE", "ROWCOL", "
 
 @dataclass
 class Pin:
-    """A pin of the chip, with its shapes in place."""
-    direction: str = None
-    shapes: list = field(default_factory=list)
+    """A pin of the chip, with its shapes in place, its net, and what that is used for."""
+    direction: str | None = None
+    shapes: list[Shape] = field(default_factory=list)
+    net: str | None = None
+    use: str | None = None
 
 
 @dataclass
 class Net:
-    """A net: its connections as (component or PIN, pin), the name of its rule for wide nets, and where it stands."""
+    """A net: its connections as (component or PIN, pin), the name of its rule for wide nets, where it stands, and
+    what it is used for."""
     name: str
-    connections: list
-    rule: str
+    connections: list[tuple[str, str]]
+    rule: str | None
     place: str
+    use: str | None = None
 
 
 @dataclass
 class Component:
-    """A cell on the chip; x, y and orientation are None where it isn't placed."""
+    """A cell on the chip; orientation is None where it isn't placed."""
     macro: str
     place: str
-    x: int = None
-    y: int = None
-    orientation: str = None
+    x: int = 0
+    y: int = 0
+    orientation: str | None = None
 
 
 class Def:
     """A placed design: its area, tracks, components, pins, nets, and what else takes room for wires."""
 
-    def __init__(self, path, notes):
+    def __init__(self, path: str, notes: Notes) -> None:
         self.path, self.notes = path, notes
-        self.area = self.units = None   # (x1, y1, x2, y2); units to the micrometre
-        self.tracks = {}        # (layer, "X" or "Y") -> [(first, count, step)]; X are the places of vertical tracks
-        self.gcells = {"X": [], "Y": []}    # (first, count, step) of lines
+        self.area = (0, 0, 0, 0)    # x1, y1, x2, y2
+        self.units = 0              # to the micrometre
+        self.tracks: dict[tuple[str, str], list[Run]] = {}  # by layer, and X (the places of vertical tracks) or Y
+        self.gcells: dict[str, list[Run]] = {"X": [], "Y": []}  # lines
         self.has_rows = False
-        self.bus_bits = "[]"    # the letters around the number of a bus's bit
-        self.components, self.pins, self.vias, self.rules, self.nets = {}, {}, {}, {}, {}
-        self.special, self.blockages = [], []   # shapes
-        self.special_vias = []  # (via, x, y, orientation, place)
+        self.bus_bits = "[]"        # the letters around the number of a bus's bit
+        self.components: dict[str, Component] = {}
+        self.pins: dict[str, Pin] = {}
+        self.vias: dict[str, list[Shape]] = {}
+        self.rules: dict[str, dict[str, tuple[Decimal, Decimal | None]]] = {}
+        self.nets: dict[str, Net] = {}
+        self.special: list[Shape] = []
+        self.special_uses: dict[str, str | None] = {}   # what each net of SPECIALNETS is used for, if that is said
+        self.blockages: list[Shape] = []
+        self.special_vias: list[tuple[str, int, int, str, str]] = []    # via, x, y, orientation, place
         words = Words(path, notes)
         while (word := words.begin()) != "END":
             words.read_by(self.read, word, words)
-        if self.area is None or self.units is None:
+        if not any(self.area) or not self.units:
             raise Fault(f"{path}: UNITS and DIEAREA are due")
 
-    def read(self, word, words):
+    def read(self, word: str, words: Words) -> None:
         """One statement or section."""
-        sections = {"VIAS": self.read_via, "COMPONENTS": self.read_component, "PINS": self.read_pin,
-                    "SPECIALNETS": self.read_special, "NETS": self.read_net, "BLOCKAGES": self.read_blockage,
-                    "NONDEFAULTRULES": self.read_rule}
+        sections: dict[str, Callable[[list[str], Words], None]] = {
+            "VIAS": self.read_via, "COMPONENTS": self.read_component, "PINS": self.read_pin,
+            "SPECIALNETS": self.read_special, "NETS": self.read_net, "BLOCKAGES": self.read_blockage,
+            "NONDEFAULTRULES": self.read_rule}
         if word in sections:
             for item in words.items(word):
                 words.read_by(sections[word], item, words)
@@ -87,7 +106,7 @@ class Def:
         else:
             self.read_statement(word, words)
 
-    def read_statement(self, word, words):
+    def read_statement(self, word: str, words: Words) -> None:
         """One statement that isn't a section."""
         values = words.until(";")
         if word == "ROW":
@@ -113,22 +132,23 @@ class Def:
         else:
             raise words.refuse(word)
 
-    def once(self, name, value, words):
+    def once(self, name: str, value: object, words: Words) -> None:
         """Keeps what isn't said otherwise before."""
-        if getattr(self, name) not in (None, value):
+        if getattr(self, name) not in (0, (0, 0, 0, 0), value):
             raise words.fault("this is said again, and otherwise")
         setattr(self, name, value)
 
-    def add(self, found, name, value, words):
+    def add(self, found: dict[str, Any], name: str, value: object, words: Words) -> None:
         """Keeps an item under its name, which no item before it has."""
         if name in found:
             raise words.fault(f"{name} stands here a second time")
         found[name] = value
 
-    def read_via(self, item, words):
+    def read_via(self, item: list[str], words: Words) -> None:
         """`NAME + RECT LAYER ( x y ) ( x y ) ..`, or with the words of a via that is generated."""
         name, *rest = item
-        shapes, parts = [], {}
+        shapes: list[Shape] = []
+        parts: dict[str, list[str]] = {}
         for word, *values in split_at(rest, "+")[1:]:
             if word in ("RECT", "POLYGON"):
                 shapes += shapes_of(word, values)
@@ -138,10 +158,10 @@ class Def:
                 raise words.refuse(f"{word} of the via {name}")
         self.add(self.vias, name, generated_via(parts, whole) if "CUTSIZE" in parts else shapes, words)
 
-    def read_rule(self, item, words):
+    def read_rule(self, item: list[str], words: Words) -> None:
         """`NAME + LAYER LAYER WIDTH w SPACING s ..`: width and spacing by layer, in micrometres."""
         name, *rest = item
-        rule = {}
+        rule: dict[str, tuple[Decimal, Decimal | None]] = {}
         for word, *values in split_at(rest, "+")[1:]:
             if word == "LAYER":
                 said = dict(zip(values[1::2], values[2::2]))
@@ -151,7 +171,7 @@ class Def:
                 raise words.refuse(f"{word} of the rule {name}")
         self.add(self.rules, name, rule, words)
 
-    def read_component(self, item, words):
+    def read_component(self, item: list[str], words: Words) -> None:
         """`NAME MACRO .. + PLACED ( x y ) ORIENTATION ..`."""
         name, macro, *rest = item
         component = Component(macro, words.place())
@@ -162,14 +182,16 @@ class Def:
                 words.skip("ROUTEHALO of COMPONENTS")
             elif word not in OF_COMPONENT:
                 raise words.refuse(f"{word} of the component {name}")
-        if component.x is None:
+        if component.orientation is None:
             words.notes.once("UNPLACED", component.place, f"the component {name} isn't placed")
         self.add(self.components, name, component, words)
 
-    def read_pin(self, item, words):
+    def read_pin(self, item: list[str], words: Words) -> None:
         """`NAME + NET NET .. + PORT + LAYER LAYER ( x y ) ( x y ) .. + PLACED ( x y ) ORIENTATION ..`."""
         name, *rest = item
-        pin, port, place = Pin(), [], None
+        pin = Pin()
+        port: list[Shape] = []
+        place: Placement | None = None
         for word, *values in [*split_at(rest, "+")[1:], ["PORT"]]:
             if word == "LAYER":
                 port += shapes_of("RECT", values)
@@ -182,17 +204,22 @@ class Def:
                 port, place = [], None
             elif word == "DIRECTION":
                 pin.direction = values[0]
+            elif word == "NET":
+                pin.net = values[0]
+            elif word == "USE":
+                pin.use = values[0]
             elif word not in OF_PIN and word[:7] != "ANTENNA":
                 raise words.refuse(f"{word} of the pin {name}")
         if not pin.shapes:
             words.notes.once("pin without place", words.place(), f"the pin {name} has no shape in a place")
         self.add(self.pins, name, pin, words)
 
-    def read_blockage(self, item, words):
+    def read_blockage(self, item: list[str], words: Words) -> None:
         """`LAYER LAYER .. RECT ( x y ) ( x y ) ..`, or `PLACEMENT ..`, which says nothing to a router."""
         if item[0] == "PLACEMENT":
             return
-        layer, spacing, at, takes = item[1], None, 2, True
+        layer, at, takes = item[1], 2, True
+        spacing: int | None = None
         if item[0] != "LAYER":
             raise words.refuse(item[0])
         while at < len(item):
@@ -209,11 +236,12 @@ class Def:
                 raise words.refuse(f"{word} of a blockage")
             at = end
 
-    def read_special(self, item, words):
+    def read_special(self, item: list[str], words: Words) -> None:
         """`NAME ( COMPONENT PIN ) .. + ROUTED LAYER WIDTH ( x y ) .. NEW ..`; a `*` stands for the number before."""
         name, *rest = item
         _, rest = connections(rest)
-        wires = []
+        wires: list[str] = []
+        self.special_uses.setdefault(name, None)
         for word, *values in split_at(rest, "+")[1:]:
             if word in WIRED:
                 wires += ["NEW", *values[word == "SHIELD":]]
@@ -223,16 +251,19 @@ class Def:
                 self.special += shapes_of(word, values)
             elif word == "VIA":
                 self.read_wire(["", "0", *turns_first(values)], words)
+            elif word == "USE":
+                self.special_uses[name] = values[0]
             elif word not in OF_SPECIAL:
                 raise words.refuse(f"{word} of the special net {name}")
         for wire in split_at(wires, "NEW"):
             if wire:
                 self.read_wire(wire, words)
 
-    def read_wire(self, wire, words):
+    def read_wire(self, wire: list[str], words: Words) -> None:
         """A special wire along points, with vias."""
         layer, width, *rest = wire
-        width, at, points, was_via = whole(width), 0, [], False
+        at, was_via = 0, False
+        points: list[WirePoint] = []
         while at < len(rest):
             word = rest[at]
             if word == "(":
@@ -250,51 +281,53 @@ class Def:
             else:
                 self.special_vias.append((word, *points[-1][:2], "N", words.place()))
                 at, was_via = at + 1, True
-        self.special += wire_shapes(layer, width, points, words)
+        self.special += wire_shapes(layer, whole(width), points, words)
 
-    def repeat_via(self, values, words):
+    def repeat_via(self, values: list[str], words: Words) -> None:
         """`DO columns BY rows STEP x y` behind a via."""
-        _, columns, _, rows, _, *step = values
-        columns, rows, (x, y) = int(columns), int(rows), map(whole, step)
-        if not 0 < columns * rows <= MOST_REPEATS:
+        _, across, _, up, _, *step = values
+        columns, rows, (x, y) = whole(across), whole(up), map(whole, step)
+        if min(columns, rows) < 1 or columns * rows > MOST_REPEATS:
             raise words.refuse("so many vias")
-        via, left, low, *rest = self.special_vias.pop()
-        self.special_vias += [(via, left + column * x, low + row * y, *rest)
+        via, left, low, turn, place = self.special_vias.pop()
+        self.special_vias += [(via, left + column * x, low + row * y, turn, place)
                               for column in range(columns) for row in range(rows)]
 
-    def read_net(self, item, words):
+    def read_net(self, item: list[str], words: Words) -> None:
         """`NAME ( COMPONENT PIN ) ( PIN NAME ) .. + NONDEFAULTRULE RULE .. + ROUTED ..`."""
         name, *rest = item
         found, rest = connections(rest)
-        rule = None
+        rule = use = None
         if name == "MUSTJOIN" or rest[:1] not in ([], ["+"]):
             raise words.refuse(f"the net {name}")
         for word, *values in split_at(rest, "+")[1:]:
             if word == "NONDEFAULTRULE":
                 rule = values[0]
+            elif word == "USE":
+                use = values[0]
             elif word in WIRED:
                 words.skip(f"{word} of NETS")
             elif word not in OF_NET:
                 raise words.refuse(f"+ {word} of the net {name}")
-        self.add(self.nets, name, Net(name, found, rule, words.place()), words)
+        self.add(self.nets, name, Net(name, found, rule, words.place(), use), words)
 
 
-def one_way(way):
+def one_way(way: str) -> str:
     """X or Y."""
     if way not in ("X", "Y"):
         raise ValueError(way)
     return way
 
 
-def run_of(values):
+def run_of(values: list[str]) -> Run:
     """First, count and step of `X first DO count STEP step ..`."""
     _, first, do, count, word, step = values[:6]
-    if (do, word) != ("DO", "STEP") or not 0 < int(count) <= 1 << 20 or whole(step) < 1:
+    if (do, word) != ("DO", "STEP") or not 0 < whole(count) <= 1 << 20 or whole(step) < 1:
         raise ValueError(values)
-    return whole(first), int(count), whole(step)
+    return whole(first), whole(count), whole(step)
 
 
-def placement(values):
+def placement(values: list[str]) -> Placement:
     """x, y and orientation of `( x y ) ORIENTATION`."""
     left, x, y, right, orientation = values
     if (left, right) != ("(", ")") or orientation not in ORIENTATIONS:
@@ -302,23 +335,24 @@ def placement(values):
     return whole(x), whole(y), orientation
 
 
-def in_place(port, place):
+def in_place(port: list[Shape], place: Placement | None) -> list[Shape]:
     """The shapes of a port of a pin, where it is placed."""
-    return [moved(turned(shape, place[2]), *place[:2]) for shape in port] if place else []
+    return [moved(turned(shape, place[2]), place[0], place[1]) for shape in port] if place else []
 
 
-def shapes_of(word, values, spacing=None):
+def shapes_of(word: str, values: Sequence[str], spacing: int | None = None) -> list[Shape]:
     """The rectangles of `LAYER [MASK m] [SPACING s] points`."""
     layer, *values = values
     while values[0] in ("MASK", "SPACING", "DESIGNRULEWIDTH", "+"):
         values = values[1 if values[0] == "+" else 2:]
-    values = [whole(value) for value in without_brackets(values)]
-    return [rectangle(layer, values, spacing)] if word == "RECT" else polygon(layer, values, spacing)
+    lengths = [whole(value) for value in without_brackets(values)]
+    return [rectangle(layer, lengths, spacing)] if word == "RECT" else polygon(layer, lengths, spacing)
 
 
-def connections(words):
+def connections(words: list[str]) -> tuple[list[tuple[str, str]], list[str]]:
     """The connections at the front, and the words behind them."""
-    found, at = [], 0
+    found: list[tuple[str, str]] = []
+    at = 0
     while words[at:at + 1] == ["("]:
         end = words.index(")", at)
         if end < at + 3 or words[at + 3:end] not in ([], ["+", "SYNTHESIZED"]):
@@ -328,28 +362,29 @@ def connections(words):
     return found, words[at:]
 
 
-def point(values, before):
+def point(values: list[str], before: list[WirePoint]) -> WirePoint:
     """x, y and what the wire goes on behind the point, or None; a `*` stands for the number of the point before."""
     if not 2 <= len(values) <= 3:
         raise ValueError(values)
-    x, y = (before[-1][at] if value == "*" else whole(value) for at, value in enumerate(values[:2]))
+    x = before[-1][0] if values[0] == "*" else whole(values[0])
+    y = before[-1][1] if values[1] == "*" else whole(values[1])
     return x, y, whole(values[2]) if len(values) == 3 else None
 
 
-def turns_first(values):
+def turns_first(values: list[str]) -> list[str]:
     """`VIA [ORIENTATION] ( x y ) ..` in the order of wires: each point with the via behind it."""
     via, *rest = values
     turn = [rest.pop(0)] if rest[0] in ORIENTATIONS else []
-    placed = []
+    placed: list[str] = []
     for word in rest:
         placed += [word, via, *turn] if word == ")" else [word]
     return placed
 
 
-def wire_shapes(layer, width, points, words):
+def wire_shapes(layer: str, width: int, points: list[WirePoint], words: Words) -> list[Shape]:
     """The rectangles of a special wire. It ends at its ends, or so far behind them as its points say; where it turns,
     it fills the corner."""
-    shapes = []
+    shapes: list[Shape] = []
     for at, ((x1, y1, before), (x2, y2, behind)) in enumerate(zip(points, points[1:])):
         if (x1, y1) == (x2, y2) or width == 0:
             continue        # no metal but that of vias

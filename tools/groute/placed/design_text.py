@@ -1,9 +1,14 @@
 """The design text of a placed design, and what its numbers are called outside."""
-from groute.texts.names import Names
-from groute.texts.tokens import Fault
+from typing import Iterator, Sequence
+
+from groute.placed.chip import Chip
+from groute.placed.lef_text import Layer
+from groute.placed.liberty import Liberty
+from groute.texts.files import Fault
+from groute.texts.names import CLOCK, USE, Names
 
 
-def design_text(chip):
+def design_text(chip: Chip) -> Iterator[str]:
     """The lines of the design."""
     grid, layers = chip.grid, chip.layers
     found = [chip.capacities(at) for at in range(len(layers))]
@@ -17,7 +22,7 @@ def design_text(chip):
         yield f"{word} capacity {' '.join(map(str, values))}"
     yield from (f"minimum width{ones}", f"minimum spacing{ones}", f"via spacing{ones}")
     yield f"{grid.left} {grid.low} {grid.tile[0]} {grid.tile[1]}"
-    nets = chip.nets()
+    nets = chip.nets
     yield f"num net {len(nets)}"
     for at, net in enumerate(nets):
         yield f"{net.name} {at} {len(net.connections)} {chip.width(net)}"
@@ -27,7 +32,7 @@ def design_text(chip):
     yield from adjusted
 
 
-def adjustments(layers, found, most):
+def adjustments(layers: Sequence[Layer], found: list[list[list[int]]], most: list[int]) -> Iterator[str]:
     """Lines for the borders that hold less than the most of their layer."""
     for at_layer, (layer, lines) in enumerate(zip(layers, found), 1):
         for line, borders in enumerate(lines):
@@ -37,8 +42,18 @@ def adjustments(layers, found, most):
                     yield f"{ends[0]} {ends[1]} {at_layer} {ends[2]} {ends[3]} {at_layer} {capacity}"
 
 
-def names_of(chip):
-    """What the design's numbers are called outside: the text beside the design."""
+def names_of(chip: Chip, liberty: Liberty | None) -> Names:
+    """What the design's numbers are called outside, and which nets are clocks': the text beside the design."""
     grid = chip.grid
+    clocks = {id_: {USE: [CLOCK]} for id_, net in enumerate(chip.nets)
+              if chip.is_clock(net) or liberty is not None and has_clocked_sink(chip, id_, liberty)}
     return Names(chip.placed.units, (grid.left, grid.low), grid.tile, [layer.name for layer in chip.layers],
-                 chip.placed.area, chip.lower)
+                 chip.placed.area, chip.lower, clocks)
+
+
+def has_clocked_sink(chip: Chip, id_: int, liberty: Liberty) -> bool:
+    """Whether a sink of a net is a cell's clock, by liberty."""
+    sinks = chip.ordered(chip.nets[id_])[1:]
+    cells = [(liberty.cells.get(chip.placed.components[component].macro), pin) for component, pin in sinks
+             if component != "PIN"]
+    return any(cell is not None and cell.is_clock(pin) for cell, pin in cells)

@@ -4,9 +4,13 @@ Lengths of layers and rules are in micrometres, exactly; shapes and sizes of cel
 """
 from dataclasses import dataclass, field
 from decimal import Decimal
+from typing import Any, Callable, Iterator, Sequence
 
-from groute.placed.statements import (MOST_REPEATS, Fault, Words, generated_via, moved, nearest, number, pairs, polygon,
-                                      positive, rectangle, split_at, turned, without_brackets)
+from groute.placed.statements import (MOST_REPEATS, Notes, Shape, Words, generated_via, moved, nearest, number,
+                                      pairs, polygon, positive, rectangle, split_at, turned, whole, without_brackets)
+from groute.texts.files import Fault
+
+Rule = dict[str, tuple[Decimal, Decimal | None]]    # by layer width and spacing, in micrometres
 
 # Statements of the library that say nothing to a router.
 SILENT = {"VERSION", "NAMESCASESENSITIVE", "DIVIDERCHAR", "USEMINSPACING", "CLEARANCEMEASURE",
@@ -24,7 +28,7 @@ LAYER_RULES = {"OFFSET", "MASK", "DIAGPITCH", "DIAGWIDTH", "DIAGSPACING", "DIAGM
 CURRENT = {"ACCURRENTDENSITY", "DCCURRENTDENSITY"}
 MACRO_SILENT = {"CLASS", "FOREIGN", "SYMMETRY", "EEQ", "LEQ", "SOURCE", "CLOCKTYPE", "POWER", "FIXEDMASK", "GENERATOR",
                 "GENERATE"}
-PIN_SILENT = {"USE", "SHAPE", "TAPERRULE", "NETEXPR", "SUPPLYSENSITIVITY", "GROUNDSENSITIVITY", "MUSTJOIN", "LEQ",
+PIN_SILENT = {"SHAPE", "TAPERRULE", "NETEXPR", "SUPPLYSENSITIVITY", "GROUNDSENSITIVITY", "MUSTJOIN", "LEQ",
               "CAPACITANCE", "RESISTANCE"}
 
 
@@ -33,41 +37,42 @@ class Layer:
     """A layer; of a routing layer resistance is in ohms a square, capacitance in picofarads a square micrometre, and
     along each edge in picofarads a micrometre. Resistance of a cut layer is that of one cut, in ohms."""
     name: str
-    kind: str = None
-    direction: str = None
-    pitch: tuple = None         # (of tracks side by side, of tracks one above the other)
-    width: Decimal = None
-    spacing: Decimal = None     # of the plain rule
-    least: Decimal = None       # of the tables
-    resistance: Decimal = None
+    kind: str | None = None
+    direction: str | None = None
+    pitch: tuple[Decimal, Decimal] | None = None    # (of tracks side by side, of tracks one above the other)
+    width: Decimal | None = None
+    spacing: Decimal | None = None  # of the plain rule
+    least: Decimal | None = None    # of the tables
+    resistance: Decimal | None = None
     capacitance: Decimal = Decimal(0)
     edge_capacitance: Decimal = Decimal(0)
 
-    def is_horizontal(self):
+    def is_horizontal(self) -> bool:
         """Whether its wires go along rows."""
         return self.direction == "HORIZONTAL"
 
-    def apart(self):
+    def apart(self) -> Decimal | None:
         """The least spacing of wires of this layer, or None."""
         return self.least if self.spacing is None else self.spacing
 
-    def track_pitch(self):
+    def track_pitch(self) -> Decimal | None:
         """From track to track, or None."""
-        return self.pitch and self.pitch[self.is_horizontal()]
+        return self.pitch[self.is_horizontal()] if self.pitch else None
 
 
 @dataclass
 class Via:
     """Shapes of a via, and its resistance in ohms."""
-    shapes: list = field(default_factory=list)
-    resistance: Decimal = None
+    shapes: list[Shape] = field(default_factory=list)
+    resistance: Decimal | None = None
 
 
 @dataclass
 class Pin:
-    """Direction and shapes of a cell's pin."""
-    direction: str = None
-    shapes: list = field(default_factory=list)
+    """Direction, use and shapes of a cell's pin."""
+    direction: str | None = None
+    use: str | None = None
+    shapes: list[Shape] = field(default_factory=list)
 
 
 @dataclass
@@ -75,22 +80,22 @@ class Macro:
     """A cell: its size, its pins by name and what else it has of metal."""
     width: int = 0
     height: int = 0
-    pins: dict = field(default_factory=dict)
-    obstructions: list = field(default_factory=list)
-    turned: dict = field(default_factory=dict, compare=False)
+    pins: dict[str, Pin] = field(default_factory=dict)
+    obstructions: list[Shape] = field(default_factory=list)
+    turned: dict[str, list[Shape]] = field(default_factory=dict, compare=False)
 
-    def in_place(self, shape, orientation):
+    def in_place(self, shape: Shape, orientation: str) -> Shape:
         """A shape, where the turned cell's lower left corner is (0, 0)."""
         return turned(shape, orientation, self.width, self.height)
 
-    def metal(self, orientation):
+    def metal(self, orientation: str) -> list[Shape]:
         """All its shapes in place."""
         if orientation not in self.turned:
             shapes = [shape for pin in self.pins.values() for shape in pin.shapes] + self.obstructions
             self.turned[orientation] = [self.in_place(shape, orientation) for shape in shapes]
         return self.turned[orientation]
 
-    def moved(self, x, y):
+    def moved(self, x: int, y: int) -> None:
         """Shapes from the cell's origin to its lower left corner."""
         for pin in self.pins.values():
             pin.shapes = [moved(shape, x, y) for shape in pin.shapes]
@@ -100,16 +105,19 @@ class Macro:
 class Lef:
     """What LEF texts say together, the technology first. `routing` has the routing layers in their order."""
 
-    def __init__(self, paths, units, notes):
+    def __init__(self, paths: Sequence[str], units: int, notes: Notes) -> None:
         self.units, self.notes = units, notes
-        self.layers, self.macros, self.vias, self.rules = {}, {}, {}, {}
-        self.sites = {}         # name -> (class, height)
+        self.layers: dict[str, Layer] = {}
+        self.macros: dict[str, Macro] = {}
+        self.vias: dict[str, Via] = {}
+        self.rules: dict[str, Rule] = {}
+        self.sites: dict[str, tuple[str, Decimal]] = {}     # class and height
         self.bus_bits = "[]"    # the letters around the number of a bus's bit
         for path in paths:
             self.read_text(Words(path, notes))
         self.routing = [layer for layer in self.layers.values() if layer.kind == "ROUTING"]
 
-    def read_text(self, words):
+    def read_text(self, words: Words) -> None:
         """One text."""
         while not words.ended():
             word = words.begin()
@@ -117,11 +125,12 @@ class Lef:
                 break           # of the library
             words.read_by(self.read, word, words)
 
-    def read(self, word, words):
+    def read(self, word: str, words: Words) -> None:
         """One statement of the library."""
-        readers = {"LAYER": (self.layers, read_layer), "MACRO": (self.macros, self.read_macro),
-                   "VIA": (self.vias, self.read_via), "NONDEFAULTRULE": (self.rules, read_rule),
-                   "SITE": (self.sites, read_site)}
+        readers: dict[str, tuple[dict[str, Any], Callable[[Words, str], Any]]] = {
+            "LAYER": (self.layers, read_layer), "MACRO": (self.macros, self.read_macro),
+            "VIA": (self.vias, self.read_via), "NONDEFAULTRULE": (self.rules, read_rule),
+            "SITE": (self.sites, read_site)}
         if word in SILENT or word[:7] == "ANTENNA" or word[-7:] == "ANTENNASIZE":
             words.until(";")
         elif word == "BUSBITCHARS":
@@ -143,24 +152,25 @@ class Lef:
         else:
             raise words.refuse(word)
 
-    def shape(self, layer, values, spacing, of=rectangle):
-        """A shape of micrometres in the DEF's units."""
-        return of(layer, [nearest(number(value) * self.units) for value in values], spacing)
+    def lengths(self, values: Sequence[str]) -> list[int]:
+        """Micrometres in the DEF's units."""
+        return [nearest(number(value) * self.units) for value in values]
 
-    def read_via(self, words, name):
+    def read_via(self, words: Words, name: str) -> Via:
         """A via, from behind its name on."""
-        via, parts = Via(), {}
+        via = Via()
+        parts: dict[str, list[str]] = {}
         while words.words[words.at] in ("DEFAULT", "TOPOFSTACKONLY", "GENERATED"):
             words.take()
-        layer = None
+        layer = ""
         for word, values in statements(words, name):
             if word == "LAYER":
                 layer = values[0]
             elif word in ("RECT", "POLYGON"):
                 values = without_brackets(values)
                 values = values[2:] if values[0] == "MASK" else values
-                shape = self.shape(layer, values, None, rectangle if word == "RECT" else polygon)
-                via.shapes += shape if word == "POLYGON" else [shape]
+                lengths = self.lengths(values)
+                via.shapes += polygon(layer, lengths) if word == "POLYGON" else [rectangle(layer, lengths)]
             elif word == "RESISTANCE":
                 via.resistance = positive(values[0]) if number(values[0]) else Decimal(0)
             elif word == "PROPERTY":
@@ -171,12 +181,12 @@ class Lef:
             else:
                 raise words.refuse(f"{word} of VIA {name}")
         if "CUTSIZE" in parts:
-            via.shapes = generated_via(parts, lambda value: nearest(number(value) * self.units))
+            via.shapes = generated_via(parts, lambda value: self.lengths([value])[0])
         return via
 
-    def read_macro(self, words, name):
+    def read_macro(self, words: Words, name: str) -> Macro:
         """A cell, from behind its name on."""
-        macro, origin = Macro(), (0, 0)
+        macro, origin = Macro(), [0, 0]
         while (word := words.begin()) != "END":
             if word == "PIN":
                 pin = words.take()
@@ -194,7 +204,7 @@ class Lef:
                     raise words.refuse(by)
                 macro.width, macro.height = (nearest(positive(value) * self.units) for value in (width, height))
             elif word == "ORIGIN":
-                origin = [nearest(number(value) * self.units) for value in without_brackets(words.until(";"))]
+                origin = self.lengths(without_brackets(words.until(";")))
             elif word == "SITE" or word in MACRO_SILENT:
                 words.until(";")
             elif word == "PROPERTY":
@@ -205,14 +215,17 @@ class Lef:
         due(words, name)
         if not macro.width:
             raise words.fault(f"MACRO {name} has no SIZE before")
-        macro.moved(*origin)
+        x, y = origin
+        macro.moved(x, y)
         return macro
 
-    def read_pin(self, words, name, pin):
+    def read_pin(self, words: Words, name: str, pin: Pin) -> None:
         """Direction and shapes of a pin, from behind its name on."""
         while (word := words.begin()) != "END":
             if word == "DIRECTION":
                 pin.direction = words.until(";")[0]
+            elif word == "USE":
+                pin.use = words.until(";")[0]
             elif word == "PORT":
                 pin.shapes += self.read_shapes(words)
             elif word in PIN_SILENT:
@@ -224,16 +237,17 @@ class Lef:
                 raise words.refuse(f"{word} of PIN {name}")
         due(words, name)
 
-    def read_shapes(self, words):
+    def read_shapes(self, words: Words) -> list[Shape]:
         """Rectangles by layer, to the word END."""
-        layer = spacing = width = None
-        shapes = []
+        layer: str | None = None
+        spacing: int | None = None
+        width: Decimal | None = None
+        shapes: list[Shape] = []
         while (word := words.begin()) != "END":
             values = without_brackets(words.until(";"))
             if word == "LAYER":
                 layer, width = values[0], None
-                spacing = nearest(number(values[values.index("SPACING") + 1]) * self.units) if "SPACING" in values \
-                    else None
+                spacing = self.lengths([values[values.index("SPACING") + 1]])[0] if "SPACING" in values else None
             elif word == "WIDTH":
                 width = positive(values[0])
             elif word in ("RECT", "POLYGON", "PATH", "VIA"):
@@ -242,40 +256,45 @@ class Lef:
                 raise words.refuse(f"{word} among shapes")
         return shapes
 
-    def repeated(self, word, values, of, words):
+    def repeated(self, word: str, values: list[str], of: tuple[str | None, int | None, Decimal | None],
+                 words: Words) -> list[Shape]:
         """The rectangles of one statement of shapes, which may be repeated in rows and columns."""
         values = values[2:] if values[0] == "MASK" else values
         steps = [(0, 0)]
         if values[0] == "ITERATE":
             do = values.index("DO")
-            columns, rows = int(values[do + 1]), int(values[do + 3])
-            x, y = (nearest(number(value) * self.units) for value in values[do + 5:])
-            if not 0 < columns * rows <= MOST_REPEATS:
+            columns, rows = whole(values[do + 1]), whole(values[do + 3])
+            x, y = self.lengths(values[do + 5:])
+            if min(columns, rows) < 1 or columns * rows > MOST_REPEATS:
                 raise words.refuse("so many shapes")
             steps = [(column * x, row * y) for column in range(columns) for row in range(rows)]
             values = values[1:do]
         shapes = self.shapes_of(word, values, of, words)
         return [moved(shape, *step) for shape in shapes for step in steps]
 
-    def shapes_of(self, word, values, of, words):
+    def shapes_of(self, word: str, values: list[str], of: tuple[str | None, int | None, Decimal | None],
+                  words: Words) -> list[Shape]:
         """The rectangles of one statement of shapes."""
         layer, spacing, width = of
-        if layer is None and word != "VIA":
+        if word == "VIA":
+            if values[2] not in self.vias:
+                raise words.refuse(f"the via {values[2]}")
+            x, y = self.lengths(values[:2])
+            return [moved(shape, x, y) for shape in self.vias[values[2]].shapes]
+        if layer is None:
             raise words.fault("LAYER is due before")
+        lengths = self.lengths(values)
         if word == "RECT":
-            return [self.shape(layer, values, spacing)]
+            return [rectangle(layer, lengths, spacing)]
         if word == "POLYGON":
-            return self.shape(layer, values, spacing, polygon)
-        if word == "PATH":
-            wide = width or self.layers[layer].width
-            return path(layer, [nearest(number(value) * self.units) for value in values], nearest(wide * self.units))
-        if values[2] not in self.vias:
-            raise words.refuse(f"the via {values[2]}")
-        place = [nearest(number(value) * self.units) for value in values[:2]]
-        return [moved(shape, *place) for shape in self.vias[values[2]].shapes]
+            return polygon(layer, lengths, spacing)
+        wide = width or self.layers[layer].width
+        if wide is None:
+            raise words.fault(f"WIDTH of LAYER {layer} is due before")
+        return path(layer, lengths, nearest(wide * self.units))
 
 
-def path(layer, values, width):
+def path(layer: str, values: Sequence[int], width: int) -> list[Shape]:
     """The rectangles of a path, which ends half its width behind its ends."""
     points, low = pairs(values), width // 2
     high = width - low
@@ -286,26 +305,26 @@ def path(layer, values, width):
             for (x1, y1), (x2, y2) in ends]
 
 
-def due(words, name):
+def due(words: Words, name: str) -> None:
     """The name behind END."""
     if words.take() != name:
         raise words.fault(f"END {name} is due")
 
 
-def statements(words, name):
+def statements(words: Words, name: str) -> Iterator[tuple[str, list[str]]]:
     """The statements to END and the name, each its first word and its values."""
     while (word := words.begin()) != "END":
         yield word, words.until(";")
     due(words, name)
 
 
-def read_site(words, name):
+def read_site(words: Words, name: str) -> tuple[str, Decimal]:
     """Class and height of a site."""
     says = dict((word, values) for word, values in site_statements(words, name))
     return says["CLASS"][0], positive(says["SIZE"][2])
 
 
-def site_statements(words, name):
+def site_statements(words: Words, name: str) -> Iterator[tuple[str, list[str]]]:
     """The statements of a site that count."""
     for word, values in statements(words, name):
         if word not in ("CLASS", "SIZE", "SYMMETRY", "ROWPATTERN"):
@@ -313,7 +332,7 @@ def site_statements(words, name):
         yield word, values
 
 
-def read_layer(words, name):
+def read_layer(words: Words, name: str) -> Layer:
     """A layer, from behind its name on."""
     layer = Layer(name)
     while (word := words.begin()) != "END":
@@ -338,12 +357,13 @@ def read_layer(words, name):
     return layer
 
 
-def read_routing(layer, word, values, words):
+def read_routing(layer: Layer, word: str, values: list[str], words: Words) -> None:
     """A statement of a routing layer."""
-    said = {"DIRECTION": ("direction", lambda: one_of(values[0], "HORIZONTAL", "VERTICAL")),
-            "PITCH": ("pitch", lambda: tuple(positive(value) for value in (values * 2)[:2])),
-            "WIDTH": ("width", lambda: positive(values[0])),
-            "EDGECAPACITANCE": ("edge_capacitance", lambda: number(values[0]))}
+    said: dict[str, tuple[str, Callable[[], object]]] = {
+        "DIRECTION": ("direction", lambda: one_of(values[0], "HORIZONTAL", "VERTICAL")),
+        "PITCH": ("pitch", lambda: tuple(positive(value) for value in (values * 2)[:2])),
+        "WIDTH": ("width", lambda: positive(values[0])),
+        "EDGECAPACITANCE": ("edge_capacitance", lambda: number(values[0]))}
     if word in said:
         name, value = said[word]
         once(layer, name, value(), words)
@@ -351,7 +371,8 @@ def read_routing(layer, word, values, words):
         if len(values) == 1:
             once(layer, "spacing", number(values[0]), words)
     elif word == "SPACINGTABLE":
-        layer.least = min(filter(None, (layer.least, least_of_table(values))), default=None)
+        found = [value for value in (layer.least, least_of_table(values)) if value is not None]
+        layer.least = min(found, default=None)
     elif word == "RESISTANCE" and values[0] == "RPERSQ":
         once(layer, "resistance", number(values[1]), words)
     elif word == "CAPACITANCE" and values[0] == "CPERSQDIST":
@@ -360,21 +381,21 @@ def read_routing(layer, word, values, words):
         raise words.refuse(f"{word} of LAYER {layer.name}")
 
 
-def one_of(value, *values):
+def one_of(value: str, *values: str) -> str:
     """The value, which is one of these."""
     if value not in values:
         raise ValueError(value)
     return value
 
 
-def once(thing, name, value, words):
+def once(thing: Layer, name: str, value: object, words: Words) -> None:
     """Keeps what is said of a thing, which isn't said otherwise before."""
     if getattr(thing, name) not in (None, Decimal(0), value):
         raise words.fault(f"{name} of {thing.name} is said again, and otherwise")
     setattr(thing, name, value)
 
 
-def least_of_table(values):
+def least_of_table(values: list[str]) -> Decimal | None:
     """The least spacing of a SPACINGTABLE, or None where it is of another kind."""
     if values[0] == "PARALLELRUNLENGTH":
         rows = split_at(values, "WIDTH")[1:]
@@ -385,7 +406,7 @@ def least_of_table(values):
     return None
 
 
-def skip_current(words):
+def skip_current(words: Words) -> None:
     """A table of current densities, from behind its first word on: a number, or statements to that of TABLEENTRIES."""
     values = words.until(";")
     if len(values) == 2 and values[1][0] in "0123456789.+-":
@@ -395,9 +416,9 @@ def skip_current(words):
     words.until(";")
 
 
-def read_rule(words, name):
+def read_rule(words: Words, name: str) -> Rule:
     """Of a rule for wide nets: width and spacing by layer, in micrometres."""
-    rule = {}
+    rule: Rule = {}
     while (word := words.begin()) != "END":
         if word == "LAYER":
             layer = words.take()

@@ -5,10 +5,10 @@ come to it where the text says so, else None.
 """
 import re
 import sys
-from collections import namedtuple
 from decimal import ROUND_HALF_UP, Decimal
+from typing import Callable, Hashable, Iterable, Iterator, NamedTuple, Sequence, TypeVar
 
-from groute.texts.tokens import Fault
+from groute.texts.files import Fault, lines_of, one_line
 
 NUMBER = re.compile(r"[+-]?([0-9]{1,18}(\.[0-9]{0,18})?|\.[0-9]{1,18})([eE][+-]?[0-9]{1,2})?")
 WORD = re.compile(r'"[^"]*(?:"|$)|#.*|[^\s]+', re.DOTALL)
@@ -17,33 +17,49 @@ MOST = 1 << 40      # the greatest coordinate
 MOST_NUMBER = 10 ** 9
 MOST_REPEATS = 1 << 16
 
-Shape = namedtuple("Shape", "layer x1 y1 x2 y2 spacing", defaults=[None])
+T = TypeVar("T")
+Point = tuple[int, int]
+
+
+class Shape(NamedTuple):
+    """A rectangle on a layer."""
+    layer: str
+    x1: int
+    y1: int
+    x2: int
+    y2: int
+    spacing: int | None = None
 
 
 class Notes:
     """What is skipped: each kind is told once on standard error, or not at all."""
 
-    def __init__(self, program, tells=True):
-        self.program, self.tells, self.told = program, tells, set()
+    def __init__(self, program: str, tells: bool = True) -> None:
+        self.program, self.tells = program, tells
+        self.told: set[Hashable] = set()
 
-    def once(self, kind, place, what):
+    def once(self, kind: Hashable, place: str, what: str) -> None:
         """Tells what is skipped, if its kind wasn't told before."""
         if self.tells and kind not in self.told:
             self.told.add(kind)
-            print(f"{self.program}: {place}: {what}", file=sys.stderr)
+            self.tell(place, what)
+
+    def tell(self, place: str, what: str) -> None:
+        """Tells in a line."""
+        print(one_line(f"{self.program}: {place}: {what}"), file=sys.stderr)
 
 
 class Words:
     """The words of a text with their lines. Comments are left out, and a quoted string is one word."""
 
-    def __init__(self, path, notes):
+    def __init__(self, path: str, notes: Notes) -> None:
         self.path, self.notes = path, notes
-        self.words, self.lines = [], []
-        with open(path, encoding="utf-8", errors="surrogateescape") as file:
-            self.scan(file)
+        self.words: list[str] = []
+        self.lines: list[int] = []
+        self.scan(lines_of(path))
         self.at = self.start = 0    # the next word, and the first one of the statement
 
-    def scan(self, file):
+    def scan(self, file: Iterable[str]) -> None:
         """Takes in the words line by line."""
         string = ""     # what was read of a quoted string that goes over several lines
         for number, line in enumerate(file, 1):
@@ -61,23 +77,23 @@ class Words:
         if string:
             raise Fault(f"{self.path}:{self.lines[-1] if self.lines else 1}: a quoted string has no end")
 
-    def ended(self):
+    def ended(self) -> bool:
         """Whether all words were taken."""
         return self.at == len(self.words)
 
-    def take(self):
+    def take(self) -> str:
         """The next word."""
         if self.ended():
             raise self.fault("the text ends early")
         self.at += 1
         return self.words[self.at - 1]
 
-    def begin(self):
+    def begin(self) -> str:
         """The next word, which is the first one of a statement."""
         self.start = self.at
         return self.take()
 
-    def until(self, *last):
+    def until(self, *last: str) -> list[str]:
         """The words before the next ones that are `last`, which are taken with them."""
         at = self.at
         while True:
@@ -92,34 +108,34 @@ class Words:
                 return taken
             at += 1
 
-    def place(self):
+    def place(self) -> str:
         """File and line of the statement."""
         line = self.lines[min(self.start, len(self.lines) - 1)] if self.lines else 1
         return f"{self.path}:{line}"
 
-    def fault(self, what):
+    def fault(self, what: str) -> Fault:
         """The fault that something of the statement is wrong."""
         shown = " ".join(self.words[self.start:min(self.at, self.start + 12)])
         return Fault(f"{self.place()}: {what}: {shown}")
 
-    def refuse(self, what):
+    def refuse(self, what: str) -> Fault:
         """The fault that something is outside of what is read."""
         return self.fault(f"{what} is not read here")
 
-    def skip(self, kind):
+    def skip(self, kind: str) -> None:
         """Tells that a kind of statement is skipped."""
         self.notes.once(kind, self.place(), f"{kind} is skipped")
 
-    def read_by(self, read, *values):
+    def read_by(self, read: Callable[..., T], *values: object) -> T:
         """Calls read, and tells where the form of a statement is wrong."""
         try:
             return read(*values)
         except (ValueError, IndexError, TypeError, KeyError, ArithmeticError):
             raise self.fault("the form of the statement is not read here") from None
 
-    def items(self, name):
+    def items(self, name: str) -> Iterator[list[str]]:
         """The items of a section of a DEF, each from behind its `-` to its `;`."""
-        count, found = int(self.until(";")[0]), 0
+        count, found = whole(self.until(";")[0]), 0
         place = self.place()
         while (word := self.begin()) != "END":
             if word != "-":
@@ -132,14 +148,14 @@ class Words:
             self.notes.once(f"count of {name}", place, f"{name} says {count}, and has {found}")
 
 
-def number(word):
+def number(word: str) -> Decimal:
     """A decimal number, exactly."""
     if not NUMBER.fullmatch(word) or abs(value := Decimal(word)) > MOST_NUMBER:
         raise ValueError(word)
     return value
 
 
-def positive(word):
+def positive(word: str) -> Decimal:
     """A decimal number above 0."""
     value = number(word)
     if value <= 0:
@@ -147,27 +163,27 @@ def positive(word):
     return value
 
 
-def nearest(value):
+def nearest(value: Decimal) -> int:
     """The nearest whole number."""
     return int(value.to_integral_value(ROUND_HALF_UP))
 
 
-def whole(word):
+def whole(word: str) -> int:
     """A whole number, which may have decimals that are 0."""
-    value = int(word) if word.lstrip("-").isdecimal() else number(word)
+    value = Decimal(int(word)) if len(word) < 20 and word.lstrip("-").isdecimal() else number(word)
     if value != int(value) or abs(value) > MOST:
         raise ValueError(word)
     return int(value)
 
 
-def without_brackets(words):
+def without_brackets(words: Iterable[str]) -> list[str]:
     """The words but for the brackets around points."""
     return [word for word in words if word not in ("(", ")")]
 
 
-def split_at(words, mark):
+def split_at(words: Iterable[str], mark: str) -> list[list[str]]:
     """The runs of words between marks."""
-    parts = [[]]
+    parts: list[list[str]] = [[]]
     for word in words:
         if word == mark:
             parts.append([])
@@ -176,26 +192,26 @@ def split_at(words, mark):
     return parts
 
 
-def pairs(values):
+def pairs(values: Sequence[int]) -> list[Point]:
     """The points of numbers in turn."""
     if len(values) % 2:
         raise ValueError(values)
     return list(zip(values[::2], values[1::2]))
 
 
-def rectangle(layer, values, spacing=None):
+def rectangle(layer: str, values: Sequence[int], spacing: int | None = None) -> Shape:
     """The shape between two corners."""
     (x1, y1), (x2, y2) = pairs(values)
     return Shape(layer, min(x1, x2), min(y1, y2), max(x1, x2), max(y1, y2), spacing)
 
 
-def moved(shape, x, y):
+def moved(shape: Shape, x: int, y: int) -> Shape:
     """A shape that lies so far to the right and up."""
     layer, x1, y1, x2, y2, spacing = shape
     return Shape(layer, x1 + x, y1 + y, x2 + x, y2 + y, spacing)
 
 
-def turned(shape, orientation, width=0, height=0):
+def turned(shape: Shape, orientation: str, width: int = 0, height: int = 0) -> Shape:
     """A shape of a cell of this size, or of a pin or via around (0, 0), turned in its place."""
     layer, x1, y1, x2, y2, spacing = shape
     if orientation in ("S", "E", "FN", "FE"):
@@ -207,7 +223,7 @@ def turned(shape, orientation, width=0, height=0):
     return Shape(layer, x1, y1, x2, y2, spacing)
 
 
-def polygon(layer, values, spacing=None):
+def polygon(layer: str, values: Sequence[int], spacing: int | None = None) -> list[Shape]:
     """The rectangles of a polygon, in lying slices between its corners; a slanted side is covered whole."""
     points = pairs(values)
     if len(points) == 2:
@@ -224,12 +240,12 @@ def polygon(layer, values, spacing=None):
     return shapes
 
 
-def spans(one, other, low, high):
+def spans(one: Point, other: Point, low: int, high: int) -> bool:
     """Whether a side goes through the whole slice between these heights."""
     return min(one[1], other[1]) <= low and max(one[1], other[1]) >= high
 
 
-def crossing(one, other, low, high):
+def crossing(one: Point, other: Point, low: int, high: int) -> tuple[int, int, int]:
     """Of a side through a slice: where it stands among others, and its left and its right end there."""
     wide, high_side = other[0] - one[0], other[1] - one[1]
     lefts = [one[0] + wide * (y - one[1]) // high_side for y in (low, high)]
@@ -237,17 +253,17 @@ def crossing(one, other, low, high):
     return sum(lefts) + sum(rights), min(lefts), max(rights)
 
 
-def generated_via(parts, convert):
+def generated_via(parts: dict[str, list[str]], convert: Callable[[str], int]) -> list[Shape]:
     """The rectangles of a via that is given by cuts and enclosures; parts are its words by keyword."""
     cut = [convert(value) for value in parts["CUTSIZE"]]
     gap = [convert(value) for value in parts["CUTSPACING"]]
-    rows, columns = (int(value) for value in parts.get("ROWCOL", (1, 1)))
+    rows, columns = (whole(value) for value in parts.get("ROWCOL", "11"))
     enclosure = [convert(value) for value in parts["ENCLOSURE"]]
     x, y = (convert(value) for value in parts.get("ORIGIN", "00"))
     offset = [convert(value) for value in parts.get("OFFSET", "0000")]
     bottom, _, top = parts["LAYERS"]
     wide, high = (count * size + (count - 1) * space for count, size, space in zip((columns, rows), cut, gap))
-    if min(wide, high, *enclosure) < 0:
+    if min(wide, high, *enclosure) < 0 or max(wide, high, *enclosure) > MOST:
         raise ValueError(parts)
     shapes = []
     for layer, (out_x, out_y), (by_x, by_y) in ((bottom, enclosure[:2], offset[:2]), (top, enclosure[2:], offset[2:])):

@@ -1,10 +1,15 @@
 """The picture of a solution's wire edges, each at its place between two tiles. It wants numpy and matplotlib."""
+from typing import Any
+
 import matplotlib
 import numpy
 
-from groute.show.figures import LARGE_DOTS, SMALL_DOTS, maps, said
+from groute.loads.edges_numpy import Array, Edges
 from groute.loads.regions import Loads
+from groute.show.figures import LARGE_DOTS, SMALL_DOTS, Axes, maps, said
 from groute.texts.designs import EAST, NORTH
+from groute.texts.files import Outputs
+from groute.texts.names import Terms
 
 OVER = "#d7191c"    # wire edges over their capacity
 EMPTY = "#ffffff"   # where there are no wires
@@ -13,7 +18,7 @@ EMPTY = "#ffffff"   # where there are no wires
 class EdgeLoads(Loads):
     """Loads, and how full the places between tiles are."""
 
-    def fullness(self, way, layers):
+    def fullness(self, way: int, layers: slice) -> Array:
         """By row and column, demand over capacity of these layers together; 2 where one of them is over its capacity,
         and not a number where there are no wires."""
         demand, capacity = self.demand[way][layers].sum(axis=0), self.capacity[way][layers].sum(axis=0)
@@ -22,7 +27,7 @@ class EdgeLoads(Loads):
         full[self.excess[way][layers].any(axis=0)] = 2
         return full
 
-    def mosaic(self, layers):
+    def mosaic(self, layers: slice) -> Array:
         """The tiles with the wire edges between them: those along rows stand between two tiles of a row, and those
         along columns between two of a column."""
         dots = numpy.full((2 * self.design.rows - 1, 2 * self.design.columns - 1), numpy.nan, numpy.float32)
@@ -31,18 +36,18 @@ class EdgeLoads(Loads):
         return dots
 
 
-def write_picture(edges, path, layer, name, terms):
+def write_picture(edges: Edges, path: str, outputs: Outputs, layer: int | None, name: str, terms: Terms) -> None:
     """All layers together and layer by layer, or one layer alone (from 1)."""
     loads = EdgeLoads(edges)
 
-    def draw_map(axes, layers, heading, is_large):
+    def draw_map(axes: Axes, layers: slice, heading: str, is_large: bool) -> Any:
         return draw(axes, loads, layers, heading, LARGE_DOTS if is_large else SMALL_DOTS)
 
-    maps(loads, path, layer, terms, edges.design.rows / edges.design.columns, draw_map,
+    maps(loads, path, outputs, layer, terms, edges.design.rows / edges.design.columns, draw_map,
          lambda axes, picture: write_totals(axes, loads, name, picture))
 
 
-def draw(axes, loads, layers, heading, most):
+def draw(axes: Axes, loads: EdgeLoads, layers: slice, heading: str, most: int) -> Any:
     """One map, with the numbers of tiles along its sides."""
     colours = matplotlib.colormaps["YlGnBu"].with_extremes(over=OVER, bad=EMPTY)
     columns, rows = loads.design.columns, loads.design.rows
@@ -57,7 +62,7 @@ def draw(axes, loads, layers, heading, most):
     return picture
 
 
-def coarser(dots, most):
+def coarser(dots: Array, most: int) -> Array:
     """At most so many dots each way: each the fullest of a square of them."""
     side = -(-max(dots.shape) // most)
     if side == 1:
@@ -69,7 +74,7 @@ def coarser(dots, most):
     return numpy.where(fullest < 0, numpy.nan, fullest)
 
 
-def write_totals(axes, loads, name, picture):
+def write_totals(axes: Axes, loads: Loads, name: str, picture: Any) -> None:
     """The name of the design, the totals of all layers, and the scale."""
     said(axes, loads, name)
     bar = axes.figure.colorbar(picture, cax=axes.inset_axes([0, 0.12, 0.92, 0.06]), orientation="horizontal",

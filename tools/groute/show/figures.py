@@ -1,9 +1,17 @@
 """A page with a large map, the totals beside it, and a small map of each layer below. It wants matplotlib."""
-import matplotlib
+import os
+from typing import Any, Callable, TypeVar
 
-matplotlib.use("Agg")
+from matplotlib.backends.backend_agg import FigureCanvasAgg
+from matplotlib.figure import Figure
 
-from matplotlib import pyplot
+from groute.loads.edges import totals
+from groute.loads.regions import Loads
+from groute.texts.files import Outputs
+from groute.texts.names import Terms
+
+T = TypeVar("T")
+Axes = Any      # matplotlib says no types
 
 WIDE = 10           # inches, at DOTS to the inch: 1,000 pixels
 DOTS = 100
@@ -16,16 +24,18 @@ LARGE_DOTS, SMALL_DOTS = 260, 110   # along the longer side of a map at most, so
 class Page:
     """A figure on which boxes are placed from the top, in inches."""
 
-    def __init__(self, height):
+    def __init__(self, height: float) -> None:
         self.height = height
-        self.figure = pyplot.figure(figsize=(WIDE, height), dpi=DOTS)
+        self.figure = Figure(figsize=(WIDE, height), dpi=DOTS)
+        FigureCanvasAgg(self.figure)
 
-    def box(self, left, top, wide, high):
+    def box(self, left: float, top: float, wide: float, high: float) -> Axes:
         """Axes of this size, so far from the left and from the top."""
         return self.figure.add_axes([left / WIDE, 1 - (top + high) / self.height, wide / WIDE, high / self.height])
 
 
-def maps(loads, path, layer, terms, shape, draw_map, draw_totals):
+def maps(loads: Loads, path: str, outputs: Outputs, layer: int | None, terms: Terms, shape: float,
+         draw_map: Callable[[Axes, slice, str, bool], T], draw_totals: Callable[[Axes, T], None]) -> None:
     """Writes the page. `shape` is a map's height by its width; `draw_map` draws some layers on axes, under a heading,
     and `draw_totals` is given what the large map answered."""
     design, shape = loads.design, min(1, shape)
@@ -41,23 +51,21 @@ def maps(loads, path, layer, terms, shape, draw_map, draw_totals):
         small = page.box(0.65 + at % ACROSS * (SMALL + 0.25), head + 1.25 + at // ACROSS * band, SMALL, band - 0.75)
         draw_map(small, slice(at, at + 1), layer_words(terms, at + 1), False)
         small.tick_params(labelleft=at % ACROSS == 0)
-    page.figure.savefig(path)
-    pyplot.close(page.figure)
+    page.figure.savefig(outputs.binary(path), format=os.path.splitext(path)[1][1:])
 
 
-def layer_words(terms, layer):
+def layer_words(terms: Terms, layer: int) -> str:
     """How a layer (from 1) is called in a heading."""
     return f"layer {layer}" if terms.names is None else terms.layers[layer - 1]
 
 
-def said(axes, loads, name):
+def said(axes: Axes, loads: Loads, name: str) -> None:
     """The name of the design and the totals of all layers."""
     axes.set_axis_off()
     edges, design = loads.edges, loads.design
-    overflow, maximum = edges.overflow()
+    numbers = totals(edges).split()
     lines = [f"{design.columns} by {design.rows} tiles, {design.layers} layer{'s' * (design.layers > 1)}", "",
-             f"routed {design.routed:,}", f"overflow {overflow:,}", f"maximum {maximum:,}",
-             f"wirelength {edges.wires + edges.vias:,}", f"vias {edges.vias:,}", "",
+             *(f"{word} {int(number):,}" for word, number in zip(numbers[::2], numbers[1::2])), "",
              f"wire edges over capacity {loads.overfull():,}"]
     axes.text(0, 1, name, fontsize=12, weight="bold", va="top", transform=axes.transAxes)
     axes.text(0, 0.93, "\n".join(lines), fontsize=10, va="top", linespacing=1.4, transform=axes.transAxes)

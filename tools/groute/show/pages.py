@@ -5,17 +5,21 @@ import json
 import os
 import struct
 import zlib
+from argparse import Namespace
+from typing import Any, Sequence
 
 import numpy
 
 from groute.loads.edges import totals
-from groute.loads.edges_numpy import Edges, points
+from groute.loads.edges_numpy import Array, Edges, points
 from groute.loads.regions import GRADES, SHARES, WAYS, Loads
 from groute.texts.designs import EAST, NORTH, Netlist
 from groute.texts.libraries import Library
-from groute.texts.names import Terms
-from groute.texts.reports import bounds_in, buffered, overflow_of
-from groute.texts.tokens import Fault, Tokens
+from groute.texts.files import Fault
+from groute.texts.names import Terms, names_beside
+from groute.texts.reports import bounds_in, buffered, check_report, overflow_of
+from groute.texts.solutions import unjoined_words
+from groute.texts.tokens import Tokens
 
 PAGE = os.path.join(os.path.dirname(os.path.realpath(__file__)), "page")
 SCRIPTS = ("tables.js", "map.js", "page.js")    # the last one begins
@@ -30,10 +34,12 @@ LEVEL = 4               # of zlib; more takes longer and saves little
 class Packed:
     """Arrays behind a head that says where each begins."""
 
-    def __init__(self):
-        self.places, self.parts, self.size = {}, [], 0
+    def __init__(self) -> None:
+        self.places: dict[str, list[str | int]] = {}
+        self.parts: list[bytes] = []
+        self.size = 0
 
-    def add(self, name, array):
+    def add(self, name: str, array: Array) -> None:
         """One more array, in the smallest type that holds its numbers."""
         if array.dtype.kind in "iu":
             array = array.astype(numpy.min_scalar_type(int(array.max(initial=0))))
@@ -42,7 +48,7 @@ class Packed:
         self.parts.append(data + bytes(-len(data) % PAD))
         self.size += len(self.parts[-1])
 
-    def text(self, head):
+    def text(self, head: dict[str, Any]) -> str:
         """Head and arrays, deflated, in base64."""
         words = json.dumps({**head, "arrays": self.places}).encode()
         words += b" " * (-(len(words) + 4) % PAD)
@@ -53,30 +59,31 @@ class Packed:
 class Routes:
     """All that is read: the design, the loads, and of each net its required time and buffers."""
 
-    def __init__(self, asked):
+    def __init__(self, asked: Namespace) -> None:
         self.design = Netlist(Tokens(asked.design))
-        self.terms = Terms(self.design, asked.names)
+        self.terms = Terms(self.design, names_beside(asked.design, asked.names))
         self.edges = Edges(self.design, asked.solution)
         self.loads = Loads(self.edges)
         self.regions = self.loads.regions(REGIONS)
         self.half = HALVES * asked.scale ** 2
         self.least, self.walls = bounds_in(asked.bound) if asked.bound else (None, [])
-        self.kinds, self.required, self.buffers = [], {}, {}
+        self.kinds: list[str] = []
+        self.has_times = False
+        self.required: dict[int, int] = {}
+        self.buffers: dict[int, list[bytes]] = {}
         if asked.report:
-            self.kinds = Library(Tokens(asked.library)).kinds
-            self.check(asked.report)
+            library = Library(Tokens(asked.library))
+            self.kinds, self.has_times = library.kinds, library.has_times()
+            check_report(asked.report, self.design.routed, self.edges.overflow(), self.edges.vias)
             for id_, required, buffers in buffered(self.design, asked.report):
                 self.required[id_], self.buffers[id_] = required, buffers
 
-    def check(self, report):
-        """That a report with totals is of these routes."""
-        if overflow_of(report) not in (None, self.edges.overflow()[0]):
-            raise Fault(f"{report} tells another overflow than the solution has")
-
-    def verdict(self, before):
+    def verdict(self, before: Sequence[str]) -> str:
         """The whole in a line."""
         overflow = self.edges.overflow()[0]
         words = f"overflow {overflow:,}"
+        if self.edges.unjoined:
+            words = f"{unjoined_words(len(self.edges.unjoined))}; {words}"
         if before:
             by_round = [*map(overflow_of, before), overflow]
             if None in by_round:
@@ -87,19 +94,20 @@ class Routes:
         if len(uses):
             words += f"; fullest tile {100 * uses[0]:,.0f} %"
         if self.required:
-            words += f"; worst net {min(self.required.values()) / self.half:,.0f} ps"
+            worst = min(self.required.values()) / self.half
+            words += f"; worst net {worst:,.0f} ps" if self.has_times else f"; worst net delay {-worst:,.0f} ps"
         return words
 
-    def nets(self, all_):
+    def nets(self, all_: bool) -> list[int]:
         """The ids of the nets that the page has."""
         if all_:
             return self.design.ids
-        slowest = sorted(self.required, key=self.required.get)[:SLOWEST]
-        some = {id_ for region in self.regions for id_, _ in region.nets} | set(slowest)
+        slowest = sorted(self.required, key=lambda id_: self.required[id_])[:SLOWEST]
+        some = {id_ for region in self.regions for id_, _ in region.nets} | {*slowest, *self.edges.unjoined[:SLOWEST]}
         return [id_ for id_ in self.design.ids if id_ in some]
 
 
-def head(routes, ids, asked):
+def head(routes: Routes, ids: list[int], asked: Namespace) -> dict[str, Any]:
     """What isn't an array."""
     design, terms = routes.design, routes.terms
     place = {id_: at for at, id_ in enumerate(ids)}
@@ -114,6 +122,8 @@ def head(routes, ids, asked):
         "hasTimes": bool(routes.required), "allNets": len(design.ids), "kinds": routes.kinds,
         "table": [vars(line) | {"use": line.use()} for line in routes.loads.table(terms.layers)],
         "ways": [WAYS[EAST], WAYS[NORTH]], "grades": GRADES,
+        "unjoined": [place[id_] for id_ in routes.edges.unjoined if id_ in place],
+        "clocks": [place[id_] for id_ in sorted(routes.terms.clocks()) if id_ in place],
         "least": routes.least, "walls": [vars(wall) for wall in routes.walls],
         "regions": [{"low": region.low, "high": region.high, "overflow": region.overflow, "over": region.over,
                      "closed": region.closed, "nets": [place[id_] for id_, _ in region.nets],
@@ -121,9 +131,9 @@ def head(routes, ids, asked):
     }
 
 
-def add_planes(packed, loads):
+def add_planes(packed: Packed, loads: Loads) -> list[list[int]]:
     """Demand and capacity of each layer and direction that has wires, by row and column of the lower end."""
-    planes = []
+    planes: list[list[int]] = []
     for layer in range(loads.design.layers):
         for way in (EAST, NORTH):
             demand, capacity = loads.demand[way][layer], loads.capacity[way][layer]
@@ -134,7 +144,7 @@ def add_planes(packed, loads):
     return planes
 
 
-def add_nets(packed, routes, ids):
+def add_nets(packed: Packed, routes: Routes, ids: list[int]) -> None:
     """Names, pins, runs, buffers and numbers of these nets, in their order."""
     design, edges = routes.design, routes.edges
     names = "\n".join(design.names[id_] for id_ in ids).encode(errors="surrogateescape")
@@ -161,10 +171,10 @@ def add_nets(packed, routes, ids):
         add_buffers(packed, routes, ids)
 
 
-def add_buffers(packed, routes, ids):
+def add_buffers(packed: Packed, routes: Routes, ids: list[int]) -> None:
     """The buffers of these nets: how many each has, and the cells and kinds of all."""
     kinds = {kind.encode(errors="surrogateescape"): at for at, kind in enumerate(routes.kinds)}
-    tokens = [routes.buffers.get(id_, []) for id_ in ids]
+    tokens: list[list[bytes]] = [routes.buffers.get(id_, []) for id_ in ids]
     unknown = {kind for some in tokens for kind in some[1::2]} - set(kinds)
     if unknown:
         raise Fault(f"the library has no kind {min(unknown).decode(errors='replace')}")
@@ -173,7 +183,24 @@ def add_buffers(packed, routes, ids):
     packed.add("kindValues", numpy.array([kinds[kind] for some in tokens for kind in some[1::2]], int))
 
 
-def page(data):
+def text_of(routes: Routes, asked: Namespace) -> str:
+    """The page, with all nets or, where that would be too large, with some."""
+    size = 0
+    for all_ in (True, False):
+        if all_ and len(routes.design.ids) > MOST_NETS:
+            continue
+        ids = routes.nets(all_)
+        packed = Packed()
+        planes = add_planes(packed, routes.loads)
+        add_nets(packed, routes, ids)
+        text = page(packed.text({**head(routes, ids, asked), "planes": planes}))
+        if len(text) <= MOST_BYTES:
+            return text
+        size = len(text)
+    raise Fault(f"the page would have {size:,} bytes, and more than {MOST_BYTES:,} are not written")
+
+
+def page(data: str) -> str:
     """The page with this data, and a policy that allows its own script and style alone."""
     style, script = part("page.css"), '"use strict";\n' + "".join(map(part, SCRIPTS))
     hashes = [base64.b64encode(hashlib.sha256(inner.encode()).digest()).decode() for inner in (script, style)]
@@ -183,7 +210,7 @@ def page(data):
     return text.replace("@DATA@", data)
 
 
-def part(name):
+def part(name: str) -> str:
     """A file of the page."""
     with open(os.path.join(PAGE, name), encoding="utf-8") as file:
         return file.read()

@@ -1,12 +1,23 @@
 """The picture of a solution's congestion, tile by tile. It wants numpy and matplotlib."""
-import matplotlib
-import numpy
+from argparse import Namespace
+from typing import Any, Sequence
 
-from groute.show.figures import DOTS, LARGE, LARGE_DOTS, SMALL, SMALL_DOTS, layer_words, maps, said
-from groute.loads.regions import GRADES, WAYS, Loads
+import matplotlib
+import matplotlib.colors
+import numpy
 from matplotlib.collections import LineCollection
 from matplotlib.lines import Line2D
 from matplotlib.patches import Patch, Rectangle
+
+from groute.loads.edges_numpy import Array, Edges
+from groute.loads.regions import GRADES, WAYS, Loads
+from groute.show.figures import DOTS, LARGE, LARGE_DOTS, SMALL, SMALL_DOTS, Axes, layer_words, maps, said
+from groute.texts.designs import Cell
+from groute.texts.files import Outputs
+from groute.texts.names import Terms
+from groute.texts.reports import Wall
+
+Point = tuple[float, float]
 
 FULL = matplotlib.colors.LinearSegmentedColormap.from_list("full", ["#f7fbff", "#abd0e6", "#3787c0", "#1b5397"])
 OVER = ("#fdb863", "#e66101", "#7f1d0b")    # by the grade of overflow
@@ -18,24 +29,24 @@ LAYERS = matplotlib.colormaps["tab10"].colors
 class TileMap:
     """What is drawn: the loads, and what the words of the tool ask for."""
 
-    def __init__(self, loads, terms, asked):
+    def __init__(self, loads: Loads, terms: Terms, asked: Namespace) -> None:
         self.loads, self.design, self.terms, self.asked = loads, loads.design, terms, asked
         self.ways = [way for way, name in WAYS.items() if asked.direction in (None, name[0])]
         region = asked.region or (0, 0, self.design.columns - 1, self.design.rows - 1)
         self.columns, self.rows = slice(region[0], region[2] + 1), slice(region[1], region[3] + 1)
 
-    def place(self, column, row):
+    def place(self, column: float, row: float) -> Point:
         """A point of the picture: microns where they are known, else tiles, whose middles are whole numbers."""
         if self.terms.names is None:
             return column - 0.5, row - 0.5
-        return tuple(float(corner + at * step) for corner, at, step in
-                     zip(self.terms.corner, (column, row), self.terms.step))
+        (left, low), (wide, high) = self.terms.corner, self.terms.step
+        return float(left) + column * float(wide), float(low) + row * float(high)
 
-    def middle(self, cell):
+    def middle(self, cell: Sequence[int]) -> Point:
         """That of a cell's tile."""
         return self.place(cell[0] + 0.5, cell[1] + 0.5)
 
-    def heading(self, layers, words, is_large):
+    def heading(self, layers: slice, words: str, is_large: bool) -> str:
         """Of a map: the overflow in what it shows."""
         place = layers, self.rows, self.columns
         total = sum(int(self.loads.excess[way][place].sum()) for way in self.ways)
@@ -45,7 +56,7 @@ class TileMap:
             words += f", {WAYS[self.ways[0]]}"
         return f"{words}: overflow {total:,}" + (f"{between}{closed:,} at capacity 0" if closed else "")
 
-    def draw(self, axes, layers, words, is_large):
+    def draw(self, axes: Axes, layers: slice, words: str, is_large: bool) -> int:
         """One map."""
         full, over, closed = (some[self.rows, self.columns] for some in self.loads.by_tile(layers, self.ways))
         side = -(-max(full.shape) // (LARGE_DOTS if is_large else SMALL_DOTS))
@@ -65,7 +76,7 @@ class TileMap:
             axes.set_ylabel("row" if self.terms.names is None else "y, microns", fontsize=9)
         return side
 
-    def frame(self, axes):
+    def frame(self, axes: Axes) -> None:
         """The worst regions, each with its number."""
         for number, region in enumerate(self.loads.regions(self.asked.worst), 1):
             low, high = self.place(*region.low), self.place(region.high[0] + 1, region.high[1] + 1)
@@ -73,9 +84,10 @@ class TileMap:
             axes.annotate(str(number), (low[0], high[1]), (2, -2), textcoords="offset points", fontsize=9, va="top",
                           weight="bold", clip_on=True, bbox={"facecolor": "white", "edgecolor": "none", "pad": 1})
 
-    def draw_net(self, axes, id_):
+    def draw_net(self, axes: Axes, id_: int) -> list[Any]:
         """A net's runs by layer, its vias and its pins; the answer is what the legend says of them."""
-        used, vias = set(), []
+        used: set[int] = set()
+        vias: list[Point] = []
         for low, high in self.loads.edges.runs_of(id_):
             if low[2] != high[2]:
                 vias.append(self.middle(low))
@@ -90,13 +102,13 @@ class TileMap:
                                    label=label, linestyle="none")
         return marks
 
-    def draw_buffers(self, axes, cells):
+    def draw_buffers(self, axes: Axes, cells: Sequence[Cell]) -> list[Any]:
         """Buffers, by their cells."""
         points = [self.middle(cell) for cell in cells]
-        return axes.plot(*zip(*points), "^", color="black", markerfacecolor="white", markersize=7, label="buffer",
-                         linestyle="none") if points else []
+        return list(axes.plot(*zip(*points), "^", color="black", markerfacecolor="white", markersize=7, label="buffer",
+                              linestyle="none")) if points else []
 
-    def draw_walls(self, axes, walls):
+    def draw_walls(self, axes: Axes, walls: Sequence[Wall]) -> list[Any]:
         """Walls; the answer is what the legend says of them."""
         for wall in walls:
             colour = OVER[1] if wall.needs > wall.holds else "black"
@@ -111,7 +123,7 @@ class TileMap:
         return [Line2D([], [], linestyle="--", label="fullest walls",
                        color=OVER[1] if any(wall.needs > wall.holds for wall in walls) else "black")] if walls else []
 
-    def legend(self, axes, name, side, marks):
+    def legend(self, axes: Axes, name: str, side: int, marks: list[Any]) -> None:
         """The totals and what colours and marks mean."""
         said(axes, self.loads, name)
         scale = matplotlib.cm.ScalarMappable(matplotlib.colors.Normalize(0, 100), FULL)
@@ -125,12 +137,13 @@ class TileMap:
                     title=None if side == 1 else f"means over {side} by {side} tiles", title_fontsize=8, ncols=2)
 
 
-def write_picture(edges, path, asked, name, terms, buffers):
+def write_picture(edges: Edges, path: str, outputs: Outputs, asked: Namespace, name: str, terms: Terms,
+                  buffers: Sequence[Cell] | None) -> None:
     """All layers together and layer by layer, or one layer alone; `buffers` are cells or None."""
     picture = TileMap(Loads(edges), terms, asked)
-    marks = []
+    marks: list[Any] = []
 
-    def draw_map(axes, layers, words, is_large):
+    def draw_map(axes: Axes, layers: slice, words: str, is_large: bool) -> int:
         side = picture.draw(axes, layers, words, is_large)
         if is_large:
             if asked.worst:
@@ -144,16 +157,16 @@ def write_picture(edges, path, asked, name, terms, buffers):
 
     (left, low), (right, top) = (picture.place(*corner) for corner in (
         (picture.columns.start, picture.rows.start), (picture.columns.stop, picture.rows.stop)))
-    maps(picture.loads, path, asked.layer, terms, (top - low) / (right - left), draw_map,
+    maps(picture.loads, path, outputs, asked.layer, terms, (top - low) / (right - left), draw_map,
          lambda axes, side: picture.legend(axes, name, side, marks))
 
 
-def wire(layer):
+def wire(layer: int) -> dict[str, Any]:
     """How wires of a layer (from 0) are drawn."""
     return {"color": LAYERS[layer % len(LAYERS)], "linestyle": "-" if layer < len(LAYERS) else "--", "linewidth": 2.5}
 
 
-def mean(values, side):
+def mean(values: Array, side: int) -> Array:
     """The means of squares of so many tiles, of those that have a number; the squares at the border may be smaller."""
     if side == 1:
         return values
@@ -162,20 +175,22 @@ def mean(values, side):
     padded[:values.shape[0], :values.shape[1]] = values
     squares = padded.reshape(high // side, side, wide // side, side)
     count = (~numpy.isnan(squares)).sum(axis=(1, 3))
-    return numpy.divide(numpy.nansum(squares, axis=(1, 3)), count, out=numpy.full(count.shape, numpy.nan),
-                        where=count > 0)
+    means: Array = numpy.divide(numpy.nansum(squares, axis=(1, 3)), count,
+                                out=numpy.full(count.shape, numpy.nan),
+                                where=count > 0)
+    return means
 
 
-def colours(full, over):
+def colours(full: Array, over: Array) -> Array:
     """The colour of each tile."""
-    found = FULL(numpy.nan_to_num(numpy.minimum(full, 1)))
+    found: Array = FULL(numpy.nan_to_num(numpy.minimum(full, 1)))
     found[numpy.isnan(full)] = matplotlib.colors.to_rgba(NO_WIRES)
     for (least, _), colour in zip(GRADES, OVER):
         found[numpy.rint(over) >= least] = matplotlib.colors.to_rgba(colour)
     return found
 
 
-def hatch(closed, corner, step, pixels):
+def hatch(closed: Array, corner: Point, step: Point, pixels: float) -> Any:
     """Strokes through the tiles with overflow on an edge of capacity 0; a tile has so many pixels. Those of neighbours
     meet; where tiles are small, not each has one, and where they are large, each has three."""
     rows, columns = (numpy.rint(closed) >= 1).nonzero()

@@ -1,12 +1,14 @@
 """Overfull wire edges in the forms that other programs open."""
 from dataclasses import dataclass
+from typing import Iterable, Iterator, Sequence
 from xml.sax.saxutils import escape
 
 import numpy
 
-from groute.loads.edges_numpy import by_number
-from groute.loads.regions import WAYS
-from groute.texts.designs import EAST, NORTH
+from groute.loads.edges_numpy import Array, Edges, by_number
+from groute.loads.regions import WAYS, Loads, Region
+from groute.texts.designs import EAST, NORTH, Netlist
+from groute.texts.names import Terms
 
 
 @dataclass
@@ -15,15 +17,15 @@ class Overfull:
     layer: int          # from 0
     layer_name: str
     direction: str
-    box: tuple          # of its two tiles, in microns
+    box: tuple[str, str, str, str]  # of its two tiles, in microns
     capacity: int
     demand: int
-    nets: list          # names
+    nets: list[str]
 
 
-def overfull(loads, design, terms):
+def overfull(loads: Loads, design: Netlist, terms: Terms) -> list[Overfull]:
     """All wire edges that are over their capacity, with their nets, layer by layer."""
-    found = []
+    found: list[Overfull] = []
     for way in (EAST, NORTH):
         numbers = by_number(way, loads.excess[way]).nonzero()[0]
         nets = nets_of(loads.edges, way, numbers)
@@ -36,7 +38,7 @@ def overfull(loads, design, terms):
     return sorted(found, key=lambda edge: edge.layer)
 
 
-def nets_of(edges, way, numbers):
+def nets_of(edges: Edges, way: int, numbers: Array) -> list[list[int]]:
     """Of each of these wire edges, which rise, the nets that have it, by their places in edges.ids."""
     mine = (edges.way == way).nonzero()[0]
     begin = numpy.searchsorted(numbers, edges.number[mine])
@@ -51,16 +53,15 @@ def nets_of(edges, way, numbers):
     return [nets[low:high] for low, high in zip(cuts, cuts[1:])]
 
 
-def write_openroad(found, path):
-    """A congestion report as OpenROAD writes and reads it."""
-    with open(path, "w", encoding="utf-8", errors="surrogateescape") as file:
-        for edge in found:
-            x1, y1, x2, y2 = edge.box
-            file.write(f"violation type: {edge.direction.capitalize()} congestion\n"
-                       f"\tsrcs: {' '.join(f'net:{name}' for name in edge.nets)}\n"
-                       f"\tcongestion information: capacity:{edge.capacity} usage:{edge.demand} "
-                       f"overflow:{edge.demand - edge.capacity}\n"
-                       f"\tbbox = ({x1}, {y1}) - ({x2}, {y2}) on Layer {edge.layer_name}\n")
+def openroad(found: Iterable[Overfull]) -> Iterator[str]:
+    """The lines of a congestion report as OpenROAD writes and reads it."""
+    for edge in found:
+        x1, y1, x2, y2 = edge.box
+        yield f"violation type: {edge.direction.capitalize()} congestion"
+        yield f"\tsrcs: {' '.join(f'net:{name}' for name in edge.nets)}"
+        yield (f"\tcongestion information: capacity:{edge.capacity} usage:{edge.demand} "
+               f"overflow:{edge.demand - edge.capacity}")
+        yield f"\tbbox = ({x1}, {y1}) - ({x2}, {y2}) on Layer {edge.layer_name}"
 
 
 KLAYOUT = """<?xml version="1.0" encoding="utf-8"?>
@@ -85,8 +86,8 @@ ITEM = ("  <item><tags/><category>{}</category><cell>{}</cell><visited>false</vi
         "<comment/><image/><values><value>box: ({},{};{},{})</value><value>text: {}</value></values></item>\n")
 
 
-def write_klayout(found, regions, design, terms, cell, path):
-    """A report database: a category of regions, and one of each layer with its overfull edges."""
+def klayout(found: Sequence[Overfull], regions: Sequence[Region], design: Netlist, terms: Terms, cell: str) -> str:
+    """The text of a report database: a category of regions, and one of each layer with its overfull edges."""
     cell = xml_text(cell)
     regions_text = (ITEM.format(quoted(REGIONS), cell, *terms.box(region.low, region.high), quoted(
         f"overflow {region.overflow} edges {region.over} at capacity 0 {region.closed} nets "
@@ -97,16 +98,15 @@ def write_klayout(found, regions, design, terms, cell, path):
     categories = CATEGORY.format(REGIONS, "windows of most overflow, the worst first")
     for name in terms.layers:
         categories += CATEGORY.format(xml_text(name), "wire edges over their capacity")
-    with open(path, "w", encoding="utf-8") as file:
-        file.write(KLAYOUT.format(cell=cell, categories=categories, items="".join((*regions_text, *edges_text))))
+    return KLAYOUT.format(cell=cell, categories=categories, items="".join((*regions_text, *edges_text)))
 
 
-def xml_text(text):
+def xml_text(text: str) -> str:
     """A text with only what XML may hold."""
     allowed = (mark if mark in "\t\n" or " " <= mark < "\ud800" or mark > "\udfff" else "\ufffd" for mark in text)
     return escape("".join(allowed))
 
 
-def quoted(text):
+def quoted(text: str) -> str:
     """A text as a value of a report database."""
     return "'" + xml_text(text.replace("\\", "\\\\").replace("'", "\\'")) + "'"

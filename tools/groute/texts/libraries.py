@@ -1,4 +1,5 @@
 """Libraries: what of them the tools want."""
+from groute.texts.tokens import Tokens
 
 
 class Library:
@@ -9,10 +10,12 @@ class Library:
     SIZES = {b"wire": 3, b"via": 2, b"driver": 1, b"sink": 2, b"kind": 4, b"inverter": 4, b"block": 2, b"drive": 2,
              b"pin": 4, b"flip": 2}     # how many tokens stand behind an item's word
 
-    def __init__(self, tokens):
+    def __init__(self, tokens: Tokens) -> None:
         tokens.words(b"library")
-        tokens.numbers(1)
-        self.kinds, self.time, self.times = [], 0, {}
+        tokens.number()
+        self.kinds: list[str] = []
+        self.time = 0
+        self.times: dict[int, dict[int, int]] = {}
         while (word := tokens.take(1)[0]) != b"end":
             if word not in self.SIZES:
                 raise tokens.fault("an item of a library is due")
@@ -26,12 +29,12 @@ class Library:
             else:
                 tokens.take(self.SIZES[word])
 
-    def shared_time(self, id_, sinks):
+    def shared_time(self, id_: int, sinks: int) -> int | None:
         """The time that all sinks of a net share, or None."""
         own = self.times.get(id_, {})
         times = set(own.values()) | ({self.time} if len(own) < sinks else set())
         return times.pop() if len(times) == 1 else None
 
-    def has_times(self):
+    def has_times(self) -> bool:
         """Whether a time isn't 0."""
         return self.time != 0 or any(time for own in self.times.values() for time in own.values())

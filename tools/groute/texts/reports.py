@@ -1,28 +1,55 @@
 """What groute and grbound tell of routes: totals, buffers, walls."""
 import re
+from dataclasses import dataclass
+from typing import Iterator
 
-from groute.texts.designs import POINT
-from groute.texts.tokens import SMALL_PIECE, Fault, Tokens
+from groute.texts.designs import MOST_DIGITS, POINT, Cell, Design
+from groute.texts.files import Fault
+from groute.texts.tokens import SMALL_PIECE, Tokens, counted, whole
 
 
-def overflow_of(path):
-    """The overflow that a report tells, or None of a text of `groute buffer`, which has no totals."""
+TOTALS = (b"routed", b"overflow", b"maximum", b"wirelength", b"vias")
+
+
+def totals_of(path: str) -> dict[str, int] | None:
+    """The totals that a report tells, or None of a text of `groute buffer`, which has none."""
     tokens = Tokens(path, SMALL_PIECE)
     with tokens.file:
-        if tokens.take(2)[0] == b"buffers":
+        if tokens.take(1)[0] == b"buffers":
             return None
-        tokens.words(b"overflow")
-        return tokens.numbers(1)[0]
+        tokens.at = 0
+        found = {}
+        for word in TOTALS:
+            tokens.words(word)
+            found[word.decode()] = tokens.number()
+        return found
 
 
+def check_report(path: str, routed: int, overflow: tuple[int, int], vias: int) -> None:
+    """That a report with totals is of routes with these."""
+    found = totals_of(path)
+    mine = {"routed": routed, "overflow": overflow[0], "maximum": overflow[1], "vias": vias}
+    for word, value in mine.items():
+        if found is not None and found[word] != value:
+            raise Fault(f"{path}: it is of other routes: it tells {word} {found[word]:,}, the solution has {value:,}")
+
+
+def overflow_of(path: str) -> int | None:
+    """The overflow that a report tells, or None of a text of `groute buffer`."""
+    found = totals_of(path)
+    return None if found is None else found["overflow"]
+
+
+@dataclass
 class Wall:
     """A wall that grbound tells of: `column`, `row` or `box`, its numbers, what is needed of it, and what it holds."""
+    kind: str
+    numbers: list[int]
+    needs: int
+    holds: int
 
-    def __init__(self, kind, numbers, needs, holds):
-        self.kind, self.numbers, self.needs, self.holds = kind, numbers, needs, holds
 
-
-def bounds_in(path):
+def bounds_in(path: str) -> tuple[int, list[Wall]]:
     """What overflow is at least, by what grbound wrote of a design, and the fullest walls."""
     with open(path, encoding="ascii", errors="replace") as file:
         lines = [line.split() for line in file]
@@ -36,7 +63,7 @@ def bounds_in(path):
         raise Fault(f"{path}: it isn't what grbound writes") from None
 
 
-def buffered(design, path):
+def buffered(design: Design, path: str) -> Iterator[tuple[int, int, list[bytes]]]:
     """Of each net in a report's or a buffers' text: its id, its required time in half femtoseconds, and two tokens for
     each of its buffers, which `buffer_of` reads."""
     tokens = Tokens(path)
@@ -44,19 +71,21 @@ def buffered(design, path):
         tokens.numbers(1)
     tokens.numbers(1)
     while not tokens.is_ended():
-        net, _, id_, word, required, word2, count = tokens.take(7)
+        net, _, _, word, required, word2, count = line = tokens.take(7)
         if (net, word, required, word2, count) == (b"net", b"has", b"no", b"legal", b"placement"):
             continue
-        if (net, word, word2) != (b"net", b"required", b"buffers") or not (id_.isdigit() and count.isdigit()):
+        number, time, buffers = counted(line[2]), whole(required), counted(count)
+        if (net, word, word2) != (b"net", b"required", b"buffers") or number is None or time is None or buffers is None:
             raise tokens.fault("a line `net NAME ID required TIME buffers NUMBER` ends here or before")
-        if int(id_) not in design.widths:
-            raise tokens.fault(f"the design has no net {id_.decode()}")
-        yield int(id_), int(required), tokens.take(2 * int(count))
+        if number not in design.widths:
+            raise tokens.fault(f"the design has no net {number}")
+        yield number, time, tokens.take(2 * buffers)
 
 
-def buffer_of(design, point, kind):
+def buffer_of(design: Design, point: bytes, kind: bytes) -> tuple[Cell, str]:
     """The cell and the kind of a buffer."""
     form = re.fullmatch(POINT, point)
-    if form is None:
+    if form is None or max(map(len, form.groups())) > MOST_DIGITS:
         raise Fault(f"{point.decode(errors='replace')} is no place of a buffer")
-    return design.cell(*map(int, form.groups())), kind.decode(errors="surrogateescape")
+    x, y, layer = map(int, form.groups())
+    return design.cell(x, y, layer), kind.decode(errors="surrogateescape")
