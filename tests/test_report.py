@@ -12,8 +12,10 @@ from unittest import mock
 import browser
 import testing
 from groute.commands import report
+from groute.loads import edges_plain
 from groute.texts.designs import Netlist
 from groute.texts.files import Fault
+from groute.texts.solutions import records
 from groute.texts.tokens import Tokens
 from test_answers import random_designs
 from testing import PICTURES, ROOT, InFolder, run, tool
@@ -208,8 +210,102 @@ class Page(InFolder):
             self.assertEqual(page.text(first), "box 0 0 0 0")
             whole = self.changed(page, None)[1]
             page.click(*page.middle(first))
-            self.assertRegex(page.value("location.hash"), r"^#view=[\d.%C]+$")
-            self.assertGreater(self.changed(page, whole)[0], 0)
+            self.assertRegex(page.value("location.hash"), r"^#wall=1&view=[\d.%C]+$")
+            with_wall = self.changed(page, whole)[1]
+            self.assertTrue(page.value("document.querySelector('#walls tbody tr').className === 'here'"))
+            link = page.value("location.href")
+            page.press("Escape")
+            self.assertEqual(page.value("location.hash"), "")
+            page.open("about:blank")
+            self.opened(page, link)
+            page.settle()
+            self.assertLess(self.changed(page, with_wall)[0], 20)
+            self.opened(page, address + "#wall=2&view=2,12,40")
+            self.assertEqual(page.value("endsOf(data.walls[1])"), [[2, 0], [2, 24]])
+            self.assertEqual(page.complaints(), [])
+
+    def test_six_rows(self):
+        """On a screen of 1366 by 768 each table shows six rows, walls among them."""
+        text = testing.BOUNDS + "".join(f"row {at} needs 2 holds 9\n" for at in range(8))
+        address, _ = self.grom("--bound", self.put("bounds", text))
+        with browser.Browser(1366, 768) as page:
+            self.opened(page, address)
+            for name in ("layers", "regions", "walls", "closed", "nets"):
+                shown = page.value(f"""(() => {{
+                    const place = document.getElementById("{name}"), box = place.getBoundingClientRect();
+                    const head = place.querySelector("thead").getBoundingClientRect().bottom;
+                    const rows = [...place.querySelectorAll("tbody tr:not(.space), tfoot tr")];
+                    return [rows.length, rows.filter((row) => {{
+                        const side = row.getBoundingClientRect();
+                        return side.top >= head - 1 && side.bottom <= Math.min(box.bottom, innerHeight) + 1;
+                    }}).length];
+                }})()""")
+                self.assertGreaterEqual(shown[1], min(6, shown[0]), name)
+            self.assertEqual(page.complaints(), [])
+
+    def test_edges(self):
+        """Overflow at capacity 0 is listed; a click on it, or on an edge, tells whose nets cross it."""
+        address, _ = self.grom()
+        design = Netlist(Tokens(os.path.join(self.folder.name, "grom.ispd")))
+        plain = edges_plain.Edges(design, os.path.join(self.folder.name, "solution"))
+        closed = sorted((demand for _, _, capacity, demand in plain.used() if not capacity), reverse=True)
+        with browser.Browser() as page:
+            self.opened(page, address)
+            self.assertEqual(page.value("+document.querySelector('#closed table').ariaRowCount") - 1, len(closed))
+            row = "[...document.querySelector('#closed tbody tr').cells].map((cell) => cell.textContent)"
+            place, layer, direction, overflow = page.value(row)
+            self.assertEqual(int(overflow), closed[0])
+            page.click(*page.middle("#closed tbody tr:nth-child(1) button"))
+            self.assertEqual(page.value("location.hash").split("&")[0], f"#layer={layer[-1]}")
+            column, line = map(int, place.split())
+            way = 0 if direction == "horizontal" else 1
+            number = design.number(way, column, line, int(layer[-1]) - 1)
+            wanted = {design.names[id_] for id_, segments in records(design, f"{self.folder.name}/solution")
+                      if any((way, number) in plain.covered(*design.run(segment)) for segment in segments)}
+            said = page.text("#told")
+            self.assertEqual(set(said.split(f"nets on {layer}: ")[1].split(" and ")[0].split(", ")), wanted)
+            self.assertEqual(page.complaints(), [])
+
+    def test_summed(self):
+        """Colours by sums over layers are those of the summed demand and capacity."""
+        address, _ = self.grom()
+        numpy, edges_numpy = importlib.import_module("numpy"), importlib.import_module("groute.loads.edges_numpy")
+        design = Netlist(Tokens(os.path.join(self.folder.name, "grom.ispd")))
+        edges = edges_numpy.Edges(design, os.path.join(self.folder.name, "solution"))
+        wanted = numpy.full((design.rows, design.columns), -1.0)
+        for way in (0, 1):
+            demand, capacity = (edges_numpy.by_layer(design, way, some[way]).sum(axis=0)
+                                for some in (edges.demand, edges.capacity))
+            use = numpy.where(capacity > 0, demand / numpy.maximum(capacity, 1), -1)
+            low, high = (wanted[:, :-1], wanted[:, 1:]) if way == 0 else (wanted[:-1], wanted[1:])
+            mine = use[:, :-1] if way == 0 else use[:-1]
+            for side in (low, high):
+                numpy.maximum(side, mine, out=side)
+        with browser.Browser() as page:
+            self.opened(page, address + "#colours=sum")
+            found = numpy.array(page.value("[...picture.full]")).reshape(design.rows, design.columns)
+            self.assertLess(abs(found - wanted).max(), 1e-6)
+            page.value("document.getElementById('colours').value = ''")
+            page.value("document.getElementById('colours').onchange({ target: { value: '' } })")
+            self.assertEqual(page.value("location.hash"), "")
+            self.assertEqual(page.complaints(), [])
+
+    def test_unjoined(self):
+        """Nets that aren't joined come first, and can be listed alone."""
+        address, _ = self.grom()
+        design, solution = (os.path.join(self.folder.name, name) for name in ("grom.ispd", "solution"))
+        with open(solution, encoding="utf-8") as file:
+            kept = file.read().split("!\n")[:-4]
+        path, less = os.path.join(self.folder.name, "less.html"), self.put("less", "!\n".join([*kept, ""]))
+        count = int(run(testing.program(), "evaluate", design, less)[1].split()[11])
+        self.assertGreater(count, 1)
+        status, out, err = tool("report.py", design, less, "-o", path)
+        self.assertEqual((status, out.split(";")[0]), (1, f"{count} nets unjoined"))
+        self.assertTrue(err.startswith(f"report: {count} nets unjoined: "))
+        with browser.Browser() as page:
+            self.opened(page, f"file://{path}#nets=unjoined")
+            self.assertTrue(page.text("#verdict").startswith(f"{count} nets unjoined; overflow "))
+            self.assertEqual(page.text("#found"), f"{count} of {count}")
             self.assertEqual(page.complaints(), [])
 
     def test_what_is_heard(self):

@@ -56,6 +56,14 @@ class Tables(unittest.TestCase):
         self.assertEqual(self.completed("groute", "route", "--"),
                          ["--workers", "--via-cost", "--batch", "--rule", "--stop"])
         self.assertEqual(self.completed("groute", "make", "--"), [])
+        for words in (("--rule", ""), ("--rule", "=", ""), ("--rule", "=")):
+            self.assertEqual(self.completed("groute", "route", *words), ["first", "steep", "flat"])
+        self.assertEqual(self.completed("groute", "trial", "--rule", "st"), ["steep"])
+        self.assertEqual(self.completed("grbound", "--"), ["--via-cost"])
+        self.assertEqual(self.completed("/usr/bin/groute-slowest", "--w"), ["--worst"])
+        self.assertEqual(self.completed("groute-flow", "--rule", "f"), ["first", "flat"])
+        self.assertEqual(self.completed("groute-slowest", "--nets", ""), ["clocks", "signals"])
+        self.assertEqual(self.completed("groute-where", "crowd.i"), ["crowd.ispd"])
         self.assertEqual(sorted(self.completed("groute", "buffer", "small")),
                          ["small.ispd", "small.library", "small.solution"])
 
