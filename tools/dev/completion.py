@@ -70,7 +70,8 @@ class Called(NamedTuple):
 def commands() -> Iterator[Called]:
     """The commands of groute."""
     for row in rows():
-        yield Called(f"groute {row.word}", row.positionals, [(word, value, chosen(value)) for word, value in row.options])
+        options = [(word, value, chosen(value)) for word, value in row.options]
+        yield Called(f"groute {row.word}", row.positionals, options)
 
 
 def programs() -> Iterator[Called]:
@@ -97,7 +98,7 @@ def read(parser: argparse.ArgumentParser) -> tuple[list[str], list[tuple[str, st
 def bash() -> str:
     """The completion for bash."""
     every = [*commands(), *programs()]
-    options = "\n".join(f"    {quoted(called.name)}) options=\"{' '.join(option for option, _, _ in called.options)}\" ;;"
+    options = "\n".join(f"    {quoted(called.name)}) options=\"{' '.join(option[0] for option in called.options)}\" ;;"
                         for called in every)
     values = "\n".join(f"    '{called.name} {option}') values=\"{' '.join(words)}\" ;;"
                        for called in every for option, _, words in called.options if words)
@@ -130,8 +131,8 @@ def arguments(called: Called, first: int) -> str:
 
 
 # Words for files, beside those of groute's commands.
-FILES = ("FILE", "DEF", "LEF", "PLACED.def", "ROUTES", "GUIDES", "LIBERTY", "REPORT", "BOUNDS", "PANELS", "TEXT", "PATH",
-         "DIR")
+FILES = ("FILE", "DEF", "LEF", "PLACED.def", "ROUTES", "GUIDES", "LIBERTY", "REPORT", "BOUNDS", "PANELS", "TEXT",
+         "PATH", "DIR")
 
 
 def main(words: Sequence[str]) -> int:
