@@ -1,23 +1,53 @@
-# Completion of groute for bash, as tools/dev/completion.py writes it.
+# Completion of groute, grbound and the tools for bash, as tools/dev/completion.py writes it.
 _groute() {
-    local word=${COMP_WORDS[COMP_CWORD]} options
-    if [ "$COMP_CWORD" -eq 1 ]; then
+    local word=${COMP_WORDS[COMP_CWORD]} before=${COMP_WORDS[COMP_CWORD - 1]} command=${COMP_WORDS[0]##*/}
+    local options= values=
+    if [ "$word" = = ]; then
+        word=
+    elif [ "$before" = = ]; then
+        before=${COMP_WORDS[COMP_CWORD - 2]}
+    fi
+    if [ "$command" = groute ] && [ "$COMP_CWORD" -eq 1 ]; then
         COMPREPLY=($(compgen -W "route evaluate buffer make trial panels" -- "$word"))
         return
     fi
-    case ${COMP_WORDS[1]} in
-    route) options="--workers --via-cost --batch --rule --stop" ;;
-    evaluate) options="--via-cost" ;;
-    buffer) options="" ;;
-    make) options="" ;;
-    trial) options="--workers --rule" ;;
-    panels) options="" ;;
-    *) options= ;;
+    [ "$command" != groute ] || command="groute ${COMP_WORDS[1]}"
+    case $command in
+    'groute route') options="--workers --via-cost --batch --rule --stop" ;;
+    'groute evaluate') options="--via-cost" ;;
+    'groute buffer') options="" ;;
+    'groute make') options="" ;;
+    'groute trial') options="--workers --rule" ;;
+    'groute panels') options="" ;;
+    grbound) options="--via-cost" ;;
+    groute-adjust) options="--help --layer --region --direction --output --names" ;;
+    groute-congestion) options="--help --output --layer --edges --direction --region --worst --net --buffers --bound --tracks --names" ;;
+    groute-def-to-ispd) options="--help --lef --tile --layers --adjust --via --driver --sink --liberty --kinds --kind --scale --keep-supply" ;;
+    groute-flow) options="--help --lef --liberty --rounds --workers --rule --stop --batch --scale --program --output --tile --layers --adjust --kinds --driver --sink --kind --via --keep-supply" ;;
+    groute-guides) options="--help --names" ;;
+    groute-hotspots) options="--help --worst --csv --openroad --klayout --nets --names" ;;
+    groute-liberty) options="--help" ;;
+    groute-report) options="--help --before --bound --scale --output --names" ;;
+    groute-slowest) options="--help --worst --scale --nets --names" ;;
+    groute-to-solution) options="--help --names" ;;
+    groute-where) options="--help" ;;
     esac
-    if [[ $word == -* ]]; then
+    case "$command $before" in
+    'groute route --rule') values="first steep flat" ;;
+    'groute route --stop') values="still" ;;
+    'groute trial --rule') values="first steep flat" ;;
+    'groute-adjust --direction') values="h v" ;;
+    'groute-congestion --direction') values="h v" ;;
+    'groute-flow --rule') values="first steep flat" ;;
+    'groute-hotspots --nets') values="clocks signals" ;;
+    'groute-slowest --nets') values="clocks signals" ;;
+    esac
+    if [ -n "$values" ]; then
+        COMPREPLY=($(compgen -W "$values" -- "$word"))
+    elif [[ $word == -* ]]; then
         COMPREPLY=($(compgen -W "$options" -- "$word"))
     else
         mapfile -t COMPREPLY < <(compgen -f -- "$word")
     fi
 }
-complete -o filenames -F _groute groute
+complete -o filenames -F _groute groute grbound groute-adjust groute-congestion groute-def-to-ispd groute-flow groute-guides groute-hotspots groute-liberty groute-report groute-slowest groute-to-solution groute-where

@@ -10,6 +10,7 @@ import sys
 import unittest
 
 import testing
+from typing import Any, Iterator
 from groute.loads import edges_plain
 from groute.texts import names
 from groute.texts.designs import EAST, NORTH, Design, Netlist
@@ -23,7 +24,7 @@ CROWD = f"{ROOT}/examples/crowd.ispd"
 NAMES = "units 100\norigin -50 70\ntile 15 20\n\nlayer 2 m2\nlayer 1 metal1\n"
 
 
-def random_designs(count):
+def random_designs(count: int) -> Iterator[tuple[int, str]]:
     """Seeds, and the texts of random designs."""
     sys.path.insert(0, f"{ROOT}/reference")
     compare = importlib.import_module("compare")
@@ -34,7 +35,7 @@ def random_designs(count):
 class Names(InFolder):
     """Texts of names, read and written."""
 
-    def test_both_ways(self):
+    def test_both_ways(self) -> None:
         read = names.read_names(self.put("names", NAMES))
         self.assertEqual((read.units, read.origin, read.tile), (100, (-50, 70), (15, 20)))
         self.assertEqual(read.layers, ["metal1", "m2"])
@@ -50,7 +51,7 @@ class Names(InFolder):
             self.assertEqual(file.read(), "units 100\norigin -50 70\ntile 15 20\ndie 1 2 3 4\nlower 0 li1\n"
                                           "lower 0 poly\nlayer 1 metal1\nlayer 2 m2\n")
 
-    def test_nets(self):
+    def test_nets(self) -> None:
         """In version 2 something is said of nets, and what isn't known is passed over and kept."""
         said = "net 7 use 1 clock\nnet 7 pins 2 u1/A PIN/b\nnet 9 use 1 signal\nnet 3 note 0\n"
         read = names.read_names(self.put("names", f"names 2\n{said}{NAMES}end\n"))
@@ -59,13 +60,13 @@ class Names(InFolder):
         text = "".join(f"{line}\n" for line in read.lines())
         self.assertEqual(text, f"names 2\nunits 100\norigin -50 70\ntile 15 20\nlayer 1 metal1\nlayer 2 m2\n{said}")
 
-    def test_microns(self):
+    def test_microns(self) -> None:
         design = Design(Tokens(SMALL))
         self.assertEqual(names.Terms(design).words((1, 0), (2, 1)), "(10, 0) - (30, 20)")
         self.assertEqual(names.Terms(design, names.read_names(self.put("names", NAMES))).words((1, 0), (2, 1)),
                          "(-0.35, 0.7) - (-0.05, 1.1)")
 
-    def test_faults(self):
+    def test_faults(self) -> None:
         for old, new, says in (
             ("units 100\n", "", "units, origin and tile are due"),
             ("units 100", "units 0", "at least 1"),
@@ -128,13 +129,13 @@ for category in database.each_category():
 class Hotspots(InFolder):
     """hotspots.py: what it counts is what is counted edge by edge."""
 
-    def test_crowd(self):
+    def test_crowd(self) -> None:
         table = os.path.join(self.folder.name, "table")
         self.assertEqual(tool("hotspots.py", CROWD, self.routed(CROWD, 1), "--csv", table), (0, CROWDED, ""))
         with open(table, encoding="ascii") as file:
             self.assertEqual(file.read(), CROWDED_TABLE)
 
-    def test_edge_by_edge(self):
+    def test_edge_by_edge(self) -> None:
         """Random designs, beside plain Python: regions, their nets, and the nets of each overfull edge."""
         loads, edges_numpy, viewers = map(importlib.import_module, (
             "groute.loads.regions", "groute.loads.edges_numpy", "groute.show.viewers"))
@@ -156,10 +157,10 @@ class Hotspots(InFolder):
                     here = inside & left
                     left -= inside
                     self.assertEqual(region.overflow, sum(map(over.get, here)))
-                    self.assertEqual(region.closed, sum(map(over.get, inside)) - region.overflow)
+                    self.assertEqual(region.closed, sum(over[edge] for edge in inside) - region.overflow)
                     self.assertEqual(region.over, len(here))
                     needs = {id_: len(here & some) for id_, some in covered.items() if here & some}
-                    self.assertEqual(region.nets, sorted(needs.items(), key=lambda net: -net[1]))
+                    self.assertEqual(region.nets, sorted(needs.items(), key=lambda net: -int(net[1])))
                 self.assertEqual(left, set())
                 found = viewers.overfull(mine, design, names.Terms(design))
                 self.assertEqual(sorted(sorted(edge.nets) for edge in found), sorted(
@@ -167,7 +168,7 @@ class Hotspots(InFolder):
                 self.assertEqual(sum(edge.demand - edge.capacity for edge in found), sum(over.values()))
         self.assertGreater(regions, 10)
 
-    def test_an_overfull_chip(self):
+    def test_an_overfull_chip(self) -> None:
         """Ten regions, each of other tiles, the worst first."""
         design = self.put("design", run(testing.program(), "make", "11", "40", "30", "4", "9000")[1])
         table = os.path.join(self.folder.name, "table")
@@ -181,7 +182,7 @@ class Hotspots(InFolder):
         overflow = [int(line["overflow"]) for line in rows]
         self.assertEqual(overflow, sorted(overflow, reverse=True))
 
-    def reports(self):
+    def reports(self) -> list[str]:
         """A design whose net has a hard name, its overfull edges for OpenROAD, and for KLayout."""
         with open(CROWD, encoding="ascii") as file:
             design = self.put("design", file.read().replace("\na 0", "\n<a&'\\> 0"))
@@ -193,7 +194,7 @@ class Hotspots(InFolder):
         self.assertIn("--openroad is in microns", tool("hotspots.py", design, solution, "--openroad", "x")[2])
         return paths
 
-    def test_openroad(self):
+    def test_openroad(self) -> None:
         with open(self.reports()[0], encoding="utf-8") as file:
             text = file.read()
         self.assertEqual(VIOLATION.sub("", text), "")
@@ -202,7 +203,7 @@ class Hotspots(InFolder):
             ("net:<a&'\\> net:b", "2", "4", "2", "-0.35", "0.9", "-0.05", "1.1", "<m>'1")])
 
     @unittest.skipUnless(shutil.which("klayout"), "klayout is not there")
-    def test_klayout(self):
+    def test_klayout(self) -> None:
         environment = {**os.environ, "QT_QPA_PLATFORM": "offscreen"}
         status, out, err = run("klayout", "-b", "-r", self.put("read.py", KLAYOUT), "-rd", f"path={self.reports()[1]}",
                                env=environment, timeout=60)
@@ -212,7 +213,7 @@ class Hotspots(InFolder):
             r"worst regions box: (-0.5,0.7;-0.05,1.3) text: 'overflow 4 edges 2 at capacity 0 0 nets <a&\'\\> b'",
             f"<m>'1 box: (-0.5,0.9;-0.2,1.1) {edge}", f"<m>'1 box: (-0.35,0.9;-0.05,1.1) {edge}"])
 
-    def test_ends(self):
+    def test_ends(self) -> None:
         """A closed pipe, a full device, a missing file: of each tool a line at most."""
         crowd = CROWD, self.routed(CROWD, 1)
         _, out, err = run(testing.program(), "route", CROWD, f"{ROOT}/examples/crowd.library", "0")
@@ -283,35 +284,35 @@ from, ps  to, ps  nets
 class Slowest(InFolder):
     """slowest.py on a report that was worked out by hand."""
 
-    def slowest(self, *words, library="sink 10 0\n", report=TIMED_REPORT):
+    def slowest(self, *words: str, library: str = "sink 10 0\n", report: str = TIMED_REPORT) -> tuple[int, str, str]:
         """What the tool did."""
         text = f"library 2\nwire 1 100 100\nvia 0 0\ndriver 100\nkind mid 1 2 3\nkind low 1 2 3\n{library}end\n"
         return tool("slowest.py", self.put("design", TIMED), self.put("library", text),
                     self.put("solution", TIMED_SOLUTION), self.put("report", report), *words)
 
-    def test_table(self):
+    def test_table(self) -> None:
         self.assertEqual(self.slowest(), (0, SLOWEST, ""))
         behind = "routed 3\noverflow 0\nmaximum 0\nwirelength 6\nvias 0\n" + TIMED_REPORT
         self.assertEqual(self.slowest(report=behind), self.slowest())
 
-    def test_times(self):
+    def test_times(self) -> None:
         """Slack comes where a time isn't 0, delay where the sinks of a net share theirs."""
         library = "sink 10 0\npin 7 1 10 9000\n"
         found = self.slowest("--worst", "3", library=library)[1].splitlines()
         self.assertEqual(found[0], "slack of nets, not of paths, ps: worst -137.0, total negative -137.0 of 1 nets")
         self.assertEqual([line.split()[:3] for line in found[3:6]],
                          [["a", "-137.0", "137.0"], ["c", "0.0", "-"], ["b", "3.0", "-"]])
-        found = self.slowest(library=library + "pin 7 2 10 9000\n")[1]
-        self.assertIn("b             3.0        6.0", found)
+        out = self.slowest(library=library + "pin 7 2 10 9000\n")[1]
+        self.assertIn("b             3.0        6.0", out)
 
-    def test_scale_and_names(self):
+    def test_scale_and_names(self) -> None:
         names = self.put("names", "units 1\norigin 3 4\ntile 5 6\nlayer 1 m\n")
         found = self.slowest("--scale", "10", "--worst", "1", "--names", names)[1].splitlines()
         self.assertIn("box, microns", found[0])
         self.assertEqual(found[1:3], ["a            -1.4        1.4     2            4     0  (3, 4) - (28, 10)  mid 2",
                                       ""])
 
-    def test_a_real_report(self):
+    def test_a_real_report(self) -> None:
         """Required times are those that groute told, wire and vias those of its totals."""
         with open(f"{ROOT}/examples/small.ispd", encoding="ascii") as file:
             design = self.put("design", file.read())
@@ -322,7 +323,7 @@ class Slowest(InFolder):
         self.assertEqual(found.splitlines()[1].split()[:6],
                          ["a", f"{required / 2000:.1f}", f"{-required / 2000:.1f}", "2", "3", "2"])
 
-    def test_faults(self):
+    def test_faults(self) -> None:
         for old, new, says in (("a 0 required", "a 5 required", "no net 5"), ("buffers 3", "buffer 3", "whole number"),
                                ("required 6000", "needs 5000", "a line `net"), ("(15,5,1) low\n", "", "ends after"),
                                ("net c 3 required 0 buffers 0", "net c", "ends after")):
@@ -336,18 +337,18 @@ class Slowest(InFolder):
 class Pictures(InFolder):
     """congestion.py's picture of tiles."""
 
-    def picture(self, *words):
+    def picture(self, *words: str) -> Any:
         """The pixels of a picture, with numbers from 0 to 255."""
         path = os.path.join(self.folder.name, "out.png")
         status, _, err = tool("congestion.py", *words, "-o", path)
         self.assertEqual((status, err), (0, ""))
         return (importlib.import_module("matplotlib.image").imread(path)[:, :, :3] * 255).round().astype(int)
 
-    def count(self, pixels, colour):
+    def count(self, pixels: Any, colour: str) -> int:
         """How many pixels have a colour."""
         return int((pixels == [int(colour[at:at + 2], 16) for at in (1, 3, 5)]).all(axis=2).sum())
 
-    def test_tiles_edge_by_edge(self):
+    def test_tiles_edge_by_edge(self) -> None:
         """Random designs, beside plain Python: the worst of each tile's wire edges."""
         loads, edges_numpy = map(importlib.import_module, ("groute.loads.regions", "groute.loads.edges_numpy"))
         for seed, text in random_designs(20):
@@ -356,29 +357,31 @@ class Pictures(InFolder):
             design = Netlist(Tokens(path))
             edges = edges_plain.Edges(design, solution)
             layers, ways = seed % design.layers, [(0, 1), (0,), (1,)][seed % 3]
-            wanted = {}
+            wanted: dict[tuple[int, int], tuple[float, int, int]] = {}
             for way in ways:
                 for column in range(design.columns - (way == 0)):
                     for row in range(design.rows - (way == 1)):
                         number = design.number(way, column, row, layers)
                         capacity, demand = edges.capacity_of(way, number), edges.demand.get((way, number), 0)
-                        over = max(0, demand - capacity)
-                        found = (demand / capacity, over, 0) if capacity else (-1, 0, over)
+                        excess = max(0, demand - capacity)
+                        found = (demand / capacity, excess, 0) if capacity else (-1.0, 0, excess)
                         for tile in ((row, column), (row + (way == 1), column + (way == 0))):
-                            wanted[tile] = tuple(map(max, found, wanted.get(tile, (-1, 0, 0))))
+                            before = wanted.get(tile, (-1.0, 0, 0))
+                            wanted[tile] = (max(found[0], before[0]), max(found[1], before[1]),
+                                            max(found[2], before[2]))
             maps = loads.Loads(edges_numpy.Edges(design, solution)).by_tile(slice(layers, layers + 1), ways)
             for (row, column), (full, over, closed) in wanted.items():
                 mine = [some[row, column] for some in maps]
                 self.assertEqual([-1 if mine[0] != mine[0] else mine[0], *mine[1:]], [full, over, closed])
 
-    def test_grades(self):
+    def test_grades(self) -> None:
         """The tiles of overflow 2 have the first grade's colour, and none has it after a round."""
         before = self.count(self.picture(CROWD, self.routed(CROWD, 1)), "#fdb863")
         legend = self.count(self.picture(CROWD, self.routed(CROWD, 1, 1)), "#fdb863")
         self.assertLess(legend, 500)
         self.assertGreater(before - legend, 3 * 110 ** 2)
 
-    def test_what_is_drawn(self):
+    def test_what_is_drawn(self) -> None:
         """A net, buffers, regions, a part of the chip and one direction each change the picture."""
         library = f"{ROOT}/examples/small.library"
         _, solution, report = run(testing.program(), "route", SMALL, library, "0")
@@ -393,7 +396,7 @@ class Pictures(InFolder):
         crowd = CROWD, self.routed(CROWD, 1)
         self.assertGreater(abs(self.picture(*crowd, "--worst", "1") - self.picture(*crowd)).sum(), 0)
 
-    def test_faults(self):
+    def test_faults(self) -> None:
         solution = self.put("solution", "")
         path = os.path.join(self.folder.name, "out.png")
         for words, says in ((("--net", "b"), "no net b"), (("--region", "0", "0", "3", "1"), "tiles 0 0 to 2 1"),
@@ -408,7 +411,7 @@ class Pictures(InFolder):
 class Adjusted(InFolder):
     """adjust.py: what is cut, to what sum, and what stays."""
 
-    def capacities(self, path):
+    def capacities(self, path: str) -> Any:
         """Of a design, the capacity of each wire edge that is there, by way, layer, column and row."""
         design = Netlist(Tokens(path))
         return design, {
@@ -418,14 +421,14 @@ class Adjusted(InFolder):
             for column in range(design.columns - (way == EAST))
             for row in range(design.rows - (way == NORTH))}
 
-    def adjusted(self, path, *words):
+    def adjusted(self, path: str, *words: str) -> Any:
         """The capacities before and after, and the design after."""
         status, out, err = tool("adjust.py", path, *words)
         self.assertEqual((status, err), (0, ""))
         design, before = self.capacities(path)
         return before, self.capacities(self.put("adjusted", out))[1], design, out
 
-    def test_random_designs(self):
+    def test_random_designs(self) -> None:
         """Each layer's sum is the share of its tracks to within one; no edge has more than before."""
         for seed, text in random_designs(30):
             path = self.put("design", text)
@@ -443,7 +446,7 @@ class Adjusted(InFolder):
             self.assertEqual([found[0] for found in routed], [0, 0])
             self.assertEqual(*(found[2].split()[1] for found in routed))
 
-    def test_nothing_is_cut(self):
+    def test_nothing_is_cut(self) -> None:
         for seed, text in random_designs(10):
             path = self.put("design", text)
             before, after, _, out = self.adjusted(path, "--layer", "all", "1")
@@ -454,7 +457,7 @@ class Adjusted(InFolder):
                         "minimum spacing 1 via spacing 4 -5 6 7 8 num net 1 a 9 1001 5 " + "1 8 1 " * 1001)
         self.assertIn("via spacing 4\n-5 6 7 8\nnum net 1\na 9 1001 5\n1 8 1\n", self.adjusted(path)[3])
 
-    def test_regions_and_directions(self):
+    def test_regions_and_directions(self) -> None:
         design = self.put("design", run(testing.program(), "make", "11", "9", "8", "3", "10")[1])
         before, after, *_ = self.adjusted(design, "--region", "2", "1", "5", "3", "0.5", "--direction", "h",
                                           "--layer", "3", "0.5")
@@ -465,7 +468,7 @@ class Adjusted(InFolder):
         self.assertEqual(sum(after[key] for key in after if key[:2] == (0, 0)),
                          sum(before[key] for key in before if key[:2] == (0, 0)) - 3 * 3 * 10)
 
-    def test_faults(self):
+    def test_faults(self) -> None:
         for words, says in ((("--layer", "3", "0.5"), "3 is no layer"), (("--layer", "1", "1.5"), "no share"),
                             (("--layer", "1", "0.12345"), "no share"), (("--layer", "1", "half"), "no share"),
                             (("--region", "0", "0", "3", "1", "1"), "3 is no column"),
@@ -474,7 +477,7 @@ class Adjusted(InFolder):
             self.assertEqual((status, out), (3, ""))
             self.assertIn(says, err)
 
-    def test_layers_by_name(self):
+    def test_layers_by_name(self) -> None:
         names = self.put("names", NAMES)
         self.assertEqual(tool("adjust.py", SMALL, "--layer", "m2", "0.5", "--names", names),
                          tool("adjust.py", SMALL, "--layer", "2", "0.5"))
@@ -482,11 +485,11 @@ class Adjusted(InFolder):
                       tool("adjust.py", SMALL, "--layer", "m3", "0.5", "--names", names)[2])
 
 
-def is_in(region, place):
+def is_in(region: Any, place: tuple[int, ...]) -> bool:
     """Whether a wire edge with this lower end belongs to a region."""
     return all(low <= at <= high for low, at, high in zip(region.low, place, region.high))
 
 
-def shell_words(name, *words):
+def shell_words(name: str, *words: str) -> str:
     """The words of a shell that call a tool."""
     return shlex.join([sys.executable, os.path.join(testing.TOOLS, name), *words])

@@ -7,6 +7,7 @@ import subprocess
 import sys
 import tempfile
 import unittest
+from typing import Iterator
 
 from dev import definitions
 from testing import PICTURES, ROOT, bounds, program, text_of
@@ -20,7 +21,7 @@ WANTS_NUMPY = re.compile(r"\.png\b|tools/(hotspots|slowest|report|adjust|flow)\.
 class Samples(unittest.TestCase):
     """What the documents show is what the commands write."""
 
-    def test_samples(self):
+    def test_samples(self) -> None:
         path = {**os.environ, "PATH": os.path.dirname(sys.executable) + os.pathsep + os.environ["PATH"]}
         with tempfile.TemporaryDirectory() as folder:
             for name, path_of in (("groute", program()), ("grbound", bounds())):
@@ -43,7 +44,7 @@ class Samples(unittest.TestCase):
                         self.assertEqual(done.stdout, wanted)
 
 
-def samples(document):
+def samples(document: str) -> Iterator[tuple[str, str]]:
     """The commands of a document, and what they should write."""
     lines = text_of(document).split("\n")
     command, wanted = None, []
@@ -60,10 +61,10 @@ def samples(document):
 class Documents(unittest.TestCase):
     """What stands in two places is the same, and what is named is there."""
 
-    def test_definitions(self):
+    def test_definitions(self) -> None:
         self.assertEqual(text_of("docs/DEFINITIONS.md"), definitions.document())
 
-    def test_times(self):
+    def test_times(self) -> None:
         """README's times are rows of bench/RESULTS.md."""
         table = text_of("README.md").split("| run |", 1)[1].split("\n\n", 1)[0].splitlines()
         self.assertEqual(len(table), 7)
@@ -71,7 +72,7 @@ class Documents(unittest.TestCase):
         for line in [f"| run |{table[0]}", *table[2:]]:
             self.assertIn(line, results)
 
-    def test_names_of_contracts(self):
+    def test_names_of_contracts(self) -> None:
         """The names in docs/PROVED.md are those of definitions or of code."""
         words = set()
         for path in glob.glob(f"{ROOT}/crates/*/s*/**/*", recursive=True):
@@ -80,7 +81,7 @@ class Documents(unittest.TestCase):
         for name in re.findall(r"`([A-Z]\w+)`", text_of("docs/PROVED.md")):
             self.assertIn(name, words)
 
-    def test_glossary(self):
+    def test_glossary(self) -> None:
         """The files that the glossary names are there, and each word has one row."""
         rows = re.findall(r"^\| ([^|]+) \| [^|]+ \| [^|]+ \| ([^|]+) \|$", text_of("docs/GLOSSARY.md"), re.MULTILINE)
         rows = [row for row in rows if row[0] != "word"]
@@ -90,7 +91,7 @@ class Documents(unittest.TestCase):
             path = place if "." in place else "crates/{}/specs/{}.antt".format(*place.split("/"))
             self.assertTrue(os.path.exists(f"{ROOT}/{path}"), path)
 
-    def test_paths(self):
+    def test_paths(self) -> None:
         """Files that the documents name are there."""
         for document in ["README.md", "examples/README.md", *DOCUMENTS]:
             for path in re.findall(r"`((?:bench|docs|examples|man|reference|tools)/[\w./]+\w)", text_of(document)):
@@ -102,7 +103,7 @@ class Documents(unittest.TestCase):
 class Manual(unittest.TestCase):
     """The man page says what docs/FORMATS.md says."""
 
-    def test_faults_and_words(self):
+    def test_faults_and_words(self) -> None:
         formats = text_of("docs/FORMATS.md")
         manual = re.sub(r"\\f[BIR]", "", text_of("man/groute.1")).replace("\\-", "-")
         faults = re.findall(r"^\| ([0-9]+) \| ([^|]+) \|$", formats, re.MULTILINE)

@@ -11,13 +11,13 @@ FILES = ["design.ispd", "design.ispd.names", "design.library", "report.txt", "ro
 class Flow(InFolder):
     """flow.py on a small placement."""
 
-    def script(self, name, line):
+    def script(self, name: str, line: str) -> str:
         """The path of a program that does this."""
         path = self.put(name, f"#!/bin/sh\n{line}\n")
         os.chmod(path, 0o755)
         return path
 
-    def made(self, placed, *words):
+    def made(self, placed: str, *words: str) -> tuple[int, str, str, str]:
         """Status, what was printed, what was told, and the folder."""
         folder = os.path.join(self.folder.name, "out")
         groute = self.script("groute", f'exec {shlex.quote(program())} "$@"')
@@ -25,7 +25,7 @@ class Flow(InFolder):
                                 *words)
         return status, out, err, folder
 
-    def test_all_steps(self):
+    def test_all_steps(self) -> None:
         words = ("--layers", "met1-met5", "--rounds", "2", "--workers", "2", "--driver", "sk_inv")
         status, out, err, folder = self.made(SKY[0], "--liberty", SKY[3], *words, "--kind", "own", "1", "900", "50000")
         self.assertEqual(status, 0, err)
@@ -41,19 +41,19 @@ class Flow(InFolder):
                 with open(os.path.join(folder, name), encoding="utf-8") as file:
                     self.assertIn(says.lower(), file.read().lower())
 
-    def test_bound(self):
+    def test_bound(self) -> None:
         """What grbound writes, where it stands beside groute, comes to the page."""
         self.script("grbound", f"[ $# -gt 0 ] || exit 2\ncat <<E\n{BOUNDS}E")
         status, _, err, folder = self.made(SKY[0], "--layers", "met1-met5", "--rounds", "0")
         self.assertEqual((status, "bounds.txt" in os.listdir(folder)), (0, True), err)
 
-    def test_overflow(self):
+    def test_overflow(self) -> None:
         status, out, _, _ = self.made(SKY[0], "--layers", "met1-met5", "--rounds", "0",
                                       *(f"--adjust=met{at}=0.9" for at in range(1, 5)))
         self.assertEqual(status, 0)
         self.assertRegex(out, r"^adder: .*overflow [1-9]")
 
-    def test_first_failure(self):
+    def test_first_failure(self) -> None:
         with open(SKY[0], encoding="utf-8") as file:
             placed = self.put("bad.def", file.read().replace("END NETS", "END NET"))
         status, out, err, folder = self.made(placed)

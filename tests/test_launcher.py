@@ -34,7 +34,7 @@ def text_of(path):
 class Small(unittest.TestCase):
     """A small repository in a folder whose name has a blank."""
 
-    def setUp(self):
+    def setUp(self) -> None:
         self.folder = tempfile.mkdtemp()
         self.addCleanup(shutil.rmtree, self.folder)
         self.root = os.path.join(self.folder, "a clone")
@@ -106,27 +106,27 @@ class Small(unittest.TestCase):
 class Launcher(Small):
     """Which program runs."""
 
-    def test_the_released_one(self):
+    def test_the_released_one(self) -> None:
         for name in PROGRAMS:
             self.assertEqual(self.runs("released", name), self.path(f"release/{name}"))
             self.assertEqual(self.told("tools/release.sh", "--which", name), (0, f"release/{name}\n", ""))
             self.assertEqual(self.told(name), (2, "", ""))
 
-    def test_one_that_was_built_comes_first(self):
+    def test_one_that_was_built_comes_first(self) -> None:
         self.runs("released")
         self.build("built here")
         self.runs("built here")
         shutil.rmtree(self.path("crates/groute/out"))
         self.runs("released")
 
-    def test_a_later_start_takes_no_sums(self):
+    def test_a_later_start_takes_no_sums(self) -> None:
         self.runs("released")
         with open(os.path.join(self.bin, "sha256sum"), "w", encoding="utf-8") as file:
             file.write("#!/bin/sh\nexit 1\n")
         os.chmod(os.path.join(self.bin, "sha256sum"), 0o755)
         self.runs("released", with_rt=True)
 
-    def test_changed_sources(self):
+    def test_changed_sources(self) -> None:
         changes = {
             "a byte": lambda: self.put("crates/low/proofs/+a/A.antt", "-- lou\n"),
             "a new file": lambda: self.put("crates/groute/specs/B.antt", ""),
@@ -145,20 +145,20 @@ class Launcher(Small):
                 change()
                 self.refuses("rt isn't on PATH")
 
-    def test_an_old_date_hides_no_change(self):
+    def test_an_old_date_hides_no_change(self) -> None:
         self.runs("released")
         self.put("crates/low/src/lib.rt", "// lou\n")
         os.utime(self.path("crates/low/src/lib.rt"), (1, 1))
         self.refuses("rt isn't on PATH")
 
-    def test_other_changes(self):
+    def test_other_changes(self) -> None:
         self.runs("released")
         self.put("crates/other/src/lib.rt", "// another\n")
         self.put("crates/low/must-fail/an.edit", "")
         self.put("README.md", "")
         self.runs("released")
 
-    def test_a_program_that_is_older_than_the_sources(self):
+    def test_a_program_that_is_older_than_the_sources(self) -> None:
         self.build("built here")
         self.runs("built here")
         self.put("crates/low/src/lib.rt", "// lou\n")
@@ -166,13 +166,13 @@ class Launcher(Small):
         self.put("crates/low/src/lib.rt", "// low\n")
         self.runs("built here")
 
-    def test_a_built_program_that_is_damaged(self):
+    def test_a_built_program_that_is_damaged(self) -> None:
         self.build("built here")
         self.runs("built here")
         self.put("crates/groute/out/groute", PROGRAM.format(says="damaged"), 0o755)
         self.runs("released")
 
-    def test_a_damaged_release(self):
+    def test_a_damaged_release(self) -> None:
         text = text_of(self.path("release/groute"))
         for damaged in (text.replace("released", "enlarged"), text[:-1], ""):
             self.runs("released")
@@ -186,7 +186,7 @@ class Launcher(Small):
         shutil.rmtree(self.path("release"))
         self.refuses("rt isn't on PATH")
 
-    def test_another_machine(self):
+    def test_another_machine(self) -> None:
         """A program that the system can't start ends by another status than that for no words."""
         for says in ("exit 1\n", "kill -ILL $$\n"):
             for name in PROGRAMS:
@@ -194,14 +194,14 @@ class Launcher(Small):
                 self.told("tools/release.sh", "--note", name)
             self.refuses("x86-64-v2", "glibc 2.34", "Linux")
 
-    def test_where_nothing_can_be_noted(self):
+    def test_where_nothing_can_be_noted(self) -> None:
         self.put(".seen", "")
         for _ in range(2):
             self.runs("released")
         self.put("crates/low/src/lib.rt", "// lou\n")
         self.refuses("rt isn't on PATH")
 
-    def test_two_first_calls_at_once(self):
+    def test_two_first_calls_at_once(self) -> None:
         words = [self.path("groute"), "a"]
         calls = [subprocess.Popen(words, env={"PATH": PLAIN}, stdout=subprocess.PIPE, stderr=subprocess.STDOUT)
                  for _ in range(8)]
@@ -210,14 +210,14 @@ class Launcher(Small):
         self.runs("released")
         self.assertLessEqual(len(os.listdir(self.path(".seen"))), 9)
 
-    def test_by_links_and_paths(self):
+    def test_by_links_and_paths(self) -> None:
         os.symlink(self.path("groute"), os.path.join(self.folder, "link"))
         for words, folder in (([os.path.join(self.folder, "link")], "/"), (["./groute"], self.root),
                               (["sh", "groute"], self.root), (["../groute"], self.path("crates"))):
             done = subprocess.run([*words, "a"], cwd=folder, env={"PATH": PLAIN}, check=False, capture_output=True)
             self.assertTrue(done.stdout.endswith(b"released a\n"), (words, done))
 
-    def test_on_a_terminal(self):
+    def test_on_a_terminal(self) -> None:
         """What is wrong with groute's words is told by another script; the rest is the program's."""
         self.put("tools/in_words.py", "import sys\nprint('in words', *sys.argv[2:])\n")
         for name, shown in (("groute", "in words a\n"), ("grbound", "released a\n")):
@@ -228,7 +228,7 @@ class Launcher(Small):
             os.close(mine)
             self.assertTrue(done.stdout.decode().endswith(shown), done)
 
-    def test_a_build(self):
+    def test_a_build(self) -> None:
         self.put("crates/low/src/lib.rt", "// lou\n")
         status, out, err = self.told("groute", "a", with_rt=True)
         self.assertEqual((status, out.partition(": ")[2]), (0, "built a\n"))
@@ -241,7 +241,7 @@ class Launcher(Small):
         status, out, _ = self.told("grbound", "a")
         self.assertEqual((status, out), (125, ""))
 
-    def test_a_proof_that_fails(self):
+    def test_a_proof_that_fails(self) -> None:
         self.put("crates/low/src/lib.rt", "// lou\n")
         with open(os.path.join(self.bin, "rt"), "w", encoding="utf-8") as file:
             file.write("#!/bin/sh\necho error: no proof\nexit 1\n")
@@ -258,23 +258,23 @@ class Check(Small):
         status, out, err = self.told("tools/release.sh", "--check", with_rt=True)
         return status, out + err
 
-    def test_the_same(self):
+    def test_the_same(self) -> None:
         self.build("released")
         self.assertEqual(self.checked()[0], 0)
         self.assertEqual(self.told("tools/release.sh", "--current"), (0, "", ""))
 
-    def test_nothing_built(self):
+    def test_nothing_built(self) -> None:
         self.assertIn("isn't noted as built", self.checked()[1])
         self.assertEqual(self.checked()[0], 1)
         self.assertEqual(self.told("tools/release.sh", with_rt=True)[0], 1)
 
-    def test_other_bytes(self):
+    def test_other_bytes(self) -> None:
         self.build("another")
         status, told = self.checked()
         self.assertEqual(status, 1)
         self.assertIn("tools/release.sh, and .ci/run again", told)
 
-    def test_a_changed_byte(self):
+    def test_a_changed_byte(self) -> None:
         self.build("released")
         for name in ("release/groute", "release/grbound", "release/SUMS", "crates/low/src/lib.rt"):
             text = text_of(self.path(name))
@@ -286,7 +286,7 @@ class Check(Small):
         os.remove(self.path("release/grbound"))
         self.assertEqual(self.checked()[0], 1)
 
-    def test_another_kit(self):
+    def test_another_kit(self) -> None:
         self.build("another")
         self.make_rt("kit two")
         self.put("reference/rows.py", "import sys\nprint(sys.argv[1])\n")
@@ -323,14 +323,14 @@ class Clone(unittest.TestCase):
         done = subprocess.run(words, cwd=self.root, check=False, capture_output=True, env={"PATH": PLAIN})
         return done.returncode, done.stdout.decode(), done.stderr.decode()
 
-    def test_both_programs(self):
+    def test_both_programs(self) -> None:
         solution = text_of(os.path.join(self.root, "examples/small.solution"))
         status, out, _ = self.told("./groute", "route", "examples/small.ispd", "examples/small.library", "3")
         self.assertEqual((status, out), (0, solution))
         status, out, _ = self.told("./grbound", "examples/small.ispd")
         self.assertEqual((status, out.splitlines()[0]), (0, "overflow at least 0"))
 
-    def test_the_program_tells_its_version_of_libraries(self):
+    def test_the_program_tells_its_version_of_libraries(self) -> None:
         """The released programs want no library but the C library, of 2.34 at most."""
         for name in PROGRAMS:
             with open(os.path.join(self.root, "release", name), "rb") as file:

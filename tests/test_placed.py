@@ -6,13 +6,13 @@ import random
 import re
 import shutil
 import unittest
+from typing import Any, Iterator
 
-from groute.commands import def_to_ispd
-from groute.placed import library_text
+from groute.placed import design_text, library_text
 from groute.placed.chip import Chip
 from groute.placed.def_text import Def
 from groute.placed.lef_text import Lef
-from groute.placed.statements import Notes, moved, polygon, turned
+from groute.placed.statements import Notes, Shape, moved, polygon, turned
 from testing import HERE, ROOT, InFolder, program, run, tool
 from groute.texts.files import Fault
 
@@ -101,13 +101,13 @@ out 2 1 1
 class Placed(InFolder):
     """def_to_ispd.py on a small placed design."""
 
-    def told(self, *kinds):
+    def told(self, *kinds: str | int) -> str:
         """What is said of kinds that are skipped, each behind it the line of the LEF."""
         path = os.path.join(self.folder.name, "lef")
         return "".join(f"def_to_ispd: {path}:{line}: {kind} is skipped\n"
                        for kind, line in zip(kinds[::2], kinds[1::2]))
 
-    def made(self, placed, lef, *words):
+    def made(self, placed: str, lef: str, *words: str) -> Any:
         """What the tool did, and the design and the library that it wrote."""
         design, library = (os.path.join(self.folder.name, name) for name in ("design", "library"))
         done = tool("def_to_ispd.py", self.put("def", placed), self.put("lef", lef), design, library, *words)
@@ -118,7 +118,7 @@ class Placed(InFolder):
                     texts.append(file.read())
         return done, texts
 
-    def test_design_and_library(self):
+    def test_design_and_library(self) -> None:
         done, (design, library) = self.made(DEF, LEF, "--scale", "10", "--kind", "BUF", "1", "2", "3")
         self.assertEqual(done, (0, "", self.told("LAYER of TYPE MASTERSLICE", 4, "LAYER of TYPE CUT", 7)))
         self.assertEqual(design, TINY)
@@ -127,7 +127,7 @@ class Placed(InFolder):
         paths = (os.path.join(self.folder.name, name) for name in ("design", "library"))
         self.assertEqual(run(program(), "route", *paths, "3")[0], 0)
 
-    def test_guides(self):
+    def test_guides(self) -> None:
         solution = self.put("solution", "in 0 (50,150,1)-(50,150,2) (50,150,2)-(50,50,2) (50,50,1)-(50,50,2) !\n"
                                         "mid 1 (50,50,1)-(250,50,1) (250,50,1)-(250,50,2) (250,50,2)-(250,150,2)\n"
                                         "(250,150,1)-(250,150,2) ! out 2 !")
@@ -153,7 +153,7 @@ out
 )
 """)
 
-    def test_statements_that_change_nothing(self):
+    def test_statements_that_change_nothing(self) -> None:
         for old, new in (
             ("SPACING 1 ; RESISTANCE RPERSQ 5", "SPACING 1 ; SPACING 3 RANGE 5 10 ; RESISTANCE RPERSQ 5"),
             ("SPACING 1 ; RESISTANCE RPERSQ 5",
@@ -182,7 +182,7 @@ out
             self.assertIn(old, DEF)
             self.assertEqual(self.made(DEF.replace(old, new, 1), LEF)[1][0], TINY, new)
 
-    def test_what_is_told(self):
+    def test_what_is_told(self) -> None:
         for text, old, new, says in (
             (DEF, "TRACKS X 10 DO 15 STEP 20 LAYER m2 ;", "TRACKS X 10 DO 15 STEP 20 LAYER m3 ;", None),
             (DEF, "TRACKS Y 10 DO 10", "TRACKS Y 10 DO 10 STEP 20 LAYER m3 ;\nTRACKS Y 10 DO 10", ""),
@@ -198,17 +198,17 @@ out
             self.assertIn("LAYER m2 has no TRACKS X, and so no room for wires" if says is None else says, err)
             self.assertEqual(made[:1], [] if says is None else [TINY])
 
-    def test_a_pipe(self):
+    def test_a_pipe(self) -> None:
         status, out, _ = tool("def_to_ispd.py", self.put("def", DEF), self.put("lef", LEF), "/dev/stdout")
         self.assertEqual((status, out), (0, TINY))
 
-    def test_bits_of_buses(self):
+    def test_bits_of_buses(self) -> None:
         lef = LEF.replace("PIN A ", "PIN A[0] ").replace("END A\n", "END A[0]\n")
         for bits, name in (("", "A[0]"), ("", "A\\[0\\]"), ('BUSBITCHARS "<>" ;', "A<0>")):
             placed = DEF.replace("one A", f"one {name}").replace("two A", f"two {name}")
             self.assertEqual(self.made(placed.replace("DESIGN tiny ;", f"DESIGN tiny ; {bits}"), lef)[1][0], TINY)
 
-    def test_what_is_refused(self):
+    def test_what_is_refused(self) -> None:
         for old, new, says in (
             ("PLACED ( 0 0 ) N", "UNPLACED", ":22: the net in needs the component one, which isn't placed"),
             ("( 200 100 ) S", "( 200 100 ) NE", ":13: the form of the statement is not read here: - two BUF + PLACED"),
@@ -248,7 +248,7 @@ out
             self.assertEqual(status, 3)
             self.assertIn(says, err)
 
-    def test_blockages(self):
+    def test_blockages(self) -> None:
         # On m1 above the first tile: tracks 110 and 130 lie nearer than 15 to it, and 110 alone nearer than 5; both
         # count for the first border of row 1, which held 8.
         for words, capacity in (("", 4), ("+ SPACING 0", 6), ("+ EXCEPTPGNET + SPACING 10 + PUSHDOWN", 4),
@@ -259,7 +259,7 @@ out
         item = "BLOCKAGES 1 ; - PLACEMENT + SOFT RECT ( 0 0 ) ( 300 200 ) ; END BLOCKAGES\nNETS 3"
         self.assertEqual(self.made(DEF.replace("NETS 3", item), LEF)[1][0], TINY)
 
-    def test_rules_for_wide_nets(self):
+    def test_rules_for_wide_nets(self) -> None:
         # Of a pitch of 2 micrometres: 3 + 2 of them take 5 of a track's 2, and 1.5 + 1 take 3.
         for rule, width in (("+ LAYER m1 WIDTH 30 SPACING 20", 4), ("+ LAYER m2 WIDTH 15", 2),
                             ("+ LAYER m3 WIDTH 90", 1),
@@ -268,7 +268,7 @@ out
             placed = DEF.replace("NETS 3", item).replace("( two Y )", "( two Y ) + NONDEFAULTRULE wide")
             self.assertEqual(self.made(placed, LEF)[1][0], TINY.replace("out 2 1 1", f"out 2 1 {width}"))
 
-    def test_rows_of_qflow_and_fifteen_pitches(self):
+    def test_rows_of_qflow_and_fifteen_pitches(self) -> None:
         sized = self.made(DEF.replace("DESIGN tiny ;", "DESIGN tiny ; ROW r core 0 0 N ;"), LEF)[1][0]
         self.assertEqual(sized.splitlines()[0], "grid 1 1 2")   # 15 pitches of 2 micrometres are 300 units
         sized = self.made(DEF, LEF, "--tile", "150", "100")[1][0]
@@ -278,7 +278,7 @@ out
 class Geometry(unittest.TestCase):
     """Rectangles of polygons, and shapes that are turned."""
 
-    def test_polygons(self):
+    def test_polygons(self) -> None:
         corner = polygon("m", [0, 0, 6, 0, 6, 2, 2, 2, 2, 5, 0, 5])
         self.assertEqual(corner, [("m", 0, 0, 6, 2, None), ("m", 0, 2, 2, 5, None)])
         ring = polygon("m", [0, 0, 6, 0, 6, 6, 0, 6, 0, 4, 4, 4, 4, 2, 0, 2])
@@ -289,19 +289,19 @@ class Geometry(unittest.TestCase):
         for values in ([0, 0, 5, 0, 9, 0], [0, 0, 5], []):
             self.assertRaises(ValueError, polygon, "m", values)
 
-    def test_orientations(self):
+    def test_orientations(self) -> None:
         # Of a cell 10 wide and 4 high, a shape near its lower left corner.
         shape = ("m", 1, 2, 4, 3, None)
         places = {"N": (1, 2, 4, 3), "S": (6, 1, 9, 2), "E": (2, 6, 3, 9), "W": (1, 1, 2, 4), "FN": (6, 2, 9, 3),
                   "FS": (1, 1, 4, 2), "FE": (1, 6, 2, 9), "FW": (2, 1, 3, 4)}
         for orientation, place in places.items():
-            self.assertEqual(turned(shape, orientation, 10, 4)[1:5], place, orientation)
+            self.assertEqual(turned(Shape(*shape), orientation, 10, 4)[1:5], place, orientation)
 
 
 class Technologies(InFolder):
     """def_to_ispd.py on designs in the style of two technologies of today."""
 
-    def made(self, texts, *words):
+    def made(self, texts: list[str], *words: str) -> Any:
         """The lines of the design, of the text beside it and of the library, and what was told."""
         design, library = (os.path.join(self.folder.name, name) for name in ("design", "library"))
         lefs = [word for text in texts[2:] for word in ("--lef", text)]
@@ -315,7 +315,7 @@ class Technologies(InFolder):
         return (*lines, err)
 
     # Worked out by hand. Tiles of GCELLGRID are 6900 by 6900, and the last row runs from 41400 to 54400.
-    def test_sky(self):
+    def test_sky(self) -> None:
         design, names, library, err = self.made(SKY, "--layers", "met1-met5", "--scale", "10")
         self.assertEqual(design[0], "grid 8 7 5")
         self.assertEqual(design[6], "0 0 6900 6900")
@@ -349,7 +349,7 @@ class Technologies(InFolder):
             words = [text.replace("..", "").split()[0], "TYPE", "spare", "- y"]
             self.assertTrue(any(word in there for word in words), text)
 
-    def test_shares_and_layers(self):
+    def test_shares_and_layers(self) -> None:
         whole = self.made(SKY, "--layers", "met1-met3")[0]
         less = self.made(SKY, "--layers", "met1-met3", "--adjust", "met1=0.8", "--adjust", "met3=1")[0]
         most, least = ([int(value) for value in lines[2].split()[2:]] for lines in (whole, less))
@@ -362,7 +362,7 @@ class Technologies(InFolder):
             self.assertIn(says, err)
         self.assertEqual(tool("def_to_ispd.py", *SKY[:2], "design", "--adjust", "met1=2")[0], 2)
 
-    def test_gf(self):
+    def test_gf(self) -> None:
         design, names, library, _ = self.made(GF)
         # GCELLGRID isn't regular: 15 pitches of Metal3, 0.56 micrometres at 2000 units, of a die of 61600 by 60000.
         self.assertEqual((design[0], design[6]), ("grid 4 4 4", "0 0 16800 16800"))
@@ -373,7 +373,7 @@ class Technologies(InFolder):
         self.assertEqual(library[5], "via 4 0")
 
     @unittest.skipUnless(os.path.exists(OSU035), "qflow-tech-osu035 is not there")
-    def test_a_design_of_qflow(self):
+    def test_a_design_of_qflow(self) -> None:
         with lzma.open(f"{ROOT}/examples/mul8.def.xz", "rt", encoding="ascii") as file:
             placed = self.put("mul8.def", file.read())
         design = os.path.join(self.folder.name, "mul8.ispd")
@@ -381,13 +381,13 @@ class Technologies(InFolder):
         with open(design, "rb") as file:
             self.assertEqual(hashlib.sha256(file.read()).hexdigest(), MUL8)
 
-    def test_decimals_are_exact(self):
+    def test_decimals_are_exact(self) -> None:
         # ZN of gf_inv lies from 1.0075 to 1.2375, which are 2015 and 2475 units, and rounded to 0.001 wouldn't be.
         lef = Lef(GF[1:], 2000, Notes("test", False))
         self.assertEqual(lef.macros["gf_inv"].pins["ZN"].shapes[0][:5], ("Metal1", 2015, 1200, 2475, 6400))
 
 
-def chip_of(texts):
+def chip_of(texts: list[str]) -> Chip:
     """A placed design."""
     placed = Def(texts[0], Notes("test", False))
     return Chip(placed, Lef(texts[1:], placed.units, Notes("test", False)))
@@ -404,7 +404,7 @@ class Shapes(InFolder):
     GF_EDITS = ((r"(?s)\nSPACING\n.*END SPACING", ""), (r"(?s)ARRAY.*END core_array", ""),
                 (r"(?s)TIMING.*END TIMING", ""))
 
-    def shapes(self, chip):
+    def shapes(self, chip: Chip) -> Iterator[tuple[str, Any]]:
         """Shapes by kind, as KLayout has them."""
         for shape in chip.placed.special:
             yield "SPECIAL", shape
@@ -423,7 +423,7 @@ class Shapes(InFolder):
                 for kind, shape in kinds + [("OBS", shape) for shape in macro.obstructions]:
                     yield kind, moved(macro.in_place(shape, component.orientation), component.x, component.y)
 
-    def test_capacities(self):
+    def test_capacities(self) -> None:
         """Track by track and shape by shape, the capacities are those of the design."""
         for texts in (SKY, GF):
             chip = chip_of(texts)
@@ -443,16 +443,16 @@ class Shapes(InFolder):
                                            for shape in mine) for track in tracks)
                         self.assertEqual(found[line][at], 2 * free, (layer.name, line, at))
 
-    def takes(self, chip, layer, shape, along, track, middle, side):
+    def takes(self, chip: Chip, layer: Any, shape: Any, along: int, track: int, middle: int, side: int) -> bool:
         """Whether a shape keeps a wire from a track between this middle of a tile and the next."""
         spacing = layer.apart() * chip.placed.units if shape.spacing is None else shape.spacing
         room = round(layer.width * chip.placed.units / 2 + spacing)
         across, far = (shape[2], shape[4]) if along == 0 else (shape[1], shape[3])
         low, high = (shape[1], shape[3]) if along == 0 else (shape[2], shape[4])
-        return across - room < track < far + room and low - room < middle + side and high + room > middle
+        return bool(across - room < track < far + room and low - room < middle + side and high + room > middle)
 
     @unittest.skipUnless(shutil.which("klayout"), "klayout is not there")
-    def test_klayout(self):
+    def test_klayout(self) -> None:
         for texts, edits, kinds in ((SKY, self.SKY_EDITS, 25), (GF, self.GF_EDITS, 11)):
             paths = []
             for path in texts:
@@ -470,16 +470,16 @@ class Shapes(InFolder):
                                    "-rd", f"units={chip.placed.units}",
                                    env={**os.environ, "QT_QPA_PLATFORM": "offscreen"})
             self.assertEqual(status, 0, err)
-            found = [line.split() for line in out.splitlines() if line.startswith("differ ")]
-            found = [(kind, layer, area) for _, kind, layer, area, *_ in found if layer in layers]
+            lines = [line.split() for line in out.splitlines() if line.startswith("differ ")]
+            found = [(kind, layer, area) for _, kind, layer, area, *_ in lines if layer in layers]
             self.assertEqual([line for line in found if line[2] != "0"], [])
             self.assertEqual(len(found), kinds)
             self.assert_pins(chip, out)
 
-    def assert_pins(self, chip, out):
+    def assert_pins(self, chip: Chip, out: str) -> None:
         """Each pin of a net lies in the middle of a shape of its name, on its layer, as KLayout has it; of a polygon
         with corners to the inside, within its box."""
-        boxes = {}
+        boxes: dict[Any, Any] = {}
         for line in out.splitlines():
             if line.startswith("pin "):
                 _, name, layer, *corners = line.split()
@@ -500,7 +500,7 @@ class Shapes(InFolder):
 class Mutated(InFolder):
     """Texts in which a statement is missing, doubled or at fault are read or refused in words."""
 
-    def test_five_hundred_texts(self):
+    def test_five_hundred_texts(self) -> None:
         rng = random.Random(55)
         empty, read = self.put("empty", ""), 0
         for _ in range(500):
@@ -510,7 +510,7 @@ class Mutated(InFolder):
                 mutated = self.put("mutated", self.mutated(file.read(), rng))
             try:
                 chip = chip_of([*texts[:at], mutated, *texts[at + 1:]])
-                lines = list(def_to_ispd.design_text(chip))
+                lines = list(design_text.design_text(chip))
                 list(library_text.wires(chip, 1))
             except Fault as fault:
                 self.assertRegex(str(fault), r"[a-z]")
@@ -520,7 +520,7 @@ class Mutated(InFolder):
             self.assertIn(run(program(), "evaluate", design, empty)[0], (0, 1))
         self.assertGreater(read, 100)
 
-    def mutated(self, text, rng):
+    def mutated(self, text: str, rng: random.Random) -> str:
         """The text with a line left out, doubled or moved, a token changed, or without its end."""
         lines = text.splitlines(keepends=True)
         at, way = rng.randrange(len(lines)), rng.randrange(6)

@@ -11,9 +11,12 @@ from unittest import mock
 
 import browser
 import testing
+from typing import Any
 from groute.commands import report
+from groute.loads import edges_plain
 from groute.texts.designs import Netlist
 from groute.texts.files import Fault
+from groute.texts.solutions import records
 from groute.texts.tokens import Tokens
 from test_answers import random_designs
 from testing import PICTURES, ROOT, InFolder, run, tool
@@ -26,7 +29,7 @@ HARD = "</script><script>alert(1)</script>"    # a net may be called so
 class Report(InFolder):
     """What report.py writes and prints."""
 
-    def page(self, *words):
+    def page(self, *words: str) -> tuple[str, str]:
         """What the tool prints, and the page."""
         path = os.path.join(self.folder.name, "report.html")
         status, out, err = tool("report.py", *words, "-o", path)
@@ -34,7 +37,7 @@ class Report(InFolder):
         with open(path, encoding="utf-8") as file:
             return out, file.read()
 
-    def test_verdict(self):
+    def test_verdict(self) -> None:
         crowd, library = f"{ROOT}/examples/crowd.ispd", f"{ROOT}/examples/crowd.library"
         reports = []
         for rounds in "01":
@@ -49,7 +52,7 @@ class Report(InFolder):
         says = "it is of other routes: it tells overflow 4, the solution has 0"
         self.assertEqual((status, err), (3, f"report: {reports[0]}: {says}\n"))
 
-    def test_nothing_from_a_network(self):
+    def test_nothing_from_a_network(self) -> None:
         """One script and one style, by their hashes, and no address."""
         _, page = self.page(f"{ROOT}/examples/small.ispd", f"{ROOT}/examples/small.solution")
         self.assertRegex(page, r"default-src 'none'; script-src 'sha256-\S+'; style-src 'sha256-\S+'; base-uri 'none'; "
@@ -57,15 +60,15 @@ class Report(InFolder):
         self.assertEqual((len(re.findall("<script", page)), len(re.findall("<style", page))), (1, 1))
         self.assertEqual(re.findall(r"https?:|\bsrc=|\bhref=|@import|url\(|\bfetch\(|innerHTML", page), [])
 
-    def data(self, page):
+    def data(self, page: str) -> tuple[dict[str, Any], dict[str, Any]]:
         """What is packed in a page: its head, and the arrays by their names."""
-        data = zlib.decompress(base64.b64decode(re.search('<template id="data">(.*)</template>', page).group(1)))
+        data = zlib.decompress(base64.b64decode(testing.found('<template id="data">(.*)</template>', page).group(1)))
         numpy, (length,) = importlib.import_module("numpy"), struct.unpack("<I", data[:4])
         head = json.loads(data[4:4 + length])
         return head, {name: numpy.frombuffer(data, f"<{kind}", count, 4 + length + at)
                       for name, (kind, at, count) in head["arrays"].items()}
 
-    def test_what_is_packed(self):
+    def test_what_is_packed(self) -> None:
         """Overflow, wires, vias, pins, buffers and required times are those of the texts."""
         for seed, text in random_designs(10):
             design = self.put("design", text)
@@ -91,7 +94,7 @@ class Report(InFolder):
                 self.assertEqual(int(arrays["pins"].sum()), len(arrays["pinValues"]))
                 self.assertEqual(head["allNets"], len(names))
 
-    def test_bound(self):
+    def test_bound(self) -> None:
         """What grbound wrote is in the data, and nothing of it where it isn't given."""
         words = f"{ROOT}/examples/small.ispd", f"{ROOT}/examples/small.solution"
         head, _ = self.data(self.page(*words, "--bound", self.put("bounds", testing.BOUNDS))[1])
@@ -102,7 +105,7 @@ class Report(InFolder):
         status, _, err = tool("report.py", *words, "--bound", words[0], "-o", self.put("page", ""))
         self.assertEqual((status, err), (3, f"report: {words[0]}: it isn't what grbound writes\n"))
 
-    def test_most_nets(self):
+    def test_most_nets(self) -> None:
         """Of a larger design, and where the page is too large, the nets of regions and the slowest alone are there."""
         pages = importlib.import_module("groute.show.pages")
         design = self.put("design", run(testing.program(), "make", "11", "24", "20", "4", "2000")[1])
@@ -125,7 +128,7 @@ class Report(InFolder):
 class Page(InFolder):
     """The page in a browser. Each test ends within a minute, as the browser is ended then."""
 
-    def grom(self, *words):
+    def grom(self, *words: str) -> tuple[str, str]:
         """The address of a page of a real chip, without rounds, made with these words too, and its report."""
         data = run("xz", "-dc", f"{ROOT}/examples/{GROM}.ispd.xz")[1]
         design, library = self.put("grom.ispd", data), f"{ROOT}/examples/osu035.library"
@@ -136,12 +139,12 @@ class Page(InFolder):
         self.assertEqual(done[::2], (0, ""))
         return f"file://{page}", report
 
-    def opened(self, page, address):
+    def opened(self, page: browser.Browser, address: str) -> Any:
         """A page whose first picture is painted."""
         page.open(address)
         page.wait("document.documentElement?.dataset.picture !== undefined")
 
-    def changed(self, page, before):
+    def changed(self, page: browser.Browser, before: Any) -> Any:
         """How many pixels of the map differ from those of a screenshot, and the screenshot of now."""
         image = importlib.import_module("matplotlib.image")
         path = os.path.join(self.folder.name, "screen.png")
@@ -151,7 +154,7 @@ class Page(InFolder):
         pixels = (image.imread(path)[top:top + high, left:left + wide, :3] * 255).round().astype(int)
         return None if before is None else int((pixels != before).any(axis=2).sum()), pixels
 
-    def test_a_real_chip(self):
+    def test_a_real_chip(self) -> None:
         """A click on a region and on a net; Escape goes back; the address shows the same again."""
         address, report = self.grom()
         with browser.Browser() as page:
@@ -188,17 +191,17 @@ class Page(InFolder):
             self.assertEqual(page.text("#shown"), "net none is not on this page")
             self.assertEqual(page.complaints(), [])
 
-    def wire_colours(self, page, pixels):
+    def wire_colours(self, page: browser.Browser, pixels: Any) -> set[int]:
         """The layers whose wire colour is on the map."""
         colours = page.value("WIRES")
         return {layer for layer, colour in enumerate(colours) if (pixels == [int(colour[at:at + 2], 16) for at in (
             1, 3, 5)]).all(axis=2).sum() > 20}
 
-    def wire_layers(self, page):
+    def wire_layers(self, page: browser.Browser) -> set[int]:
         """The layers on which the shown net has wires."""
         return set(page.value("[...runsOf(shown.net)].filter((run) => !run[3]).map((run) => run[2])"))
 
-    def test_walls(self):
+    def test_walls(self) -> None:
         """The fullest walls are listed, and the overflow that any routes have; a click shows a wall."""
         address, _ = self.grom("--bound", self.put("bounds", testing.BOUNDS))
         with browser.Browser() as page:
@@ -208,11 +211,105 @@ class Page(InFolder):
             self.assertEqual(page.text(first), "box 0 0 0 0")
             whole = self.changed(page, None)[1]
             page.click(*page.middle(first))
-            self.assertRegex(page.value("location.hash"), r"^#view=[\d.%C]+$")
-            self.assertGreater(self.changed(page, whole)[0], 0)
+            self.assertRegex(page.value("location.hash"), r"^#wall=1&view=[\d.%C]+$")
+            with_wall = self.changed(page, whole)[1]
+            self.assertTrue(page.value("document.querySelector('#walls tbody tr').className === 'here'"))
+            link = page.value("location.href")
+            page.press("Escape")
+            self.assertEqual(page.value("location.hash"), "")
+            page.open("about:blank")
+            self.opened(page, link)
+            page.settle()
+            self.assertLess(self.changed(page, with_wall)[0], 20)
+            self.opened(page, address + "#wall=2&view=2,12,40")
+            self.assertEqual(page.value("endsOf(data.walls[1])"), [[2, 0], [2, 24]])
             self.assertEqual(page.complaints(), [])
 
-    def test_what_is_heard(self):
+    def test_six_rows(self) -> None:
+        """On a screen of 1366 by 768 each table shows six rows, walls among them."""
+        text = testing.BOUNDS + "".join(f"row {at} needs 2 holds 9\n" for at in range(8))
+        address, _ = self.grom("--bound", self.put("bounds", text))
+        with browser.Browser(1366, 768) as page:
+            self.opened(page, address)
+            for name in ("layers", "regions", "walls", "closed", "nets"):
+                shown = page.value(f"""(() => {{
+                    const place = document.getElementById("{name}"), box = place.getBoundingClientRect();
+                    const head = place.querySelector("thead").getBoundingClientRect().bottom;
+                    const rows = [...place.querySelectorAll("tbody tr:not(.space), tfoot tr")];
+                    return [rows.length, rows.filter((row) => {{
+                        const side = row.getBoundingClientRect();
+                        return side.top >= head - 1 && side.bottom <= Math.min(box.bottom, innerHeight) + 1;
+                    }}).length];
+                }})()""")
+                self.assertGreaterEqual(shown[1], min(6, shown[0]), name)
+            self.assertEqual(page.complaints(), [])
+
+    def test_edges(self) -> None:
+        """Overflow at capacity 0 is listed; a click on it, or on an edge, tells whose nets cross it."""
+        address, _ = self.grom()
+        design = Netlist(Tokens(os.path.join(self.folder.name, "grom.ispd")))
+        plain = edges_plain.Edges(design, os.path.join(self.folder.name, "solution"))
+        closed = sorted((demand for _, _, capacity, demand in plain.used() if not capacity), reverse=True)
+        with browser.Browser() as page:
+            self.opened(page, address)
+            self.assertEqual(page.value("+document.querySelector('#closed table').ariaRowCount") - 1, len(closed))
+            row = "[...document.querySelector('#closed tbody tr').cells].map((cell) => cell.textContent)"
+            place, layer, direction, overflow = page.value(row)
+            self.assertEqual(int(overflow), closed[0])
+            page.click(*page.middle("#closed tbody tr:nth-child(1) button"))
+            self.assertEqual(page.value("location.hash").split("&")[0], f"#layer={layer[-1]}")
+            column, line = map(int, place.split())
+            way = 0 if direction == "horizontal" else 1
+            number = design.number(way, column, line, int(layer[-1]) - 1)
+            wanted = {design.names[id_] for id_, segments in records(design, f"{self.folder.name}/solution")
+                      if any((way, number) in plain.covered(*design.run(segment)) for segment in segments)}
+            said = page.text("#told")
+            self.assertEqual(set(said.split(f"nets on {layer}: ")[1].split(" and ")[0].split(", ")), wanted)
+            self.assertEqual(page.complaints(), [])
+
+    def test_summed(self) -> None:
+        """Colours by sums over layers are those of the summed demand and capacity."""
+        address, _ = self.grom()
+        numpy, edges_numpy = importlib.import_module("numpy"), importlib.import_module("groute.loads.edges_numpy")
+        design = Netlist(Tokens(os.path.join(self.folder.name, "grom.ispd")))
+        edges = edges_numpy.Edges(design, os.path.join(self.folder.name, "solution"))
+        wanted = numpy.full((design.rows, design.columns), -1.0)
+        for way in (0, 1):
+            demand, capacity = (edges_numpy.by_layer(design, way, some[way]).sum(axis=0)
+                                for some in (edges.demand, edges.capacity))
+            use = numpy.where(capacity > 0, demand / numpy.maximum(capacity, 1), -1)
+            low, high = (wanted[:, :-1], wanted[:, 1:]) if way == 0 else (wanted[:-1], wanted[1:])
+            mine = use[:, :-1] if way == 0 else use[:-1]
+            for side in (low, high):
+                numpy.maximum(side, mine, out=side)
+        with browser.Browser() as page:
+            self.opened(page, address + "#colours=sum")
+            found = numpy.array(page.value("[...picture.full]")).reshape(design.rows, design.columns)
+            self.assertLess(abs(found - wanted).max(), 1e-6)
+            page.value("document.getElementById('colours').value = ''")
+            page.value("document.getElementById('colours').onchange({ target: { value: '' } })")
+            self.assertEqual(page.value("location.hash"), "")
+            self.assertEqual(page.complaints(), [])
+
+    def test_unjoined(self) -> None:
+        """Nets that aren't joined come first, and can be listed alone."""
+        address, _ = self.grom()
+        design, solution = (os.path.join(self.folder.name, name) for name in ("grom.ispd", "solution"))
+        with open(solution, encoding="utf-8") as file:
+            kept = file.read().split("!\n")[:-4]
+        path, less = os.path.join(self.folder.name, "less.html"), self.put("less", "!\n".join([*kept, ""]))
+        count = int(run(testing.program(), "evaluate", design, less)[1].split()[11])
+        self.assertGreater(count, 1)
+        status, out, err = tool("report.py", design, less, "-o", path)
+        self.assertEqual((status, out.split(";")[0]), (1, f"{count} nets unjoined"))
+        self.assertTrue(err.startswith(f"report: {count} nets unjoined: "))
+        with browser.Browser() as page:
+            self.opened(page, f"file://{path}#nets=unjoined")
+            self.assertTrue(page.text("#verdict").startswith(f"{count} nets unjoined; overflow "))
+            self.assertEqual(page.text("#found"), f"{count} of {count}")
+            self.assertEqual(page.complaints(), [])
+
+    def test_what_is_heard(self) -> None:
         """The accessibility tree holds the tables; arrows tell the place that they come to."""
         address, _ = self.grom()
         with browser.Browser() as page:
@@ -241,7 +338,7 @@ class Page(InFolder):
             self.assertRegex(page.text("#told"), r"^(Tile|Edge) .* microns\n.*metal\d")
             self.assertEqual(page.complaints(), [])
 
-    def test_sort_and_search(self):
+    def test_sort_and_search(self) -> None:
         address, _ = self.grom()
         with browser.Browser() as page:
             self.opened(page, address)
@@ -260,7 +357,7 @@ class Page(InFolder):
             self.assertTrue(all(name.startswith("clk_bF") for name in names))
             self.assertEqual(page.complaints(), [])
 
-    def test_tiles_and_runs(self):
+    def test_tiles_and_runs(self) -> None:
         """What the page paints is what the other tools count: each tile, and the runs of each net."""
         address, _ = self.grom()
         loads, edges_numpy = map(importlib.import_module, ("groute.loads.regions", "groute.loads.edges_numpy"))
@@ -285,14 +382,14 @@ class Page(InFolder):
                 self.assertEqual(sorted(mine), sorted(wanted))
             self.assertEqual(page.complaints(), [])
 
-    def test_zoom_and_pan(self):
+    def test_zoom_and_pan(self) -> None:
         """The wheel keeps what is under the pointer, a drag moves it along, and the browser's way back leads back."""
         address, _ = self.grom()
         with browser.Browser() as page:
             self.opened(page, address)
             left, top = page.value("(({x, y}) => [x, y])(document.getElementById('map').getBoundingClientRect())")
 
-            def assert_under(x, y, tile):
+            def assert_under(x: float, y: float, tile: Any) -> None:
                 for one, other in zip(page.value(f"picture.toTiles({x}, {y})"), tile):
                     self.assertAlmostEqual(one, other, delta=0.2)
 
@@ -313,7 +410,7 @@ class Page(InFolder):
             self.assertEqual(page.text("#found"), "1,999 of 1,999")
             self.assertEqual(page.complaints(), [])
 
-    def test_a_part_of_the_nets(self):
+    def test_a_part_of_the_nets(self) -> None:
         """Where not all nets are there, the page says how many are not, and the others are shown."""
         pages = importlib.import_module("groute.show.pages")
         design = self.put("design", run(testing.program(), "make", "11", "24", "20", "4", "2000")[1])
@@ -330,7 +427,7 @@ class Page(InFolder):
             self.assertTrue(page.text("#shown").startswith("net n"))
             self.assertEqual(page.complaints(), [])
 
-    def test_a_hard_name(self):
+    def test_a_hard_name(self) -> None:
         """A net's name is text, whatever it looks like."""
         with open(f"{ROOT}/examples/small.ispd", encoding="ascii") as file:
             design = self.put("design", file.read().replace("\na 0", f"\n{HARD} 0"))
@@ -347,7 +444,7 @@ class Page(InFolder):
             self.assertEqual(page.value("document.scripts.length"), 1)
             self.assertEqual(page.complaints(), [])
 
-    def test_colours(self):
+    def test_colours(self) -> None:
         """Light and dark differ, and so does what the colour-blind see; grades of overflow differ for all in light."""
         address, _ = self.grom()
         image = importlib.import_module("matplotlib.image")
@@ -375,7 +472,7 @@ class Page(InFolder):
                     for other in seen[at + 1:]:
                         self.assertGreater(abs(one - other).sum(), 0.25, (kind, at))
 
-    def test_a_browser_that_hangs(self):
+    def test_a_browser_that_hangs(self) -> None:
         """It is ended."""
         most, browser.MOST_SECONDS = browser.MOST_SECONDS, 5
         self.addCleanup(setattr, browser, "MOST_SECONDS", most)
@@ -388,11 +485,11 @@ class Page(InFolder):
 class FirstPicture(InFolder):
     """How long a page of 14,000 nets takes to its first picture."""
 
-    def test_within_a_second(self):
+    def test_within_a_second(self) -> None:
         design = self.put("design", run(testing.program(), "make", "5", "110", "110", "6", "14000")[1])
         path = os.path.join(self.folder.name, "page.html")
         self.assertEqual(tool("report.py", design, self.routed(design, 6), "-o", path)[0], 0)
-        times = []
+        times: list[Any] = []
         while len(times) < 10 and min(times, default=1000) >= 1000:     # the machine may have other work
             with browser.Browser() as page:
                 page.open(f"file://{path}")

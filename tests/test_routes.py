@@ -4,6 +4,7 @@ import os
 import random
 import re
 import sys
+from typing import Any
 
 from testing import ROOT, InFolder, program, run, tool
 from groute.texts.designs import ends
@@ -28,7 +29,7 @@ a 0 2 1
 NAMES = "units 100\norigin 0 0\ntile 10 10\ndie 0 0 32 20\nlower 0 li\nlayer 1 m1\nlayer 2 m2\n"
 
 
-def read_guides(path):
+def read_guides(path: str) -> dict[str, list[list[str]]]:
     """Rectangles by net."""
     with open(path, encoding="utf-8") as file:
         found = re.findall(r"(\S+)\n\(\n((?:\S+ \S+ \S+ \S+ \S+\n)*)\)\n", file.read())
@@ -38,7 +39,7 @@ def read_guides(path):
 class Guides(InFolder):
     """guides.py on whole designs, by a reader of its text."""
 
-    def assert_guides(self, design, solution, names=None):
+    def assert_guides(self, design: str, solution: str, names: Any = None) -> Any:
         """Each rectangle is whole tiles, each pin is covered, and so are both ends of each segment."""
         guides = os.path.join(self.folder.name, "guides")
         self.assertEqual(tool("guides.py", design, solution, guides, *names or ())[1:], ("", ""))
@@ -49,8 +50,9 @@ class Guides(InFolder):
         while not tokens.is_ended():
             name, id_ = tokens.take(2)
             points = chip.pins(int(id_))
-            points += [end for segment in tokens.until(b"!") for end in ends(segment)]
-            boxes = [(*map(int, box[:4]), known.layers.index(box[4])) for box in found[name.decode()]]
+            points += [(x, y, layer) for segment in tokens.until(b"!") for x, y, layer in ends(segment)]
+            layers = known.layers if known else []
+            boxes = [(*map(int, box[:4]), layers.index(box[4])) for box in found[name.decode()]]
             for x1, y1, x2, y2, _ in boxes:
                 self.assertTrue({x1, x2} <= set(chip.xs) and {y1, y2} <= set(chip.ys) and x1 < x2 and y1 < y2)
             for x, y, layer in points:
@@ -59,7 +61,7 @@ class Guides(InFolder):
                                     for x1, y1, x2, y2, at in boxes), (name, x, y, layer))
         return guides, found
 
-    def routed_texts(self, texts, *words):
+    def routed_texts(self, texts: list[str], *words: str) -> Any:
         """A design of a placement, and its routes."""
         design, library, solution = (os.path.join(self.folder.name, name) for name in ("design", "library", "solution"))
         lefs = [word for text in texts[2:] for word in ("--lef", text)]
@@ -69,7 +71,7 @@ class Guides(InFolder):
         self.put("solution", out)
         return design, library, solution
 
-    def test_placements(self):
+    def test_placements(self) -> None:
         for texts, words in ((SKY, ("--layers", "met1-met5")), (GF, ())):
             design, library, solution = self.routed_texts(texts, *words)
             guides, found = self.assert_guides(design, solution)
@@ -81,7 +83,7 @@ class Guides(InFolder):
             self.assertEqual(run(program(), "evaluate", design, back)[0], 0)
             self.assertEqual(run(program(), "buffer", design, library, back)[0], 0)
 
-    def test_random_designs(self):
+    def test_random_designs(self) -> None:
         sys.path.insert(0, f"{ROOT}/reference")
         compare = importlib.import_module("compare")
         for seed in range(1, 11):
@@ -94,7 +96,7 @@ class Guides(InFolder):
             solution = self.routed(design, layers)
             self.assert_guides(design, solution, ("--names", names))
 
-    def test_faults(self):
+    def test_faults(self) -> None:
         design = self.put("design", SQUARE)
         for segment, says in (("(5,5,1)-(95,5,1)", "outside"), ("(5,5,1)-(25,15,1)", "not straight"),
                               ("(5,5,1)-(25,5,1", "form"), ("(5,5)-(25,5,1,1)", "form"),
@@ -111,17 +113,17 @@ class Guides(InFolder):
 class Back(InFolder):
     """to_solution.py: OpenROAD's routes as a solution text."""
 
-    def made(self, routes):
+    def made(self, routes: str) -> tuple[int, str, str]:
         """Status, the solution and what was told."""
         design, _ = self.put("design", SQUARE), self.put("design.names", NAMES)
         out = os.path.join(self.folder.name, "out")
         status, _, err = tool("to_solution.py", design, self.put("routes", routes), out)
         if status:
-            return status, None, err
+            return status, "", err
         with open(out, encoding="utf-8") as file:
             return status, file.read(), err
 
-    def test_segments(self):
+    def test_segments(self) -> None:
         # A via from the layer below the first is dropped, and what lies behind the last whole tile is moved into it.
         segments = "a\n(\n5 5 li 5 5 m1\n5 5 m1 25 5 m1\n25 5 m1 25 5 m2\n31 5 m2 31 15 m2\n25 15 m1 25 15 m2\n)\n"
         self.assertEqual(self.made(segments), (0, "a 0\n(5,5,1)-(25,5,1)\n(25,5,1)-(25,5,2)\n(30,5,2)-(30,15,2)\n"
@@ -130,7 +132,7 @@ class Back(InFolder):
                              os.path.join(self.folder.name, "out"))[1].splitlines()[3:],
                          ["wirelength 5", "vias 2", "unjoined 0"])
 
-    def test_guides_with_a_loop(self):
+    def test_guides_with_a_loop(self) -> None:
         # Both rows on m1 and the outer columns on m2: a ring of six wire edges and four vias, of which one is dropped.
         ring = "a\n(\n0 0 32 10 m1\n0 10 32 20 m1\n0 0 10 20 m2\n20 0 32 20 m2\n)\n"
         status, text, err = self.made(ring)
@@ -141,7 +143,7 @@ class Back(InFolder):
         # A wide rectangle has wires along its layer alone, and the rest by vias.
         self.assertEqual(self.made("a\n(\n0 0 32 20 m1\n0 0 10 20 m2\n)\n")[2], "nets 1\ndropped edges 0\n")
 
-    def test_faults(self):
+    def test_faults(self) -> None:
         for routes, says in (
             ("b\n(\n5 5 m1 25 5 m1\n)\n", ":2: of the net b: the design has no such net"),
             ("a\n(\n5 5 m9 25 5 m1\n)\n", "m9"), ("a\n(\n5 5 m1 45 5 m1\n)\n", "outside"),

@@ -1,17 +1,18 @@
 """Tests that the documents say the words, ranges and defaults of word_reader's tables."""
 import re
 import unittest
+from typing import Any
 
-from testing import ROOT
+from testing import ROOT, found
 
 
-def formats():
+def formats() -> str:
     """The text of docs/FORMATS.md."""
     with open(f"{ROOT}/docs/FORMATS.md", encoding="utf-8") as file:
         return file.read()
 
 
-def manual():
+def manual() -> str:
     """The text of the man page, without fonts and escapes."""
     with open(f"{ROOT}/man/groute.1", encoding="utf-8") as file:
         return re.sub(r"\\f[BIR]", "", file.read()).replace("\\-", "-")
@@ -20,7 +21,7 @@ def manual():
 class Words(unittest.TestCase):
     """The documents say the words of the tables of commands and options, which stand in word_reader."""
 
-    def setUp(self):
+    def setUp(self) -> None:
         with open(f"{ROOT}/crates/word_reader/src/form.rt", encoding="utf-8") as file:
             self.form = file.read()
         with open(f"{ROOT}/crates/gr_base/src/limits.rt", encoding="utf-8") as file:
@@ -31,7 +32,7 @@ class Words(unittest.TestCase):
         self.commands = [(word, int(count), re.findall(r"OptionKind::(\w+)", options)) for word, count, options in
                          re.findall(r'word: "([^"]+)",\s*positionals: ([0-9]+),\s*options: &\[([^\]]*)\]', self.form)]
 
-    def number(self, text):
+    def number(self, text: str) -> str:
         """A number of a row, as documents write it."""
         text = text.removesuffix(" as u64")
         if text == "u64::MAX":
@@ -39,17 +40,17 @@ class Words(unittest.TestCase):
         constant = re.search(rf"const {re.escape(text)}: u32 = ([0-9_]+);", self.form + self.limits)
         return (constant.group(1) if constant else text).replace("_", "")
 
-    def values(self, takes):
+    def values(self, takes: str) -> Any:
         """The words that an option takes, and the range of its numbers."""
         numbers = re.search(r"least: ([^,]+),\s*most: ([^,]+),", takes)
         return re.findall(r'"([^"]+)"', takes), numbers and [self.number(text) for text in numbers.groups()]
 
-    def test_rows(self):
+    def test_rows(self) -> None:
         for kind, rows in (("Command", self.commands), ("OptionKind", self.options)):
-            variants = re.search(rf"enum {kind} \{{(.*?)\}}", self.form, re.DOTALL).group(1)
+            variants = found(rf"enum {kind} \{{(.*?)\}}", self.form, re.DOTALL).group(1)
             self.assertEqual(len(rows), variants.count(","))
 
-    def test_usage(self):
+    def test_usage(self) -> None:
         lines = re.findall(r"^    groute ([a-z]+)((?: [A-Z]+)+)((?: \[[^\]]+\])*)$", formats(), re.MULTILINE)
         self.assertEqual([line[0] for line in lines], [command[0] for command in self.commands])
         for line, (word, count, options) in zip(lines, self.commands):
@@ -62,7 +63,7 @@ class Words(unittest.TestCase):
                     self.assertRegex(value, "^" + "[|]".join([*words, *(["[A-Z]+"] if numbers else [])]) + "$")
                 self.assertIn(f"groute {''.join(line)}\n", manual())
 
-    def patterns(self, word, takes, default):
+    def patterns(self, word: str, takes: str, default: str) -> Any:
         """What a document says of an option in one place."""
         words, numbers = self.values(takes)
         yield rf"{word}(?![a-z-])"
@@ -72,7 +73,7 @@ class Words(unittest.TestCase):
         if default:
             yield rf"(?:else|default:?|default is) `?{default}\b|\| *`?{default}`? *\|"
 
-    def test_options(self):
+    def test_options(self) -> None:
         for document, places in (
                 ("docs/FORMATS.md", re.split(r"\n\s*\n|\n(?=\|)", formats())),    # paragraphs, and rows of tables
                 ("man/groute.1", re.split(r"^\.(?:TP|PP|SH|SS).*\n", manual(), flags=re.MULTILINE))):

@@ -10,7 +10,7 @@ NAME = 32   # the token of examples/small.ispd that may be any: its net's name
 class Where(InFolder):
     """where.py on the tokens that groute's faults name."""
 
-    def test_each_token_of_a_design(self):
+    def test_each_token_of_a_design(self) -> None:
         with open(f"{ROOT}/examples/small.ispd", encoding="ascii") as file:
             tokens = file.read().split()
         rng = random.Random(1)
@@ -28,7 +28,7 @@ class Where(InFolder):
             place = f"{1 + before.count(chr(10))}:{1 + len(before) - (before.rfind(chr(10)) + 1)}"
             self.assertEqual(tool("where.py", design, fault.group(1)), (0, f"{design}:{place}: ?\n", ""))
 
-    def test_ends(self):
+    def test_ends(self) -> None:
         text = self.put("text", "a bb\n c")
         self.assertEqual(tool("where.py", text, "3"), (0, f"{text}:2:2: c\n", ""))
         self.assertEqual(tool("where.py", text, "4"), (0, f"{text}:2:3: the text ends here\n", ""))

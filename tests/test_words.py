@@ -12,13 +12,13 @@ import unittest
 
 from dev import completion
 from groute.options import FAULTS, rows
-from testing import ROOT, TOOLS, InFolder, program, run
+from testing import ROOT, TOOLS, InFolder, found, program, run
 
 
 class Tables(unittest.TestCase):
     """The words are those of word_reader, the faults those of the documents."""
 
-    def test_commands(self):
+    def test_commands(self) -> None:
         with open(f"{ROOT}/crates/word_reader/src/form.rt", encoding="utf-8") as file:
             form = file.read()
         options = dict(re.findall(r'OptionKind::(\w+) => OptionRow \{\s*word: "([^"]+)"', form))
@@ -30,19 +30,19 @@ class Tables(unittest.TestCase):
         self.assertEqual([(word, len(names), [option for option, _ in taken])
                           for word, names, taken, _ in rows()], found)
 
-    def test_faults(self):
+    def test_faults(self) -> None:
         with open(f"{ROOT}/docs/FORMATS.md", encoding="utf-8") as file:
             text = file.read()
         for kind, faults in FAULTS.items():
             table = text.split(f"| of a {kind} |\n")[1].split("\n\n")[0]
             self.assertEqual(re.findall(r"^\| [0-9]+ \| (.+) \|$", table, re.MULTILINE), faults)
 
-    def test_completions(self):
+    def test_completions(self) -> None:
         for name, made in (("groute.bash", completion.bash), ("_groute", completion.zsh)):
             with open(f"{ROOT}/completion/{name}", encoding="utf-8") as file:
                 self.assertEqual(file.read(), made())
 
-    def completed(self, *words):
+    def completed(self, *words: str) -> list[str]:
         """What bash completes of the last word."""
         quoted = " ".join(f"'{word}'" for word in words)
         script = f"cd {shlex.quote(ROOT)}; source completion/groute.bash; cd examples; COMP_WORDS=({quoted}); " \
@@ -50,21 +50,30 @@ class Tables(unittest.TestCase):
         return run("bash", "-c", script)[1].split()
 
     @unittest.skipUnless(shutil.which("bash"), "bash is not there")
-    def test_bash(self):
+    def test_bash(self) -> None:
         self.assertEqual(self.completed("groute", ""), ["route", "evaluate", "buffer", "make", "trial", "panels"])
         self.assertEqual(self.completed("groute", "e"), ["evaluate"])
         self.assertEqual(self.completed("groute", "route", "--"),
                          ["--workers", "--via-cost", "--batch", "--rule", "--stop"])
         self.assertEqual(self.completed("groute", "make", "--"), [])
+        for words in (("--rule", ""), ("--rule", "=", ""), ("--rule", "=")):
+            self.assertEqual(self.completed("groute", "route", *words), ["first", "steep", "flat"])
+        self.assertEqual(self.completed("groute", "trial", "--rule", "st"), ["steep"])
+        self.assertEqual(self.completed("grbound", "--"), ["--via-cost"])
+        self.assertEqual(self.completed("/usr/bin/groute-slowest", "--w"), ["--worst"])
+        self.assertEqual(self.completed("groute-flow", "--rule", "f"), ["first", "flat"])
+        self.assertEqual(self.completed("groute-slowest", "--nets", ""), ["clocks", "signals"])
+        self.assertEqual(self.completed("groute-where", "crowd.i"), ["crowd.ispd"])
         self.assertEqual(sorted(self.completed("groute", "buffer", "small")),
                          ["small.ispd", "small.library", "small.solution"])
 
     @unittest.skipUnless(shutil.which("zsh"), "zsh is not there")
-    def test_zsh(self):
+    def test_zsh(self) -> None:
         stub = "_describe() { print -l -- ${(P)2} }; _arguments() { print -l -- \"$@\" }; _files() { }; "
         for words, wanted in (("CURRENT=2; words=(groute '')", "route:routes a design"),
                               ("CURRENT=3; words=(groute evaluate '')", "3:SOLUTION:_files")):
-            status, out, err = run("zsh", "-fc", f"{stub}f() {{ {words}; source {shlex.quote(ROOT)}/completion/_groute }}; f")
+            script = f"{stub}f() {{ {words}; source {shlex.quote(ROOT)}/completion/_groute }}; f"
+            status, out, err = run("zsh", "-fc", script)
             self.assertEqual((status, err), (0, ""))
             self.assertIn(wanted, out.splitlines())
 
@@ -72,9 +81,9 @@ class Tables(unittest.TestCase):
 class Scripts(InFolder):
     """What the man page says of scripts."""
 
-    def test_overflow(self):
+    def test_overflow(self) -> None:
         with open(f"{ROOT}/man/groute.1", encoding="utf-8") as file:
-            line = re.search(r"^groute route DESIGN .*$", file.read(), re.MULTILINE).group()
+            line = found(r"^groute route DESIGN .*$", file.read(), re.MULTILINE).group()
         line = line.replace("\\-", "-").replace("\\(aq", "'")
         for rounds, status in ((0, 1), (1, 0)):
             crowd = f"{shlex.quote(ROOT)}/examples/crowd.ispd {shlex.quote(ROOT)}/examples/crowd.library {rounds}"
@@ -85,21 +94,21 @@ class Scripts(InFolder):
 class Terminal(InFolder):
     """in_words.py, as the launcher calls it where standard error is a terminal."""
 
-    def setUp(self):
+    def setUp(self) -> None:
         super().setUp()
         words = f"{shlex.quote(sys.executable)} {shlex.quote(TOOLS)}/in_words.py {shlex.quote(program())}"
         self.path = self.put("groute", f'#!/bin/sh\n[ ! -t 2 ] || exec {words} "$@"\n'
                              f'exec {shlex.quote(program())} "$@"\n')
         os.chmod(self.path, 0o755)
 
-    def started(self, *words):
+    def started(self, *words: str) -> tuple[subprocess.Popen[bytes], int]:
         """The wrapper, running, and the other end of its terminal."""
         mine, theirs = pty.openpty()
         child = subprocess.Popen([self.path, *words], stdout=subprocess.PIPE, stderr=theirs, cwd=ROOT)
         os.close(theirs)
         return child, mine
 
-    def shown(self, *words):
+    def shown(self, *words: str) -> tuple[int, str, str]:
         """Status, standard output, and what the terminal shows."""
         child, terminal = self.started(*words)
         out, shown = child.communicate()[0].decode(), b""
@@ -114,7 +123,7 @@ class Terminal(InFolder):
         os.close(terminal)
         return child.returncode, out, shown.decode().replace("\r\n", "\n")
 
-    def test_usage(self):
+    def test_usage(self) -> None:
         for words in (("--help",), ("route", "a"), ()):
             status, out, shown = self.shown(*words)
             self.assertEqual((status, out), (2, ""))
@@ -122,7 +131,7 @@ class Terminal(InFolder):
             self.assertIn("  groute make SEED X Y L NETS\n", shown)
             self.assertEqual(run(self.path, *words), (2, "", "groute: usage\n"))
 
-    def test_faults(self):
+    def test_faults(self) -> None:
         with open(f"{ROOT}/examples/small.ispd", encoding="ascii") as file:
             design = self.put("design", file.read().replace("25 15 1", "25 35 1"))
         small = [f"examples/small.{kind}" for kind in ("ispd", "library", "solution")]
@@ -143,7 +152,7 @@ class Terminal(InFolder):
             self.assertIn("docs/FORMATS.md", shown)
             self.assertEqual(run(self.path, *words, folder=ROOT), (status, "", f"groute: {told}\n"))
 
-    def test_the_rest_is_as_without(self):
+    def test_the_rest_is_as_without(self) -> None:
         words = "trial", "1", "32", "32", "6", "2000", "1"
         self.assertEqual(self.shown(*words), (*run(program(), *words)[:2], ""))
         small = [f"examples/small.{kind}" for kind in ("ispd", "library")]
@@ -151,7 +160,7 @@ class Terminal(InFolder):
         self.assertEqual(self.shown("route", *small, "3"), direct)
         self.assertEqual(self.shown("evaluate", small[0], "missing"), (6, "", "groute: a read failed\n"))
 
-    def inner(self, child):
+    def inner(self, child: subprocess.Popen[bytes]) -> list[str]:
         """The processes that a process has started, once there are some, which takes at most ten seconds."""
         for _ in range(100):
             with open(f"/proc/{child.pid}/task/{child.pid}/children", encoding="ascii") as file:
@@ -161,7 +170,7 @@ class Terminal(InFolder):
             time.sleep(0.1)
         return []
 
-    def test_signals(self):
+    def test_signals(self) -> None:
         for number in (signal.SIGTERM, signal.SIGINT):
             child, terminal = self.started("trial", "1", "1024", "1024", "8", "1000000", "64")
             inner = self.inner(child)

@@ -10,12 +10,13 @@ import argparse
 import os
 import sys
 import unittest
+from typing import Iterator
 
 HERE = os.path.dirname(os.path.abspath(__file__))
 TESTS = os.path.join(os.path.dirname(HERE), "tests")
 
 
-def chosen(suite, names):
+def chosen(suite: unittest.TestSuite, names: list[str]) -> Iterator[unittest.TestCase]:
     """The tests of a suite of which a part of the name is asked for; all, where none is."""
     for test in suite:
         if isinstance(test, unittest.TestSuite):
@@ -24,7 +25,7 @@ def chosen(suite, names):
             yield test
 
 
-def main():
+def main() -> int:
     """Runs the tests. The answer is the status."""
     parser = argparse.ArgumentParser(description=__doc__, formatter_class=argparse.RawDescriptionHelpFormatter)
     parser.add_argument("--program", required=True, metavar="PATH", help="a built groute")

@@ -10,6 +10,7 @@ import glob
 import os
 import re
 import sys
+from typing import Iterator
 
 ROOT = os.path.dirname(os.path.dirname(os.path.dirname(os.path.abspath(__file__))))
 DOCUMENT = os.path.join(ROOT, "docs", "DEFINITIONS.md")
@@ -20,32 +21,33 @@ The files of definitions that the contracts of `run` and `bound` cite, themselve
 | crate | files |
 |---|---|
 """
+File = tuple[str, str]      # crate and name
 TOPS = [("router_top", "top"), ("bound_top", "top")]     # the crates and files of the programs' calls
 USE = re.compile(r"use Rattle\.(\w+)\.specs\.(\w+)\.\{([^}]*)\}")
 DEFINED = re.compile(r"^(?:abbrev|unfoldable|pub) (?:pub |record |data )?(\w+)", re.MULTILINE)
 PUBLIC = re.compile(r"^( *)pub (?:const )?fn .*?(?=^\1\{)|^pub (?:trait|struct|enum) .*?^\}", re.MULTILINE | re.DOTALL)
 
 
-def read(path):
+def read(path: str) -> str:
     """The text of a file."""
     with open(path, encoding="utf-8") as file:
         return file.read()
 
 
-def cited(text):
+def cited(text: str) -> Iterator[tuple[str, File]]:
     """The names that a text cites from definitions, each with the file that it is from."""
     for crate, file, names in USE.findall(text):
         for name in names.split(","):
             yield name.split(" as ")[-1].strip(), (crate, file)
 
 
-def specs():
+def specs() -> dict[File, str]:
     """The texts of the files of definitions, by crate and name."""
     paths = glob.glob(os.path.join(ROOT, "crates", "*", "specs", "*.antt"))
     return {(path.split(os.sep)[-3], os.path.basename(path)[:-len(".antt")]): read(path) for path in paths}
 
 
-def of_calls(texts):
+def of_calls(texts: dict[File, str]) -> set[File]:
     """The files that the contracts of the programs' calls cite, and those that these cite."""
     found = set()
     for crate, file in TOPS:
@@ -60,7 +62,7 @@ def of_calls(texts):
     return found & set(texts)
 
 
-def of_rows(texts, proved):
+def of_rows(texts: dict[File, str], proved: str) -> Iterator[File]:
     """The files of a crate that define a name in its row of docs/PROVED.md."""
     for crates, says in re.findall(r"^\| ([a-z_, ]+) \| (.*) \|$", proved, re.MULTILINE):
         names = set(re.findall(r"`(\w+)`", says))
@@ -69,7 +71,7 @@ def of_rows(texts, proved):
                 yield file
 
 
-def of_contracts(texts):
+def of_contracts(texts: dict[File, str]) -> set[File]:
     """The files that the calls' contracts are made of, and those that define the names in docs/PROVED.md."""
     proved = read(os.path.join(ROOT, "docs", "PROVED.md"))
     found = of_calls(texts).union(of_rows(texts, proved))
@@ -78,7 +80,7 @@ def of_contracts(texts):
     return found | {file for file, text in texts.items() if names & set(DEFINED.findall(text))}
 
 
-def files():
+def files() -> Iterator[tuple[str, str, str]]:
     """The crate and the name of each file that is listed, lowest crates first, with its text."""
     texts = specs()
     crates = [line.split()[0].rstrip(":") for line in read(os.path.join(ROOT, "crates.txt")).splitlines() if line]
@@ -87,15 +89,15 @@ def files():
             yield crate, name, texts[crate, name]
 
 
-def document():
+def document() -> str:
     """The text of the document."""
-    names = {}
+    names: dict[str, list[str]] = {}
     for crate, name, _ in files():
         names.setdefault(crate, []).append(name)
     return HEAD + "".join(f"| {crate} | {', '.join(of_crate)} |\n" for crate, of_crate in names.items())
 
 
-def main():
+def main() -> int:
     """Writes the document. The answer is the status: 1 where a file begins with no comment."""
     argparse.ArgumentParser(description=__doc__, formatter_class=argparse.RawDescriptionHelpFormatter).parse_args()
     silent = [f"{crate}/{name}" for crate, name, text in files() if not text.startswith("-- ")]

@@ -6,25 +6,27 @@ import re
 import subprocess
 import sys
 import time
+from typing import Iterator
 
 TOOLS = os.path.dirname(os.path.dirname(os.path.abspath(__file__)))
 sys.path.insert(0, TOOLS)
 
 
-def roff(text):
+def roff(text: str) -> str:
     """Text whose letters mean themselves."""
     text = text.replace("\\", "\\e").replace("-", "\\-")
     return re.sub(r"(?m)^([.'])", r"\\&\1", text)
 
 
-def page(tool):
+def page(tool: str) -> Iterator[str]:
     """The lines of the page."""
-    name, doc = f"groute-{tool.replace('_', '-')}", importlib.import_module(f"groute.commands.{tool}").__doc__.strip()
+    name = f"groute-{tool.replace('_', '-')}"
+    doc = str(importlib.import_module(f"groute.commands.{tool}").__doc__).strip()
     told = subprocess.run([sys.executable, os.path.join(TOOLS, f"{tool}.py"), "--help"], check=True, text=True,
                           capture_output=True, env={**os.environ, "COLUMNS": "78"}).stdout
     told = told.replace(f"{tool}.py", name)
     usage, options = told.split("\n\n", 1)[0], told[told.index("\npositional arguments:") + 1:]
-    first = re.match(r"(?s).*?[.](?=\s|$)", doc).group()
+    first = re.split(r"(?<=[.])(?=\s|$)", doc, 1)[0]
     with open(os.path.join(os.path.dirname(TOOLS), "VERSION"), encoding="ascii") as file:
         version = file.read().strip()
     date = time.strftime("%Y-%m-%d", time.gmtime(int(os.environ.get("SOURCE_DATE_EPOCH", time.time()))))
@@ -36,7 +38,7 @@ def page(tool):
     yield ".SH SEE ALSO\n.BR groute (1)"
 
 
-def description(doc):
+def description(doc: str) -> str:
     """Paragraphs, of which those that begin with blanks keep their lines."""
     shown = []
     for paragraph in doc.split("\n\n"):

@@ -38,12 +38,17 @@ def line_and_column(data: Text, at: int) -> tuple[int, int]:
     return 1 + data[:begin].count(b"\n"), 1 + at - begin
 
 
+def parser() -> frame.Parser:
+    """The reader of the words."""
+    words = frame.parser(__doc__)
+    words.add_argument("text", metavar="TEXT", help="a file")
+    words.add_argument("token", metavar="TOKEN", type=frame.number(1, 1 << 40), help="the number of a token, from 1")
+    return words
+
+
 def main(words: Sequence[str]) -> None:
     """Prints the place."""
-    parser = frame.parser(__doc__)
-    parser.add_argument("text", metavar="TEXT", help="a file")
-    parser.add_argument("token", metavar="TOKEN", type=frame.number(1, 1 << 40), help="the number of a token, from 1")
-    asked = parser.parse_args(words)
+    asked = parser().parse_args(words)
     data = bytes_of(asked.text)
     at, token, count = place_of(data, asked.token)
     if at is None and asked.token != count + 1:

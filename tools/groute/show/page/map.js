@@ -93,12 +93,23 @@ class Picture {
       && (shown.way === null || plane.way === shown.way));
   }
 
+  // What is coloured: the planes as they are, or for each direction their sum.
+  coloured() {
+    if (!shown.isSummed) return this.chosen();
+    return [0, 1].map((way) => {
+      const planes = this.chosen().filter((plane) => plane.way === way), count = data.columns * data.rows;
+      const sum = (key) => planes.reduce((total, plane) => total.map((value, at) => value + plane[key][at]),
+        new Float64Array(count));
+      return { way, demand: sum("demand"), capacity: sum("capacity") };
+    });
+  }
+
   // Of each tile: the greatest use of a wire edge (-1 where none has capacity), the greatest overflow, and that at
   // capacity 0.
   compute() {
     const { columns, rows } = data, count = columns * rows;
     const full = new Float32Array(count).fill(-1), over = new Uint32Array(count), closed = new Uint32Array(count);
-    for (const { way, demand, capacity } of this.chosen()) {
+    for (const { way, demand, capacity } of this.coloured()) {
       const step = way ? columns : 1, lastColumn = columns - (way ? 0 : 1), lastRow = rows - (way ? 1 : 0);
       for (let row = 0; row < lastRow; row++) {
         for (let at = row * columns; at < row * columns + lastColumn; at++) {
@@ -135,7 +146,7 @@ class Picture {
 
   paint() {
     const { canvas, pen } = this, ratio = devicePixelRatio || 1;
-    const made = `${shown.layer} ${shown.way} ${this.dark.matches}`;
+    const made = `${shown.layer} ${shown.way} ${shown.isSummed} ${this.dark.matches}`;
     if (this.made !== made) {
       this.paintTiles();
       paintLegend(this.colours);
@@ -150,6 +161,7 @@ class Picture {
     pen.drawImage(this.image, left, top, right - left, low - top);
     if (scale >= SEEN) this.paintPatterns();
     this.paintRegions();
+    if (shown.wall) this.paintWall(data.walls[shown.wall - 1]);
     if (shown.net >= 0) this.paintNet(shown.net);
     if (shown.at) this.paintCursor();
   }
@@ -193,6 +205,19 @@ class Picture {
       pen.fillStyle = ink;
       pen.fillText(text, left + 3, top + 12);
     });
+  }
+
+  paintWall(wall) {
+    const { pen } = this, [low, high] = endsOf(wall), { ink, paper } = this.colours;
+    const [left, top] = this.toScreen(low[0], high[1]), [right, bottom] = this.toScreen(high[0], low[1]);
+    const dashes = wall.needs > wall.holds ? "#e66101" : paper;
+    for (const [wide, colour, dash] of [[6, paper, []], [3, ink, []], [3, dashes, [8, 6]]]) {
+      pen.lineWidth = wide;
+      pen.strokeStyle = colour;
+      pen.setLineDash(dash);
+      pen.strokeRect(left, top, right - left, bottom - top);
+    }
+    pen.setLineDash([]);
   }
 
   middle(cell) {
@@ -246,6 +271,13 @@ class Picture {
       pen.strokeRect(left, top, right - left, low - top);
     }
   }
+}
+
+// The corners of a wall, in tiles: of a straight one both lie on the line that it goes along.
+function endsOf({ kind, numbers: [first, ...others] }) {
+  if (kind === "column") return [[first + 1, 0], [first + 1, data.rows]];
+  if (kind === "row") return [[0, first + 1], [data.columns, first + 1]];
+  return [[first, others[0]], [others[1] + 1, others[2] + 1]];
 }
 
 // The colour and the dashes of a layer's wires.

@@ -36,10 +36,12 @@ function begins(counts) {
 }
 
 /* What is shown, and its words in the address: layer from 1 or 0 for all, way 0, 1 or null, region from 1 or 0, a net's
-   number or -1, the place that the keys have come to, and the view. */
+   number or -1, a wall from 1 or 0, the nets that are listed, whether colours are of sums over layers, the place that
+   the keys have come to, and the view. */
 
-const shown = { layer: 0, way: null, region: 0, net: -1, at: null, view: null, missing: "" };
-let data, picture, layersTable, regionsTable, netsTable;
+const shown = { layer: 0, way: null, region: 0, net: -1, wall: 0, use: "", isSummed: false, at: null, view: null,
+  missing: "" };
+let data, picture, layersTable, regionsTable, wallsTable, netsTable;
 
 function toAddress() {
   const words = new URLSearchParams();
@@ -47,6 +49,9 @@ function toAddress() {
   if (shown.way !== null) words.set("way", "hv"[shown.way]);
   if (shown.region) words.set("region", shown.region);
   if (shown.net >= 0) words.set("net", data.names[shown.net]);
+  if (shown.wall) words.set("wall", shown.wall);
+  if (shown.use) words.set("nets", shown.use);
+  if (shown.isSummed) words.set("colours", "sum");
   if (shown.view) words.set("view", shown.view.join(","));
   return words.toString();
 }
@@ -59,6 +64,11 @@ function fromAddress() {
   shown.region = region >= 1 && region <= data.regions.length ? region : 0;
   shown.net = words.has("net") ? data.names.indexOf(words.get("net")) : -1;
   shown.missing = words.has("net") && shown.net < 0 ? `net ${words.get("net")} is not on this page` : "";
+  const wall = parseInt(words.get("wall"), 10);
+  shown.wall = wall >= 1 && wall <= data.walls.length ? wall : 0;
+  const use = words.get("nets") ?? "";
+  shown.use = Object.hasOwn(data.uses, use) ? use : "";
+  shown.isSummed = words.get("colours") === "sum";
   const view = (words.get("view") ?? "").split(",").map(Number);
   shown.view = view.length === 3 && view.every(Number.isFinite) && view[2] > 0 ? view : null;
 }
@@ -75,10 +85,13 @@ function go(changes, isStep) {
 function show() {
   byId("layer").value = shown.layer;
   byId("way").value = shown.way === null ? "" : "hv"[shown.way];
+  byId("colours").value = shown.isSummed ? "sum" : "";
+  byId("use").value = shown.use;
   byId("shown").textContent = shown.net >= 0 ? netWords(shown.net)
     : shown.missing || (shown.region ? `Region ${shown.region}` : "");
   layersTable.mark((row) => shown.layer && data.table[row].layer === data.layers[shown.layer - 1]);
   regionsTable.mark((row) => row === shown.region - 1);
+  wallsTable?.mark((row) => row === shown.wall - 1);
   listNets();
   netsTable.mark((row) => row === shown.net);
   picture.draw();
@@ -109,6 +122,33 @@ function edgeWords(plane, at) {
   const demand = plane.demand[at], capacity = plane.capacity[at];
   return `${layerWords(plane.layer)} ${data.ways[plane.way]}: capacity ${number(capacity)}, demand ${number(demand)}`
     + (demand > capacity ? `, overflow ${number(demand - capacity)}` : "");
+}
+
+const MOST_NAMED = 20;      // nets through an edge that are named
+
+// The nets of this page that cross an edge of a plane.
+function netsThrough({ layer, way }, at) {
+  const { columns, rows, runWay, runFirst, runLength, runsFrom } = data, found = [];
+  const number = way ? (layer * columns + at % columns) * rows + Math.floor(at / columns) : layer * columns * rows + at;
+  for (let net = 0; net < data.names.length; net++) {
+    for (let run = runsFrom[net]; run < runsFrom[net + 1]; run++) {
+      if (runWay[run] !== way || number < runFirst[run] || number >= runFirst[run] + runLength[run]) continue;
+      found.push(data.names[net]);
+      break;
+    }
+  }
+  return found;
+}
+
+// Whose nets cross the edge at a place, by layer.
+function crossingWords([i, j]) {
+  if (i % 2 === j % 2) return "";
+  const at = (j >> 1) * data.columns + (i >> 1);
+  return picture.chosen().filter((plane) => plane.way === (i % 2 ? 0 : 1)).map((plane) => {
+    const names = netsThrough(plane, at), more = names.length - MOST_NAMED;
+    return names.length ? `\nnets on ${layerWords(plane.layer)}: ${names.slice(0, MOST_NAMED).join(", ")}`
+      + (more > 0 ? ` and ${number(more)} more` : "") : "";
+  }).join("");
 }
 
 function placeWords([i, j]) {
@@ -164,7 +204,13 @@ function toWall(row) {
   const { kind, numbers: [first, ...others] } = data.walls[row], last = [data.columns - 1, data.rows - 1];
   const ends = { column: [[first, 0], [first + 1, last[1]]], row: [[0, first], [last[0], first + 1]],
     box: [[first, others[0]], others.slice(1)] };
-  go({ at: null, view: picture.viewOf(...ends[kind]) }, true);
+  go({ wall: row + 1, at: null, view: picture.viewOf(...ends[kind]) }, true);
+}
+
+function toEdge({ plane, column, row }) {
+  const at = plane.way ? [2 * column, 2 * row + 1] : [2 * column + 1, 2 * row];
+  go({ at, layer: plane.layer + 1, view: picture.viewOf([column - 2, row - 2], [column + 3, row + 3]) }, true);
+  byId("told").textContent = byId("live").textContent = placeWords(at) + crossingWords(at);
 }
 
 function toNet(net) {
@@ -183,7 +229,7 @@ function toNet(net) {
 function back() {
   const region = data.regions[shown.region - 1];
   if (shown.net >= 0) go({ net: -1, view: region ? picture.viewOf(region.low, region.high) : null }, true);
-  else go({ region: 0, at: null, view: null }, true);
+  else go({ region: 0, wall: 0, at: null, view: null }, true);
 }
 
 function move(right, up) {
@@ -198,7 +244,7 @@ function move(right, up) {
   const [x, y] = picture.toScreen(i / 2 + 0.5, j / 2 + 0.5);
   const isOut = x < 0 || y < 0 || x > picture.wide || y > picture.high;
   go({ at: [i, j], ...isOut && { view: [i / 2 + 0.5, j / 2 + 0.5, middle[2]] } }, false);
-  byId("told").textContent = byId("live").textContent = placeWords([i, j]);
+  byId("told").textContent = byId("live").textContent = placeWords([i, j]) + crossingWords([i, j]);
 }
 
 function onKey(event) {
@@ -229,7 +275,7 @@ function listen() {
   canvas.addEventListener("pointermove", (event) => {
     if (!held) {
       const at = placeUnder(event.offsetX, event.offsetY);
-      byId("told").textContent = at ? placeWords(at) : "";
+      if (!at || String(at) !== String(shown.at)) byId("told").textContent = at ? placeWords(at) : "";
       return;
     }
     const [right, down] = [event.offsetX - held[0], event.offsetY - held[1]];
@@ -253,6 +299,8 @@ function listen() {
   });
   byId("layer").onchange = (event) => go({ layer: +event.target.value }, true);
   byId("way").onchange = (event) => go({ way: event.target.value ? "hv".indexOf(event.target.value) : null }, true);
+  byId("colours").onchange = (event) => go({ isSummed: event.target.value === "sum" }, true);
+  byId("use").onchange = (event) => go({ use: event.target.value }, true);
   byId("closer").onclick = () => picture.zoom(1.5);
   byId("farther").onclick = () => picture.zoom(1 / 1.5);
   byId("whole").onclick = () => go({ view: null }, true);
@@ -273,13 +321,15 @@ function pressed(left, top) {
   if (region >= 0 && region + 1 !== shown.region && shown.net < 0) return toRegion(region);
   const at = placeUnder(left, top);
   go({ at }, false);
-  byId("told").textContent = byId("live").textContent = at ? placeWords(at) : "";
+  byId("told").textContent = byId("live").textContent = at ? placeWords(at) + crossingWords(at) : "";
 }
 
 async function begin() {
   data = await unpacked();
   document.title = `${data.design}: ${data.verdict}`;
   byId("verdict").textContent = data.verdict;
+  data.uses = usesOf();
+  for (const use of Object.keys(data.uses)) if (use) byId("use").append(new Option(use, use));
   const { routed, wirelength, vias } = data.totals;
   byId("design").textContent = `${data.design}: ${number(data.columns)} by ${number(data.rows)} tiles, `
     + `${data.layers.length} layers, ${number(routed)} nets routed, wirelength ${number(wirelength)}, `
@@ -289,6 +339,7 @@ async function begin() {
   fillLayers();
   fillRegions();
   if (data.least !== null) fillWalls();
+  fillClosed();
   fillNets();
   picture = new Picture(byId("map"));
   listen();

@@ -158,7 +158,44 @@ function fillWalls() {
   byId("walls").hidden = byId("bound").hidden = false;
   byId("bound").textContent = `Overflow: at least ${number(data.least)} in any routes, `
     + `${number(data.totals.overflow)} in these`;
-  new Table(byId("walls"), "Fullest walls", columns, [...data.walls.keys()], toWall).order();
+  wallsTable = new Table(byId("walls"), "Fullest walls", columns, [...data.walls.keys()], toWall);
+  wallsTable.order();
+}
+
+// The wire edges of capacity 0 that are used, those most over first.
+function fillClosed() {
+  const edges = [];
+  for (const plane of data.planes) {
+    plane.demand.forEach((demand, at) => {
+      if (demand && !plane.capacity[at]) {
+        edges.push({ plane, demand, column: at % data.columns, row: Math.floor(at / data.columns) });
+      }
+    });
+  }
+  edges.sort((a, b) => b.demand - a.demand);
+  byId("closed").hidden = !edges.length;
+  if (!edges.length) return;
+  const columns = [{ head: "edge", value: (row) => row, text: (row) => `${edges[row].column} ${edges[row].row}` },
+    { head: "layer", value: (row) => edges[row].plane.layer, text: (row) => data.layers[edges[row].plane.layer] },
+    { head: "direction", value: (row) => data.ways[edges[row].plane.way] },
+    { head: "overflow", value: (row) => edges[row].demand, isNumber: true }];
+  new Table(byId("closed"), "Overflow at capacity 0", columns, [...edges.keys()], (row) => toEdge(edges[row])).order();
+}
+
+// Which nets are listed, by what is asked for.
+function usesOf() {
+  const found = { "": () => true };
+  const some = (name, nets) => {
+    const has = new Set(nets);
+    found[name] = (net) => has.has(net);
+  };
+  if (data.unjoined.length) some("unjoined", data.unjoined);
+  if (data.clocks.length) {
+    some("clocks", data.clocks);
+    const isClock = found.clocks;
+    found.signals = (net) => !isClock(net);
+  }
+  return found;
 }
 
 function fillNets() {
@@ -178,10 +215,10 @@ let counts = null, listed = null;   // of the region: overfull edges by net; and
 
 function listNets() {
   const words = byId("search").value.toLowerCase(), region = data.regions[shown.region - 1];
-  if (listed === `${shown.region} ${words}`) return;
-  listed = `${shown.region} ${words}`;
+  if (listed === `${shown.region} ${shown.use} ${words}`) return;
+  listed = `${shown.region} ${shown.use} ${words}`;
   counts = region ? new Map(region.nets.map((net, at) => [net, region.counts[at]])) : null;
-  const all = region ? region.nets : [...data.names.keys()];
+  const all = (region ? region.nets : [...data.names.keys()]).filter(data.uses[shown.use]);
   const rows = words ? all.filter((net) => data.names[net].toLowerCase().includes(words)) : [...all];
   netsTable.caption.textContent = region ? `Nets through the overfull edges of region ${shown.region}` : "Nets";
   if (region) netsTable.sort(netsTable.columns.at(-1), true);

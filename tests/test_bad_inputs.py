@@ -1,0 +1,285 @@
+"""Tests of what tools do with bad words and texts: a line that says why, and nothing left."""
+import gzip
+import importlib.util
+import io
+import lzma
+import os
+import random
+import shlex
+import signal
+import subprocess
+import sys
+import time
+import unittest
+from types import FrameType
+from unittest import mock
+
+from groute import frame, start
+from groute.texts.files import MOST_LETTERS
+from testing import ROOT, TOOLS, InFolder, program, run, tool
+
+SMALL = [f"{ROOT}/examples/small.{kind}" for kind in ("ispd", "library", "solution")]
+SKY = [f"{ROOT}/examples/sky/{name}" for name in ("adder.def", "tech.lef", "cells.lef", "cells.lib")]
+INPUTS = 1000
+MOST_SECONDS = 10       # of one input
+DIGITS = "9" * 5000
+GRID = "grid 1000000000 1000000000 2\n"
+# What comes into texts: words, and what stands in numbers' places.
+WORDS = ["", "x", "-1", "0", DIGITS, "1e9", "1.5", "\x1b[31m", "\udcff", "(", ")", "!", "END", ";", '"', "nan", "{",
+         "}"]
+
+
+class Hang(Exception):
+    """That an input takes too long."""
+
+
+def in_process(name: str, words: list[str]) -> tuple[int, str, str]:
+    """What a tool does with words, in this process."""
+    def ring(number: int, _: FrameType | None) -> None:
+        raise Hang(f"{name} {words}")
+    written = io.BytesIO(), io.BytesIO()
+    out, err = (io.TextIOWrapper(each, errors="surrogateescape") for each in written)
+    before = signal.signal(signal.SIGALRM, ring)
+    signal.alarm(MOST_SECONDS)
+    try:
+        # Without numpy a tool would run itself again.
+        with mock.patch.multiple(sys, stdout=out, stderr=err), mock.patch.object(start, "is_again", True):
+            try:
+                status = frame.done(name, words)
+            except SystemExit as ended:
+                status = ended.code if isinstance(ended.code, int) else -1
+    finally:
+        signal.alarm(0)
+        signal.signal(signal.SIGALRM, before)
+    out.flush()
+    err.flush()
+    texts = [each.getvalue().decode(errors="surrogateescape") for each in written]
+    return status, texts[0], texts[1]
+
+
+class BadInputs(InFolder):
+    """Inputs that are drawn, and those that were once found."""
+
+    def assert_told(self, found: tuple[int, str, str], *says: str) -> None:
+        """That a tool ended with a fault's line that says this."""
+        status, _, err = found
+        self.assertEqual(status, 3, err)
+        self.assertEqual(len(err.splitlines()), 1, err)
+        self.assertLessEqual(len(err), MOST_LETTERS + 1)
+        self.assertTrue(err.rstrip("\n").isprintable(), err)
+        for word in says:
+            self.assertIn(word, err)
+
+    def calls(self) -> list[tuple[str, list[str], list[str]]]:
+        """Of each tool, the words behind its texts, and the texts, of which some are changed."""
+        path = os.path.join(self.folder.name, "out")
+        os.makedirs(path, exist_ok=True)
+        out, err = run(program(), "route", *SMALL[:2], "1")[1:]
+        solution, report = self.put("base.solution", out), self.put("base.report", err)
+        names = self.put("base.names", "names 2\nunits 100\norigin 0 0\ntile 10 10\nlayer 1 m1\nlayer 2 m2\n"
+                                       "net 0 use 1 clock\n")
+        panels = self.put("base.panels", run(program(), "panels", SMALL[0], solution)[1])
+        guide = self.put("base.guide", "a\n(\n0 0 10 10 m1\n0 0 30 20 m2\n)\n")
+        return [
+            ("adjust", ["--layer", "1", "0.5", "-o", f"{path}/a"], [SMALL[0]]),
+            ("congestion", ["--tracks", panels], [SMALL[0], solution]),
+            ("congestion", ["-o", f"{path}/c.csv"], [SMALL[0], solution]),
+            ("hotspots", ["--csv", f"{path}/h", "--klayout", f"{path}/k", "--names", names], [SMALL[0], solution]),
+            ("slowest", [], [SMALL[0], SMALL[1], solution, report]),
+            ("report", ["-o", f"{path}/r"], [SMALL[0], solution, SMALL[1], report]),
+            ("guides", [f"{path}/g", "--names", names], [SMALL[0], solution]),
+            ("to_solution", [f"{path}/t", "--names", names], [SMALL[0], guide]),
+            ("where", ["3"], [SMALL[0]]),
+            ("liberty", [], [SKY[3]]),
+            ("def_to_ispd", [f"{path}/d", f"{path}/l", "--lef", SKY[2], "--liberty", SKY[3], "--layers", "met1-met5"],
+             SKY[:2]),
+        ]
+
+    def changed(self, rng: random.Random, path: str) -> str:
+        """A copy of a text with something wrong in it."""
+        with open(path, "rb") as file:
+            data = file.read()
+        kind = rng.randrange(10)
+        if kind == 0:
+            data = rng.choice([b"", b"\0", b"\xff\xfe" + data, b"\xef\xbb\xbf" + data, data.decode().encode("utf-16")])
+        elif kind == 1:
+            packed = gzip.compress(data) if rng.randrange(2) else lzma.compress(data)
+            data = packed[:rng.randrange(len(packed) + 1)]
+        elif kind == 2:
+            data = data[:rng.randrange(len(data) + 1)]
+        elif kind == 3:
+            at = rng.randrange(len(data) + 1)
+            data = data[:at] + bytes(rng.randrange(256) for _ in range(rng.randrange(1, 9))) + data[at:]
+        else:
+            words = data.decode().split(" ")
+            for _ in range(rng.randrange(1, 4)):
+                at = rng.randrange(len(words))
+                words[at] = rng.choice([*WORDS, rng.choice(words), words[at] + "\n" + words[at]])
+            data = " ".join(words).encode("utf-8", "surrogateescape")
+        copy = os.path.join(self.folder.name, "changed")
+        with open(copy, "wb") as file:
+            file.write(data)
+        return copy
+
+    def test_drawn(self) -> None:
+        """Whatever comes, a tool ends soon with a status of its own, in lines that can be shown, and leaves no part."""
+        rng = random.Random(75)
+        calls = self.calls()
+        begun = time.monotonic()
+        for number in range(INPUTS):
+            name, words, texts = calls[number % len(calls)]
+            at = rng.randrange(len(texts))
+            changed = [*texts[:at], self.changed(rng, texts[at]), *texts[at + 1:]]
+            given = [*changed, *words]
+            if rng.randrange(8) == 0:
+                given[rng.randrange(len(given))] = rng.choice([word for word in WORDS if "\0" not in word])
+            status, _, err = in_process(name, given)
+            self.assertIn(status, (0, 1, 2, 3), (name, given))
+            self.assertNotIn("an error of this tool", err, (name, given))
+            self.assertNotIn("Traceback", err)
+            if status == 3:
+                self.assertNotEqual(err, "", (name, given))
+            for line in err.splitlines():
+                self.assertLessEqual(len(line), MOST_LETTERS, (name, line))
+            folders = [self.folder.name, os.path.join(self.folder.name, "out")]
+            self.assertEqual([file for folder in folders for file in os.listdir(folder) if file.endswith(".part")], [])
+        self.assertLess(time.monotonic() - begun, 60 if os.getloadavg()[0] < (os.cpu_count() or 1) else 240)
+
+    def test_numbers(self) -> None:
+        for name, texts in (("congestion", [f"grid {DIGITS} 2 1"]), ("adjust", ["grid 3 3 2\nvertical capacity 0 x"]),
+                            ("congestion", [GRID]), ("guides", [GRID]), ("hotspots", [GRID])):
+            design = self.put("design", texts[0])
+            self.put("design.names", "units 1\norigin 0 0\ntile 1 1\nlayer 1 a\nlayer 2 b\n")
+            words = [design] if name == "adjust" else [design, SMALL[2]]
+            begun = time.monotonic()
+            self.assert_told(tool(f"{name}.py", *words, *(["out"] if name == "guides" else [])), f"{design}:", "token")
+            self.assertLess(time.monotonic() - begun, 20)
+        report = self.put("report", "buffers 0\nnet a 0 required soon buffers 0\n")
+        if importlib.util.find_spec("numpy"):
+            self.assert_told(tool("slowest.py", *SMALL[:2], SMALL[2], report), f"{report}:2:", "net NAME ID required")
+
+    def made(self, *words: str, placed: str = SKY[0], lib: str | None = None) -> tuple[int, str, str]:
+        """What def_to_ispd.py did, with what it tells of skipped statements left out."""
+        status, out, err = tool("def_to_ispd.py", placed, SKY[1], os.path.join(self.folder.name, "made"),
+                                os.path.join(self.folder.name, "library"), "--lef", SKY[2], "--layers", "met1-met5",
+                                *(["--liberty", lib] if lib else []), *words)
+        said = ("is skipped\n", "isn't placed\n", "TRACKS Y, and so no room for wires\n", "in a place\n")
+        err = "".join(line for line in err.splitlines(keepends=True) if not line.endswith(said))
+        return status, out, err
+
+    def test_kinds(self) -> None:
+        self.assertEqual(self.made("--kind", "B", "1.5", "912", "191012")[0], 0)
+        for words, says in ((("-1", "912", "1"), "the load of --kind B is -1"), (("1", "x", "1"), "the resistance"),
+                            (("1", "1", DIGITS), "the delay of --kind B")):
+            self.assert_told(self.made("--kind", "B", *words), says)
+        self.assert_told(self.made(*("--kind", "B", "1", "2", "3") * 2), "two kinds are called B")
+
+    def test_units(self) -> None:
+        with open(SKY[3], encoding="utf-8") as file:
+            text = file.read()
+        wanted = tool("liberty.py", SKY[3])[1]
+        for old, new in (('"1ns"', '"ns"'), ('"1ns"', '"1.0e-9s"'), ("(1,pf)", "(1e3,ff)"), ("(1, pf)", "(1e3, ff)"),
+                         ("(1.0,pf)", "(1e-3,nf)")):
+            if old in text:
+                self.assertEqual(tool("liberty.py", self.put("lib", text.replace(old, new)))[:2], (0, wanted), new)
+        for new in ('""', '"1parsec"', '"0ns"', f'"{DIGITS}ns"'):
+            path = self.put("lib", text.replace('"1ns"', new))
+            self.assert_told(tool("liberty.py", path), f"{path}:", "time_unit")
+
+    def test_packed(self) -> None:
+        """DEF, LEF and liberty are read from .gz and .xz; what is cut or of UTF-16 is told, and so is what is packed
+        elsewhere."""
+        self.assertEqual(self.made(lib=SKY[3])[0], 0)
+        with open(os.path.join(self.folder.name, "made"), "rb") as file:
+            wanted = file.read()
+        paths = []
+        for at, path in enumerate(SKY):
+            with open(path, "rb") as file:
+                data = file.read()
+            paths.append(os.path.join(self.folder.name, os.path.basename(path)))
+            with open(paths[-1], "wb") as file:
+                data = b"\xef\xbb\xbf" + data
+                file.write(lzma.compress(data) if at % 2 else gzip.compress(data))
+        made = os.path.join(self.folder.name, "packed")
+        self.assertEqual(tool("def_to_ispd.py", *paths[:2], made, "--lef", paths[2], "--liberty", paths[3], "--layers",
+                              "met1-met5")[0], 0)
+        with open(made, "rb") as file:
+            self.assertEqual(file.read(), wanted)
+        with open(paths[0], "rb") as file:
+            data = file.read()
+        bad = os.path.join(self.folder.name, "bad")
+        for text, says in ((data[:-100], "cut off or damaged"), ("VERSION 5.8 ;".encode("utf-16"), "UTF-16"),
+                           (b"BZh9" + data, "bzip2"), (b"\x28\xb5\x2f\xfd", "zstd")):
+            with open(bad, "wb") as file:
+                file.write(text)
+            self.assert_told(self.made(placed=bad), bad, says)
+        self.assert_told(tool("congestion.py", paths[0], SMALL[2]), "compressed by gzip")
+
+    def test_outputs(self) -> None:
+        """What is read, or begins like a text of a chip, is never written over; what fails leaves what was there."""
+        lef = self.put("copy.lef", f"# a comment\n\n{open(SKY[2], encoding='utf-8').read()}")
+        with open(lef, encoding="utf-8") as file:
+            text = file.read()
+        status, _, err = tool("def_to_ispd.py", SKY[0], SKY[1], lef)
+        self.assertEqual((status, "begins like LEF" in err), (3, True))
+        design = self.put("design", open(SMALL[0], encoding="utf-8").read())
+        self.assert_told(tool("adjust.py", design, "-o", design), "is read, and would be written over")
+        self.assert_told(tool("to_solution.py", design, SMALL[2], f"{self.folder.name}/none/a", "--names", self.put(
+            "names", "units 1\norigin 0 0\ntile 1 1\nlayer 1 a\nlayer 2 b\n")))
+        before = {name: open(os.path.join(self.folder.name, name), "rb").read() for name in ("copy.lef", "design")}
+        # The library fails, so that neither design nor names are written.
+        status, _, err = tool("def_to_ispd.py", SKY[0], SKY[1], os.path.join(self.folder.name, "new"),
+                              os.path.join(self.folder.name, "lib"), "--lef", SKY[2], "--driver", "99999999")
+        self.assertEqual(status, 3, err)
+        self.assertEqual(sorted(os.listdir(self.folder.name)), ["copy.lef", "design", "names"])
+        self.assertEqual(before["copy.lef"].decode(), text)
+        self.assertEqual({name: open(os.path.join(self.folder.name, name), "rb").read() for name in before}, before)
+
+    def test_no_net(self) -> None:
+        with open(SKY[0], encoding="utf-8") as file:
+            text = file.read()
+        begin, end = text.index("\nNETS "), text.index("END NETS")
+        placed = self.put("none.def", f"{text[:begin]}\nNETS 1 ;\n- alone ;\n{text[end:]}")
+        self.assert_told(self.made(placed=placed), "no net of NETS has a pin")
+
+    def test_full_device(self) -> None:
+        for words in (["where.py", SMALL[0], "1"], ["congestion.py", SMALL[0], SMALL[2]], ["liberty.py", SKY[3]]):
+            called = shlex.join([sys.executable, os.path.join(TOOLS, words[0]), *words[1:]])
+            found = run("sh", "-c", f"{called} > /dev/full")
+            self.assert_told(found, "No space left on device")
+
+    def test_signals(self) -> None:
+        """An interrupt ends a tool by the signal, without a word, and leaves no part of a file."""
+        pipe = os.path.join(self.folder.name, "pipe")
+        os.mkfifo(pipe)
+        for number in (signal.SIGINT, signal.SIGTERM):
+            for words in (["congestion.py", pipe, SMALL[2]], ["def_to_ispd.py", pipe, SKY[1], f"{self.folder.name}/d"],
+                          ["where.py", pipe, "1"], ["adjust.py", pipe, "-o", f"{self.folder.name}/a"]):
+                child = subprocess.Popen([sys.executable, os.path.join(TOOLS, words[0]), *words[1:]],
+                                         stdout=subprocess.PIPE, stderr=subprocess.PIPE)
+                with open(pipe, "wb"):      # waits until the tool reads
+                    child.send_signal(number)
+                    out, err = child.communicate(timeout=30)
+                self.assertEqual((child.returncode, out, err), (-number, b"", b""), words)
+        self.assertEqual(os.listdir(self.folder.name), ["pipe"])
+
+    @unittest.skipUnless(os.path.exists("/usr/bin/sleep"), "sleep is not there")
+    def test_signals_of_children(self) -> None:
+        """What flow.py runs ends with it."""
+        seen = os.path.join(self.folder.name, "seen")
+        groute = self.put("groute", f"#!/bin/sh\n[ $# -gt 0 ] || exit 2\necho $$ > {seen}\nexec sleep 600\n")
+        os.chmod(groute, 0o755)
+        words = [SKY[0], "--lef", SKY[1], "--lef", SKY[2], "--layers", "met1-met5", "--program", groute]
+        child = subprocess.Popen([sys.executable, os.path.join(TOOLS, "flow.py"), *words, "-o",
+                                  f"{self.folder.name}/out"], stdout=subprocess.PIPE, stderr=subprocess.PIPE)
+        for _ in range(600):
+            if os.path.exists(seen) and os.path.getsize(seen):
+                break
+            time.sleep(0.1)
+        with open(seen, encoding="ascii") as file:
+            inner = int(file.read())
+        child.send_signal(signal.SIGINT)
+        child.communicate(timeout=30)
+        self.assertEqual(child.returncode, -signal.SIGINT)
+        self.assertFalse(os.path.exists(f"/proc/{inner}"))
+        self.assertEqual([name for name in os.listdir(f"{self.folder.name}/out") if name.endswith(".part")], [])
