@@ -34,6 +34,11 @@ pub trait Costs {
         ensures least { IfSome result (λ cost. 1 ≤ cost) }
         ensures most { IfSome result (λ cost. cost ≤ most_cost) };
 
+    /// What a via edge of the grid costs. Of an edge that goes another way it says nothing.
+    fn via(&self, e: Edge) -> Option<u64>
+        requires { IsTrue (has_edge (grid self.now) e) }
+        ensures price { e.way ≡ Up → result ≡ price self.now e };
+
     /// What each via edge costs at least, from 1 to 1,048,576.
     fn least_via(&self) -> u64
         ensures least { 1 ≤ result }

@@ -78,7 +78,7 @@ impl Field {
         match edge.way {
             Way::East => held_at(&self.east, low),
             Way::North => held_at(&self.north, low),
-            Way::Up => costs.cost(edge),
+            Way::Up => costs.via(edge),
         }
     }
 }

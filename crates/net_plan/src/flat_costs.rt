@@ -86,6 +86,10 @@ impl Costs for FlatCosts<'_> {
         least
     }
 
+    fn via(&self, e: Edge) -> Option<u64> {
+        self.cost(e)
+    }
+
     fn least_via(&self) -> u64 {
         1
     }

@@ -111,6 +111,12 @@ impl Costs for NetCosts<'_> {
         Some(self.cost_at(self.site(e)))
     }
 
+    // All via edges cost the same, so that a search's step along one needs no edge of the book.
+    #[inline(always)]
+    fn via(&self, _e: Edge) -> Option<u64> {
+        Some(VIA_PRICE)
+    }
+
     fn least_via(&self) -> u64 {
         VIA_PRICE
     }

@@ -85,6 +85,10 @@ impl Costs for Priced {
         }
     }
 
+    fn via(&self, e: Edge) -> Option<u64> {
+        self.cost(e)
+    }
+
     fn least_via(&self) -> u64 {
         1
     }
