@@ -18,7 +18,7 @@ use Rattle.gr_base.proofs.GridLemmas.{few_cells, number-below, place-number, som
 use Rattle.solution_text.specs.Runs.{LieIn, begins, reach, run_from}
 use Rattle.solution_text.proofs.RunLemmas.{moved, reach-is, trail-place}
 use Rattle.track_panels.specs.declared.piece.Piece.{Piece}
-use Rattle.track_panels.specs.Pieces.{ArePieces}
+use Rattle.track_panels.specs.Pieces.{AreInOrder, ArePieces}
 use Rattle.panel_text.specs.declared.place.Place.{Place}
 use Rattle.panel_text.specs.declared.starts.Starts.{Starts}
 use Rattle.panel_text.specs.Chains.{HaveChains}
@@ -163,15 +163,16 @@ module _ (d : DesignView) (sets : ℕ → Edges) (within : (net : ℕ) → LieIn
   pub pieces-nets : All (λ piece. piece.net < length d.nets) (pieces_of d sets place)
   pieces-nets = all-pieces (λ piece. piece.net < length d.nets) (λ tile piece h. h.net)
 
-  pub pieces-are : 0 < length (pieces_of d sets place) → length (pieces_of d sets place) < 2 ^ 31 → ArePieces (pieces_of d sets place)
-  pieces-are some few = record {
-    some = some;
-    few = few;
+  pub pieces-ordered : AreInOrder (pieces_of d sets place)
+  pieces-ordered = record {
     long = all-pieces (λ piece. piece.low < piece.high) (λ tile piece h. let l = h.long in let e = h.low in omega (arith, l, e));
     within = all-pieces (λ piece. piece.high < most_cells) (λ tile piece h. h.within);
     rising = rising-tiles (pieces_at d sets place) 0 (tiles_along d.frame.shape place.way)
         (λ t low high. All-weaker (IsPieceAt d t) (λ p. p.low ≡ t) (λ p h. h.low) (pieces_at d sets place t) (each-piece t (omega (arith, high))));
   }
+
+  pub pieces-are : 0 < length (pieces_of d sets place) → length (pieces_of d sets place) < 2 ^ 31 → ArePieces (pieces_of d sets place)
+  pieces-are some few = record { some = some; few = few; order = pieces-ordered }
 
 -- the pieces along a panel where the runs are those of sets of edges
 pub pieces-along : (d : DesignView) (sets : ℕ → Edges) (place : Place) (s : Starts) (pieces : List Piece) (g : Shape) → g ≡ d.frame.shape →

@@ -7,11 +7,12 @@ use Rattle.gr_base.specs.declared.grid.Way.{Way}
 use Rattle.gr_base.specs.declared.grid.Way.TheVariants.{East, North, Up}
 use Rattle.gr_base.specs.Designs.{DesignView}
 use Rattle.gr_base.specs.EdgeSets.{Edges}
+use Rattle.solution_text.specs.Runs.{LieIn}
 use Rattle.track_panels.specs.declared.piece.Piece.{Piece}
-use Rattle.track_panels.specs.Numberings.{left_edge, tracks_of, point_of}
+use Rattle.track_panels.specs.Numberings.{IsFewest, IsValid, left_edge, tracks_of, point_of}
 use Rattle.panel_text.specs.declared.place.Place.{Place}
 use Rattle.panel_text.specs.PanelPieces.{pieces_of}
-use Rattle.panel_text.specs.Places.{places_of}
+use Rattle.panel_text.specs.Places.{IsPlace, places_of}
 
 -- runs in rows are horizontal, and runs in columns vertical
 abbrev pub letter : Way → List ℕ
@@ -48,6 +49,15 @@ panel_lines d sets place = lines_of d place (pieces_of d sets place)
 abbrev pub has_some : List Piece → Bool
 has_some [] = false
 has_some (piece ∷ pieces) = true
+
+-- in each panel of sets of a grid's edges this numbering gives pieces with a common tile different tracks, and no numbering
+-- that does so uses fewer
+abbrev pub PanelsUseFewest : Type 0
+PanelsUseFewest =
+    (d : DesignView) → (sets : ℕ → Edges) → ((net : ℕ) → LieIn d.frame.shape (sets net)) →
+    (place : Place) → IsPlace d.frame.shape place →
+    IsValid (zip (pieces_of d sets place) (left_edge (pieces_of d sets place)))
+    × IsFewest (pieces_of d sets place) (left_edge (pieces_of d sets place))
 
 -- how many panels have a piece, and how many tracks the panels have together
 abbrev pub panels_used : DesignView → (ℕ → Edges) → List Place → ℕ

@@ -3,6 +3,7 @@
 
 mod chains;
 mod gathered;
+mod laws;
 mod lines;
 mod panel_pieces;
 mod place;
@@ -10,4 +11,5 @@ mod starts;
 mod text;
 mod told;
 
+pub use laws::panels_use_fewest_tracks;
 pub use text::panels;

@@ -52,7 +52,7 @@ position-first p n at most passes before =
 
 -- ---- the least clear track
 
-clear-yes : (tile track : ℕ) (placed : Placed) → IsClear tile track placed → is_clear tile track placed ≡ true
+pub clear-yes : (tile track : ℕ) (placed : Placed) → IsClear tile track placed → is_clear tile track placed ≡ true
 clear-yes tile track [] clear = refl
 clear-yes tile track (p ∷ ps) clear =
     let P : Piece × ℕ → Type 0 = λ q. q.1 ≡ track → q.0.high < tile in
@@ -63,7 +63,7 @@ clear-yes tile track (p ∷ ps) clear =
       | inr off ↦ rw off refl
     ]) (clear-yes tile track ps (All-tail P p ps clear))
 
-clear-is : (tile track : ℕ) (placed : Placed) → is_clear tile track placed ≡ true → IsClear tile track placed
+pub clear-is : (tile track : ℕ) (placed : Placed) → is_clear tile track placed ≡ true → IsClear tile track placed
 clear-is tile track [] yes' = All-nil (λ (q : Piece × ℕ). q.1 ≡ track → q.0.high < tile)
 clear-is tile track (p ∷ ps) yes' =
     let parts = and_parts (not (p.1 == track) || nat_lt p.0.high tile) (is_clear tile track ps) yes' in
@@ -71,7 +71,7 @@ clear-is tile track (p ∷ ps) yes' =
     (λ is. let a = parts.0 in grind (arith, nat_tests, a, is)) (clear-is tile track ps parts.1)
 
 -- a track that isn't clear has a piece
-on-it : (tile track : ℕ) (placed : Placed) → is_clear tile track placed ≡ false → list_any (λ t. track == t) (map (λ p. p.1) placed) ≡ true
+pub on-it : (tile track : ℕ) (placed : Placed) → is_clear tile track placed ≡ false → list_any (λ t. track == t) (map (λ p. p.1) placed) ≡ true
 on-it tile track [] off = absurd (false≢true (sym off))
 on-it tile track (p ∷ ps) off =
     elim (cases_Bool (track == p.1)) [
@@ -96,7 +96,7 @@ least-is tile track placed least =
 
 -- ---- the numbering
 
-seam : (before : Placed) (p : Piece × ℕ) (after : Placed) → slice_get (before ++ p ∷ after) (length before) ≡ Some p
+pub seam : (before : Placed) (p : Piece × ℕ) (after : Placed) → slice_get (before ++ p ∷ after) (length before) ≡ Some p
 seam [] p after = refl
 seam (q ∷ qs) p after = seam qs p after
 

@@ -2,3 +2,4 @@ pub mod ListLemmas
 pub mod OpenTrackLemmas
 pub mod LeftEdgeLemmas
 pub mod NumberingLemmas
+pub mod LawLemmas

@@ -17,7 +17,7 @@ use Rattle.std.proofs.lemmas.Option.{slice_get-get_or}
 use Rattle.gr_base.proofs.General.{same-truth}
 use Rattle.gr_base.specs.Limits.{most_cells}
 use Rattle.track_panels.specs.declared.piece.Piece.{Piece}
-use Rattle.track_panels.specs.Pieces.{covers, meet, covering, ArePieces}
+use Rattle.track_panels.specs.Pieces.{covers, meet, covering}
 use Rattle.track_panels.specs.Numberings.{Placed, IsValid, IsLeftEdge, IsFewest, IsPanel, left_edge, tracks_used, tracks_of, point_of}
 use Rattle.track_panels.specs.OpenTracks.{AreTracks}
 use Rattle.track_panels.proofs.LeftEdgeLemmas.{each-of, range-distinct, range-below, range-has, position-first, tracks-are}
@@ -142,7 +142,7 @@ unique-has q (x ∷ xs) is =
 
 -- ---- what follows
 
-module _ (pieces : List Piece) (numbers : List ℕ) (tile opened point : ℕ) (are : ArePieces pieces) (long : length numbers ≡ length pieces)
+module _ (pieces : List Piece) (numbers : List ℕ) (tile opened point : ℕ) (filled : 0 < length pieces) (on-chip : All (λ piece. piece.high < most_cells) pieces) (long : length numbers ≡ length pieces)
     (tracks : AreTracks (zip pieces numbers) tile opened point) where
   placed : Placed
   placed = zip pieces numbers
@@ -166,7 +166,7 @@ module _ (pieces : List Piece) (numbers : List ℕ) (tile opened point : ℕ) (a
 
   some-open : 0 < opened
   some-open =
-      let some = are.some in
+      let some = filled in
       let few = length-map (zip pieces numbers) (λ (p : Piece × ℕ). p.0) in
       let size = ap (λ (ps : List Piece). length ps) (first-zip pieces numbers long) in
       let e : Piece × ℕ = (record { net = 0; low = 0; high = 0 }, 0) in
@@ -214,7 +214,7 @@ module _ (pieces : List Piece) (numbers : List ℕ) (tile opened point : ℕ) (a
       let same = first-zip pieces numbers long in
       let size' = ap (λ (ps : List Piece). length ps) same in
       let is : get_or pieces some.0 some.1.0 ≡ some.1.0 = subst (λ (ps : List Piece). get_or ps some.0 some.1.0 ≡ some.1.0) same (at ∙ ap (λ (p : Piece × ℕ). p.0) some.3) in
-      let high = subst (λ (p : Piece). p.high < most_cells) is (are.within some.0 some.1.0 (omega (arith, some.2, size, size'))) in
+      let high = subst (λ (p : Piece). p.high < most_cells) is (on-chip some.0 some.1.0 (omega (arith, some.2, size, size'))) in
       let covered : point ≤ some.1.0.high = grind (arith, nat_tests, some.4.1) in
       omega (arith, high, covered)
 

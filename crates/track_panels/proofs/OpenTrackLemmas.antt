@@ -140,7 +140,7 @@ module _ (placed : Placed) (piece : Piece) (tile opened point : ℕ) (up : tile 
       All-push (λ (p : Piece × ℕ). p.0.low ≤ piece.low) placed (piece, track)
       (All-weaker (λ (p : Piece × ℕ). p.0.low ≤ tile) (λ p. p.0.low ≤ piece.low) (λ p h. omega (arith, h, up)) placed tracks.rising) (omega arith)
 
-  reused : (track : ℕ) → track < opened → IsLeastClear piece.low track placed → AreTracks (placed ++ (piece, track) ∷ []) piece.low opened point
+  pub reused : (track : ℕ) → track < opened → IsLeastClear piece.low track placed → AreTracks (placed ++ (piece, track) ∷ []) piece.low opened point
   reused track open_ least =
       let begun = tracks.begun in record {
         left_edge = more-left_edge placed piece track tracks.left_edge least;
@@ -152,7 +152,7 @@ module _ (placed : Placed) (piece : Piece) (tile opened point : ℕ) (up : tile 
         begun = omega (arith, begun, up);
       }
 
-  opened-more : piece.low < piece.high → ((other : ℕ) → other < opened → Any (λ p. (p.1 ≡ other) × (piece.low ≤ p.0.high)) placed) →
+  pub opened-more : piece.low < piece.high → ((other : ℕ) → other < opened → Any (λ p. (p.1 ≡ other) × (piece.low ≤ p.0.high)) placed) →
       AreTracks (placed ++ (piece, opened) ∷ []) piece.low (opened + 1) piece.low
   opened-more long full = record {
     left_edge = more-left_edge placed piece opened tracks.left_edge (record {

@@ -5,7 +5,7 @@ use Rattle.std.specs.Set.{distinct_count}
 use Rattle.gr_base.specs.Limits.{most_cells}
 use Rattle.track_panels.specs.declared.piece.Piece.{Piece}
 use Rattle.track_panels.specs.Panels.{PanelView}
-use Rattle.track_panels.specs.Pieces.{covering, meet}
+use Rattle.track_panels.specs.Pieces.{AreInOrder, covering, meet}
 
 -- pieces with their tracks
 abbrev pub Placed : Type 0
@@ -61,6 +61,11 @@ point_of pieces = position_or_len (λ tile. covering tile pieces == tracks_of pi
 abbrev pub IsFewest : List Piece → List ℕ → Type 0
 IsFewest pieces numbers = (others : List ℕ) → length others ≡ length pieces → IsValid (zip pieces others) →
     tracks_used numbers ≤ tracks_used others
+
+-- the left-edge numbering of pieces in their order is valid, and no valid numbering of them uses fewer tracks
+abbrev pub LeftEdgeIsFewest : Type 0
+LeftEdgeIsFewest = (pieces : List Piece) → AreInOrder pieces →
+    IsValid (zip pieces (left_edge pieces)) × IsFewest pieces (left_edge pieces)
 
 -- the tile is the least that so many pieces cover, and no tile is covered by more
 pub record IsFullest (count tile : ℕ) (pieces : List Piece) : Type 0 where

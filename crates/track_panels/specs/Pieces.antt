@@ -16,10 +16,14 @@ meet a b = nat_le a.low b.high && nat_le b.low a.high
 abbrev pub covering : ℕ → List Piece → ℕ
 covering tile pieces = count_by (covers tile) pieces
 
--- the pieces of a panel, by rising low ends
-pub record ArePieces (pieces : List Piece) : Type 0 where
-  pub some : 0 < length pieces
-  pub few : length pieces < 2 ^ 31
+-- the pieces lie on a chip, and go by rising low ends
+pub record AreInOrder (pieces : List Piece) : Type 0 where
   pub long : All (λ piece. piece.low < piece.high) pieces
   pub within : All (λ piece. piece.high < most_cells) pieces
   pub rising : AllPairs (λ a b. a.low ≤ b.low) pieces
+
+-- the pieces of a panel
+pub record ArePieces (pieces : List Piece) : Type 0 where
+  pub some : 0 < length pieces
+  pub few : length pieces < 2 ^ 31
+  pub order : AreInOrder pieces

@@ -26,7 +26,7 @@ loop-piece-preserved c =
       long = ap (λ (ns : List ℕ). length ns) grown ∙ omega (arith, long, was.long);
       room = omega (arith, inside);
       tile = (get_or pieces at e).low;
-      up = λ k d past within. subst (λ (p : Piece). (get_or pieces at e).low ≤ p.low) (get_or_default pieces k e d within) (c.requires.rising at k e (omega (arith, past)) within);
+      up = λ k d past within. subst (λ (p : Piece). (get_or pieces at e).low ≤ p.low) (get_or_default pieces k e d within) (c.requires.order.rising at k e (omega (arith, past)) within);
       stands = subst (λ (placed : Placed). Stands placed (get_or pieces at e).low c.place.new.self) (sym more)
           (c.in_ok-track.ensures (zip (take at pieces) c.loop-piece.numbers.items) was.tile (was.up at e (omega arith) inside) was.stands);
     }
@@ -36,6 +36,6 @@ returns c =
     let was = c.loop-piece.invariant in
     let pieces = c.args.pieces.now in
     let all : take c.loop-piece.piece-index pieces ≡ pieces = take_all c.loop-piece.piece-index pieces c.loop-piece-test.false in
-    numbered pieces c.loop-piece.numbers.items was.tile c.loop-piece.tracks.opened c.loop-piece.tracks.point c.requires
+    numbered pieces c.loop-piece.numbers.items was.tile c.loop-piece.tracks.opened c.loop-piece.tracks.point c.requires.some c.requires.order.within
     (omega (arith, was.long, was.room, c.loop-piece-test.false))
     (subst (λ (ps : List Piece). AreTracks (zip ps c.loop-piece.numbers.items) was.tile c.loop-piece.tracks.opened c.loop-piece.tracks.point) all was.stands.tracks)
