@@ -2,7 +2,7 @@
 ghost use Rattle.std.specs.Prelude.{◌≡◌, ◌+◌, ◌<◌, ◌≤◌, ◌++◌, length, All, Err, IfOk, IsTrue, OnOk, OnErr};
 ghost use Rattle.gr_io.specs.Counts.{Rose};
 ghost use Rattle.gr_io.specs.Parts.{AppendsPart};
-ghost use Rattle.straight_runs.specs.Routed.{AreRouted};
+ghost use Rattle.straight_runs.specs.Routed.{HaveTrees};
 ghost use Rattle.route_writer.specs.Blocks.{ArePut, IsPut, block_start, texts_of};
 
 use crate::error::WriteError;
@@ -47,7 +47,7 @@ pub(crate) fn put_blocks<R: Threads + Sync>(
     size: u32,
     blocks: &mut Vec<Block>,
 )
-    requires routed { AreRouted design.now routes.now }
+    requires routed { HaveTrees design.now routes.now }
     requires from { from ≤ length design.now.nets }
     requires size { size ≤ 65536 }
     requires some { 0 < length blocks.old.items }
@@ -60,7 +60,7 @@ pub(crate) fn put_blocks<R: Threads + Sync>(
         blocks.as_mut_slice(),
         threads,
         &|at, block: &mut Block|
-            requires { AreRouted design.now routes.now × (from ≤ length design.now.nets) × (size ≤ 65536) }
+            requires { HaveTrees design.now routes.now × (from ≤ length design.now.nets) × (size ≤ 65536) }
             ensures { IsPut design.entry.now routes.entry.now (block_start design.entry.now from size at)
                 (block_start design.entry.now from size (at + 1)) block.exit.now }
         {
@@ -71,7 +71,7 @@ pub(crate) fn put_blocks<R: Threads + Sync>(
 
 /// Puts the records of a block's nets into it.
 fn put_block(block: &mut Block, design: &Design, routes: &Routes, from: u32, size: u32, at: usize)
-    requires routed { AreRouted design.now routes.now }
+    requires routed { HaveTrees design.now routes.now }
     requires from { from ≤ length design.now.nets }
     requires size { size ≤ 65536 }
     ensures { IsPut design.now routes.now (block_start design.now from size at)

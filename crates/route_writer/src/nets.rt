@@ -1,6 +1,6 @@
 //! The records of nets, one after another.
 ghost use Rattle.std.specs.Prelude.{◌≡◌, ◌<◌, ◌≤◌, ◌++◌, length, OnOk};
-ghost use Rattle.straight_runs.specs.Routed.{AreRouted};
+ghost use Rattle.straight_runs.specs.Routed.{HaveTrees};
 ghost use Rattle.route_writer.specs.RouteTexts.{net_text, nets_text};
 
 use crate::record::Draft;
@@ -14,7 +14,7 @@ pub(crate) fn put_net(
     routes: &Routes,
     net: u32,
 ) -> Result<(), AllocError>
-    requires routed { AreRouted design.now routes.now }
+    requires routed { HaveTrees design.now routes.now }
     requires net { net < length design.now.nets }
     ensures { OnOk result (draft.new.text.items ≡ draft.old.text.items ++ net_text design.now routes.now net) }
 {
@@ -35,7 +35,7 @@ pub(crate) fn put_nets(
     first: u32,
     last: u32,
 ) -> Result<(), AllocError>
-    requires routed { AreRouted design.now routes.now }
+    requires routed { HaveTrees design.now routes.now }
     requires range { first ≤ last }
     requires last { last ≤ length design.now.nets }
     ensures { OnOk result

@@ -1,7 +1,7 @@
 ghost use Rattle.std.specs.Prelude.{◌≡◌, ◌≤◌, ◌++◌, [], Err, IsTrue, OnOk, OnErr};
 ghost use Rattle.gr_io.specs.Counts.{Rose};
 ghost use Rattle.gr_io.specs.Parts.{AppendsPart};
-ghost use Rattle.straight_runs.specs.Routed.{AreRouted};
+ghost use Rattle.straight_runs.specs.Routed.{HaveTrees};
 ghost use Rattle.route_writer.specs.Written.{AddsRoutes, AddsPart};
 
 use crate::error::WriteError;
@@ -38,7 +38,7 @@ pub fn write_solution<K: Sink>(
     design: &Design,
     routes: &Routes,
 ) -> Result<(), WriteError>
-    requires { AreRouted design.now routes.now }
+    requires { HaveTrees design.now routes.now }
     ensures ok { OnOk result (AddsRoutes K.tells K.written design.now routes.now sink.old sink.new) }
     ensures quiet { OnOk result (K.faults sink.new ≡ K.faults sink.old) }
     ensures prefix { OnErr result (AddsPart K.tells K.written design.now routes.now sink.old sink.new) }
