@@ -16,7 +16,7 @@ pub(crate) fn put_net(
 ) -> Result<(), AllocError>
     requires routed { HaveTrees design.now routes.now }
     requires net { net < length design.now.nets }
-    ensures { OnOk result (draft.new.text.items ≡ draft.old.text.items ++ net_text design.now routes.now net) }
+    ensures { OnOk result (draft.new.text ≡ draft.old.text ++ net_text design.now routes.now net) }
 {
     if !design.routed(net) {
         return Ok(());
@@ -39,7 +39,7 @@ pub(crate) fn put_nets(
     requires range { first ≤ last }
     requires last { last ≤ length design.now.nets }
     ensures { OnOk result
-        (draft.new.text.items ≡ draft.old.text.items ++ nets_text design.now routes.now first last) }
+        (draft.new.text ≡ draft.old.text ++ nets_text design.now routes.now first last) }
 {
     for net in first..last {
         put_net(draft, design, routes, net)?;

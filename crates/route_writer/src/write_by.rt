@@ -47,7 +47,7 @@ pub fn write_solution_by<R: Threads + Sync, K: Sink>(
         put_blocks(rt, design, routes, from, size, &mut blocks);
         write_blocks(sink, &blocks)?;
         from = behind(from, size, workers, design.nets());
-        size = next_size(size, blocks[0].draft.text.len());
+        size = next_size(size, blocks[0].draft.text.bytes().len());
     }
     Ok(())
 }
