@@ -48,8 +48,7 @@ impl Text {
         ensures unchanged { OnErr result (self.new ≡ self.old) }
     {
         let mut buffer = Buffer::new();
-        self.written
-            .extend_from_slice(buffer.format(n).as_bytes())
+        self.written.extend_from_slice(buffer.format(n).as_bytes())
     }
 
     /// Puts the line of a word and a number at the end. An error may leave a first part of it.

@@ -5,14 +5,14 @@ ghost use Rattle.gr_base.specs.Grid.{cells_of};
 ghost use Rattle.gr_base.specs.Sums.{sum_routed};
 ghost use Rattle.gr_base.specs.Trees.{IsTree};
 ghost use Rattle.elmore_delay.specs.PlanLists.{plan_at};
-ghost use Rattle.solution_text.specs.WrittenText.{point_text};
 ghost use Rattle.report_text.specs.BufferTexts.{kind_line, placement_text, plan_line, no_legal_line, net_buffers, net_lines, buffers_in, total_line, buffers_text, IsPlanFor, ArePlanned, AreSomePlanned};
 ghost use Rattle.report_text.specs.Placed.{buffered_nodes, rising_buffers};
 
 use elmore_delay::{Placement, Plan, Plans};
-use gr_base::{Design, Net, Point, RouteTree, Routes};
+use gr_base::{Design, Net, RouteTree, Routes};
 use gr_text::Text;
 use rc_library::Library;
+use solution_text::put_point;
 use std::alloc::{AllocError, Global};
 
 /// Plans of buffers on a design's routes, with the library that names their kinds.
