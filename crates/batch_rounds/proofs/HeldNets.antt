@@ -7,9 +7,10 @@ use Rattle.std.proofs.lemmas.List.{take-append-drop, take-append-le, take_all, l
 use Rattle.std.proofs.lemmas.List.Elements.{All-head, All-tail, All-take, All-drop, filter_passes}
 use Rattle.std.proofs.lemmas.List.Folds.{list_any-append}
 use Rattle.std.proofs.lemmas.Option.{none-some, same_Some, slice_get_within}
-use Rattle.gr_base.proofs.DesignLemmas.{get-push}
+use Rattle.gr_base.proofs.DesignLemmas.{get-push, routed-below}
 use Rattle.gr_base.proofs.General.{some-and, and-some, is-some}
-use Rattle.gr_base.specs.Designs.{DesignView, is_routed}
+use Rattle.gr_base.specs.Designs.{DesignView, is_routed, AreRouted}
+use Rattle.gr_base.specs.Plans.{IsRouteOfNet}
 use Rattle.gr_base.specs.Trees.{TreeView, is_among}
 use Rattle.grid_demand.proofs.RangeFilters.{filter-has}
 use Rattle.grid_demand.specs.Tables.{CapacityView}
@@ -26,9 +27,9 @@ use Rattle.book_state.specs.declared.entry.Entry.{Entry}
 use Rattle.book_state.specs.declared.entry.Reply.{Reply}
 use Rattle.book_state.specs.declared.entry.Reply.TheVariants.{Claimed, Taken, Full, Released, NotBooked, Marked}
 use Rattle.round_core.proofs.StandLemmas.{mark-stands, victims-routed, least-call, least-place, some-least}
-use Rattle.round_core.proofs.TurnLemmas.{claim-answered, routed-below}
+use Rattle.round_core.proofs.TurnLemmas.{claim-answered}
 use Rattle.round_core.proofs.WorldSteps.{one-more}
-use Rattle.round_core.specs.Rounds.{marker, IsRouteOfNet}
+use Rattle.round_core.specs.Rounds.{marker}
 use Rattle.round_core.specs.Standing.{IsHeld, Stands}
 use Rattle.batch_rounds.specs.BatchedHistories.{Batching, capacity_in, claimant, IsNumbered, after_call, after_claim, after_mark, after_releases, is_refused, IsClaimOver, at_any_demand, IsClaimedAlone, IsTurn, AreTurns, opened, IsBatch, AreBatches, nets_due, IsRound, AreRounds, IsBatched}
 use Rattle.batch_rounds.specs.BatchedHistories.IsClaimedAlone.{Fits, Is_forced}
@@ -225,9 +226,6 @@ turn-turned t round net front h after routed (Goes_on claim is full alone) =
     }
 
 -- turns leave their nets booked
-abbrev AreRouted : DesignView → List ℕ → Type 0
-AreRouted d nets = All (λ net. IsTrue (is_routed d net)) nets
-
 record AreTurned (d : DesignView) (nets : List ℕ) (h after : List Entry) : Type 0 where
   goes_on : GoesOn d h after
   held : (net : ℕ) → is_among nets net ≡ true → IsBooked after net

@@ -9,6 +9,7 @@ use Rattle.std.proofs.lemmas.Option.{get_or_from_slice_get, none-some, same_Some
 use Rattle.std.specs.List.{range_with_len}
 use Rattle.std.specs.Option.{option_map}
 use Rattle.cost_rules.specs.declared.site.Formula.{Formula}
+use Rattle.gr_base.proofs.DesignLemmas.{routed-net}
 use Rattle.gr_base.specs.Designs.{DesignView, is_routed, pins_at}
 use Rattle.gr_base.specs.Grid.{edge_at, has_edge, high_of, is_wire, is_wire_way}
 use Rattle.gr_base.specs.Trees.{TreeView, cell_at, has_cell, holds, node_from}
@@ -32,7 +33,6 @@ use Rattle.book_state.specs.declared.entry.Entry.{Entry}
 use Rattle.book_state.specs.declared.entry.Reply.{Reply}
 use Rattle.book_state.specs.declared.entry.Reply.TheVariants.{Claimed, Taken, Full, Released, NotBooked, Marked}
 use Rattle.round_core.proofs.StillPlans.{StaysBestIn, still-maze-in}
-use Rattle.round_core.proofs.TurnLemmas.{routed-net}
 use Rattle.round_core.specs.Attempts.{kind_of}
 use Rattle.round_core.specs.Rounds.{IsPlanFor}
 use Rattle.batch_rounds.proofs.HeldNets.{claim-books}

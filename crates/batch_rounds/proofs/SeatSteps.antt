@@ -7,6 +7,7 @@ use Rattle.std.proofs.lemmas.List.{length_push, length-set}
 use Rattle.std.proofs.lemmas.Nat.{div-add-mod', mod_below}
 use Rattle.std.proofs.lemmas.Option.{none-some, same_Some, slice_get_within}
 use Rattle.cost_rules.specs.declared.site.Formula.{Formula}
+use Rattle.gr_base.proofs.DesignLemmas.{routed-net}
 use Rattle.gr_base.proofs.General.{and-some}
 use Rattle.gr_base.specs.Designs.{DesignView, is_routed}
 use Rattle.grid_demand.specs.LoadSums.{LoadsView}
@@ -15,7 +16,6 @@ use Rattle.book_state.proofs.HistoryLists.{slice_get-left, slice_get-right}
 use Rattle.book_state.specs.Books.{AreLoadsOf}
 use Rattle.book_state.specs.declared.entry.Entry.{Entry}
 use Rattle.round_core.proofs.HeldCounts.{set-here, set-elsewhere}
-use Rattle.round_core.proofs.TurnLemmas.{routed-net}
 use Rattle.batch_rounds.specs.SecondTries.{IsNoted}
 use Rattle.batch_rounds.specs.Seats.{plan_in, plan_for, HasPlanned, HavePlans}
 use Rattle.batch_rounds.specs.declared.seat.Planned.{Planned}

@@ -4,7 +4,7 @@
 //! stays the plan where no edge between two of its cells got more demand, whatever became dearer aside of it.
 ghost use Rattle.std.specs.Prelude.{◌≡◌, ◌≤◌, ◌<◌, ◌^◌, IfOk, IfSome, IsTrue};
 ghost use Rattle.gr_base.specs.Designs.{is_routed};
-ghost use Rattle.gr_base.specs.Grid.{cells_of, edge_at, has_room as room_at, is_wire_way, place_at, IsInside};
+ghost use Rattle.gr_base.specs.Grid.{cells_of, edge_at, is_wire_way, place_at};
 ghost use Rattle.grid_demand.specs.LoadSums.{demand_at};
 ghost use Rattle.grid_demand.specs.Tables.{capacity_of};
 ghost use Rattle.round_core.specs.Attempts.{kind_of};
@@ -91,20 +91,8 @@ fn demand_along(loads: &Loads, shape: Shape, cell: u32, place: Cell, way: Way) -
     requires way { IsTrue (is_wire_way way) }
     ensures { result ≡ demand_if shape (demand_at loads.now) (edge_at cell way) }
 {
-    if !has_room(shape, place, way) {
+    if !shape.has_room(place, way) {
         return 0;
     }
     loads.demand(Edge { low: cell, way })
-}
-
-/// Whether a cell at this place has a neighbour that way.
-fn has_room(shape: Shape, place: Cell, way: Way) -> bool
-    requires { IsInside shape place }
-    ensures { result ≡ room_at shape place way }
-{
-    match way {
-        Way::East => place.x + 1 < shape.columns(),
-        Way::North => place.y + 1 < shape.rows(),
-        Way::Up => place.layer + 1 < shape.layers(),
-    }
 }

@@ -13,7 +13,6 @@ use gr_base::{Design, RouteTree};
 use grid_demand::Capacity;
 use std::alloc::{AllocError, Global};
 use std::io;
-use std::thread::Threads;
 
 /// More entries than a block of a history has.
 const MANY: u64 = 1025;
@@ -60,7 +59,7 @@ const MARKS: [Act; 5] = [
 ];
 
 /// Prints what the book answers, and what is read of it.
-pub(crate) fn show<R: Threads + Print + Sync>(
+pub(crate) fn show<R: Print>(
     rt: &R,
     alloc: Global,
     design: &Design,
@@ -77,7 +76,7 @@ pub(crate) fn show<R: Threads + Print + Sync>(
 }
 
 /// What is done with a new book, in turn.
-fn game<R: Threads + Print + Sync>(
+fn game<R: Print>(
     rt: &R,
     alloc: Global,
     design: &Design,
@@ -94,7 +93,7 @@ fn game<R: Threads + Print + Sync>(
     Ok(())
 }
 
-fn perform<R: Threads + Print + Sync>(
+fn perform<R: Print>(
     rt: &R,
     alloc: Global,
     book: &mut BookState,
@@ -181,7 +180,7 @@ fn look<R: Print>(rt: &R, book: &BookState) -> io::Result<()> {
 }
 
 /// Which nets had a tree at a front, and the demand there.
-fn look_back<R: Threads + Print + Sync>(
+fn look_back<R: Print>(
     rt: &R,
     book: &BookState,
     capacity: &Capacity,
@@ -193,19 +192,15 @@ fn look_back<R: Threads + Print + Sync>(
     if book.history().len() < front {
         return Ok(());
     }
-    let (a, b) = trees_at(rt, book, front)?;
+    let (a, b) = trees_at(book, front)?;
     let demand = book.loads_at(capacity, front)?.demand(EDGE);
     println!(rt; "at {front}: tree of a {a}, of b {b}, demand {demand}")
 }
 
 /// Whether each net had a tree at a front.
-fn trees_at<R: Threads + Sync>(
-    rt: &R,
-    book: &BookState,
-    front: u64,
-) -> Result<(bool, bool), AllocError>
+fn trees_at(book: &BookState, front: u64) -> Result<(bool, bool), AllocError>
     requires { front ≤ length book.now.history }
 {
-    let routes = book.routes_at(rt, front, 2)?;
+    let routes = book.routes_at(front)?;
     Ok((routes.get(0).is_some(), routes.get(1).is_some()))
 }

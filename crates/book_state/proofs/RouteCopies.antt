@@ -9,7 +9,6 @@ use Rattle.std.specs.Result.{IfOk}
 use Rattle.std.proofs.lemmas.Result.{IfOk-weaker}
 use Rattle.grid_demand.specs.Tables.{CapacityView}
 use Rattle.book_state.specs.Books.{nets_of, booked, booked_routes}
-use Rattle.book_state.specs.Copies.{IsCopyOf}
 use Rattle.book_state.specs.Replicas.{tree_at_place, place_of, ArePlaces}
 use Rattle.book_state.specs.declared.entry.Entry.{Entry}
 use Rattle.book_state.proofs.ReplicaSteps.{place-whole}
@@ -57,32 +56,6 @@ copied-none f net nets trees within are is = record {
   ];
   after = λ k from inside. are.after k (omega arith) inside;
 }
-
--- what is read next of the copies that are left, where `net` were read
-pub record IsNext (f : ℕ → Option TreeView) (net nets : ℕ) (copies rest : List (Option TreeView)) (copy : Option TreeView) : Type 0 where
-  pub within : net < nets
-  pub is : IsCopyOf (f net) copy
-  pub rest_is : rest ≡ drop (net + 1) copies
-
-pub copied-next : (f : ℕ → Option TreeView) (net nets : ℕ) (copies left rest : List (Option TreeView)) (copy : Option TreeView) → length copies ≡ nets →
-    ((k : ℕ) (default : Option TreeView) → k < length copies → IsCopyOf (f k) (get_or copies k default)) → left ≡ drop net copies → left ≡ copy ∷ rest →
-    IsNext f net nets copies rest copy
-copied-next f net nets copies left rest copy long are left_is is =
-    let whole : copy ∷ rest ≡ drop net copies = sym is ∙ left_is in
-    let count = ap (λ (xs : List (Option TreeView)). length xs) whole ∙ length-drop net copies in
-    let within : net < length copies = omega (arith, count) in
-    let more = whole ∙ drop_more copies net copy within in
-    let head = same_Some copy (get_or copies net copy) (ap (λ (xs : List (Option TreeView)). slice_get xs 0) more) in
-    record {
-      within = omega (arith, within, long);
-      is = subst (IsCopyOf (f net)) (sym head) (are net copy within);
-      rest_is = ap (λ (xs : List (Option TreeView)). drop 1 xs) more;
-    }
-
-pub left-none : (net nets : ℕ) (copies left : List (Option TreeView)) → length copies ≡ nets → left ≡ [] → left ≡ drop net copies → nets ≤ net
-left-none net nets copies left long none is =
-    let count = ap (λ (xs : List (Option TreeView)). length xs) (sym none ∙ is) ∙ length-drop net copies in
-    omega (arith, count, long)
 
 pub copied-all : (f : ℕ → Option TreeView) (net nets : ℕ) (trees : List (Option TreeView)) → nets ≤ net → AreCopied f net nets trees → trees ≡ map f (range_with_len 0 nets)
 copied-all f net nets trees all are = fill_by_all f trees nets None are.long (λ k below. are.before k (omega arith) below)

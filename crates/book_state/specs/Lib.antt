@@ -15,4 +15,3 @@ pub mod Beyond
 pub mod Lifted
 pub mod Crowds
 pub mod Extents
-pub mod Copies

@@ -300,24 +300,17 @@ impl BookState {
         }
     }
 
-    /// A copy of each tree that was booked after the first `front` entries. The copies are made by at
-    /// most so many threads. The only error is want of memory.
-    pub fn routes_at<R: Threads + Sync>(
-        &self,
-        rt: &R,
-        front: u64,
-        threads: u32,
-    ) -> Result<Routes, AllocError>
-        requires front { front ≤ length self.now.history }
-        requires threads { 0 < threads }
+    /// Each tree that was booked after the first `front` entries. The only error is want of memory.
+    pub fn routes_at(&self, front: u64) -> Result<Routes, AllocError>
+        requires { front ≤ length self.now.history }
         ensures { IfOk result (λ routes. routes ≡ booked_routes self.now.capacity (take front self.now.history)) }
     {
         let nets = self.replica.nets();
         if front == self.history.len() {
-            return copied_routes(rt, &self.history, self.replica.places(), nets, threads);
+            return copied_routes(&self.history, self.replica.places(), nets);
         }
         let places = places_at(&self.capacity, &self.history, nets, front)?;
-        copied_routes(rt, &self.history, &places, nets, threads)
+        copied_routes(&self.history, &places, nets)
     }
 
     /// The demand and the marks after the first `front` entries. The capacity is that of the book's

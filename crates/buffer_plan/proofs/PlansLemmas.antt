@@ -8,8 +8,9 @@ use Rattle.std.proofs.lemmas.Option.{slice_get-get_or, slice_get_past}
 use Rattle.gr_base.specs.Designs.{DesignView, is_routed_net, is_routed}
 use Rattle.gr_base.specs.Trees.{TreeView, tree_at}
 use Rattle.gr_base.proofs.General.{and-some}
+use Rattle.gr_base.specs.Plans.{IsRouteOfNet}
 use Rattle.rc_library.specs.Libraries.{LibraryView}
-use Rattle.elmore_delay.specs.Loadings.{LoadingView, IsTreeOf}
+use Rattle.elmore_delay.specs.Loadings.{LoadingView}
 use Rattle.elmore_delay.specs.PlanLists.{plan_at}
 use Rattle.elmore_delay.specs.declared.plans.Plan.{Plan}
 use Rattle.buffer_plan.specs.Best.{IsBest, time_with}
@@ -23,7 +24,7 @@ pub tree-shape : (d : DesignView) (trees : List (Option TreeView)) (net : ℕ) (
 tree-shape d trees net None routed below routes is = tt
 tree-shape d trees net (Some tree) routed below routes is =
     let there = element-at d.nets net below in
-    (and-some (IsTreeOf d net) (tree_at trees net) tree.now (sym is) (routes net routed) there.0 there.1).shape
+    (and-some (IsRouteOfNet d net) (tree_at trees net) tree.now (sym is) (routes net routed) there.0 there.1).shape
 
 -- the plan of a loading
 pub plan-is : (l other : LoadingView) (plan : Plan) → l ≡ other → plan.placement ≡ picked l → IsBest l plan.placement →

@@ -1,9 +1,10 @@
 -- The plans of buffers of a design's routes.
 use Rattle.std.specs.Prelude.{◌≡◌, ℕ, ◌+◌, ◌<◌, List, length, Option, None, IsTrue, IsFalse, IfSome, IsSomeAnd, slice_index_or}
 use Rattle.gr_base.specs.Designs.{DesignView, is_routed, pins_at}
+use Rattle.gr_base.specs.Plans.{IsRouteOfNet}
 use Rattle.gr_base.specs.Trees.{TreeView, tree_at}
 use Rattle.rc_library.specs.Libraries.{LibraryView}
-use Rattle.elmore_delay.specs.Loadings.{LoadingView, IsTreeOf}
+use Rattle.elmore_delay.specs.Loadings.{LoadingView}
 use Rattle.elmore_delay.specs.PlanLists.{plan_at}
 use Rattle.elmore_delay.specs.declared.plans.Plan.{Plan}
 use Rattle.buffer_plan.specs.Best.{IsBest, time_with}
@@ -11,7 +12,7 @@ use Rattle.buffer_plan.specs.Picked.{picked}
 
 -- each routed net has a tree that routes it
 abbrev pub AreRoutesOf : DesignView → List (Option TreeView) → Type 0
-AreRoutesOf d trees = (net : ℕ) → IsTrue (is_routed d net) → IsSomeAnd (tree_at trees net) (IsTreeOf d net)
+AreRoutesOf d trees = (net : ℕ) → IsTrue (is_routed d net) → IsSomeAnd (tree_at trees net) (IsRouteOfNet d net)
 
 -- a net's tree with what a library says of it
 abbrev pub loading_of : DesignView → LibraryView → ℕ → TreeView → LoadingView

@@ -2,9 +2,9 @@
 ghost use Rattle.std.specs.Prelude.{◌≡◌, ℕ, ◌+◌, ◌<◌, ◌≤◌, false, List, length, Option, Some, None, IsTrue, IsFalse, IsSome, IfOk, IfSome, All, replicate};
 ghost use Rattle.gr_base.specs.Designs.{is_routed};
 ghost use Rattle.gr_base.specs.Grid.{cells_of};
+ghost use Rattle.gr_base.specs.Plans.{IsRouteOfNet};
 ghost use Rattle.gr_base.specs.Trees.{tree_at};
 ghost use Rattle.rc_library.specs.Libraries.{IsLibraryOf};
-ghost use Rattle.elmore_delay.specs.Loadings.{IsTreeOf};
 ghost use Rattle.elmore_delay.specs.PlanLists.{plan_at};
 ghost use Rattle.elmore_delay.specs.declared.plans.Plan.{Plan};
 ghost use Rattle.buffer_plan.specs.Plans.{AreRoutesOf, ArePlans, IsPlanOf, ArePlansFrom};
@@ -207,7 +207,7 @@ pub fn routed_tree<'r>(design: &Design, routes: &'r Routes, net: u32) -> Option<
     requires net { net < length design.now.nets }
     requires routes { AreRoutesOf design.now routes.now }
     ensures tree { IfSome result (λ tree. tree_at routes.now net ≡ Some tree.now) }
-    ensures routes { IfSome result (λ tree. IsTreeOf design.now net tree.now) }
+    ensures routes { IfSome result (λ tree. IsRouteOfNet design.now net tree.now) }
     ensures shape { IfSome result (λ tree. tree.now.shape ≡ design.now.frame.shape) }
     ensures routed { IfSome result (λ _. IsTrue (is_routed design.now net)) }
     ensures none { result ≡ None → is_routed design.now net ≡ false }

@@ -2,6 +2,7 @@
 use Rattle.std.specs.Prelude.{ℕ, List, ◌++◌, codes}
 use Rattle.std.specs.Fmt.{decimal}
 use Rattle.std.specs.List.{flat_map}
+use Rattle.gr_text.specs.Lines.{number_line}
 use Rattle.cut_bounds.specs.declared.wall.MeasuredWall.{MeasuredWall}
 use Rattle.cut_bounds.specs.declared.wall.Wall.{Wall}
 use Rattle.cut_bounds.specs.declared.wall.Wall.TheVariants.{Column, Row, Box}
@@ -17,10 +18,6 @@ pub record BoundsView : Type 0 where
   pub boxes : ℕ
   -- the fullest walls
   pub fullest : List MeasuredWall
-
--- the line of a word and a number
-abbrev pub number_line : (word : List ℕ) → ℕ → List ℕ
-number_line word n = word ++ codes " " ++ decimal n ++ codes "\n"
 
 -- a wall by its word and its numbers
 abbrev pub wall_text : Wall → List ℕ

@@ -1,8 +1,9 @@
 //! The text of the bounds of a design.
 ghost use Rattle.std.specs.Prelude.{◌≡◌, ◌++◌, IfOk, OnOk};
-ghost use Rattle.cut_bounds.specs.Bounds.{bounds_text, number_line, taken_text, wall_line, wall_text};
+ghost use Rattle.cut_bounds.specs.Bounds.{bounds_text, taken_text, wall_line, wall_text};
 ghost use Rattle.cut_bounds.specs.declared.wall.Wall.TheVariants.{Box};
 ghost use Rattle.std.specs.List.{flat_map};
+ghost use Rattle.gr_text.specs.Lines.{number_line};
 
 use crate::figures::Bounds;
 use crate::wall::{MeasuredWall, TileBox, Wall};
@@ -16,11 +17,9 @@ pub fn bounds_text(alloc: Global, bounds: &Bounds) -> Result<Text, AllocError>
     ensures { IfOk result (λ text. text ≡ bounds_text bounds.now) }
 {
     let mut text = Text::new(alloc);
-    put_number_line(&mut text, b"overflow at least", bounds.overflow)?;
-    put_number_line(&mut text, b"wirelength at least", bounds.wirelength)?;
-    put_number_line(
-        &mut text,
-        b"usable wirelength at least",
+    text.put_number_line(b"overflow at least", bounds.overflow)?;
+    text.put_number_line(b"wirelength at least", bounds.wirelength)?;
+    text.put_number_line(b"usable wirelength at least",
         bounds.usable_wirelength,
     )?;
     put_taken(&mut text, bounds)?;
@@ -32,9 +31,9 @@ pub fn bounds_text(alloc: Global, bounds: &Bounds) -> Result<Text, AllocError>
 fn put_taken(text: &mut Text, bounds: &Bounds) -> Result<(), AllocError>
     ensures { OnOk result (text.new ≡ text.old ++ taken_text bounds.now) }
 {
-    put_number_line(text, b"column cuts", u128::from(bounds.columns))?;
-    put_number_line(text, b"row cuts", u128::from(bounds.rows))?;
-    put_number_line(text, b"boxes", u128::from(bounds.boxes))?;
+    text.put_number_line(b"column cuts", u128::from(bounds.columns))?;
+    text.put_number_line(b"row cuts", u128::from(bounds.rows))?;
+    text.put_number_line(b"boxes", u128::from(bounds.boxes))?;
     Ok(())
 }
 
@@ -87,14 +86,4 @@ fn put_box(text: &mut Text, tiles: TileBox) -> Result<(), AllocError>
     text.put_number(tiles.x1)?;
     text.put(b" ")?;
     text.put_number(tiles.y1)
-}
-
-/// Puts the line of a word and a number at the end of the text.
-fn put_number_line(text: &mut Text, word: &[u8], n: u128) -> Result<(), AllocError>
-    ensures { OnOk result (text.new ≡ text.old ++ number_line word.now n) }
-{
-    text.put(word)?;
-    text.put(b" ")?;
-    text.put_number(n)?;
-    text.put(b"\n")
 }

@@ -1,8 +1,8 @@
 //! The text of buffers, and delays with them.
 ghost use Rattle.std.specs.Prelude.{◌≡◌, ◌<◌, length, IfOk};
+ghost use Rattle.gr_base.specs.Plans.{IsRouteOfNet};
 ghost use Rattle.rc_library.specs.Libraries.{IsLibraryOf};
 ghost use Rattle.elmore_delay.specs.Placements.{NamesKinds};
-ghost use Rattle.route_evaluator.specs.NetTrees.{IsNetRoute};
 ghost use Rattle.report_text.specs.BufferTexts.{IsPlanFor};
 
 use elmore_delay::{Loading, Placement, Plan, Plans, delay_to, required};
@@ -30,7 +30,7 @@ pub(crate) fn told(
 ) -> Result<Text, AllocError>
     requires library { IsLibraryOf design.now library.now }
     requires nets { length design.now.nets ≡ 1 }
-    requires tree { IsNetRoute design.now 0 tree }
+    requires tree { IsRouteOfNet design.now 0 tree }
 {
     let planned = plan_of(alloc, design, library, &tree, words)?;
     let delay = planned.delay;
@@ -56,7 +56,7 @@ fn plan_of(
 ) -> Result<Planned, AllocError>
     requires library { IsLibraryOf design.now library.now }
     requires net { 0 < length design.now.nets }
-    requires tree { IsNetRoute design.now 0 tree.now }
+    requires tree { IsRouteOfNet design.now 0 tree.now }
     ensures { IfOk result (λ planned. IsPlanFor design.now library.now tree.now planned.plan) }
 {
     let placement = placed(alloc, library, tree, words)?;

@@ -1,9 +1,9 @@
 //! The texts of a row, and what they say.
 ghost use Rattle.std.specs.Prelude.{◌≡◌, length, IsTrue, IfOk};
 ghost use Rattle.gr_base.specs.Designs.{is_routed};
+ghost use Rattle.gr_base.specs.Plans.{IsRouteOfNet};
 ghost use Rattle.gr_io.specs.Texts.{is_reached};
 ghost use Rattle.rc_library.specs.Libraries.{IsLibraryOf};
-ghost use Rattle.route_evaluator.specs.NetTrees.{IsNetRoute};
 
 use crate::{buffered, lists, nodes};
 use anyhow::bail;
@@ -106,7 +106,7 @@ impl Given {
     /// The tree of the net's edges.
     fn tree(&self, alloc: Global, design: &Design) -> anyhow::Result<RouteTree>
         requires { IsTrue (is_routed design.now 0) }
-        ensures { IfOk result (IsNetRoute design.now 0) }
+        ensures { IfOk result (IsRouteOfNet design.now 0) }
     {
         let mut shelf = reached(alloc, Slot::Solution, &self.route)?;
         let solution = read_solution(alloc, &mut shelf, design)?;

@@ -1,7 +1,7 @@
 //! Where buffers may stand, and which signal sinks want.
 ghost use Rattle.std.specs.Prelude.{◌<◌, length};
+ghost use Rattle.gr_base.specs.Plans.{IsRouteOfNet};
 ghost use Rattle.rc_library.specs.Libraries.{IsLibraryOf};
-ghost use Rattle.route_evaluator.specs.NetTrees.{IsNetRoute};
 
 use elmore_delay::{Loading, Wants};
 use gr_base::{Design, NodeIndex, RouteTree};
@@ -18,7 +18,7 @@ pub(crate) fn told(
 ) -> Result<Text, AllocError>
     requires library { IsLibraryOf design.now library.now }
     requires net { 0 < length design.now.nets }
-    requires tree { IsNetRoute design.now 0 tree.now }
+    requires tree { IsRouteOfNet design.now 0 tree.now }
 {
     let mut index = NodeIndex::new(alloc, tree.shape().cells())?;
     let loading = Loading::of(alloc, library, design, 0, tree, &mut index)?;

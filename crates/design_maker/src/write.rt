@@ -12,7 +12,7 @@ use crate::made::Made;
 use crate::middles::write_middles;
 use crate::nets::put_net;
 use crate::text::put_end;
-use gr_io::{Failed, Sink, write_whole};
+use gr_io::Sink;
 use gr_text::Text;
 use route_writer::WriteError;
 use std::alloc::Global;
@@ -26,21 +26,6 @@ pub struct Count {
 
 /// The lines are written once they fill so many bytes.
 const FULL: usize = 65_536;
-
-/// Writes what was gathered, and empties the text. At an error the sink holds a first part of it.
-fn flush<K: Sink>(sink: &mut K, text: &mut Text) -> Result<(), Failed>
-    ensures ok { OnOk result (IsTrue K.tells → K.written sink.new ≡ K.written sink.old ++ text.old) }
-    ensures empty { OnOk result (text.new ≡ []) }
-    ensures quiet { OnOk result (K.faults sink.new ≡ K.faults sink.old) }
-    ensures prefix { OnErr result
-        (IsTrue K.tells → AppendsPart (K.written sink.old) (K.written sink.new) text.old) }
-    ensures failed { OnErr result (Rose (K.faults sink.old) (K.faults sink.new)) }
-    ensures faults_kept { K.faults sink.old ≤ K.faults sink.new }
-{
-    write_whole(sink, text.bytes())?;
-    text.clear();
-    Ok(())
-}
 
 /// Writes the text of a made design, which is that of `made_text`, and answers how many nets and
 /// pins it has. `Failed` comes only where the sink's count of faults rose. At an error the sink
@@ -68,10 +53,10 @@ pub fn make<K: Sink>(alloc: Global, sink: &mut K, made: Made) -> Result<Count, W
         if text.bytes().len() < FULL {
             continue;
         }
-        flush(sink, &mut text)?;
+        text.flush(sink)?;
     }
     put_end(&mut text)?;
-    flush(sink, &mut text)?;
+    text.flush(sink)?;
     Ok(Count {
         nets: made.nets,
         pins,

@@ -3,12 +3,13 @@ use Rattle.std.proofs.Common.{◌≡◌, ℕ, length, get_or, Some, slice_get, s
 use Rattle.std.proofs.lemmas.List.Sums.{get_or-le-sum_by}
 use Rattle.std.proofs.lemmas.Option.{slice_get_within, get_or_from_slice_get}
 use Rattle.gr_base.specs.Designs.{DesignView, IsDesign, IsNet}
+use Rattle.gr_base.specs.Plans.{IsRouteOfNet}
 use Rattle.gr_base.specs.Trees.{TreeView, IsTree}
 use Rattle.gr_base.specs.declared.frame.Net.{Net}
 use Rattle.gr_base.specs.declared.grid.Shape.{Shape}
 use Rattle.rc_library.proofs.LibraryLemmas.{has_net, has_pin}
 use Rattle.rc_library.specs.Libraries.{LibraryView, Sizes, IsLibraryOf}
-use Rattle.elmore_delay.specs.Loadings.{IsLoading, IsTreeOf}
+use Rattle.elmore_delay.specs.Loadings.{IsLoading}
 
 -- a net's tree fits the library
 pub record Fits (lib : LibraryView) (t : TreeView) : Type 0 where
@@ -17,7 +18,7 @@ pub record Fits (lib : LibraryView) (t : TreeView) : Type 0 where
   pub layers : length lib.wires ≡ t.shape.layers
 
 pub fits : (d : DesignView) (lib : LibraryView) (number : ℕ) (net : Net) (t : TreeView) → IsLibraryOf d lib →
-    slice_get d.nets number ≡ Some net → IsTreeOf d number t → Fits lib t
+    slice_get d.nets number ≡ Some net → IsRouteOfNet d number t → Fits lib t
 fits d lib number net t is found routes =
     let shape = sym (routes net found).shape in
     record {
@@ -27,7 +28,7 @@ fits d lib number net t is found routes =
     }
 
 pub loading-of : (d : DesignView) (lib : LibraryView) (number : ℕ) (net : Net) (t : TreeView) → IsDesign d → IsLibraryOf d lib →
-    slice_get d.nets number ≡ Some net → IsTreeOf d number t → IsTree t →
+    slice_get d.nets number ≡ Some net → IsRouteOfNet d number t → IsTree t →
     IsLoading (record { library = lib; net = number; pins = net.pins; tree = t })
 loading-of d lib number net t design is found routes tree =
     let below = slice_get_within d.nets number net found in

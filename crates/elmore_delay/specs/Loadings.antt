@@ -16,10 +16,6 @@ use Rattle.elmore_delay.specs.RcTrees.{Sink, RcTree, sinks_at}
 use Rattle.elmore_delay.specs.declared.wants.Wants.{Wants}
 use Rattle.elmore_delay.specs.declared.wants.Wants.TheVariants.{Any, Plain, Inverse, Both}
 
--- the tree routes the design's net of this number
-abbrev pub IsTreeOf : DesignView → ℕ → TreeView → Type 0
-IsTreeOf d net t = (value : Net) → slice_get d.nets net ≡ Some value → IsRouteOf d.frame.shape value t
-
 -- what a net's tree is loaded by: a library, the number of the net, the cells of its pins, and the tree
 pub record LoadingView : Type 0 where
   pub library : LibraryView

@@ -2,12 +2,13 @@
 ghost use Rattle.std.specs.Prelude.{◌≡◌, ◌<◌, ◌≤◌, length, map, IfOk, IfSome};
 ghost use Rattle.gr_base.specs.Designs.{pins_at};
 ghost use Rattle.gr_base.specs.Grid.{cells_of};
+ghost use Rattle.gr_base.specs.Plans.{IsRouteOfNet};
 ghost use Rattle.rc_library.specs.Libraries.{IsLibraryOf, IsWire, IsKind};
 ghost use Rattle.rc_library.specs.Limits.{most_resistance};
 ghost use Rattle.elmore_delay.specs.RcTrees.{sinks_at, sinks_load, soonest, twice};
 ghost use Rattle.elmore_delay.specs.Ranges.{most_load};
 ghost use Rattle.elmore_delay.specs.Placements.{NamesKinds, buffers_of};
-ghost use Rattle.elmore_delay.specs.Loadings.{IsTreeOf, IsLoading, rc_of, wire_at, is_free, wants_at};
+ghost use Rattle.elmore_delay.specs.Loadings.{IsLoading, rc_of, wire_at, is_free, wants_at};
 
 use crate::node_load::{NodeLoad, hang_sinks, without_sinks};
 use crate::placement::Placement;
@@ -55,7 +56,7 @@ impl<'a> Loading<'a> {
     ) -> Result<Loading<'a>, AllocError>
         requires library { IsLibraryOf design.now library.now }
         requires net { net < length design.now.nets }
-        requires tree { IsTreeOf design.now net tree.now }
+        requires tree { IsRouteOfNet design.now net tree.now }
         requires index { cells_of tree.now.shape ≤ length index.old }
         ensures loading { IfOk result (λ loading. loading
             ≡ record { library = library.now; net = net; pins = pins_at design.now net; tree = tree.now }) }

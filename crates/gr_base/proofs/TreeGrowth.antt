@@ -1,5 +1,5 @@
 -- Trees that walks are hung on.
-use Rattle.std.proofs.Common.{◌≡◌, ℕ, suc, zero, ◌+◌, ◌<◌, ◌≤◌, inl, inr, Bool, true, false, ◌||◌, ◌==◌, List, [], ◌∷◌, ◌++◌, length, take, drop, get_or, Option, Some, None, is_some, unwrap_or, slice_get, IsSomeAnd, refl, sym, ap, subst, ◌∙◌, append_assoc, arith}
+use Rattle.std.proofs.Common.{◌≡◌, ℕ, suc, zero, ◌+◌, ◌-◌, ◌<◌, ◌≤◌, inl, inr, Bool, true, false, ◌||◌, ◌==◌, List, [], ◌∷◌, ◌++◌, length, take, drop, get_or, Option, Some, None, is_some, unwrap_or, slice_get, IsSomeAnd, Result, Ok, Err, OnOk, OnErr, refl, sym, ap, subst, ◌∙◌, append_assoc, arith}
 use Rattle.std.proofs.Math.Seq.{drop-cons}
 use Rattle.std.proofs.lemmas.Bool.{cases_Bool, eqb-true, eq-eqb, or_left, or_right, or_from}
 use Rattle.std.proofs.Math.Bool.{or-false}
@@ -9,9 +9,10 @@ use Rattle.std.proofs.lemmas.List.Folds.{list_any-append}
 use Rattle.std.proofs.lemmas.Option.{none-some, same_Some}
 use Rattle.std.specs.List.{list_any, filter_map, cons_option}
 use Rattle.std.specs.Option.{option_and_then, option_to_list}
+use Rattle.std.specs.declared.alloc.AllocError.{AllocError}
 use Rattle.gr_base.specs.Grid.{AreNeighbours, edge_of}
 use Rattle.gr_base.specs.EdgeSets.{is_edge, set_of}
-use Rattle.gr_base.specs.Trees.{TreeView, node_of, cell_at, node_from, node_with, IsParent, AllHang, IsTree, edge_to_parent, edges_of, is_among, IsWalkTo, hung, grown, attached, Begins, AddsCells, walk_edges, AddsEdges}
+use Rattle.gr_base.specs.Trees.{TreeView, node_of, cell_at, node_from, node_with, IsParent, AllHang, IsTree, edge_to_parent, edges_of, is_among, IsWalkTo, hung, grown, attached, Grows, Begins, AddsCells, walk_edges, AddsEdges}
 use Rattle.gr_base.specs.declared.grid.Edge.{Edge}
 use Rattle.gr_base.specs.declared.grid.Shape.{Shape}
 use Rattle.gr_base.specs.declared.tree.Node.{Node}
@@ -193,15 +194,6 @@ attach-start t walk at d nodes parent leads last same found =
     let N : List Node → Type 0 = λ ns. Attaching t (get_or walk at d ∷ []) ns parent in
     subst P (sym one) (subst N (sym same) (record { leads = walk-last t walk leads at d last; grows = refl; tip = found }))
 
--- few nodes stand at each turn
-pub attaching-few : (t : TreeView) (rest : List ℕ) (nodes : List Node) (parent : ℕ) → IsTree t → Attaching t rest nodes parent →
-    length nodes ≤ 8388608
-attaching-few t rest nodes parent tree so_far =
-    let few = few-nodes t.shape (grown t.nodes rest) (grown-hanging t rest tree so_far.leads) in
-    let most = few_cells t.shape in
-    let e : length nodes ≡ length (grown t.nodes rest) = ap (λ (ns : List Node). length ns) so_far.grows in
-    omega arith
-
 -- after the last turn the tree is the one that is wanted
 pub attach-done : (t now : TreeView) (walk : List ℕ) (at parent : ℕ) → at ≤ 0 → Attaching t (drop at walk) now.nodes parent →
     now.shape ≡ t.shape → now ≡ attached t walk
@@ -287,3 +279,56 @@ adds-edges t (cell ∷ next ∷ after) tree leads = λ e.
     ∙ ap (λ (b : Bool). b || list_any (is_edge e) new) rest
     ∙ either-way (edges_of t e) (set_of (walk_edges t.shape (next ∷ after)) e) (list_any (is_edge e) new)
     ∙ ap (λ (b : Bool). edges_of t e || b) (sym (list_any-append (is_edge e) new (walk_edges t.shape (next ∷ after))))
+
+-- a walk isn't empty
+pub some-walk : (t : TreeView) (walk : List ℕ) → IsWalkTo t walk → 0 < length walk
+some-walk t [] leads = absurd leads
+some-walk t (cell ∷ walk) leads = omega arith
+
+grown-count : (nodes : List Node) (walk : List ℕ) → 0 < length walk → length (grown nodes walk) + 1 ≡ length nodes + length walk
+grown-count nodes [] some = absurd (omega arith)
+grown-count nodes (last ∷ []) some = omega arith
+grown-count nodes (cell ∷ next ∷ after) some =
+    let rest = grown-count nodes (next ∷ after) (omega arith) in
+    let node = node_of cell (unwrap_or (node_with (grown nodes (next ∷ after)) next) 0) in
+    let one = length-append (grown nodes (next ∷ after)) (node ∷ []) in
+    omega (arith, rest, one)
+
+-- few nodes are added
+pub few-added : (t : TreeView) (walk : List ℕ) → IsTree t → IsWalkTo t walk → length t.nodes + length walk ≤ 8388609
+few-added t walk tree leads =
+    let few = few-nodes t.shape (grown t.nodes walk) (grown-hanging t walk tree leads) in
+    let most = few_cells t.shape in
+    let count = grown-count t.nodes walk (some-walk t walk leads) in
+    omega (arith, few, most, count)
+
+-- a tree after a walk was hung on it, or after memory ran out
+pub record IsHung (t : TreeView) (walk : List ℕ) (r : Result (Unit {0}) AllocError) (now : TreeView) : Type 0 where
+  pub tree : IsTree now
+  pub begins : Begins t now
+  pub cells : OnOk r (AddsCells t walk now)
+  pub edges : OnOk r (AddsEdges t walk now)
+  pub ok : OnOk r (now ≡ attached t walk)
+
+pub hung-walk : (t : TreeView) (walk : List ℕ) (number : ℕ) (r : Result (Unit {0}) AllocError) (new : List Node) → IsTree t → IsWalkTo t walk →
+    cell_at t.nodes number ≡ slice_get walk (length walk - 1) → OnOk r (Grows t.nodes walk number new) → OnErr r (new ≡ t.nodes) →
+    IsHung t walk r (record { shape = t.shape; nodes = new })
+hung-walk t walk number (Ok done) new tree leads parent grows same =
+    let of : List Node → TreeView = λ ns. record { shape = t.shape; nodes = ns } in
+    let is = ap of (grows t tree refl leads parent) in
+    subst (λ (now : TreeView). IsHung t walk (Ok done) now) (sym is) (record {
+      tree = attached-tree t walk tree leads;
+      begins = begins t walk;
+      cells = adds-cells t walk leads;
+      edges = adds-edges t walk tree leads;
+      ok = refl;
+    })
+hung-walk t walk number (Err failed) new tree leads parent grows same =
+    let of : List Node → TreeView = λ ns. record { shape = t.shape; nodes = ns } in
+    subst (λ (now : TreeView). IsHung t walk (Err failed) now) (sym (ap of same)) (record {
+      tree = tree;
+      begins = begins-same t;
+      cells = tt;
+      edges = tt;
+      ok = tt;
+    })

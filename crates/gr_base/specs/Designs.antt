@@ -91,6 +91,10 @@ is_routed_net (Some net) = nat_lt 0 (length net.pins) && nat_le (length net.pins
 abbrev pub is_routed : DesignView → ℕ → Bool
 is_routed d number = is_routed_net (slice_get d.nets number)
 
+-- each of these nets is routed
+abbrev pub AreRouted : DesignView → List ℕ → Type 0
+AreRouted d nets = All (λ net. IsTrue (is_routed d net)) nets
+
 -- the cells of a net's pins, in order; none where there is no such net
 abbrev pub pins_in : Option Net → List ℕ
 pins_in None = []

@@ -1,5 +1,5 @@
 -- Trees of cells, and the walks that are hung on them.
-use Rattle.std.specs.Prelude.{◌≡◌, ℕ, ◌+◌, ◌<◌, ◌≤◌, Bool, false, ◌||◌, ◌==◌, List, [], ◌∷◌, ◌++◌, length, All, Option, Some, None, is_some, unwrap_or, slice_get, IsSomeAnd, if◌then◌else◌, IsTrue}
+use Rattle.std.specs.Prelude.{◌≡◌, ℕ, ◌+◌, ◌-◌, ◌<◌, ◌≤◌, Bool, false, ◌||◌, ◌==◌, List, [], ◌∷◌, ◌++◌, length, All, Option, Some, None, is_some, unwrap_or, slice_get, IsSomeAnd, if◌then◌else◌, IsTrue}
 use Rattle.std.specs.List.{list_any, filter_map, count_by}
 use Rattle.std.specs.Option.{option_map, option_and_then, option_to_list}
 use Rattle.gr_base.specs.Grid.{cells_of, AreNeighbours, edge_of, has_edge}
@@ -114,6 +114,11 @@ grown nodes (cell ∷ next ∷ after) = hung (grown nodes (next ∷ after)) cell
 -- the tree with the walk attached
 abbrev pub attached : TreeView → List ℕ → TreeView
 attached t walk = record { shape = t.shape; nodes = grown t.nodes walk }
+
+-- these are the nodes after the walk is attached to a tree of the old ones, in which its last cell's node has this number
+abbrev pub Grows : List Node → List ℕ → ℕ → List Node → Type 0
+Grows old walk number new =
+    (t : TreeView) → IsTree t → t.nodes ≡ old → IsWalkTo t walk → cell_at old number ≡ slice_get walk (length walk - 1) → new ≡ grown old walk
 
 -- the new tree begins with the old one's nodes
 pub record Begins (old new : TreeView) : Type 0 where

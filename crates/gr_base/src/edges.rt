@@ -1,7 +1,7 @@
 //! Cells by number, and the edges between them.
 ghost use Rattle.std.specs.Prelude.{◌≡◌, ◌≢◌, ℕ, ◌+◌, ◌*◌, ◌<◌, ◌≤◌, ◌↔◌, IsTrue, IsSome, IsNone, IfSome};
 ghost use Rattle.gr_base.specs.Limits.{is_grid, most_cells, most_layers};
-ghost use Rattle.gr_base.specs.Grid.{cells_of, number_of, IsInside, place_at, AreNeighbours, way_between, edge_of, on_layer, stride, high_of, beyond, has_edge, Joins};
+ghost use Rattle.gr_base.specs.Grid.{cells_of, number_of, IsInside, place_at, AreNeighbours, way_between, edge_of, on_layer, stride, high_of, beyond, has_room as room_at, has_edge, Joins};
 
 use crate::grid::{Cell, Edge, Shape, Way};
 use crate::limits::{MOST_CELLS, MOST_LAYERS};
@@ -88,6 +88,18 @@ impl Shape {
             x: cell % self.columns,
             y: row % self.rows,
             layer: row / self.rows,
+        }
+    }
+
+    /// Whether the cell at this place has a neighbour that way.
+    pub fn has_room(self, place: Cell, way: Way) -> bool
+        requires { IsInside self place }
+        ensures { result ≡ room_at self place way }
+    {
+        match way {
+            Way::East => place.x + 1 < self.columns,
+            Way::North => place.y + 1 < self.rows,
+            Way::Up => place.layer + 1 < self.layers,
         }
     }
 

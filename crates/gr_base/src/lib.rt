@@ -9,6 +9,7 @@ mod frame;
 mod grid;
 mod ids;
 mod limits;
+mod lists;
 mod name;
 mod node_index;
 mod routes;
@@ -23,6 +24,7 @@ pub use limits::{
     MOST_LOWER, MOST_MARKS, MOST_NETS, MOST_PINS, MOST_ROUNDS, MOST_ROUTED_PINS, MOST_TILE,
     MOST_WIDTH, MOST_WORKERS,
 };
+pub use lists::refill;
 pub use name::Name;
 pub use node_index::NodeIndex;
 pub use routes::Routes;

@@ -1,13 +1,16 @@
 //! Trees of cells: the routes of nets.
-ghost use Rattle.std.specs.Prelude.{◌≡◌, ℕ, ◌-◌, ◌<◌, ◌≤◌, ◌∷◌, [], length, slice_get, Some, IfOk, IfSome, OnOk, OnErr, IsSome, IsTrue, ◌↔◌};
+ghost use Rattle.std.specs.Prelude.{◌≡◌, ℕ, ◌+◌, ◌-◌, ◌<◌, ◌≤◌, ◌∷◌, [], length, slice_get, Some, IfOk, IfSome, OnOk, OnErr, IsSome, IsTrue, ◌↔◌};
+ghost use Rattle.std.specs.Arc.{arc_value};
 ghost use Rattle.std.specs.List.{position};
 ghost use Rattle.gr_base.specs.Grid.{cells_of, has_edge};
+ghost use Rattle.gr_base.specs.Limits.{most_cells};
 ghost use Rattle.gr_base.specs.ParentEdges.{parent_edge, edge_apart as apart_edge, wire_to_parent as parent_wire};
-ghost use Rattle.gr_base.specs.Trees.{TreeView, node_of, cell_at, parent_at, node_with, has_cell, holds, IsTree, HasGridEdges, HasDistinctEdges, IsConnected, IsWalkTo, attached, Begins, AddsCells, AddsEdges};
+ghost use Rattle.gr_base.specs.Trees.{TreeView, node_of, cell_at, parent_at, node_with, has_cell, holds, IsTree, HasGridEdges, HasDistinctEdges, IsConnected, IsWalkTo, attached, Grows, Begins, AddsCells, AddsEdges};
 
 use crate::grid::{Edge, Shape, Way};
 use std::alloc::{AllocError, Global};
 use std::marker::Model;
+use std::sync::Arc;
 
 /// A node of a tree: the number of its cell, and the number of its parent among the tree's nodes.
 #[derive(Clone, Copy, Debug, PartialEq, Eq)]
@@ -18,21 +21,22 @@ pub struct Node {
 
 /// A tree of cells of a grid, as the route of a net. Nodes count from 0 in the order in which they
 /// were added. Their cells are distinct. Node 0 is its own parent, and each other parent is an
-/// earlier node in a neighbouring cell.
+/// earlier node in a neighbouring cell. Copies share the nodes.
 #[derive(Debug, Drop)]
 pub struct RouteTree {
     shape: Shape,
-    nodes: Vec<Node>,
+    nodes: Arc<Vec<Node>>,
 }
 
 impl Model for RouteTree {
+    ghost use Rattle.std.specs.Arc.{arc_value};
     ghost use Rattle.gr_base.specs.Trees.{TreeView, IsTree};
 
     ghost Value = { TreeView };
 
-    ghost view = { λ t. record { shape = t.shape; nodes = t.nodes.items } };
+    ghost view = { λ t. record { shape = t.shape; nodes = (arc_value t.nodes).items } };
 
-    ghost invariant = { λ t. IsTree (record { shape = t.shape; nodes = t.nodes.items }) };
+    ghost invariant = { λ t. IsTree (record { shape = t.shape; nodes = (arc_value t.nodes).items }) };
 }
 
 impl RouteTree {
@@ -57,7 +61,10 @@ impl RouteTree {
     {
         let mut nodes = Vec::with_capacity(alloc, room)?;
         nodes.push(Node { cell, parent: 0 })?;
-        Ok(RouteTree { shape, nodes })
+        Ok(RouteTree {
+            shape,
+            nodes: Arc::new(alloc, nodes)?,
+        })
     }
 
     /// The grid that the tree lies in. Its clauses also say what holds of every tree.
@@ -168,30 +175,61 @@ impl RouteTree {
         ensures edges { OnOk result (AddsEdges self.old walk.now self.new) }
         ensures tree { IsTree self.new }
     {
-        let last = walk.len() - 1;
-        let mut parent = parent;
-        self.nodes.reserve(last)?;
-        for at in (0..last).rev() {
-            let number = self.nodes.len() as u32;
-            self.nodes.push_reserved(Node {
-                cell: walk[at],
-                parent,
-            });
-            parent = number;
-        }
-        Ok(())
+        grow(&mut self.nodes, parent, walk)
     }
 
-    /// Another tree with the same nodes. The only error is want of memory.
+    /// Another tree with the same nodes, which both share until one of them grows. The only error is
+    /// want of memory.
     pub fn copy(&self, alloc: Global) -> Result<RouteTree, AllocError>
         ensures same { IfOk result (λ t. t ≡ self.now) }
         ensures tree { IsTree self.now }
     {
         Ok(RouteTree {
             shape: self.shape,
-            nodes: Vec::from_slice(alloc, &self.nodes)?,
+            nodes: Arc::try_clone(&self.nodes)?,
         })
     }
+}
+
+/// Adds the cells of a walk to the nodes of a tree: to a copy of them, where other trees share them.
+/// The only error is want of memory, and leaves the nodes as they were.
+fn grow(nodes: &mut Arc<Vec<Node>>, parent: u32, walk: &[u32]) -> Result<(), AllocError>
+    requires walk { 0 < length walk.now }
+    requires few { length (arc_value nodes.old).items + length walk.now ≤ most_cells + 1 }
+    ensures ok { OnOk result (Grows (arc_value nodes.old).items walk.now parent (arc_value nodes.new).items) }
+    ensures err { OnErr result ((arc_value nodes.new).items ≡ (arc_value nodes.old).items) }
+{
+    if let Some(own) = Arc::get_mut(nodes) {
+        return push_walk(own, parent, walk);
+    }
+    let alloc = *nodes.allocator();
+    let mut own = Vec::from_slice(alloc, nodes)?;
+    push_walk(&mut own, parent, walk)?;
+    *nodes = Arc::new(alloc, own)?;
+    Ok(())
+}
+
+/// Adds the cells of a walk to the nodes of a tree, from the last but one on to the first: each hangs
+/// on the next, the last but one on the node `parent`. The only error is want of memory, and leaves
+/// the nodes as they were.
+fn push_walk(nodes: &mut Vec<Node>, parent: u32, walk: &[u32]) -> Result<(), AllocError>
+    requires walk { 0 < length walk.now }
+    requires few { length nodes.old.items + length walk.now ≤ most_cells + 1 }
+    ensures ok { OnOk result (Grows nodes.old.items walk.now parent nodes.new.items) }
+    ensures err { OnErr result (nodes.new.items ≡ nodes.old.items) }
+{
+    let last = walk.len() - 1;
+    let mut parent = parent;
+    nodes.reserve(last)?;
+    for at in (0..last).rev() {
+        let number = nodes.len() as u32;
+        nodes.push_reserved(Node {
+            cell: walk[at],
+            parent,
+        });
+        parent = number;
+    }
+    Ok(())
 }
 
 /// The number of the first node with this cell.

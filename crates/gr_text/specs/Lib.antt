@@ -3,6 +3,7 @@ pub mod Tokens
 pub mod Streams
 pub mod Steps
 pub mod Numbers
+pub mod Lines
 pub mod Reading
 pub mod Reads
 pub mod Unread

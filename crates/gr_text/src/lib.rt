@@ -15,5 +15,5 @@ pub use numbers::{is_whole, natural_of, whole, whole_of};
 pub use reader::TokenReader;
 pub use reading::{check, end, given, natural, next_token, next_token_or_end, number, word};
 pub use source::{Ends, ReadError, TokenSource};
-pub use text::{Text, put_number};
+pub use text::Text;
 pub use tokens::{Token, TokenError, Tokens};

@@ -2,23 +2,12 @@
 #![tactic(auto)]
 
 use bound_top::bound;
-use gr_io::{HostShelf, HostSink, write_whole};
-use std::env::Env;
+use gr_io::{HostShelf, HostSink, words, write_whole};
 use std::io::ErrorKind;
 use std::process::ExitCode;
-use std::{env, io};
 
 /// The status where memory is wanting for the words.
 const NO_MEMORY: u8 = 8;
-
-/// The words after the program's name.
-fn words<R: Env + AllocGlobal>(rt: &R) -> io::Result<Vec<String>> {
-    let mut words = Vec::new(rt.alloc());
-    for word in env::args(rt)?.skip(1) {
-        words.push(word)?;
-    }
-    Ok(words)
-}
 
 fn main(rt: HostRuntime) -> ExitCode {
     let mut shelf = HostShelf::new(&rt);

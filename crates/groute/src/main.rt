@@ -2,23 +2,12 @@
 #![tactic(auto)]
 
 use command_form::{Stop, finish};
-use gr_io::{HostShelf, HostSink};
+use gr_io::{HostShelf, HostSink, words};
 use ripup_workers::OpenGate;
 use router_top::{own_rules, run};
-use std::env::Env;
 use std::io::ErrorKind;
 use std::mem::forget;
 use std::process::ExitCode;
-use std::{env, io};
-
-/// The words after the program's name.
-fn words<R: Env + AllocGlobal>(rt: &R) -> io::Result<Vec<String>> {
-    let mut words = Vec::new(rt.alloc());
-    for word in env::args(rt)?.skip(1) {
-        words.push(word)?;
-    }
-    Ok(words)
-}
 
 fn main(rt: HostRuntime) -> ExitCode {
     let mut shelf = HostShelf::new(&rt);

@@ -5,11 +5,11 @@ ghost use Rattle.layer_assign.specs.Answers.{IsFirstLeast};
 
 use crate::choices::choose_layers;
 use crate::layers::Layers;
-use crate::room::{LayerRoom, refill};
+use crate::room::LayerRoom;
 use crate::spans::spans_of;
 use crate::tiles::{follow, pin_spans};
 use cost_rules::Costs;
-use gr_base::{RouteTree, Shape};
+use gr_base::{RouteTree, Shape, refill};
 use std::alloc::{AllocError, Global};
 
 /// The first assignment of least cost of a flat tree's edges to layers.

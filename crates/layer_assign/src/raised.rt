@@ -13,10 +13,10 @@ ghost use Rattle.layer_assign.specs.Raising.{is_done, end_of, IsEarly, AreEnds, 
 
 use crate::columns::{cell_at_level, hang, spread};
 use crate::layers::Layers;
-use crate::room::{LayerRoom, refill};
+use crate::room::LayerRoom;
 use crate::span::Span;
 use crate::tiles::met_spans;
-use gr_base::{NodeIndex, RouteTree, Shape};
+use gr_base::{NodeIndex, RouteTree, Shape, refill};
 use std::alloc::{AllocError, Global};
 
 /// The tree that an assignment makes on the grid.

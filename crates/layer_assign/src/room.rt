@@ -1,4 +1,4 @@
-ghost use Rattle.std.specs.Prelude.{◌≡◌, IfOk, OnOk, replicate};
+ghost use Rattle.std.specs.Prelude.{◌≡◌, IfOk};
 ghost use Rattle.layer_assign.specs.Assignments.{tile_count};
 
 use crate::climbs::ClimbRows;
@@ -54,12 +54,4 @@ impl Model for LayerRoom {
     ghost Value = { ℕ };
 
     ghost view = { λ room. length room.index };
-}
-
-/// Puts so many equal items in the place of those that a list held.
-pub(crate) fn refill<T: Copy>(list: &mut Vec<T>, item: T, count: usize) -> Result<(), AllocError>
-    ensures { OnOk result (list.new.items ≡ replicate count item) }
-{
-    list.clear();
-    list.resize(count, item)
 }

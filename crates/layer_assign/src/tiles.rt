@@ -11,11 +11,10 @@ ghost use Rattle.layer_assign.specs.Choices.{entry, FollowsFrom};
 ghost use Rattle.layer_assign.specs.Tables.{HasRows};
 
 use crate::layers::Layers;
-use crate::room::refill;
 use crate::span::Span;
 use crate::spans::widened;
 use crate::tables::place_in;
-use gr_base::{NodeIndex, RouteTree, Shape};
+use gr_base::{NodeIndex, RouteTree, Shape, refill};
 use std::alloc::{AllocError, Global};
 
 /// The span of the pins of each node's tile.

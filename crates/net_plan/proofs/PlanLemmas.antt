@@ -51,18 +51,7 @@ net-of d number net design is =
 pub pins-of : (d : DesignView) (number : ℕ) (net : Net) → slice_get d.nets number ≡ Some net → pins_at d number ≡ net.pins
 pins-of d number net is = ap pins_in is
 
--- a routed net is one of the design's
-pub routed-within : (d : DesignView) (number : ℕ) → IsTrue (is_routed d number) → number < length d.nets
-routed-within d number routed = by_net (slice_get d.nets number) refl routed
-  where
-    by_net : (o : Option Net) → slice_get d.nets number ≡ o → IsTrue (is_routed_net o) → number < length d.nets
-    by_net None is routed = absurd (false-true routed)
-      where
-        false-true : false ≡ true → ⊥
-        false-true e = cc
-    by_net (Some net) is routed = slice_get_within d.nets number net is
-
--- it has few pins
+-- a routed net has few pins
 pub routed-few : (d : DesignView) (number : ℕ) (net : Net) → slice_get d.nets number ≡ Some net → IsTrue (is_routed d number) → length net.pins ≤ 1000
 routed-few d number net is routed =
     let test : IsTrue (is_routed_net (Some net)) = sym (ap is_routed_net is) ∙ routed in

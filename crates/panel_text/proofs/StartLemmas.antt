@@ -5,6 +5,7 @@ use Rattle.std.proofs.lemmas.Bool.{and_parts, cases_Bool, cases_eq}
 use Rattle.std.proofs.lemmas.Bool.Decides.{nat_tests}
 use Rattle.std.proofs.lemmas.List.Folds.{Any-from_list_any}
 use Rattle.std.proofs.lemmas.List.{get_or_append_left, get_or-append-add, length-append}
+use Rattle.gr_base.proofs.DesignLemmas.{routed-below}
 use Rattle.gr_base.specs.Designs.{DesignView, is_routed}
 use Rattle.gr_base.specs.EdgeSets.{Edges, set_of}
 use Rattle.gr_base.specs.Grid.{cells_of, has_edge, high_of}
@@ -15,7 +16,6 @@ use Rattle.gr_base.specs.declared.grid.Edge.{Edge}
 use Rattle.solution_text.specs.Covers.{covers, is_on}
 use Rattle.solution_text.specs.declared.run.Run.{Run}
 use Rattle.solution_text.specs.Runs.{LieIn, begins, run_from, runs_of, runs_of_way}
-use Rattle.route_evaluator.proofs.CountedLemmas.{routed-below}
 use Rattle.route_reader.specs.Solutions.{IsOf, SolutionView, edges_by, runs_at}
 use Rattle.straight_runs.specs.Ends.{LiesInside}
 use Rattle.straight_runs.proofs.EndLemmas.{all-inside}

@@ -1,20 +1,17 @@
 -- The text of buffers by blocks of nets.
 use Rattle.std.specs.Prelude.{◌≡◌, ℕ, ◌+◌, ◌*◌, ◌<◌, min, List, length, Option, slice_index_or, IfSome}
+use Rattle.beside_calls.specs.Blocks.{block_start}
 use Rattle.gr_base.specs.Designs.{DesignView}
 use Rattle.gr_base.specs.Trees.{TreeView}
 use Rattle.rc_library.specs.Libraries.{LibraryView}
 use Rattle.elmore_delay.specs.declared.plans.Plan.{Plan}
 use Rattle.report_text.specs.BufferTexts.{net_lines}
 
--- the first net of a block, where each has so many
-abbrev pub block_start : DesignView → (size at : ℕ) → ℕ
-block_start d size at = min (length d.nets) (at * size)
-
 -- the text of a block, where there is one, has the lines of its nets
 abbrev pub IsBlock : DesignView → LibraryView → List (Option TreeView) → List (Option Plan) → (size at : ℕ) →
     Option (List ℕ) → Type 0
 IsBlock d lib trees plans size at block = IfSome block
-    (λ text. text ≡ net_lines d lib trees plans (block_start d size at) (block_start d size (at + 1)))
+    (λ text. text ≡ net_lines d lib trees plans (block_start (length d.nets) 0 size at) (block_start (length d.nets) 0 size (at + 1)))
 
 -- each has those of its nets
 abbrev pub AreBlocks : DesignView → LibraryView → List (Option TreeView) → List (Option Plan) → (size : ℕ) →

@@ -8,12 +8,12 @@ use Rattle.gr_base.specs.Sums.{sum_routed}
 use Rattle.gr_base.specs.Trees.{TreeView, node_with, tree_at}
 use Rattle.gr_base.specs.declared.frame.Frame.{Frame}
 use Rattle.gr_base.specs.declared.frame.Net.{Net}
+use Rattle.gr_text.specs.Lines.{number_line}
 use Rattle.rc_library.specs.Libraries.{LibraryView, name_of}
 use Rattle.elmore_delay.specs.Placements.{placed_at, NamesKinds}
 use Rattle.elmore_delay.specs.PlanLists.{plan_at}
 use Rattle.elmore_delay.specs.declared.plans.Plan.{Plan}
 use Rattle.solution_text.specs.WrittenText.{point_text}
-use Rattle.report_text.specs.Texts.{number_line}
 
 -- the kind of the buffer at the node that has a cell, or none
 abbrev pub kind_on : TreeView → List (Option ℕ) → ℕ → Option ℕ

@@ -3,10 +3,7 @@ use Rattle.std.specs.Prelude.{ℕ, List, [], ◌++◌, length, Option, Some, Non
 use Rattle.std.specs.Fmt.{decimal}
 use Rattle.std.specs.List.{flat_map}
 use Rattle.gr_base.specs.declared.frame.Net.{Net}
-
--- the line of a word and a number
-abbrev pub number_line : (word : List ℕ) → ℕ → List ℕ
-number_line word n = word ++ codes " " ++ decimal n ++ codes "\n"
+use Rattle.gr_text.specs.Lines.{number_line}
 
 -- the measures of routes
 abbrev pub report_text : (routed total most wirelength vias : ℕ) → List ℕ

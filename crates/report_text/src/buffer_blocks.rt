@@ -1,9 +1,10 @@
 //! The text of buffers by blocks of nets, whose lines are put together side by side.
 ghost use Rattle.std.specs.Prelude.{◌≡◌, ◌+◌, ◌*◌, ◌<◌, ◌≤◌, ◌++◌, min, length, None, IfOk, IfSome, OnOk};
 ghost use Rattle.report_text.specs.BufferTexts.{ArePlanned, AreSomePlanned, buffers_text, net_lines};
-ghost use Rattle.report_text.specs.BufferBlocks.{block_start, IsBlock, AreBlocks};
+ghost use Rattle.report_text.specs.BufferBlocks.{IsBlock, AreBlocks};
 
 use crate::buffer_text::{Told, polar_text, put_nets, put_total};
+use beside_calls::block_start;
 use elmore_delay::Plans;
 use gr_base::{Design, Routes};
 use gr_text::Text;
@@ -108,21 +109,13 @@ fn block_of(alloc: Global, told: &Told<'_>, size: u32, at: usize) -> Option<Text
     requires plans { AreSomePlanned told.now.design.now told.now.library.now told.now.routes.now told.now.plans.now }
     ensures { IsBlock told.now.design.now told.now.library.now told.now.routes.now told.now.plans.now size at result }
 {
-    let first = start_of(told.design, size, at);
+    let first = block_start(told.design.nets(), 0, size, at);
     let last = told.design.nets().min(first.saturating_add(size));
     let mut text = Text::new(alloc);
     match put_nets(&mut text, alloc, told, first, last) {
         Ok(()) => Some(text),
         Err(_) => None,
     }
-}
-
-/// The first net of a block.
-fn start_of(design: &Design, size: u32, at: usize) -> u32
-    ensures { result ≡ block_start design.now size at }
-{
-    let first = at.saturating_mul(size as usize);
-    first.min(design.nets() as usize) as u32
 }
 
 /// Puts the texts of the blocks at the end of the text. The only error is want of memory, now or as they

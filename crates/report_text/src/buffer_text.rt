@@ -5,15 +5,14 @@ ghost use Rattle.gr_base.specs.Grid.{cells_of};
 ghost use Rattle.gr_base.specs.Sums.{sum_routed};
 ghost use Rattle.gr_base.specs.Trees.{IsTree};
 ghost use Rattle.elmore_delay.specs.PlanLists.{plan_at};
-ghost use Rattle.solution_text.specs.WrittenText.{point_text};
 ghost use Rattle.report_text.specs.BufferTexts.{kind_line, placement_text, plan_line, no_legal_line, net_buffers, net_lines, buffers_in, total_line, buffers_text, IsPlanFor, ArePlanned, AreSomePlanned};
 ghost use Rattle.report_text.specs.Placed.{buffered_nodes, rising_buffers};
 
-use crate::lines::put_number_line;
 use elmore_delay::{Placement, Plan, Plans};
-use gr_base::{Design, Net, Point, RouteTree, Routes};
+use gr_base::{Design, Net, RouteTree, Routes};
 use gr_text::Text;
 use rc_library::Library;
+use solution_text::put_point;
 use std::alloc::{AllocError, Global};
 
 /// Plans of buffers on a design's routes, with the library that names their kinds.
@@ -77,7 +76,7 @@ pub fn polar_text(
 pub(crate) fn put_total(text: &mut Text, design: &Design, plans: &Plans) -> Result<(), AllocError>
     ensures { OnOk result (text.new ≡ text.old ++ total_line design.now plans.now) }
 {
-    put_number_line(text, b"buffers", total(design, plans))
+    text.put_number_line(b"buffers", total(design, plans))
 }
 
 /// Puts the lines of the nets from a number on, below another, at the end of the text.
@@ -265,17 +264,4 @@ fn put_buffer(
     text.put(b" ")?;
     text.put(library.name(buffer.kind).bytes())?;
     text.put(b"\n")
-}
-
-/// Puts a point at the end of the text, as `(x,y,layer)`.
-fn put_point(text: &mut Text, point: Point) -> Result<(), AllocError>
-    ensures { OnOk result (text.new ≡ text.old ++ point_text point) }
-{
-    text.put(b"(")?;
-    text.put_number(point.x)?;
-    text.put(b",")?;
-    text.put_number(point.y)?;
-    text.put(b",")?;
-    text.put_number(point.layer)?;
-    text.put(b")")
 }

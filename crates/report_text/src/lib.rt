@@ -8,5 +8,4 @@ mod texts;
 
 pub use buffer_blocks::{buffers_by, polar_text_by};
 pub use buffer_text::{buffers, polar_text};
-pub use lines::put_number_line;
 pub use texts::{report, unjoined};

@@ -2,7 +2,7 @@
 ghost use Rattle.std.specs.Prelude.{◌≡◌, ◌<◌, length, All, IfOk};
 ghost use Rattle.report_text.specs.Texts.{report_text, unjoined_text};
 
-use crate::lines::{put_net_line, put_number_line};
+use crate::lines::put_net_line;
 use gr_base::Design;
 use gr_text::Text;
 use route_evaluator::Verdict;
@@ -15,11 +15,11 @@ pub fn report(alloc: Global, verdict: &Verdict) -> Result<Text, AllocError>
         IfOk result (λ text. text ≡ report_text v.routed v.total v.max v.wirelength v.vias) }
 {
     let mut text = Text::new(alloc);
-    put_number_line(&mut text, b"routed", u128::from(verdict.routed))?;
-    put_number_line(&mut text, b"overflow", verdict.total)?;
-    put_number_line(&mut text, b"maximum", u128::from(verdict.max))?;
-    put_number_line(&mut text, b"wirelength", verdict.wirelength)?;
-    put_number_line(&mut text, b"vias", verdict.vias)?;
+    text.put_number_line(b"routed", u128::from(verdict.routed))?;
+    text.put_number_line(b"overflow", verdict.total)?;
+    text.put_number_line(b"maximum", u128::from(verdict.max))?;
+    text.put_number_line(b"wirelength", verdict.wirelength)?;
+    text.put_number_line(b"vias", verdict.vias)?;
     Ok(text)
 }
 
@@ -31,7 +31,7 @@ pub fn unjoined(alloc: Global, design: &Design, verdict: &Verdict) -> Result<Tex
 {
     let nets = verdict.unjoined.as_slice();
     let mut text = Text::new(alloc);
-    put_number_line(&mut text, b"unjoined", nets.len() as u128)?;
+    text.put_number_line(b"unjoined", nets.len() as u128)?;
     for net in nets {
         put_net_line(&mut text, design.net(*net))?;
     }

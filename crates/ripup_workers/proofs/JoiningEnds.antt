@@ -8,6 +8,7 @@ use Rattle.std.proofs.lemmas.List.Elements.{All-nil, All-cons, All-head, All-tai
 use Rattle.std.proofs.lemmas.Option.{none-some}
 use Rattle.cost_rules.specs.declared.sight.Going.{Going}
 use Rattle.cost_rules.specs.declared.sight.Going.TheVariants.{On, Stop}
+use Rattle.gr_base.proofs.DesignLemmas.{routed-below}
 use Rattle.gr_base.specs.Designs.{DesignView, is_routed}
 use Rattle.gr_base.proofs.General.{filter-yes}
 use Rattle.gr_base.specs.Trees.{TreeView}
@@ -32,7 +33,7 @@ use Rattle.round_core.proofs.CutSteps.{cut-whole}
 use Rattle.round_core.proofs.RangeCounts.{times-kept}
 use Rattle.round_core.proofs.RoutedTrees.{attempts-stand}
 use Rattle.round_core.proofs.StandLemmas.{victims-routed, mark-stands, least-place, least-call, some-least}
-use Rattle.round_core.proofs.TurnLemmas.{routed-below, routed-within}
+use Rattle.round_core.proofs.TurnLemmas.{routed-within}
 use Rattle.round_core.proofs.WorldEnds.{first-rules}
 use Rattle.track_book.specs.Passes.{PassView, IsNew, IsIn, IsClosed}
 use Rattle.track_book.proofs.Dealing.{get-there}

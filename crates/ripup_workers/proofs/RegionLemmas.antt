@@ -8,11 +8,11 @@ use Rattle.std.proofs.lemmas.List.Sums.{sum_by-append, sum_by-cons}
 use Rattle.std.proofs.lemmas.Nat.{div-add-mod', mod_below}
 use Rattle.std.proofs.Math.Nat.{suc-mul}
 use Rattle.work_share.specs.Views.{times}
-use Rattle.gr_base.specs.Designs.{DesignView, is_routed}
+use Rattle.gr_base.specs.Designs.{DesignView, is_routed, AreRouted}
 use Rattle.std.proofs.lemmas.List.Elements.{All-nil, All-push, All-same}
 use Rattle.std.proofs.lemmas.Map.Views.{All-map-IsPermutation}
 use Rattle.ripup_workers.proofs.JoiningLists.{all-first}
-use Rattle.ripup_workers.specs.Orders.{net_in, AreRouted, IsKey, AreKeysOf, size_of, IsSortOf, AreCutOf, ArePartsOf}
+use Rattle.ripup_workers.specs.Orders.{net_in, IsKey, AreKeysOf, size_of, IsSortOf, AreCutOf, ArePartsOf}
 
 -- how many nets so many regions have from one on
 unfoldable pub left_for : ℕ → ℕ → ℕ → ℕ → ℕ

@@ -11,9 +11,6 @@ use Rattle.ripup_workers.specs.Freedoms.{turn_of, GoInTurn}
 abbrev pub net_in : ℕ → ℕ
 net_in both = both % 4294967296
 
-abbrev pub AreRouted : DesignView → List ℕ → Type 0
-AreRouted d nets = All (λ net. IsTrue (is_routed d net)) nets
-
 -- the number before the net is that of the net's turn in a round, and so much more that it isn't below 0
 abbrev pub IsKey : DesignView → ℕ → ℕ → Type 0
 IsKey d round key = pos (key / 4294967296) ≡ turn_of d round (net_in key) +ℤ pos 2147483648

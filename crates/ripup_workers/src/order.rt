@@ -1,8 +1,9 @@
 //! In which order the nets of a round are shared.
 ghost use Rattle.std.specs.Prelude.{◌≡◌, ◌≤◌, ◌<◌, ◌/◌, ◌%◌, ◌^◌, ◌++◌, ◌∷◌, ℕ, length, map, slice_index_or, sum_by, All, IfOk, OnOk};
+ghost use Rattle.gr_base.specs.Designs.{AreRouted};
 ghost use Rattle.work_share.specs.Dealt.{dealt};
 ghost use Rattle.work_share.specs.Views.{times};
-ghost use Rattle.ripup_workers.specs.Orders.{net_in, AreRouted, IsKey, IsDealtInTurn, IsSortOf, size_of, AreCutOf, AreKeysOf, ArePartsOf, nets_at};
+ghost use Rattle.ripup_workers.specs.Orders.{net_in, IsKey, IsDealtInTurn, IsSortOf, size_of, AreCutOf, AreKeysOf, ArePartsOf, nets_at};
 
 use crate::survey::{NUMBERS, Survey};
 use beside_calls::for_each_beside;

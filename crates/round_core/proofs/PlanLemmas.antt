@@ -1,8 +1,9 @@
 -- Plans of nets over loads.
 use Rattle.std.proofs.Common.{◌≡◌, ℕ, List, Result, Ok, Err, Some, slice_get, IfOk, IsTrue, refl, sym, subst, ◌∙◌}
 use Rattle.cost_rules.specs.declared.site.Formula.{Formula}
+use Rattle.gr_base.proofs.DesignLemmas.{routed-net}
 use Rattle.gr_base.specs.Designs.{DesignView, is_routed, pins_at}
-use Rattle.gr_base.specs.Plans.{IsRouteOf}
+use Rattle.gr_base.specs.Plans.{IsRouteOf, IsRouteOfNet}
 use Rattle.gr_base.specs.Trees.{TreeView}
 use Rattle.gr_base.specs.declared.frame.Net.{Net}
 use Rattle.grid_demand.specs.LoadSums.{LoadsView}
@@ -13,8 +14,8 @@ use Rattle.book_state.specs.Books.{AreLoadsOf}
 use Rattle.book_state.specs.declared.entry.Entry.{Entry}
 use Rattle.book_state.specs.declared.entry.PlanKind.{PlanKind}
 use Rattle.book_state.specs.declared.entry.PlanKind.TheVariants.{Pattern, Maze}
-use Rattle.round_core.proofs.TurnLemmas.{plan-after, routed-net}
-use Rattle.round_core.specs.Rounds.{IsPlanFor, IsRouteOfNet}
+use Rattle.round_core.proofs.TurnLemmas.{plan-after}
+use Rattle.round_core.specs.Rounds.{IsPlanFor}
 
 -- plans over loads are plans over what the loads are of
 pub plan-pattern : (d : DesignView) (formula : Formula) (v : CapacityView) (h : List Entry) (l : LoadsView) (net : ℕ) (kind : PlanKind) (t : TreeView) → v ≡ capacity_of d → AreLoadsOf (capacity_of d) h l →

@@ -3,6 +3,7 @@ use Rattle.std.proofs.Common.{◌≡◌, ◌⊎◌, ℕ, ◌≤◌, inl, inr, Bo
 use Rattle.std.proofs.lemmas.Bool.Decides.{nat_tests}
 use Rattle.std.proofs.lemmas.Option.{none-some, same_Some, slice_get_within}
 use Rattle.gr_base.proofs.General.{some-and, is-some}
+use Rattle.gr_base.specs.Plans.{IsRouteOfNet}
 use Rattle.gr_base.specs.Trees.{TreeView}
 use Rattle.book_state.proofs.BookSteps.{booked-none, booked-push}
 use Rattle.book_state.specs.Books.{booked_by, booked}
@@ -13,7 +14,6 @@ use Rattle.book_state.specs.declared.entry.Claim.{Claim}
 use Rattle.book_state.specs.declared.entry.Entry.{Entry}
 use Rattle.book_state.specs.declared.entry.Reply.{Reply}
 use Rattle.book_state.specs.declared.entry.Reply.TheVariants.{Claimed, Taken, Full, Released, NotBooked, Marked}
-use Rattle.round_core.specs.Rounds.{IsRouteOfNet}
 use Rattle.round_core.specs.RunHistories.{Setting, IsPlanned, AreAttempts}
 use Rattle.round_core.specs.Standing.{Stands}
 use Rattle.round_core.proofs.CutSteps.{each-part}

@@ -8,6 +8,7 @@ use Rattle.std.proofs.lemmas.List.Elements.{All-nil, All-cons}
 use Rattle.std.proofs.lemmas.List.Quantifiers.{position-Some}
 use Rattle.std.proofs.lemmas.Option.{none-some, same_Some, slice_get_within, slice_get-get_or, slice_get_cases}
 use Rattle.gr_base.specs.Designs.{DesignView, is_routed}
+use Rattle.gr_base.specs.Plans.{IsRouteOfNet}
 use Rattle.gr_base.specs.Trees.{TreeView}
 use Rattle.gr_base.specs.declared.grid.Edge.{Edge}
 use Rattle.grid_demand.specs.Tables.{CapacityView, capacity_of}
@@ -24,7 +25,7 @@ use Rattle.book_state.specs.declared.entry.Claim.{Claim}
 use Rattle.book_state.specs.declared.entry.Entry.{Entry}
 use Rattle.book_state.specs.declared.entry.Reply.{Reply}
 use Rattle.book_state.specs.declared.entry.Reply.TheVariants.{Claimed, Taken, Full, Released, NotBooked, Marked}
-use Rattle.round_core.specs.Rounds.{IsRouteOfNet, IsFull}
+use Rattle.round_core.specs.Rounds.{IsFull}
 use Rattle.round_core.specs.Standing.{IsHeld, Stands}
 
 -- a net that stays booked by the same tree stays held

@@ -4,6 +4,7 @@ use Rattle.std.proofs.lemmas.Bool.{both_ways}
 use Rattle.std.proofs.lemmas.List.{length-map}
 use Rattle.std.proofs.lemmas.Option.{slice_get_within}
 use Rattle.cost_rules.specs.declared.site.Formula.{Formula}
+use Rattle.gr_base.proofs.DesignLemmas.{routed-below}
 use Rattle.gr_base.specs.Designs.{DesignView, IsDesign, is_routed, is_routed_net, pins_at}
 use Rattle.gr_base.specs.Grid.{has_edge}
 use Rattle.gr_base.specs.Limits.{most_nets}
@@ -56,23 +57,7 @@ bounded-loads d c h l design is of = λ e edge wire.
     let most = demand-most (capacity_of d) h e (tables-of d design) few in
     omega (arith, demand_is, most)
 
--- a routed net is one of the design's
-pub record IsNetOf (d : DesignView) (number : ℕ) : Type 0 where
-  pub net : Net
-  pub there : slice_get d.nets number ≡ Some net
-
-pub routed-net : (d : DesignView) (number : ℕ) → IsTrue (is_routed d number) → IsNetOf d number
-routed-net d number routed = by_net (slice_get d.nets number) refl
-  where
-    by_net : (o : Option Net) → slice_get d.nets number ≡ o → IsNetOf d number
-    by_net None is = absurd (both_ways false refl (sym (ap is_routed_net is) ∙ routed))
-    by_net (Some net) is = record { net = net; there = is }
-
-pub routed-below : (d : DesignView) (number : ℕ) → IsTrue (is_routed d number) → number < length d.nets
-routed-below d number routed =
-    let one = routed-net d number routed in
-    slice_get_within d.nets number one.net one.there
-
+-- a routed net is one of those that have a width
 pub routed-within : (d : DesignView) (c : CapacityView) (number : ℕ) → c ≡ capacity_of d → IsTrue (is_routed d number) → number < nets_of c
 routed-within d c number is routed =
     let below = routed-below d number routed in

@@ -4,6 +4,7 @@ use Rattle.std.specs.List.{count_by}
 use Rattle.std.proofs.lemmas.Bool.{both_ways}
 use Rattle.std.proofs.lemmas.List.{length-replicate}
 use Rattle.std.proofs.lemmas.Option.{none-some}
+use Rattle.gr_base.proofs.DesignLemmas.{routed-below}
 use Rattle.gr_base.specs.Designs.{is_routed}
 use Rattle.grid_demand.specs.Tables.{capacity_of}
 use Rattle.book_state.proofs.LegalHistories.{legal-nothing}
@@ -16,7 +17,6 @@ use Rattle.round_core.specs.declared.steps.Phase.{Phase}
 use Rattle.round_core.specs.declared.steps.Phase.TheVariants.{Idle, Ended}
 use Rattle.round_core.proofs.JoiningLaw.{none-apart}
 use Rattle.round_core.proofs.RangeCounts.{times-kept}
-use Rattle.round_core.proofs.TurnLemmas.{routed-below}
 
 -- the state at first
 first-phase : (n worker : ℕ) → phase_in (slice_get (replicate n Idle) worker) ≡ Idle

@@ -2,7 +2,7 @@
 use Rattle.std.specs.Prelude.{◌≡◌, ℕ, List, [], ◌∷◌, Option, Some, None, slice_get, IsTrue}
 use Rattle.cost_rules.specs.declared.site.Formula.{Formula}
 use Rattle.gr_base.specs.Designs.{DesignView, pins_at}
-use Rattle.gr_base.specs.Plans.{IsRouteOf}
+use Rattle.gr_base.specs.Plans.{IsRouteOf, IsRouteOfNet}
 use Rattle.gr_base.specs.Trees.{TreeView}
 use Rattle.gr_base.specs.declared.frame.Net.{Net}
 use Rattle.grid_demand.specs.LoadSums.{LoadsView}
@@ -32,10 +32,6 @@ pub record IsPlanAfter (d : DesignView) (formula : Formula) (h : List Entry) (ne
   pub loads : LoadsView
   pub there : AreLoadsOf (capacity_of d) h loads
   pub plan : IsPlan (capacity_of d) loads formula net (pins_at d net) kind t
-
--- the tree starts at the net's driver and holds the cell of each of its pins
-abbrev pub IsRouteOfNet : DesignView → ℕ → TreeView → Type 0
-IsRouteOfNet d net t = (value : Net) → slice_get d.nets net ≡ Some value → IsRouteOf d.frame.shape value t
 
 -- a tree is a net's plan of a kind over a history, and routes the net
 pub record IsPlanFor (d : DesignView) (formula : Formula) (h : List Entry) (net : ℕ) (kind : PlanKind)

@@ -1,9 +1,9 @@
 -- Which nets are booked as the rounds go on.
 use Rattle.std.specs.Prelude.{◌≡◌, ℕ, false, List, None, IsTrue, IsSomeAnd}
 use Rattle.gr_base.specs.Designs.{DesignView, is_routed}
+use Rattle.gr_base.specs.Plans.{IsRouteOfNet}
 use Rattle.book_state.specs.Books.{booked}
 use Rattle.book_state.specs.declared.entry.Entry.{Entry}
-use Rattle.round_core.specs.Rounds.{IsRouteOfNet}
 
 -- the net is booked by a tree that routes it
 abbrev pub IsHeld : DesignView → List Entry → ℕ → Type 0

@@ -5,6 +5,7 @@ use Rattle.std.specs.List.{range_with_len}
 use Rattle.std.proofs.lemmas.Bool.{or_cases, and_parts, false≢true}
 use Rattle.std.proofs.lemmas.List.FromFn.{length-map-range_with_len}
 use Rattle.std.proofs.lemmas.List.Sums.{count_by-le-length, length-filter}
+use Rattle.gr_base.proofs.DesignLemmas.{routed-below}
 use Rattle.gr_base.specs.Capacities.{need}
 use Rattle.gr_base.specs.Designs.{DesignView, IsDesign, IsNet, is_routed, is_routed_net, pins_in, pins_at}
 use Rattle.gr_base.specs.EdgeSets.{Edges}
@@ -59,16 +60,7 @@ gathered-grid d s net numbers of is e has =
     let inside = covered-edge s.shape (runs_at s net) e (sym (ap (λ (set : Edges). set e) is) ∙ has) in
     subst (λ (g : Shape). IsTrue (has_edge g e)) of.shape inside
 
--- a net that is routed is one of the design's
-pub routed-below : (d : DesignView) (net : ℕ) → is_routed d net ≡ true → net < length d.nets
-routed-below d net routed = below d.nets net routed
-  where
-    below : (nets : List Net) (n : ℕ) → is_routed_net (slice_get nets n) ≡ true → n < length nets
-    below [] n is = absurd (false≢true is)
-    below (x ∷ xs) zero is = omega arith
-    below (x ∷ xs) (suc n) is = let rest = below xs n is in omega arith
-
--- its pins are cells of the grid
+-- the pins of a net are cells of the grid
 pub pins-inside : (d : DesignView) (net : ℕ) (value : Net) → IsDesign d → slice_get d.nets net ≡ Some value → All (λ pin. pin < cells_of d.frame.shape) value.pins
 pins-inside d net value design is =
     let found : IfSome (Some value) (IsNet d.frame.shape) =

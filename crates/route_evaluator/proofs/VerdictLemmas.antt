@@ -2,6 +2,7 @@
 use Rattle.std.proofs.Common.{◌≡◌, ◌↔◌, ℕ, ◌+◌, ◌<◌, List, length, Contains, false, if◌then◌else◌, IsTrue, refl, sym, ap, subst, ◌∙◌}
 use Rattle.std.proofs.Math.Path.{fun_ext}
 use Rattle.std.proofs.lemmas.Bool.{both_ways}
+use Rattle.gr_base.proofs.DesignLemmas.{routed-below}
 use Rattle.gr_base.specs.Capacities.{need, capacity}
 use Rattle.gr_base.specs.Designs.{DesignView, is_routed}
 use Rattle.gr_base.specs.EdgeSets.{Edges}
@@ -16,7 +17,6 @@ use Rattle.route_evaluator.specs.Counts.{sum_before, AreCharged, AreTallied}
 use Rattle.route_evaluator.specs.Verdicts.{AreLoadsBy, IsUnjoined, IsVerdict}
 use Rattle.route_evaluator.specs.declared.tally.Tally.{Tally}
 use Rattle.route_evaluator.specs.declared.verdict.Verdict.{Verdict}
-use Rattle.route_evaluator.proofs.CountedLemmas.{routed-below}
 use Rattle.route_evaluator.proofs.StepLemmas.{sum-skip, routed-skip, listed-skip}
 
 -- what is said of some sets of edges holds of others that have the same edges

@@ -44,10 +44,6 @@ AreTree g set pins = (a b : ℕ) → IsTouched g set pins a → IsTouched g set 
 abbrev pub HasJust : Edges → TreeView → Type 0
 HasJust set t = (e : Edge) → edges_of t e ≡ set e
 
--- the tree routes the net with this number
-abbrev pub IsNetRoute : DesignView → ℕ → TreeView → Type 0
-IsNetRoute d net t = (value : Net) → slice_get d.nets net ≡ Some value → IsRouteOf d.frame.shape value t
-
 -- what stands for each routed net is a tree
 abbrev pub AreTrees : DesignView → List (Option TreeView) → Type 0
 AreTrees d trees =

@@ -2,7 +2,7 @@ ghost use Rattle.std.specs.Prelude.{◌≡◌, ◌≤◌, IfOk, OnOk};
 ghost use Rattle.gr_base.specs.Trees.{route_edges};
 ghost use Rattle.grid_demand.specs.Tables.{capacity_of};
 ghost use Rattle.route_reader.specs.Solutions.{IsOf, edges_by};
-ghost use Rattle.straight_runs.specs.Routed.{AreRouted};
+ghost use Rattle.straight_runs.specs.Routed.{HaveTrees};
 ghost use Rattle.route_evaluator.specs.NetTrees.{AreTrees};
 ghost use Rattle.route_evaluator.specs.Verdicts.{AreLoadsBy, IsVerdict};
 
@@ -63,7 +63,7 @@ pub fn evaluate_routes(
 ) -> Result<Verdict, AllocError>
     requires capacity { capacity.now ≡ capacity_of design.now }
     requires loads { AreLoadsBy design.now (route_edges routes.now) loads.now }
-    requires routes { AreRouted design.now routes.now }
+    requires routes { HaveTrees design.now routes.now }
     requires cost { via_cost ≤ 1000 }
     ensures verdict { IfOk result (IsVerdict design.now via_cost (route_edges routes.now)) }
     ensures trees { OnOk result (AreTrees design.now routes.now) }

@@ -1,13 +1,14 @@
 ghost use Rattle.std.specs.Prelude.{◌≡◌, ◌<◌, ◌*◌, Err, length, slice_get, All, IsTrue, IfOk, OnOk};
 ghost use Rattle.gr_base.specs.Designs.{is_routed, pins_at};
 ghost use Rattle.gr_base.specs.Grid.{cells_of};
+ghost use Rattle.gr_base.specs.Plans.{IsRouteOfNet};
 ghost use Rattle.gr_base.specs.Trees.{IsTree, cell_at, holds};
 ghost use Rattle.solution_text.specs.Runs.{LieIn};
 ghost use Rattle.route_reader.specs.Solutions.{IsOf, edges_by};
 ghost use Rattle.route_evaluator.specs.EdgeNumbers.{edges_numbered};
 ghost use Rattle.route_evaluator.specs.NumberSets.{empty_set};
 ghost use Rattle.route_evaluator.specs.Floods.{IsReach};
-ghost use Rattle.route_evaluator.specs.NetTrees.{AreTree, HasJust, IsNetRoute};
+ghost use Rattle.route_evaluator.specs.NetTrees.{AreTree, HasJust};
 ghost use Rattle.route_evaluator.specs.TreeSets.{AreSetsOf};
 
 use crate::flood::flood;
@@ -54,7 +55,7 @@ impl TreeMaker {
         requires sets { AreSetsOf design.now.frame.shape self.old }
         ensures tree { IfOk result IsTree }
         ensures edges { IfOk result (HasJust (edges_by solution.now net)) }
-        ensures routes { IfOk result (IsNetRoute design.now net) }
+        ensures routes { IfOk result (IsRouteOfNet design.now net) }
         ensures ok { OnOk result (AreTree design.now.frame.shape (edges_by solution.now net) (pins_at design.now net)) }
         ensures not_tree { result ≡ Err TreeError.NotTree →
             ¬ AreTree design.now.frame.shape (edges_by solution.now net) (pins_at design.now net) }
@@ -86,7 +87,7 @@ pub fn tree_of(
     requires routed { IsTrue (is_routed design.now net) }
     ensures tree { IfOk result IsTree }
     ensures edges { IfOk result (HasJust (edges_by solution.now net)) }
-    ensures routes { IfOk result (IsNetRoute design.now net) }
+    ensures routes { IfOk result (IsRouteOfNet design.now net) }
     ensures ok { OnOk result (AreTree design.now.frame.shape (edges_by solution.now net) (pins_at design.now net)) }
     ensures not_tree { result ≡ Err TreeError.NotTree →
         ¬ AreTree design.now.frame.shape (edges_by solution.now net) (pins_at design.now net) }

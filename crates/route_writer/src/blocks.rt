@@ -1,13 +1,15 @@
 //! Blocks of nets, whose records are put side by side.
 ghost use Rattle.std.specs.Prelude.{◌≡◌, ◌+◌, ◌<◌, ◌≤◌, ◌++◌, length, All, Err, IfOk, IsTrue, OnOk, OnErr};
+ghost use Rattle.beside_calls.specs.Blocks.{block_start as start_of};
 ghost use Rattle.gr_io.specs.Counts.{Rose};
 ghost use Rattle.gr_io.specs.Parts.{AppendsPart};
-ghost use Rattle.straight_runs.specs.Routed.{AreRouted};
-ghost use Rattle.route_writer.specs.Blocks.{ArePut, IsPut, block_start, texts_of};
+ghost use Rattle.straight_runs.specs.Routed.{HaveTrees};
+ghost use Rattle.route_writer.specs.Blocks.{ArePut, IsPut, texts_of};
 
 use crate::error::WriteError;
 use crate::nets::put_nets;
 use crate::record::Draft;
+use beside_calls::block_start;
 use gr_base::{Design, Routes};
 use gr_io::{Sink, write_whole};
 use std::alloc::{AllocError, Global};
@@ -47,7 +49,7 @@ pub(crate) fn put_blocks<R: Threads + Sync>(
     size: u32,
     blocks: &mut Vec<Block>,
 )
-    requires routed { AreRouted design.now routes.now }
+    requires routed { HaveTrees design.now routes.now }
     requires from { from ≤ length design.now.nets }
     requires size { size ≤ 65536 }
     requires some { 0 < length blocks.old.items }
@@ -60,9 +62,9 @@ pub(crate) fn put_blocks<R: Threads + Sync>(
         blocks.as_mut_slice(),
         threads,
         &|at, block: &mut Block|
-            requires { AreRouted design.now routes.now × (from ≤ length design.now.nets) × (size ≤ 65536) }
-            ensures { IsPut design.entry.now routes.entry.now (block_start design.entry.now from size at)
-                (block_start design.entry.now from size (at + 1)) block.exit.now }
+            requires { HaveTrees design.now routes.now × (from ≤ length design.now.nets) × (size ≤ 65536) }
+            ensures { IsPut design.entry.now routes.entry.now (start_of (length design.entry.now.nets) from size at)
+                (start_of (length design.entry.now.nets) from size (at + 1)) block.exit.now }
         {
             put_block(block, design, routes, from, size, at);
         },
@@ -71,26 +73,16 @@ pub(crate) fn put_blocks<R: Threads + Sync>(
 
 /// Puts the records of a block's nets into it.
 fn put_block(block: &mut Block, design: &Design, routes: &Routes, from: u32, size: u32, at: usize)
-    requires routed { AreRouted design.now routes.now }
+    requires routed { HaveTrees design.now routes.now }
     requires from { from ≤ length design.now.nets }
     requires size { size ≤ 65536 }
-    ensures { IsPut design.now routes.now (block_start design.now from size at)
-        (block_start design.now from size (at + 1)) block.new }
+    ensures { IsPut design.now routes.now (start_of (length design.now.nets) from size at)
+        (start_of (length design.now.nets) from size (at + 1)) block.new }
 {
-    let first = first_of(design, from, size, at);
+    let first = block_start(design.nets(), from, size, at);
     let last = design.nets().min(first + size);
     block.draft.text.clear();
     block.whole = put_nets(&mut block.draft, design, routes, first, last).is_ok();
-}
-
-/// The first net of a block.
-fn first_of(design: &Design, from: u32, size: u32, at: usize) -> u32
-    ensures { result ≡ block_start design.now from size at }
-{
-    let first = at
-        .saturating_mul(size as usize)
-        .saturating_add(from as usize);
-    first.min(design.nets() as usize) as u32
 }
 
 /// Writes the texts of the blocks. At an error the sink holds a first part of them: `NoMemory` comes
@@ -109,7 +101,7 @@ pub(crate) fn write_blocks<K: Sink>(sink: &mut K, blocks: &[Block]) -> Result<()
         if !block.whole {
             return Err(WriteError::NoMemory);
         }
-        write_whole(sink, &block.draft.text)?;
+        write_whole(sink, block.draft.text.bytes())?;
     }
     Ok(())
 }

@@ -1,6 +1,6 @@
 //! The records of nets, one after another.
 ghost use Rattle.std.specs.Prelude.{◌≡◌, ◌<◌, ◌≤◌, ◌++◌, length, OnOk};
-ghost use Rattle.straight_runs.specs.Routed.{AreRouted};
+ghost use Rattle.straight_runs.specs.Routed.{HaveTrees};
 ghost use Rattle.route_writer.specs.RouteTexts.{net_text, nets_text};
 
 use crate::record::Draft;
@@ -14,9 +14,9 @@ pub(crate) fn put_net(
     routes: &Routes,
     net: u32,
 ) -> Result<(), AllocError>
-    requires routed { AreRouted design.now routes.now }
+    requires routed { HaveTrees design.now routes.now }
     requires net { net < length design.now.nets }
-    ensures { OnOk result (draft.new.text.items ≡ draft.old.text.items ++ net_text design.now routes.now net) }
+    ensures { OnOk result (draft.new.text ≡ draft.old.text ++ net_text design.now routes.now net) }
 {
     if !design.routed(net) {
         return Ok(());
@@ -35,11 +35,11 @@ pub(crate) fn put_nets(
     first: u32,
     last: u32,
 ) -> Result<(), AllocError>
-    requires routed { AreRouted design.now routes.now }
+    requires routed { HaveTrees design.now routes.now }
     requires range { first ≤ last }
     requires last { last ≤ length design.now.nets }
     ensures { OnOk result
-        (draft.new.text.items ≡ draft.old.text.items ++ nets_text design.now routes.now first last) }
+        (draft.new.text ≡ draft.old.text ++ nets_text design.now routes.now first last) }
 {
     for net in first..last {
         put_net(draft, design, routes, net)?;

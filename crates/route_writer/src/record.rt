@@ -9,7 +9,7 @@ ghost use Rattle.route_writer.specs.RouteTexts.{heading_text};
 use crate::edges::gather_edges;
 use crate::runs::put_runs;
 use gr_base::{Design, Edge, Net, RouteTree};
-use gr_text::put_number;
+use gr_text::Text;
 use solution_text::Run;
 use std::alloc::{AllocError, Global};
 use straight_runs::gather_runs;
@@ -17,7 +17,7 @@ use straight_runs::gather_runs;
 /// What a record is gathered in: the text so far, and room that each net uses anew.
 #[derive(Drop)]
 pub struct Draft {
-    pub text: Vec<u8>,
+    pub text: Text,
     pub edges: Vec<Edge>,
     pub lows: Vec<u32>,
     pub runs: Vec<Run>,
@@ -26,10 +26,10 @@ pub struct Draft {
 impl Draft {
     /// An empty text. It takes no memory.
     pub fn new(alloc: Global) -> Draft
-        ensures { result.text.items ≡ [] }
+        ensures { result.text ≡ [] }
     {
         Draft {
-            text: Vec::new(alloc),
+            text: Text::new(alloc),
             edges: Vec::new(alloc),
             lows: Vec::new(alloc),
             runs: Vec::new(alloc),
@@ -45,18 +45,17 @@ impl Draft {
     ) -> Result<(), AllocError>
         requires { tree.now.shape ≡ design.now.frame.shape }
         ensures { OnOk result
-            (self.new.text.items ≡ self.old.text.items ++ record_text design.now.frame net.now (edges_of tree.now)) }
+            (self.new.text ≡ self.old.text ++ record_text design.now.frame net.now (edges_of tree.now)) }
     {
         put_heading(&mut self.text, net)?;
         self.put_segments(design, tree)?;
-        self.text.extend_from_slice(b"!\n")?;
-        Ok(())
+        self.text.put(b"!\n")
     }
 
     /// Puts the lines of the maximal straight runs of a tree's edges behind the text.
     fn put_segments(&mut self, design: &Design, tree: &RouteTree) -> Result<(), AllocError>
         requires { tree.now.shape ≡ design.now.frame.shape }
-        ensures { OnOk result (self.new.text.items ≡ self.old.text.items ++
+        ensures { OnOk result (self.new.text ≡ self.old.text ++
             flat_map (segment_line design.now.frame) (runs_of design.now.frame.shape (edges_of tree.now))) }
     {
         gather_edges(&mut self.edges, tree)?;
@@ -72,12 +71,8 @@ impl Draft {
 }
 
 /// Puts the line of a net's name and id behind the text.
-fn put_heading(text: &mut Vec<u8>, net: &Net) -> Result<(), AllocError>
-    ensures { OnOk result (text.new.items ≡ text.old.items ++ heading_text net.now) }
+fn put_heading(text: &mut Text, net: &Net) -> Result<(), AllocError>
+    ensures { OnOk result (text.new ≡ text.old ++ heading_text net.now) }
 {
-    text.extend_from_slice(net.name.bytes())?;
-    text.extend_from_slice(b" ")?;
-    put_number(text, net.id)?;
-    text.extend_from_slice(b"\n")?;
-    Ok(())
+    text.put_number_line(net.name.bytes(), u128::from(net.id))
 }

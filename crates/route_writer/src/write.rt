@@ -1,33 +1,18 @@
 ghost use Rattle.std.specs.Prelude.{◌≡◌, ◌≤◌, ◌++◌, [], Err, IsTrue, OnOk, OnErr};
 ghost use Rattle.gr_io.specs.Counts.{Rose};
 ghost use Rattle.gr_io.specs.Parts.{AppendsPart};
-ghost use Rattle.straight_runs.specs.Routed.{AreRouted};
+ghost use Rattle.straight_runs.specs.Routed.{HaveTrees};
 ghost use Rattle.route_writer.specs.Written.{AddsRoutes, AddsPart};
 
 use crate::error::WriteError;
 use crate::nets::put_net;
 use crate::record::Draft;
 use gr_base::{Design, Routes};
-use gr_io::{Failed, Sink, write_whole};
+use gr_io::Sink;
 use std::alloc::{AllocError, Global};
 
 /// The records are written once they fill so many bytes.
 const FULL: usize = 65_536;
-
-/// Writes what was gathered, and empties the text. At an error the sink holds a first part of it.
-fn flush<K: Sink>(sink: &mut K, text: &mut Vec<u8>) -> Result<(), Failed>
-    ensures ok { OnOk result (IsTrue K.tells → K.written sink.new ≡ K.written sink.old ++ text.old.items) }
-    ensures empty { OnOk result (text.new.items ≡ []) }
-    ensures quiet { OnOk result (K.faults sink.new ≡ K.faults sink.old) }
-    ensures prefix { OnErr result
-        (IsTrue K.tells → AppendsPart (K.written sink.old) (K.written sink.new) text.old.items) }
-    ensures failed { OnErr result (Rose (K.faults sink.old) (K.faults sink.new)) }
-    ensures faults_kept { K.faults sink.old ≤ K.faults sink.new }
-{
-    write_whole(sink, text)?;
-    text.clear();
-    Ok(())
-}
 
 /// Writes the text of the routes: for each routed net, in the design's order, its record with the
 /// maximal straight runs of its tree's edges. `Failed` comes only where the sink's count of faults
@@ -38,7 +23,7 @@ pub fn write_solution<K: Sink>(
     design: &Design,
     routes: &Routes,
 ) -> Result<(), WriteError>
-    requires { AreRouted design.now routes.now }
+    requires { HaveTrees design.now routes.now }
     ensures ok { OnOk result (AddsRoutes K.tells K.written design.now routes.now sink.old sink.new) }
     ensures quiet { OnOk result (K.faults sink.new ≡ K.faults sink.old) }
     ensures prefix { OnErr result (AddsPart K.tells K.written design.now routes.now sink.old sink.new) }
@@ -49,11 +34,11 @@ pub fn write_solution<K: Sink>(
     let mut draft = Draft::new(alloc);
     for net in 0..design.nets() {
         put_net(&mut draft, design, routes, net)?;
-        if draft.text.len() < FULL {
+        if draft.text.bytes().len() < FULL {
             continue;
         }
-        flush(sink, &mut draft.text)?;
+        draft.text.flush(sink)?;
     }
-    flush(sink, &mut draft.text)?;
+    draft.text.flush(sink)?;
     Ok(())
 }

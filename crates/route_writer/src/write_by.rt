@@ -1,6 +1,6 @@
 ghost use Rattle.std.specs.Prelude.{◌≡◌, ◌+◌, ◌*◌, ◌<◌, ◌≤◌, min, length, Err, OnOk, OnErr};
 ghost use Rattle.gr_io.specs.Counts.{Rose};
-ghost use Rattle.straight_runs.specs.Routed.{AreRouted};
+ghost use Rattle.straight_runs.specs.Routed.{HaveTrees};
 ghost use Rattle.route_writer.specs.Written.{AddsRoutes, AddsPart};
 
 use crate::blocks::{MOST_IN_BLOCK, blocks, put_blocks, write_blocks};
@@ -28,7 +28,7 @@ pub fn write_solution_by<R: Threads + Sync, K: Sink>(
     routes: &Routes,
     workers: u32,
 ) -> Result<(), WriteError>
-    requires routed { AreRouted design.now routes.now }
+    requires routed { HaveTrees design.now routes.now }
     requires workers { 0 < workers }
     ensures ok { OnOk result (AddsRoutes K.tells K.written design.now routes.now sink.old sink.new) }
     ensures quiet { OnOk result (K.faults sink.new ≡ K.faults sink.old) }
@@ -47,7 +47,7 @@ pub fn write_solution_by<R: Threads + Sync, K: Sink>(
         put_blocks(rt, design, routes, from, size, &mut blocks);
         write_blocks(sink, &blocks)?;
         from = behind(from, size, workers, design.nets());
-        size = next_size(size, blocks[0].draft.text.len());
+        size = next_size(size, blocks[0].draft.text.bytes().len());
     }
     Ok(())
 }

@@ -8,6 +8,7 @@ use Rattle.cost_rules.specs.declared.site.Formula.{Formula}
 use Rattle.gr_base.specs.Designs.{DesignView, IsDesign, is_routed}
 use Rattle.gr_base.specs.EdgeSets.{Edges}
 use Rattle.gr_base.specs.Trees.{TreeView, tree_at}
+use Rattle.gr_text.specs.Lines.{number_line}
 use Rattle.book_state.specs.Books.{booked}
 use Rattle.book_state.specs.Marks.{least_mark}
 use Rattle.book_state.specs.declared.entry.Entry.{Entry}
@@ -21,7 +22,7 @@ use Rattle.buffer_plan.specs.Plans.{loading_of, IsPlan}
 use Rattle.polar_lists.specs.PolarPlans.{IsPolarPlan}
 use Rattle.rc_library.specs.Libraries.{LibraryView}
 use Rattle.report_text.specs.BufferTexts.{buffers_in, buffers_text, net_buffers, net_lines, plan_text, total_line}
-use Rattle.report_text.specs.Texts.{number_line, report_text}
+use Rattle.report_text.specs.Texts.{report_text}
 use Rattle.route_evaluator.specs.Verdicts.{IsVerdict}
 use Rattle.route_evaluator.specs.declared.verdict.Verdict.{Verdict}
 use Rattle.solution_text.specs.Cover.{cover}

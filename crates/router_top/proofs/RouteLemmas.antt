@@ -7,9 +7,10 @@ use Rattle.std.proofs.lemmas.List.{length-map}
 use Rattle.std.proofs.lemmas.List.FromFn.{length-map-range_with_len, get_or-map-range_with_len}
 use Rattle.std.proofs.lemmas.Option.{slice_get-get_or, slice_get_past}
 use Rattle.cost_rules.specs.declared.site.Formula.{Formula}
+use Rattle.gr_base.proofs.DesignLemmas.{routed-net}
 use Rattle.gr_base.specs.Designs.{DesignView, is_routed, is_routed_net}
 use Rattle.gr_base.specs.EdgeSets.{IsJoined}
-use Rattle.gr_base.specs.Plans.{IsRouteOf}
+use Rattle.gr_base.specs.Plans.{IsRouteOf, IsRouteOfNet}
 use Rattle.gr_base.specs.Trees.{TreeView, IsTree, edges_of, edges_or_none, route_edges, tree_at}
 use Rattle.gr_base.specs.declared.frame.Net.{Net}
 use Rattle.gr_base.specs.declared.grid.Shape.{Shape}
@@ -23,10 +24,9 @@ use Rattle.book_state.specs.Marks.{least_mark}
 use Rattle.book_state.specs.Views.{BookView}
 use Rattle.book_state.specs.declared.entry.Entry.{Entry}
 use Rattle.route_evaluator.specs.Verdicts.{AreLoadsBy}
-use Rattle.straight_runs.specs.Routed.{AreRouted}
-use Rattle.round_core.proofs.TurnLemmas.{routed-net}
+use Rattle.straight_runs.specs.Routed.{HaveTrees}
 use Rattle.round_core.specs.Hands.{log_of}
-use Rattle.round_core.specs.Rounds.{marker, IsRouteOfNet}
+use Rattle.round_core.specs.Rounds.{marker}
 use Rattle.batch_rounds.specs.BatchedHistories.{batches_of, claimant, IsBatched, IsNumbered}
 use Rattle.batch_rounds.specs.Made.{IsMade as IsMadeInBatches}
 use Rattle.batch_rounds.specs.declared.rounds.Batched.{Batched}
@@ -67,7 +67,7 @@ held-tree : (d : DesignView) (h : List Entry) (trees : List (Option TreeView)) �
 held-tree d h trees stands same net routed = subst (λ (o : Option TreeView). IsSomeAnd o (IsRouteOfNet d net)) (sym (same net)) (stands.held net routed)
 
 -- so it has one in the design's grid
-pub routes-routed : (d : DesignView) (h : List Entry) (trees : List (Option TreeView)) → Stands d h → ((net : ℕ) → tree_at trees net ≡ booked h net) → AreRouted d trees
+pub routes-routed : (d : DesignView) (h : List Entry) (trees : List (Option TreeView)) → Stands d h → ((net : ℕ) → tree_at trees net ≡ booked h net) → HaveTrees d trees
 routes-routed d h trees stands same net routed =
     let one = routed-net d net routed in
     some-weaken (IsRouteOfNet d net) (λ tree. tree.shape ≡ d.frame.shape) (tree_at trees net) (λ t r. (r one.net one.there).shape) (held-tree d h trees stands same net routed)

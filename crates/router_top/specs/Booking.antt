@@ -16,7 +16,7 @@ use Rattle.book_state.specs.declared.entry.Entry.{Entry}
 use Rattle.route_evaluator.specs.NetTrees.{AreTrees as AreNetTrees}
 use Rattle.route_evaluator.specs.Verdicts.{IsVerdict}
 use Rattle.route_evaluator.specs.declared.verdict.Verdict.{Verdict}
-use Rattle.straight_runs.specs.Routed.{AreRouted}
+use Rattle.straight_runs.specs.Routed.{HaveTrees}
 use Rattle.batch_rounds.specs.BatchedHistories.{Batching, batches_of, IsBatched, IsNumbered}
 use Rattle.ripup_workers.specs.declared.rounds.Rounds.{Rounds}
 use Rattle.round_core.specs.Hands.{ArePartedTo}
@@ -89,7 +89,7 @@ pub record AreChosenRoutes (d : DesignView) (book : BookView) (front : ℕ) (tre
     (Option TreeView)) : Type 0 where
   pub least : least_mark book.history ≡ Some front
   pub booked : (net : ℕ) → tree_at trees net ≡ booked (take front book.history) net
-  pub routed : AreRouted d trees
+  pub routed : HaveTrees d trees
   pub free : (net : ℕ) → is_routed d net ≡ false → tree_at trees net ≡ None
   pub joined : AllJoined d (route_edges trees)
 

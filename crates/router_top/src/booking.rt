@@ -11,7 +11,7 @@ use crate::means::Means;
 use batch_rounds::batch_rounds;
 use cost_rules::Watcher;
 use gr_base::{Design, Routes};
-use ripup_workers::{Gate, Rounds, parts_for, route_rounds};
+use ripup_workers::{Gate, Rounds, route_rounds};
 use round_core::hands_of;
 use route_evaluator::{Verdict, evaluate_routes};
 use std::alloc::{AllocError, Global};
@@ -40,8 +40,7 @@ pub(crate) fn booked_routes<R: Threads + Wait + Sync, G: Gate + Sync>(
 {
     let rounds = rounds_of(means, design, options)?;
     let book = rounds.book.state();
-    let parts = parts_for(options.workers);
-    let routes = book.routes_at(means.rt, rounds.chosen, parts)?;
+    let routes = book.routes_at(rounds.chosen)?;
     Ok(BookedRoutes { rounds, routes })
 }
 

@@ -4,7 +4,7 @@ ghost use Rattle.gr_base.specs.Designs.{IsDesign};
 ghost use Rattle.gr_base.specs.Trees.{TreeView, route_edges};
 ghost use Rattle.rc_library.specs.Libraries.{IsLibraryOf};
 ghost use Rattle.gr_io.specs.Devices.{device_of, reading_of};
-ghost use Rattle.straight_runs.specs.Routed.{AreRouted};
+ghost use Rattle.straight_runs.specs.Routed.{HaveTrees};
 ghost use Rattle.solution_text.specs.WrittenText.{written_text};
 ghost use Rattle.command_form.specs.Commands.{kept_back};
 ghost use Rattle.command_form.specs.Leaving.{IsWritten, Leaves};
@@ -211,7 +211,7 @@ fn write_routes<R: Threads + Sync, O: Sink, E: Sink>(
     routed: &RoutedDesign,
     workers: u32,
 ) -> Result<Outcome, Stop>
-    requires routed { AreRouted design.now routed.now.routes }
+    requires routed { HaveTrees design.now routed.now.routes }
     requires workers { 0 < workers }
     ensures { IsWritten (written_text design.now (route_edges routed.now.routes)) routed.now.report
         (device_of O.tells O.faults O.written out.old out.new)

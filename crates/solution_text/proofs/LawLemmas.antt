@@ -5,6 +5,7 @@ use Rattle.std.proofs.lemmas.Bool.{cases_Bool, cases_eq, and_parts, and_from, an
 use Rattle.std.proofs.lemmas.Bool.Decides.{nat_tests}
 use Rattle.std.proofs.lemmas.List.Elements.{All-get_or}
 use Rattle.std.proofs.lemmas.Option.{slice_get_within, get_or_from_slice_get, slice_get_cases}
+use Rattle.gr_base.proofs.DesignLemmas.{routed-below}
 use Rattle.gr_base.specs.declared.frame.Frame.{Frame}
 use Rattle.gr_base.specs.declared.frame.Net.{Net}
 use Rattle.gr_base.specs.declared.grid.Cell.{Cell}
@@ -212,13 +213,6 @@ module _ (d : DesignView) (ok : IsDesign d) (sets : ℕ → Edges) (within : (ne
   abbrev gives : ℕ → Edge → ℕ → Bool
   gives net e number = (number == net) && (is_routed d number && sets number e)
 
-  routed-below : (net : ℕ) → is_routed d net ≡ true → net < length d.nets
-  routed-below net h =
-      elim (slice_get_cases d.nets net).1 [
-        | inl here ↦ here.1
-        | inr past ↦ absurd (false≢true (sym (ap is_routed_net past.1) ∙ h))
-      ]
-
   any-same : {X : Type 0} (p q : X → Bool) (xs : List X) → ((x : X) → p x ≡ q x) → list_any p xs ≡ list_any q xs
   any-same p q [] each = refl
   any-same p q (x ∷ xs) each = ap (λ (b : Bool). b || list_any p xs) (each x) ∙ ap (λ (b : Bool). q x || b) (any-same p q xs each)
@@ -235,7 +229,7 @@ module _ (d : DesignView) (ok : IsDesign d) (sets : ℕ → Edges) (within : (ne
       (λ h.
       let routed = (and_parts (is_routed d net) (sets net e) h).0 in
       let same : (net == net) ≡ true = grind (arith, nat_tests) in
-      in-range (gives net e) 0 (length d.nets) net (omega arith) (let b = routed-below net routed in omega arith)
+      in-range (gives net e) 0 (length d.nets) net (omega arith) (let b = routed-below d net routed in omega arith)
       (and_from (net == net) (is_routed d net && sets net e) same h))
 
   law-at : (net : ℕ) (e : Edge) → cover d (written_text d sets) net e ≡ (is_routed d net && sets net e)

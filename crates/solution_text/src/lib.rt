@@ -3,8 +3,10 @@
 
 mod fault;
 mod law;
+mod point;
 mod run;
 
 pub use fault::SolutionFault;
 pub use law::written_text_is_covered;
+pub use point::put_point;
 pub use run::Run;

@@ -5,6 +5,7 @@ use Rattle.std.proofs.lemmas.Bool.{cases_eq}
 use Rattle.std.specs.Option.{IsSomeAnd, option_and_then, option_map}
 use Rattle.std.proofs.lemmas.List.{get_or-set_same, get_or-set_other, length-set}
 use Rattle.std.proofs.lemmas.Option.{slice_get-get_or, slice_get_within}
+use Rattle.gr_base.proofs.DesignLemmas.{IsNetOf, routed-net}
 use Rattle.gr_base.specs.Designs.{DesignView, is_routed}
 use Rattle.gr_base.specs.EdgeSets.{Edges}
 use Rattle.gr_base.specs.Trees.{TreeView, tree_at}
@@ -17,7 +18,6 @@ use Rattle.rc_library.specs.Libraries.{LibraryView}
 use Rattle.rc_library.specs.declared.fault.LibraryFault.{LibraryFault as LibraryFaultKind}
 use Rattle.route_reader.specs.SolutionText.{solution_of}
 use Rattle.solution_text.specs.declared.fault.SolutionFault.{SolutionFault as SolutionFaultKind}
-use Rattle.round_core.proofs.TurnLemmas.{IsNetOf, routed-net}
 use Rattle.route_reader.specs.Solutions.{SolutionView, edges_by}
 use Rattle.solution_text.specs.Cover.{cover}
 use Rattle.text_commands.specs.Buffering.{HasTree, IsTreeBy, AreTreesBy, StopsAtNet, AreAccepted, IsBuffersText, IsPlacedText, IsBuffering, RefusesNet, GivesTree, StopsAtTrees, buffering}

@@ -1,16 +1,16 @@
 -- The plans of routed nets are plans for their trees.
 use Rattle.std.proofs.Common.{List, Option, Some, None}
 use Rattle.std.specs.Option.{IfSome, IsSomeAnd}
+use Rattle.gr_base.proofs.DesignLemmas.{IsNetOf, routed-net}
 use Rattle.gr_base.specs.Designs.{DesignView}
+use Rattle.gr_base.specs.Plans.{IsRouteOfNet}
 use Rattle.gr_base.specs.Trees.{TreeView, tree_at}
 use Rattle.rc_library.specs.Libraries.{LibraryView}
-use Rattle.elmore_delay.specs.Loadings.{IsTreeOf}
 use Rattle.elmore_delay.specs.PlanLists.{plan_at}
 use Rattle.elmore_delay.specs.declared.plans.Plan.{Plan}
 use Rattle.buffer_plan.specs.Plans.{AreRoutesOf, loading_of, IsPlan, ArePlans}
 use Rattle.polar_lists.specs.PolarPlans.{ArePolarPlans, IsPolarPlan}
 use Rattle.report_text.specs.BufferTexts.{IsPlanFor, ArePlanned, AreSomePlanned}
-use Rattle.round_core.proofs.TurnLemmas.{IsNetOf, routed-net}
 
 pub planned-for : (d : DesignView) (lib : LibraryView) (trees : List (Option TreeView)) (plans : List (Option Plan)) →
     AreRoutesOf d trees → ArePlans d lib trees plans → ArePlanned d lib trees plans
@@ -20,7 +20,7 @@ planned-for d lib trees plans routes are net routed =
     one : IsNetOf d net
     one = routed-net d net routed
 
-    by : (o : Option TreeView) (p : Option Plan) → IsSomeAnd o (IsTreeOf d net) → IsSomeAnd o (λ t. IsSomeAnd p (IsPlan (loading_of d lib net t))) →
+    by : (o : Option TreeView) (p : Option Plan) → IsSomeAnd o (IsRouteOfNet d net) → IsSomeAnd o (λ t. IsSomeAnd p (IsPlan (loading_of d lib net t))) →
         IsSomeAnd o (λ t. IsSomeAnd p (IsPlanFor d lib t))
     by None p route is = absurd is
     by (Some t) None route is = absurd is
@@ -39,7 +39,7 @@ polar-planned d lib trees plans routes are net routed =
     one : IsNetOf d net
     one = routed-net d net routed
 
-    by : (o : Option TreeView) (p : Option Plan) → IsSomeAnd o (IsTreeOf d net) → IsSomeAnd o (λ t. IsPolarPlan (loading_of d lib net t) p) →
+    by : (o : Option TreeView) (p : Option Plan) → IsSomeAnd o (IsRouteOfNet d net) → IsSomeAnd o (λ t. IsPolarPlan (loading_of d lib net t) p) →
         IsSomeAnd o (λ t. IfSome p (IsPlanFor d lib t))
     by None p route is = absurd is
     by (Some t) None route is = tt

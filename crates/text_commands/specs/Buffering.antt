@@ -2,12 +2,12 @@
 use Rattle.std.specs.Prelude.{◌≡◌, ℕ, ◌<◌, nat_lt, Bool, true, false, List, [], Option, Some, None, Result, Ok, Err, slice_get, IsTrue, IsSomeAnd}
 use Rattle.gr_base.specs.Designs.{DesignView, is_routed, pins_at}
 use Rattle.gr_base.specs.EdgeSets.{Edges}
+use Rattle.gr_base.specs.Plans.{IsRouteOfNet}
 use Rattle.gr_base.specs.Trees.{TreeView, IsTree, tree_at}
 use Rattle.gr_base.specs.declared.frame.Net.{Net}
 use Rattle.gr_io.specs.Devices.{Device, Reading}
 use Rattle.gr_io.specs.declared.shelf.Slot.{Slot}
 use Rattle.gr_io.specs.declared.shelf.Slot.TheVariants.{Solution}
-use Rattle.elmore_delay.specs.Loadings.{IsTreeOf}
 use Rattle.elmore_delay.specs.declared.plans.Plan.{Plan}
 use Rattle.rc_library.specs.Libraries.{LibraryView}
 use Rattle.report_text.specs.BufferTexts.{buffers_text}
@@ -32,7 +32,7 @@ HasTree d sets net = AreTree d.frame.shape (sets net) (pins_at d net)
 pub record IsTreeBy (d : DesignView) (sets : ℕ → Edges) (net : ℕ) (t : TreeView) : Type 0 where
   pub tree : IsTree t
   pub edges : HasJust (sets net) t
-  pub routes : IsTreeOf d net t
+  pub routes : IsRouteOfNet d net t
 
 -- each routed net has the tree of its edges
 abbrev pub AreTreesBy : DesignView → (ℕ → Edges) → List (Option TreeView) → Type 0

@@ -1,12 +1,12 @@
 -- The command `make`, which reads no texts: the text of a made design, and its numbers of nets and pins.
 use Rattle.std.specs.Prelude.{◌≡◌, ℕ, true, false, List, ◌++◌, Some, None, Ok, codes}
+use Rattle.gr_text.specs.Lines.{number_line}
 use Rattle.command_form.specs.Commands.{Command}
 use Rattle.command_form.specs.declared.stop.Outcome.TheVariants.{Whole}
 use Rattle.design_maker.specs.Nets.{nets_of, count_of}
 use Rattle.design_maker.specs.Texts.{text_of}
 use Rattle.design_maker.specs.declared.made.Made.{Made}
 use Rattle.design_maker.specs.declared.write.Count.{Count}
-use Rattle.report_text.specs.Texts.{number_line}
 
 -- how many nets and pins a design has
 abbrev pub counts_text : Count → List ℕ

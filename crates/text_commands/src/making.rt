@@ -12,7 +12,6 @@ use command_form::{Left, Outcome, Stop};
 use design_maker::{Count, Made, make};
 use gr_io::{Sink, write_whole};
 use gr_text::Text;
-use report_text::put_number_line;
 use route_writer::WriteError;
 use std::alloc::{AllocError, Global};
 
@@ -64,7 +63,7 @@ fn counts_text(alloc: Global, count: Count) -> Result<Text, AllocError>
     ensures { IfOk result (λ text. text ≡ counts_text count) }
 {
     let mut text = Text::new(alloc);
-    put_number_line(&mut text, b"nets", u128::from(count.nets))?;
-    put_number_line(&mut text, b"pins", u128::from(count.pins))?;
+    text.put_number_line(b"nets", u128::from(count.nets))?;
+    text.put_number_line(b"pins", u128::from(count.pins))?;
     Ok(text)
 }

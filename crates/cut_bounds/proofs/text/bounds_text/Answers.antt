@@ -1,7 +1,8 @@
 use Rattle.std.proofs.Common.{ℕ, List, ◌++◌, codes, ap, ◌∙◌}
 use Rattle.std.specs.List.{flat_map}
+use Rattle.gr_text.specs.Lines.{number_line}
 use Rattle.cut_bounds.proofs.TextLemmas.{five-pieces}
-use Rattle.cut_bounds.specs.Bounds.{BoundsView, number_line, taken_text, wall_line}
+use Rattle.cut_bounds.specs.Bounds.{BoundsView, taken_text, wall_line}
 use Rattle.cut_bounds.specs.declared.wall.MeasuredWall.{MeasuredWall}
 use Rattle.cut_bounds.proofs.text.bounds_text.Goals as goal
 

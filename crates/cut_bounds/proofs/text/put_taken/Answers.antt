@@ -1,5 +1,6 @@
 use Rattle.std.proofs.Common.{ℕ, ◌++◌, codes, ap, ◌∙◌}
-use Rattle.cut_bounds.specs.Bounds.{BoundsView, number_line}
+use Rattle.gr_text.specs.Lines.{number_line}
+use Rattle.cut_bounds.specs.Bounds.{BoundsView}
 use Rattle.cut_bounds.proofs.TextLemmas.{three-pieces}
 use Rattle.cut_bounds.proofs.text.put_taken.Goals as goal
 

@@ -1,8 +1,9 @@
 use Rattle.std.specs.Prelude.{codes}
 use Rattle.std.proofs.Common.{◌≡◌, ◌++◌, length, take}
 use Rattle.std.specs.List.{flat_map}
-use Rattle.report_text.specs.Texts.{number_line, line_of}
+use Rattle.report_text.specs.Texts.{line_of}
 use Rattle.std.specs.Prelude.{slice_get}
+use Rattle.gr_text.specs.Lines.{number_line}
 use Rattle.report_text.proofs.texts.unjoined.Given as goal
 
 abbrev pub invariant-loop-net : goal.invariant-loop-net

@@ -1,5 +1,6 @@
 use Rattle.std.proofs.Common.{List, ℕ, map, refl, sym, subst, arith}
-use Rattle.ripup_workers.specs.Orders.{net_in, AreRouted}
+use Rattle.gr_base.specs.Designs.{AreRouted}
+use Rattle.ripup_workers.specs.Orders.{net_in}
 use Rattle.ripup_workers.proofs.RegionLemmas.{parts-taken, parts-none, routed-parts}
 use Rattle.ripup_workers.proofs.order.put_apart.Goals as goal
 

@@ -1,5 +1,6 @@
 use Rattle.std.proofs.Common.{map}
-use Rattle.ripup_workers.specs.Orders.{net_in, AreRouted, AreKeysOf}
+use Rattle.gr_base.specs.Designs.{AreRouted}
+use Rattle.ripup_workers.specs.Orders.{net_in, AreKeysOf}
 use Rattle.ripup_workers.proofs.RegionLemmas.{IsCutting}
 use Rattle.ripup_workers.proofs.order.regions_of.Given as goal
 

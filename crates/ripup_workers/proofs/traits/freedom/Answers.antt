@@ -1,5 +1,6 @@
 use Rattle.std.proofs.Common.{◌≡◌, ℕ, List, length, pos, ◌*◌, ◌-ℤ◌, sym, ap, ◌∙◌, arith}
 use Rattle.std.proofs.lemmas.Int.{ints}
+use Rattle.gr_base.proofs.DesignLemmas.{routed-below}
 use Rattle.gr_base.specs.Designs.{pins_at}
 use Rattle.gr_base.specs.declared.frame.Frame.{Frame}
 use Rattle.gr_base.specs.declared.grid.Shape.{Shape}
@@ -7,12 +8,11 @@ use Rattle.maze_route.specs.declared.window.Window.{Window}
 use Rattle.net_plan.specs.Mazes.{window_of}
 use Rattle.ripup_workers.specs.Freedoms.{across}
 use Rattle.net_plan.specs.FlatTrees.{distinct_tiles}
-use Rattle.net_plan.proofs.PlanLemmas.{routed-within}
 use Rattle.ripup_workers.proofs.FreedomLemmas.{routed-small}
 use Rattle.ripup_workers.proofs.traits.freedom.Goals as goal
 
 pub net-requires : goal.net-requires
-net-requires c = routed-within c.args.design.now c.args.net c.requires
+net-requires c = routed-below c.args.design.now c.args.net c.requires
 
 pub overflow_sub-across : goal.overflow_sub-across
 overflow_sub-across c = (routed-small _ _ _ _ c.net.ensures.design c.net.ensures.net c.requires c.maze_window-pins_box.ensures.window).columns

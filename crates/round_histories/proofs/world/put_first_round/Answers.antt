@@ -1,10 +1,10 @@
 use Rattle.std.proofs.Common.{◌<◌, ◌∙◌, [], None, length, sym, ap, subst, arith}
 use Rattle.std.proofs.lemmas.List.{length-map}
+use Rattle.gr_base.proofs.DesignLemmas.{routed-net}
 use Rattle.gr_base.specs.declared.frame.Net.{Net}
 use Rattle.grid_demand.specs.Tables.{capacity_of}
 use Rattle.book_state.specs.Books.{nets_of, IsClaim}
 use Rattle.book_state.specs.declared.entry.PlanKind.TheVariants.{Pattern}
-use Rattle.round_core.proofs.TurnLemmas.{routed-net}
 use Rattle.round_core.specs.Rounds.{claim_of}
 use Rattle.round_core.specs.RunHistories.{Setting, IsPlanOver}
 use Rattle.round_histories.proofs.world.put_first_round.Goals as goal

@@ -1,10 +1,10 @@
 use Rattle.std.proofs.Common.{◌≡◌, ◌<◌, ℕ, false, length, sym, ap, subst, arith}
+use Rattle.gr_base.proofs.DesignLemmas.{routed-below}
 use Rattle.gr_base.specs.Designs.{DesignView, is_routed}
 use Rattle.gr_base.specs.Grid.{cells_of}
 use Rattle.gr_base.specs.Trees.{route_edges}
 use Rattle.gr_base.specs.declared.frame.Frame.{Frame}
 use Rattle.route_evaluator.specs.Counts.{AreTallied}
-use Rattle.route_evaluator.proofs.CountedLemmas.{routed-below}
 use Rattle.route_evaluator.proofs.RouteTrees.{trees-none, trees-skip, trees-next}
 use Rattle.route_evaluator.proofs.VerdictLemmas.{tallied-skip}
 use Rattle.route_evaluator.proofs.judgement.evaluate_routes.Goals as goal

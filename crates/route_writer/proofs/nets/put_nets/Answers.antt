@@ -10,5 +10,5 @@ loop-net-preserved c =
     let k = c.loop-net.net in
     c.in_ok-put_net.ensures
     ∙ ap (λ (t : List _). t ++ net_text d trees k) c.loop-net.invariant
-    ∙ append_assoc c.args.draft.now.text.items (nets_text d trees c.args.first k) (net_text d trees k)
-    ∙ ap (λ (t : List _). c.args.draft.now.text.items ++ t) (sym (nets-next d trees c.args.first k c.loop-net.auto.net))
+    ∙ append_assoc c.args.draft.now.text (nets_text d trees c.args.first k) (net_text d trees k)
+    ∙ ap (λ (t : List _). c.args.draft.now.text ++ t) (sym (nets-next d trees c.args.first k c.loop-net.auto.net))

@@ -4,4 +4,4 @@ use Rattle.solution_text.specs.WrittenText.{segment_line}
 use Rattle.route_writer.proofs.runs.put_runs.Given as goal
 
 abbrev pub invariant-loop-run : goal.invariant-loop-run
-invariant-loop-run l = l.text.items ≡ l.fn.text.items ++ flat_map (segment_line l.design.frame) (take l.run-index l.runs)
+invariant-loop-run l = l.text ≡ l.fn.text ++ flat_map (segment_line l.design.frame) (take l.run-index l.runs)

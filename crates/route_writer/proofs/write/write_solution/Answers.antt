@@ -25,7 +25,7 @@ loop-net-preserved-then-len-lt-FULL g c =
     record {
       quiet = c.loop-net.invariant.quiet;
       stands = λ tells.
-          stands-net d c.args.routes.now n c.put_net.new.draft.text.items c.in_ok-put_net.ensures
+          stands-net d c.args.routes.now n c.put_net.new.draft.text c.in_ok-put_net.ensures
           (c.loop-net.invariant.stands tells);
     }
 
@@ -39,7 +39,7 @@ returns-in_err-flush-clause-prefix g c =
     let now = g.K.Sink.written c.flush.new.sink in
     let part : IsTrue g.K.Sink.tells → AppendsPart old now (written_text d sets) = λ tells.
     stands-cut now (written_text d sets) (text_behind d sets (n + 1)) (before-behind d sets (n + 1) most) (c.in_err-flush.ensures.prefix tells)
-    (stands-net d c.args.routes.now n c.put_net.new.draft.text.items c.in_ok-put_net.ensures
+    (stands-net d c.args.routes.now n c.put_net.new.draft.text c.in_ok-put_net.ensures
     (c.loop-net.invariant.stands tells)) in
     on-err c.from_residual-in_err-flush.result (IsTrue g.K.Sink.tells → AppendsPart old now (written_text d sets)) part
 
@@ -51,8 +51,8 @@ loop-net-preserved g c =
     record {
       quiet = c.in_ok-flush.ensures.quiet ∙ c.loop-net.invariant.quiet;
       stands = λ tells.
-          stands-flushed (g.K.Sink.written c.flush.new.sink) c.flush.new.text.items (c.in_ok-flush.ensures.ok tells) c.in_ok-flush.ensures.empty
-          (stands-net d c.args.routes.now n c.put_net.new.draft.text.items c.in_ok-put_net.ensures
+          stands-flushed (g.K.Sink.written c.flush.new.sink) c.flush.new.text (c.in_ok-flush.ensures.ok tells) c.in_ok-flush.ensures.empty
+          (stands-net d c.args.routes.now n c.put_net.new.draft.text c.in_ok-put_net.ensures
           (c.loop-net.invariant.stands tells));
     }
 

@@ -7,5 +7,5 @@ abbrev pub invariant-loop-net : goal.invariant-loop-net
 invariant-loop-net g l = record {
   quiet : g.K.Sink.faults l.sink ≡ g.K.Sink.faults l.fn.sink;
   stands : IsTrue g.K.Sink.tells →
-      Stands (g.K.Sink.written l.fn.sink) (g.K.Sink.written l.sink) l.draft.text.items (text_before l.design (route_edges l.routes) l.net);
+      Stands (g.K.Sink.written l.fn.sink) (g.K.Sink.written l.sink) l.draft.text (text_before l.design (route_edges l.routes) l.net);
 }

@@ -1,0 +1,13 @@
+//! What a program was started with.
+
+use std::env::Env;
+use std::{env, io};
+
+/// The words after the program's name.
+pub fn words<R: Env + AllocGlobal>(rt: &R) -> io::Result<Vec<String>> {
+    let mut words = Vec::new(rt.alloc());
+    for word in env::args(rt)?.skip(1) {
+        words.push(word)?;
+    }
+    Ok(words)
+}
