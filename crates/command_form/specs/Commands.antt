@@ -5,7 +5,7 @@ use Rattle.book_state.specs.Views.{BookView}
 use Rattle.gr_io.specs.Devices.{Reading}
 use Rattle.gr_io.specs.declared.shelf.Slot.{Slot}
 use Rattle.gr_io.specs.declared.shelf.Slot.TheVariants.{Design, Library, Solution}
-use Rattle.round_core.specs.declared.hands.HandLog.{HandLog}
+use Rattle.run_histories.specs.declared.hands.HandLog.{HandLog}
 use Rattle.track_book.specs.declared.closed.ClosedBook.{ClosedBook}
 use Rattle.command_form.specs.declared.left.Kept.{Kept}
 use Rattle.command_form.specs.declared.stop.Outcome.{Outcome}

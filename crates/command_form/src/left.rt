@@ -4,7 +4,7 @@ ghost use Rattle.std.specs.Prelude.{◌≡◌, None, Err};
 use crate::stop::{Outcome, Stop};
 use gr_base::{Design, Routes};
 use rc_library::Library;
-use round_core::HandLog;
+use run_histories::HandLog;
 use track_book::ClosedBook;
 
 /// The book of a command's rounds, once its routes are made.

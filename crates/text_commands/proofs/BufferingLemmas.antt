@@ -17,7 +17,7 @@ use Rattle.rc_library.specs.Libraries.{LibraryView}
 use Rattle.rc_library.specs.declared.fault.LibraryFault.{LibraryFault as LibraryFaultKind}
 use Rattle.route_reader.specs.SolutionText.{solution_of}
 use Rattle.solution_text.specs.declared.fault.SolutionFault.{SolutionFault as SolutionFaultKind}
-use Rattle.round_core.proofs.TurnLemmas.{IsNetOf, routed-net}
+use Rattle.run_histories.proofs.TurnLemmas.{IsNetOf, routed-net}
 use Rattle.route_reader.specs.Solutions.{SolutionView, edges_by}
 use Rattle.solution_text.specs.Cover.{cover}
 use Rattle.text_commands.specs.Buffering.{HasTree, IsTreeBy, AreTreesBy, StopsAtNet, AreAccepted, IsBuffersText, IsPlacedText, IsBuffering, RefusesNet, GivesTree, StopsAtTrees, buffering}
