@@ -26,17 +26,17 @@ use Rattle.book_state.specs.declared.entry.Claim.{Claim}
 use Rattle.book_state.specs.declared.entry.Entry.{Entry}
 use Rattle.book_state.specs.declared.entry.Reply.{Reply}
 use Rattle.book_state.specs.declared.entry.Reply.TheVariants.{Claimed, Taken, Full, Released, NotBooked, Marked}
-use Rattle.round_core.proofs.StandLemmas.{mark-stands, victims-routed, least-call, least-place, some-least}
-use Rattle.round_core.proofs.TurnLemmas.{claim-answered}
-use Rattle.round_core.proofs.WorldSteps.{one-more}
-use Rattle.round_core.specs.Rounds.{marker}
-use Rattle.round_core.specs.Standing.{IsHeld, Stands}
+use Rattle.run_histories.proofs.StandLemmas.{mark-stands, victims-routed, least-call, least-place, some-least}
+use Rattle.run_histories.proofs.TurnLemmas.{claim-answered}
+use Rattle.run_histories.specs.Rounds.{marker}
+use Rattle.run_histories.specs.Standing.{IsHeld, Stands}
 use Rattle.batch_rounds.specs.BatchedHistories.{Batching, capacity_in, claimant, IsNumbered, after_call, after_claim, after_mark, after_releases, is_refused, IsClaimOver, at_any_demand, IsClaimedAlone, IsTurn, AreTurns, opened, IsBatch, AreBatches, nets_due, IsRound, AreRounds, IsBatched}
 use Rattle.batch_rounds.specs.BatchedHistories.IsClaimedAlone.{Fits, Is_forced}
 use Rattle.batch_rounds.specs.BatchedHistories.IsTurn.{Is_first, Goes_on}
 use Rattle.batch_rounds.specs.BatchedHistories.AreTurns.{No_turns, Next_turn}
 use Rattle.batch_rounds.specs.BatchedHistories.AreBatches.{No_batch, Next_batch}
 use Rattle.batch_rounds.specs.BatchedHistories.AreRounds.{Last_round, Next_round}
+use Rattle.run_histories.proofs.KeptRules.{one-more}
 
 abbrev pub IsBooked : List Entry → ℕ → Type 0
 IsBooked h net = IsTrue (is_some (booked h net))

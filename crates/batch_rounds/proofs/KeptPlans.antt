@@ -32,9 +32,9 @@ use Rattle.book_state.specs.declared.entry.Claim.{Claim}
 use Rattle.book_state.specs.declared.entry.Entry.{Entry}
 use Rattle.book_state.specs.declared.entry.Reply.{Reply}
 use Rattle.book_state.specs.declared.entry.Reply.TheVariants.{Claimed, Taken, Full, Released, NotBooked, Marked}
-use Rattle.round_core.proofs.StillPlans.{StaysBestIn, still-maze-in}
-use Rattle.round_core.specs.Attempts.{kind_of}
-use Rattle.round_core.specs.Rounds.{IsPlanFor}
+use Rattle.run_histories.proofs.StillPlans.{StaysBestIn, still-maze-in}
+use Rattle.run_histories.specs.Attempts.{kind_of}
+use Rattle.run_histories.specs.Rounds.{IsPlanFor}
 use Rattle.batch_rounds.proofs.HeldNets.{claim-books}
 use Rattle.batch_rounds.proofs.RoundSteps.{IsAdded}
 use Rattle.batch_rounds.specs.BatchedHistories.{Batching, capacity_in, claimant, after_claim, at_any_demand, IsClaimedAlone, IsTurn}

@@ -23,8 +23,8 @@ use Rattle.book_state.specs.declared.entry.Claim.{Claim}
 use Rattle.book_state.specs.declared.entry.Entry.{Entry}
 use Rattle.book_state.specs.declared.entry.PlanKind.{PlanKind}
 use Rattle.book_state.specs.declared.entry.PlanKind.TheVariants.{Pattern, Maze}
-use Rattle.round_core.specs.Attempts.{kind_of}
-use Rattle.round_core.specs.Rounds.{marker, claim_of, IsPlan, IsPlanFor}
+use Rattle.run_histories.specs.Attempts.{kind_of}
+use Rattle.run_histories.specs.Rounds.{marker, claim_of, IsPlan, IsPlanFor}
 use Rattle.batch_rounds.proofs.PatternPrices.{AreSamePrices, patterns-same}
 use Rattle.batch_rounds.specs.BatchedHistories.{Batching, capacity_in, claimant, after_call, after_claim, after_mark, after_releases, is_refused, IsClaimOver, at_any_demand, first_slack, IsClaimedAlone, IsTurn, AreTurns, opened, IsBatch, AreBatches, nets_due, IsRound, goes_on, AreRounds, IsBatched}
 use Rattle.batch_rounds.specs.BatchedHistories.IsClaimedAlone.{Fits, Is_forced}

@@ -18,9 +18,8 @@ use Rattle.book_state.specs.declared.entry.Claim.{Claim}
 use Rattle.book_state.specs.declared.entry.Entry.{Entry}
 use Rattle.book_state.specs.declared.entry.PlanKind.{PlanKind}
 use Rattle.book_state.specs.declared.entry.Reply.{Reply}
-use Rattle.round_core.specs.Attempts.{kind_of}
-use Rattle.round_core.specs.Rounds.{claim_of, IsPlanFor}
-use Rattle.round_core.specs.Worlds.{routed_nets}
+use Rattle.run_histories.specs.Attempts.{kind_of}
+use Rattle.run_histories.specs.Rounds.{claim_of, IsPlanFor}
 use Rattle.batch_rounds.specs.BatchedHistories.{Batching, capacity_in, claimant, after_call, after_claim, is_refused, IsClaimOver, at_any_demand, first_slack, IsClaimedAlone, IsTurn, AreTurns, IsBatch, AreBatches, IsRound, goes_on}
 use Rattle.batch_rounds.specs.BatchedHistories.IsClaimedAlone.{Fits, Is_forced}
 use Rattle.batch_rounds.specs.BatchedHistories.IsTurn.{Is_first, Goes_on}
@@ -28,6 +27,7 @@ use Rattle.batch_rounds.specs.BatchedHistories.AreTurns.{No_turns, Next_turn}
 use Rattle.batch_rounds.specs.BatchedHistories.AreBatches.{Next_batch}
 use Rattle.batch_rounds.specs.BatchedHistories.AreRounds.{Last_round, Next_round}
 use Rattle.batch_rounds.specs.Rounds.{HasRun}
+use Rattle.run_histories.specs.RunHistories.{routed_nets}
 
 -- a claim that was added, with its reply, after a history
 pub record IsAdded (t : Batching) (h : List Entry) (claim : Claim) (reply : Reply) (new : List Entry) : Type 0 where

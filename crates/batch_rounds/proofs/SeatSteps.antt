@@ -15,11 +15,12 @@ use Rattle.grid_demand.specs.Tables.{capacity_of}
 use Rattle.book_state.proofs.HistoryLists.{slice_get-left, slice_get-right}
 use Rattle.book_state.specs.Books.{AreLoadsOf}
 use Rattle.book_state.specs.declared.entry.Entry.{Entry}
-use Rattle.round_core.proofs.HeldCounts.{set-here, set-elsewhere}
 use Rattle.batch_rounds.specs.SecondTries.{IsNoted}
 use Rattle.batch_rounds.specs.Seats.{plan_in, plan_for, HasPlanned, HavePlans}
 use Rattle.batch_rounds.specs.declared.seat.Planned.{Planned}
 use Rattle.batch_rounds.specs.declared.seat.Seat.{Seat}
+use Rattle.run_histories.proofs.ListPlaces.{set-here}
+use Rattle.run_histories.proofs.ListPlaces.{set-elsewhere}
 
 -- the tree at a place of a list
 abbrev pub plan_at : List (Option Planned) → ℕ → Option Planned

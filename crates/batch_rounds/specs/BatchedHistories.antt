@@ -11,9 +11,9 @@ use Rattle.book_state.specs.declared.entry.Call.{Call}
 use Rattle.book_state.specs.declared.entry.Call.TheVariants.{Claim as Claims, Release, Mark}
 use Rattle.book_state.specs.declared.entry.Claim.{Claim}
 use Rattle.book_state.specs.declared.entry.Entry.{Entry}
-use Rattle.round_core.specs.Attempts.{kind_of}
-use Rattle.round_core.specs.Rounds.{marker, claim_of, IsPlanFor}
-use Rattle.round_core.specs.Worlds.{routed_nets}
+use Rattle.run_histories.specs.Attempts.{kind_of}
+use Rattle.run_histories.specs.Rounds.{marker, claim_of, IsPlanFor}
+use Rattle.run_histories.specs.RunHistories.{routed_nets}
 
 -- what is asked for: the design, the formula of the plans, at most how many rounds after round 0, and how many nets a
 -- batch has

@@ -4,7 +4,7 @@ use Rattle.grid_demand.specs.Tables.{capacity_of}
 use Rattle.book_state.specs.Books.{IsLegal}
 use Rattle.book_state.specs.Entries.{AtEach}
 use Rattle.book_state.specs.Marks.{least_mark}
-use Rattle.round_core.specs.Standing.{Stands}
+use Rattle.run_histories.specs.Standing.{Stands}
 use Rattle.batch_rounds.specs.BatchedHistories.{Batching, IsNumbered, IsBatched}
 use Rattle.batch_rounds.specs.declared.rounds.Batched.{Batched}
 

@@ -13,8 +13,8 @@ use Rattle.book_state.specs.Books.{booked, demand, marks}
 use Rattle.book_state.specs.declared.entry.Call.TheVariants.{Claim as Claims}
 use Rattle.book_state.specs.declared.entry.Claim.{Claim}
 use Rattle.book_state.specs.declared.entry.Entry.{Entry}
-use Rattle.round_core.specs.Attempts.{kind_of}
-use Rattle.round_core.specs.Rounds.{IsPlanFor}
+use Rattle.run_histories.specs.Attempts.{kind_of}
+use Rattle.run_histories.specs.Rounds.{IsPlanFor}
 use Rattle.batch_rounds.specs.declared.seat.Planned.{Planned}
 
 -- the demand for an edge, where the grid has it

@@ -7,8 +7,8 @@ ghost use Rattle.gr_base.specs.Designs.{is_routed};
 ghost use Rattle.gr_base.specs.Grid.{cells_of, edge_at, is_wire_way, place_at};
 ghost use Rattle.grid_demand.specs.LoadSums.{demand_at};
 ghost use Rattle.grid_demand.specs.Tables.{capacity_of};
-ghost use Rattle.round_core.specs.Attempts.{kind_of};
-ghost use Rattle.round_core.specs.Rounds.{IsPlanFor};
+ghost use Rattle.run_histories.specs.Attempts.{kind_of};
+ghost use Rattle.run_histories.specs.Rounds.{IsPlanFor};
 ghost use Rattle.batch_rounds.specs.SecondTries.{demand_from as demand_from_tree, demand_from_cell as demand_from_one, demand_if, EndsWith, IsRefused};
 
 use crate::asked::Asked;

@@ -6,8 +6,8 @@ ghost use Rattle.gr_base.specs.Designs.{is_routed};
 ghost use Rattle.gr_base.specs.Limits.{most_rounds};
 ghost use Rattle.grid_demand.specs.Tables.{capacity_of};
 ghost use Rattle.net_plan.specs.Prices.{HasBoundedDemand};
-ghost use Rattle.round_core.specs.Attempts.{kind_of};
-ghost use Rattle.round_core.specs.Rounds.{IsPlanFor};
+ghost use Rattle.run_histories.specs.Attempts.{kind_of};
+ghost use Rattle.run_histories.specs.Rounds.{IsPlanFor};
 ghost use Rattle.batch_rounds.specs.SecondTries.{IsNoted};
 
 use crate::again::demand_from;
@@ -18,7 +18,7 @@ use cost_rules::CostRule;
 use gr_base::{Design, RouteTree};
 use grid_demand::{Capacity, Loads};
 use net_plan::Planner;
-use round_core::{kind_of, plan_of};
+use run_histories::{kind_of, plan_of};
 use std::alloc::{AllocError, Global};
 
 /// What the plans of a round are made from: the demand and the marks of one history.

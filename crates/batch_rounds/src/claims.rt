@@ -4,8 +4,8 @@ ghost use Rattle.book_state.specs.Books.{reply_to, IsClaim};
 ghost use Rattle.book_state.specs.declared.entry.Entry.{Entry};
 ghost use Rattle.gr_base.specs.Designs.{is_routed};
 ghost use Rattle.grid_demand.specs.Tables.{capacity_of};
-ghost use Rattle.round_core.specs.Attempts.{kind_of};
-ghost use Rattle.round_core.specs.Rounds.{IsPlanFor};
+ghost use Rattle.run_histories.specs.Attempts.{kind_of};
+ghost use Rattle.run_histories.specs.Rounds.{IsPlanFor};
 ghost use Rattle.batch_rounds.specs.BatchedHistories.{claimant, after_call, first_slack, IsClaimedAlone, IsTurn};
 ghost use Rattle.batch_rounds.specs.SecondTries.{IsRefused, WasNoted};
 ghost use Rattle.batch_rounds.specs.Rounds.{batching_of};
@@ -15,7 +15,7 @@ use crate::asked::Asked;
 use crate::seat::Planned;
 use book_state::{BookState, Call, Claim, Reply};
 use net_plan::Planner;
-use round_core::kind_of;
+use run_histories::kind_of;
 use std::alloc::{AllocError, Global};
 
 /// The number under which releases and claims stand in a history.

@@ -13,7 +13,7 @@ use crate::seat::Seat;
 use book_state::BookState;
 use gr_base::Cells;
 use net_plan::Planner;
-use round_core::{MARKER, routed_nets};
+use run_histories::{MARKER, routed_nets};
 use std::alloc::{AllocError, Global};
 use std::thread::Threads;
 

@@ -2,18 +2,20 @@
 use Rattle.std.proofs.Common.{◌≡◌, ℕ, ◌⊎◌, inl, inr, Bool, true, false, not, ◌||◌, ◌==◌, nat_eq, List, [], ◌∷◌, ◌++◌, Option, Some, None, Result, Ok, Err, IsTrue, refl, sym, ap, subst, ◌∙◌}
 use Rattle.std.specs.List.{list_any}
 use Rattle.gr_io.specs.Counts.{Rose}
+use Rattle.gr_io.specs.declared.shelf.Slot.{Slot}
 use Rattle.gr_io.specs.declared.shelf.Slot.TheVariants.{Design, Library, Solution}
+use Rattle.word_reader.specs.declared.program.Program.{Program}
 use Rattle.gr_io.specs.Devices.{Device, Reading, IsUntouched, Gains, GainsPart, GainsLine}
 use Rattle.gr_io.specs.Parts.{AppendsPart}
-use Rattle.command_form.specs.Commands.{HandedBack, Command, Asked, Unasked, Asks, IsLawful, reads_some}
+use Rattle.command_form.specs.Commands.{Command, Asked, Unasked, Asks, IsLawful, reads_some}
 use Rattle.command_form.specs.Ends.{LeavesFor, upto, afterwards, Ends}
 use Rattle.command_form.specs.Leaving.{IsDone, IsFaulty, IsRefused, FailsToRead, FailsToWrite, WantsMemory, IsSilent, Leaves}
 use Rattle.command_form.specs.Statuses.{is_apart, is_status, ReportsFault, ReportsNet, IsAnswer, IsByStatus}
-use Rattle.command_form.specs.Stops.{status_of, told_line, IsToldOrNot, Finishes}
+use Rattle.command_form.specs.Stops.{status_at, status_of, told_line, IsToldOrNot, Finishes}
 use Rattle.command_form.specs.declared.stop.Outcome.{Outcome}
 use Rattle.command_form.specs.declared.stop.Outcome.TheVariants.{Whole, Open}
 use Rattle.command_form.specs.declared.stop.Stop.{Stop}
-use Rattle.command_form.specs.declared.stop.Stop.TheVariants.{Usage, DesignFault, LibraryFault, SolutionFault, NotTree, ReadFailed, WriteFailed, NoMemory}
+use Rattle.command_form.specs.declared.stop.Stop.TheVariants.{Usage, Fault, NotTree, ReadFailed, WriteFailed, NoMemory}
 
 -- of three tests
 no-both : (b : Bool) → IsTrue b → IsTrue (not b) → ⊥
@@ -61,21 +63,21 @@ pick true A B = A
 pick false A B = B
 
 -- what a status says of a command
-abbrev SaysAt : Command → Reading → (out err : Device) → Option HandedBack → ℕ → Type 0
-SaysAt command shelf out err kept status =
+abbrev SaysAt : {K : Type 0} → Program → Command K → Reading → (out err : Device) → Option K → ℕ → Type 0
+SaysAt program command shelf out err kept status =
     pick (status == 0) (IsDone command shelf out err kept Whole)
     (pick (status == 1) (IsDone command shelf out err kept Open)
-    (pick (status == 3) (ReportsFault DesignFault command shelf out err)
-    (pick (status == 4) (ReportsFault LibraryFault command shelf out err)
-    (pick (status == 5) (ReportsFault SolutionFault command shelf out err ⊎ ReportsNet command shelf out err)
-    (pick (status == 6) (FailsToRead command shelf out × GainsLine err (told_line ReadFailed))
+    (pick (status == 3) (ReportsFault program Design command shelf out err)
+    (pick (status == 4) (ReportsFault program Library command shelf out err)
+    (pick (status == 5) (ReportsFault program Solution command shelf out err ⊎ ReportsNet program command shelf out err)
+    (pick (status == 6) (FailsToRead command shelf out × GainsLine err (told_line program ReadFailed))
     (pick (status == 7) (FailsToWrite command shelf out err kept)
-    (pick (status == 8) (WantsMemory command shelf out kept × GainsLine err (told_line NoMemory)) ⊥)))))))
+    (pick (status == 8) (WantsMemory command shelf out kept × GainsLine err (told_line program NoMemory)) ⊥)))))))
 
 -- a status, what it says, and how it answers what the files say
-record IsShown (command : Command) (shelf : Reading) (out err : Device) (kept : Option HandedBack) (status : ℕ) : Type 0 where
+record IsShown {K : Type 0} (program : Program) (command : Command K) (shelf : Reading) (out err : Device) (kept : Option K) (status : ℕ) : Type 0 where
   known : IsTrue (is_status status)
-  says : SaysAt command shelf out err kept status
+  says : SaysAt program command shelf out err kept status
   unkept : (status ≡ 0 → ⊥) → (status ≡ 7 → ⊥) → (status ≡ 8 → ⊥) → kept ≡ None
   answers : IsTrue shelf.tells → (Rose shelf.faults shelf.faults_after → ⊥) → (said : Result (Unit {0}) Stop) →
       command.files shelf ≡ Some said → IsAnswer command shelf said out err status
@@ -84,7 +86,7 @@ record IsShown (command : Command) (shelf : Reading) (out err : Device) (kept : 
 one_answer : (o : Option (Result (Unit {0}) Stop)) (a b : Result (Unit {0}) Stop) → o ≡ Some a → o ≡ Some b → a ≡ b
 one_answer o a b first second = cc
 
-module _ (command : Command) (law : IsLawful command) (shelf : Reading) (out err : Device) (kept : Option HandedBack) where
+module _ {K : Type 0} (program : Program) (command : Command K) (law : IsLawful command) (shelf : Reading) (out err : Device) (kept : Option K) where
   -- a command whose texts were made answers accepted files
   done-answers : (outcome : Outcome) (text report : List ℕ) (status : ℕ) → command.says shelf kept outcome text report →
       IsAnswer command shelf (Ok tt) out err status → IsTrue shelf.tells → (said : Result (Unit {0}) Stop) →
@@ -93,7 +95,7 @@ module _ (command : Command) (law : IsLawful command) (shelf : Reading) (out err
       subst (λ (r : Result (Unit {0}) Stop). IsAnswer command shelf r out err status)
       (one_answer (command.files shelf) (Ok tt) said (law.accepts shelf kept outcome text report says tells) is) answer
 
-  shown-whole : IsDone command shelf out err kept Whole → IsShown command shelf out err kept 0
+  shown-whole : IsDone command shelf out err kept Whole → IsShown program command shelf out err kept 0
   shown-whole done = record {
     known = refl;
     says = done;
@@ -101,7 +103,7 @@ module _ (command : Command) (law : IsLawful command) (shelf : Reading) (out err
     answers = λ tells quiet. done-answers Whole done.text done.report 0 done.says (λ writes. inl refl) tells;
   }
 
-  shown-open : IsDone command shelf out err kept Open → IsShown command shelf out err kept 1
+  shown-open : IsDone command shelf out err kept Open → IsShown program command shelf out err kept 1
   shown-open done = record {
     known = refl;
     says = done;
@@ -125,8 +127,8 @@ module _ (command : Command) (law : IsLawful command) (shelf : Reading) (out err
       (λ writes. inr (inr (inr (stop, refused, refl))))
 
   -- a net without a tree that was told
-  shown-net : (id : ℕ) → IsRefused command shelf out (NotTree id) → GainsLine err (told_line (NotTree id)) → kept ≡ None →
-      IsShown command shelf out err kept 5
+  shown-net : (id : ℕ) → IsRefused command shelf out (NotTree id) → GainsLine err (told_line program (NotTree id)) → kept ≡ None →
+      IsShown program command shelf out err kept 5
   shown-net id refused line none = record {
     known = refl;
     says = inr (record { id = id; refused = refused; line = line });
@@ -135,15 +137,23 @@ module _ (command : Command) (law : IsLawful command) (shelf : Reading) (out err
   }
 
   -- a fault of a text that was told is one that its status says
-  shown-text : {F : Type 0} (stop : F → ℕ → Stop) (fault : F) (token : ℕ) → IsTrue (is_status (status_of (stop fault token))) →
-      (ReportsFault stop command shelf out err → SaysAt command shelf out err kept (status_of (stop fault token))) →
-      IsFaulty command shelf out (stop fault token) → GainsLine err (told_line (stop fault token)) → kept ≡ None →
-      IsShown command shelf out err kept (status_of (stop fault token))
-  shown-text stop fault token known at faulty line none = record {
-    known = known;
-    says = at (record { fault = fault; token = token; faulty = faulty; line = line });
+  at-text : (text : Slot) → ReportsFault program text command shelf out err → SaysAt program command shelf out err kept (status_at text)
+  at-text Design says = says
+  at-text Library says = says
+  at-text Solution says = inl says
+
+  known-text : (text : Slot) → IsTrue (is_status (status_at text))
+  known-text Design = refl
+  known-text Library = refl
+  known-text Solution = refl
+
+  shown-text : (text : Slot) (number token : ℕ) → IsFaulty command shelf out (Fault text number token) →
+      GainsLine err (told_line program (Fault text number token)) → kept ≡ None → IsShown program command shelf out err kept (status_at text)
+  shown-text text number token faulty line none = record {
+    known = known-text text;
+    says = at-text text (record { number = number; token = token; faulty = faulty; line = line });
     unkept = λ no no_write no_memory. none;
-    answers = λ tells quiet. fault-answers (stop fault token) faulty tells;
+    answers = λ tells quiet. fault-answers (Fault text number token) faulty tells;
   }
 
   -- a cause of a failed read that is no fault of the shelf is a name that isn't held
@@ -155,7 +165,7 @@ module _ (command : Command) (law : IsLawful command) (shelf : Reading) (out err
         | inr missing ↦ (let none = missing.1 tells in cc)
       ]
 
-  shown-read : FailsToRead command shelf out → GainsLine err (told_line ReadFailed) → kept ≡ None → IsShown command shelf out err kept 6
+  shown-read : FailsToRead command shelf out → GainsLine err (told_line program ReadFailed) → kept ≡ None → IsShown program command shelf out err kept 6
   shown-read fails line none = record {
     known = refl;
     says = (fails, line);
@@ -173,7 +183,7 @@ module _ (command : Command) (law : IsLawful command) (shelf : Reading) (out err
       done-answers half.outcome half.text half.report 7 half.says
       (λ quiet. absurd (quiet (inr (half.reports, half.cause)))) tells said is
 
-  shown-write : FailsToWrite command shelf out err kept → IsShown command shelf out err kept 7
+  shown-write : FailsToWrite command shelf out err kept → IsShown program command shelf out err kept 7
   shown-write fails = record {
     known = refl;
     says = fails;
@@ -185,7 +195,7 @@ module _ (command : Command) (law : IsLawful command) (shelf : Reading) (out err
   any-answer (Ok done) = λ writes. inr (inr (inl refl))
   any-answer (Err stop) = inr refl
 
-  shown-memory : WantsMemory command shelf out kept → GainsLine err (told_line NoMemory) → IsShown command shelf out err kept 8
+  shown-memory : WantsMemory command shelf out kept → GainsLine err (told_line program NoMemory) → IsShown program command shelf out err kept 8
   shown-memory wants line = record {
     known = refl;
     says = (wants, line);
@@ -195,19 +205,19 @@ module _ (command : Command) (law : IsLawful command) (shelf : Reading) (out err
 
   -- what was told decides the status
   shown-told : (stop told : Stop) (status : ℕ) → told ≡ stop → status ≡ status_of told →
-      IsShown command shelf out err kept (status_of stop) → IsShown command shelf out err kept status
-  shown-told stop told status is by shown = subst (IsShown command shelf out err kept) (sym (by ∙ ap status_of is)) shown
+      IsShown program command shelf out err kept (status_of stop) → IsShown program command shelf out err kept status
+  shown-told stop told status is by shown = subst (IsShown program command shelf out err kept) (sym (by ∙ ap status_of is)) shown
 
   -- a cause that was told, or memory wanted for its line
   shown-fault : (stop : Stop) (faults : ℕ) (written : List ℕ) (told : Stop) (status : ℕ) → IsUntouched out →
-      IsSilent (upto err faults written) kept → IsToldOrNot (afterwards err faults written) stop told → status ≡ status_of told →
-      (GainsLine err (told_line stop) → IsShown command shelf out err kept (status_of stop)) → IsShown command shelf out err kept status
+      IsSilent (upto err faults written) kept → IsToldOrNot program (afterwards err faults written) stop told → status ≡ status_of told →
+      (GainsLine err (told_line program stop) → IsShown program command shelf out err kept (status_of stop)) → IsShown program command shelf out err kept status
   shown-fault stop faults written told status unwritten silent is_told by shown =
       elim is_told [
-        | inl h ↦ shown-told stop told status h.0 by (shown (line-then err faults written (told_line stop) silent.0 h.1))
+        | inl h ↦ shown-told stop told status h.0 by (shown (line-then err faults written (told_line program stop) silent.0 h.1))
         | inr h ↦
             shown-told NoMemory told status h.0 by
-            (shown-memory (inl (unwritten, silent.1)) (line-then err faults written (told_line NoMemory) silent.0 h.1))
+            (shown-memory (inl (unwritten, silent.1)) (line-then err faults written (told_line program NoMemory) silent.0 h.1))
       ]
 
   -- of a command that was done err is told nothing
@@ -224,28 +234,22 @@ module _ (command : Command) (law : IsLawful command) (shelf : Reading) (out err
 
   -- an end, with what was told of it
   shown : (end : Result Outcome Stop) (faults : ℕ) (written : List ℕ) (status : ℕ) →
-      Leaves command shelf out (upto err faults written) kept end → Finishes (afterwards err faults written) end status →
-      IsShown command shelf out err kept status
+      Leaves command shelf out (upto err faults written) kept end → Finishes program (afterwards err faults written) end status →
+      IsShown program command shelf out err kept status
   shown (Ok Whole) faults written status leaves told =
-      subst (IsShown command shelf out err kept) (sym told.0) (shown-whole (done-told Whole faults written leaves told.1))
+      subst (IsShown program command shelf out err kept) (sym told.0) (shown-whole (done-told Whole faults written leaves told.1))
   shown (Ok Open) faults written status leaves told =
-      subst (IsShown command shelf out err kept) (sym told.0) (shown-open (done-told Open faults written leaves told.1))
+      subst (IsShown program command shelf out err kept) (sym told.0) (shown-open (done-told Open faults written leaves told.1))
   shown (Err Usage) faults written status leaves told = absurd leaves
-  shown (Err (DesignFault fault token)) faults written status leaves told =
-      shown-fault (DesignFault fault token) faults written told.0 status leaves.0.unwritten leaves.1 told.1 told.2
-      (λ line. shown-text DesignFault fault token refl (λ says. says) leaves.0 line leaves.1.1)
-  shown (Err (LibraryFault fault token)) faults written status leaves told =
-      shown-fault (LibraryFault fault token) faults written told.0 status leaves.0.unwritten leaves.1 told.1 told.2
-      (λ line. shown-text LibraryFault fault token refl (λ says. says) leaves.0 line leaves.1.1)
-  shown (Err (SolutionFault fault token)) faults written status leaves told =
-      shown-fault (SolutionFault fault token) faults written told.0 status leaves.0.unwritten leaves.1 told.1 told.2
-      (λ line. shown-text SolutionFault fault token refl (λ says. inl says) leaves.0 line leaves.1.1)
+  shown (Err (Fault text number token)) faults written status leaves told =
+      shown-fault (Fault text number token) faults written told.0 status leaves.0.unwritten leaves.1 told.1 told.2
+      (λ line. shown-text text number token leaves.0 line leaves.1.1)
   shown (Err (NotTree id)) faults written status leaves told =
       shown-fault (NotTree id) faults written told.0 status leaves.0.unwritten leaves.1 told.1 told.2
       (λ line. shown-net id leaves.0 line leaves.1.1)
   shown (Err ReadFailed) faults written status leaves told =
       shown-told ReadFailed told.0 status told.1.0 told.2
-      (shown-read leaves.0 (line-then err faults written (told_line ReadFailed) leaves.1.0 told.1.1) leaves.1.1)
+      (shown-read leaves.0 (line-then err faults written (told_line program ReadFailed) leaves.1.0 told.1.1) leaves.1.1)
   shown (Err WriteFailed) faults written status leaves told =
       shown-told WriteFailed told.0 status told.1.0 told.2 (shown-write (fails leaves))
     where
@@ -266,12 +270,12 @@ module _ (command : Command) (law : IsLawful command) (shelf : Reading) (out err
           })
   shown (Err NoMemory) faults written status leaves told =
       shown-told NoMemory told.0 status told.1.0 told.2
-      (shown-memory leaves.0 (line-then err faults written (told_line NoMemory) leaves.1 told.1.1))
+      (shown-memory leaves.0 (line-then err faults written (told_line program NoMemory) leaves.1 told.1.1))
 
 -- a status that is shown says what each status says
-by-shown : (command : Command) → IsLawful command → (shelf : Reading) (out err : Device) (kept : Option HandedBack) (status : ℕ) →
-    IsShown command shelf out err kept status → IsByStatus (Asks command) shelf out err kept status
-by-shown command law shelf out err kept status is_shown = record {
+by-shown : {K : Type 0} (program : Program) (command : Command K) → IsLawful command → (shelf : Reading) (out err : Device) (kept : Option K) (status : ℕ) →
+    IsShown program command shelf out err kept status → IsByStatus program (Asks command) shelf out err kept status
+by-shown program command law shelf out err kept status is_shown = record {
   known = is_shown.known;
   usage = (λ is. absurd (subst says is is_shown.says), λ none. absurd none);
   usage_line = λ is. absurd (subst says is is_shown.says);
@@ -289,7 +293,7 @@ by-shown command law shelf out err kept status is_shown = record {
 }
   where
     says : ℕ → Type 0
-    says = SaysAt command shelf out err kept
+    says = SaysAt program command shelf out err kept
 
     opened : IsTrue shelf.tells → IsDone command shelf out err kept Open → command.is_open shelf
     opened tells done = law.opens shelf kept done.text done.report done.says tells
@@ -298,9 +302,9 @@ by-shown command law shelf out err kept status is_shown = record {
     closed tells done = law.closes shelf kept done.text done.report done.says tells
 
 -- a run whose words give no order
-by-usage : (shelf : Reading) (out err : Device) (kept : Option HandedBack) → IsUntouched out → GainsLine err (told_line Usage) → kept ≡ None →
-    IsByStatus Unasked shelf out err kept 2
-by-usage shelf out err kept untouched line none = record {
+by-usage : {K : Type 0} (program : Program) (shelf : Reading) (out err : Device) (kept : Option K) → IsUntouched out → GainsLine err (told_line program Usage) → kept ≡ None →
+    IsByStatus program Unasked shelf out err kept 2
+by-usage program shelf out err kept untouched line none = record {
   known = refl;
   usage = (λ status. tt, λ unasked. refl);
   usage_line = λ status. (untouched, line);
@@ -317,71 +321,72 @@ by-usage shelf out err kept untouched line none = record {
   opens = tt;
 }
 
-usage-status : (err : Device) (end : Result Outcome Stop) (status : ℕ) → end ≡ Err Usage → Finishes err end status →
-    (status ≡ 2) × GainsLine err (told_line Usage)
-usage-status err end status is told =
-    let by : Finishes err (Err Usage) status = subst (λ (e : Result Outcome Stop). Finishes err e status) is told in
+usage-status : (program : Program) (err : Device) (end : Result Outcome Stop) (status : ℕ) → end ≡ Err Usage → Finishes program err end status →
+    (status ≡ 2) × GainsLine err (told_line program Usage)
+usage-status program err end status is told =
+    let by : Finishes program err (Err Usage) status = subst (λ (e : Result Outcome Stop). Finishes program err e status) is told in
     (by.2 ∙ ap status_of by.1.0, by.1.1)
 
 -- the command that words give is lawful
-abbrev pub IsLawfully : Asked → Type 0
+abbrev pub IsLawfully : {K : Type 0} → Asked K → Type 0
 IsLawfully Unasked = Unit {0}
 IsLawfully (Asks command) = IsLawful command
 
 -- what the status of a run says
-pub by-status : (asked : Asked) → IsLawfully asked → (shelf : Reading) (out err : Device) (kept : Option HandedBack) (status : ℕ) →
-    Ends asked shelf out err kept status → IsByStatus asked shelf out err kept status
-by-status Unasked law shelf out err kept status ends =
-    let usage = usage-status (afterwards err ends.faults ends.written) ends.end status ends.leaves.0 ends.finishes in
+pub by-status : {K : Type 0} (program : Program) (asked : Asked K) → IsLawfully asked → (shelf : Reading) (out err : Device) (kept : Option K) (status : ℕ) →
+    Ends program asked shelf out err kept status → IsByStatus program asked shelf out err kept status
+by-status program Unasked law shelf out err kept status ends =
+    let usage = usage-status program (afterwards err ends.faults ends.written) ends.end status ends.leaves.0 ends.finishes in
     let silent = ends.leaves.2 in
-    subst (IsByStatus Unasked shelf out err kept) (sym usage.0)
-    (by-usage shelf out err kept ends.leaves.1 (line-then err ends.faults ends.written (told_line Usage) silent.0 usage.1) silent.1)
-by-status (Asks command) law shelf out err kept status ends =
-    by-shown command law shelf out err kept status
-    (shown command law shelf out err kept ends.end ends.faults ends.written status ends.leaves ends.finishes)
+    subst (IsByStatus program Unasked shelf out err kept) (sym usage.0)
+    (by-usage program shelf out err kept ends.leaves.1 (line-then err ends.faults ends.written (told_line program Usage) silent.0 usage.1) silent.1)
+by-status program (Asks command) law shelf out err kept status ends =
+    by-shown program command law shelf out err kept status
+    (shown program command law shelf out err kept ends.end ends.faults ends.written status ends.leaves ends.finishes)
 
 -- a run whose command left what it says, and whose end was told
-pub ends-with : (asked : Asked) (shelf : Reading) (out err : Device) (faults : ℕ) (written : List ℕ) (kept given : Option HandedBack)
+pub ends-with : {K : Type 0} (program : Program) (asked : Asked K) (shelf : Reading) (out err : Device) (faults : ℕ) (written : List ℕ) (kept given : Option K)
     (end : Result Outcome Stop) (status told : ℕ) → kept ≡ given → status ≡ told →
-    LeavesFor asked shelf out (upto err faults written) given end → Finishes (afterwards err faults written) end told →
-    Ends asked shelf out err kept status
-ends-with asked shelf out err faults written kept given end status told same is leaves finishes = record {
+    LeavesFor asked shelf out (upto err faults written) given end → Finishes program (afterwards err faults written) end told →
+    Ends program asked shelf out err kept status
+ends-with program asked shelf out err faults written kept given end status told same is leaves finishes = record {
   end = end;
   faults = faults;
   written = written;
-  leaves = subst (λ (k : Option HandedBack). LeavesFor asked shelf out (upto err faults written) k end) (sym same) leaves;
-  finishes = subst (Finishes (afterwards err faults written) end) (sym is) finishes;
+  leaves = subst (λ (k : Option K). LeavesFor asked shelf out (upto err faults written) k end) (sym same) leaves;
+  finishes = subst (Finishes program (afterwards err faults written) end) (sym is) finishes;
 }
 
 -- a command that reads no texts ends done, at a failed write or for want of memory
 abbrev known : ℕ → Type 0
 known status = IsTrue (list_any (nat_eq status) (0 ∷ 7 ∷ 8 ∷ []))
 
-module _ (command : Command) (law : IsLawful command) (apart : IsTrue (not (reads_some command))) (shelf : Reading) (out err : Device)
-    (kept : Option HandedBack) (told : Device) (status : ℕ) where
+module _ {K : Type 0} (program : Program) (command : Command K) (law : IsLawful command) (apart : IsTrue (not (reads_some command))) (shelf : Reading) (out err : Device)
+    (kept : Option K) (told : Device) (status : ℕ) where
   reads-none : IsTrue (reads_some command) → ⊥
   reads-none reads = no-both (reads_some command) reads apart
+
+  some-text : (text : Slot) → IsTrue (command.reads text) → IsTrue (reads_some command)
+  some-text Design is = some-first (command.reads Design) (command.reads Library) (command.reads Solution) is
+  some-text Library is = some-second (command.reads Design) (command.reads Library) (command.reads Solution) is
+  some-text Solution is = some-third (command.reads Design) (command.reads Library) (command.reads Solution) is
 
   stopped : (stop : Stop) → known (status_of stop) → (told : Stop) → told ≡ stop → status ≡ status_of told → known status
   stopped stop is told same by = subst known (sym (by ∙ ap status_of same)) is
 
-  by-end : (end : Result Outcome Stop) → Leaves command shelf out err kept end → Finishes told end status → known status
+  by-end : (end : Result Outcome Stop) → Leaves command shelf out err kept end → Finishes program told end status → known status
   by-end (Ok Whole) leaves is = subst known (sym is.0) refl
   by-end (Ok Open) leaves is = absurd (reads-none (law.opens_read shelf kept leaves.text leaves.report leaves.says))
   by-end (Err Usage) leaves is = absurd leaves
-  by-end (Err (DesignFault fault token)) leaves is = absurd (reads-none (some-first (command.reads Design) (command.reads Library) (command.reads Solution) leaves.0.read))
-  by-end (Err (LibraryFault fault token)) leaves is =
-      absurd (reads-none (some-second (command.reads Design) (command.reads Library) (command.reads Solution) leaves.0.read))
-  by-end (Err (SolutionFault fault token)) leaves is =
-      absurd (reads-none (some-third (command.reads Design) (command.reads Library) (command.reads Solution) leaves.0.read))
+  by-end (Err (Fault text number token)) leaves is = absurd (reads-none (some-text text leaves.0.read))
   by-end (Err (NotTree id)) leaves is = absurd (reads-none (law.refuses_read shelf (NotTree id) leaves.0.refuses))
   by-end (Err ReadFailed) leaves is = absurd (reads-none leaves.0.read)
   by-end (Err WriteFailed) leaves is = stopped WriteFailed refl is.0 is.1.0 is.2
   by-end (Err NoMemory) leaves is = stopped NoMemory refl is.0 is.1.0 is.2
 
-pub apart-status : (asked : Asked) → IsLawfully asked → IsTrue (is_apart asked) → (shelf : Reading) (out err : Device)
-    (kept : Option HandedBack) (end : Result Outcome Stop) (told : Device) (status : ℕ) → LeavesFor asked shelf out err kept end →
-    Finishes told end status → IsTrue (list_any (nat_eq status) (0 ∷ 7 ∷ 8 ∷ []))
-apart-status Unasked law apart shelf out err kept end told status leaves is = absurd cc
-apart-status (Asks command) law apart shelf out err kept end told status leaves is =
-    by-end command law apart shelf out err kept told status end leaves is
+pub apart-status : {K : Type 0} (program : Program) (asked : Asked K) → IsLawfully asked → IsTrue (is_apart asked) → (shelf : Reading) (out err : Device)
+    (kept : Option K) (end : Result Outcome Stop) (told : Device) (status : ℕ) → LeavesFor asked shelf out err kept end →
+    Finishes program told end status → IsTrue (list_any (nat_eq status) (0 ∷ 7 ∷ 8 ∷ []))
+apart-status program Unasked law apart shelf out err kept end told status leaves is = absurd cc
+apart-status program (Asks command) law apart shelf out err kept end told status leaves is =
+    by-end program command law apart shelf out err kept told status end leaves is

@@ -1,20 +1,23 @@
--- Faults that were told.
+-- Lines that were told.
 use Rattle.std.proofs.Common.{◌≡◌, ℕ, inl, inr, List, Result, Ok, Err, IfOk, IsErr, IsErrAnd, sym, ap, subst}
 use Rattle.gr_io.specs.Devices.{Device, GainsLine}
-use Rattle.command_form.specs.Stops.{told_line, IsLineToldOrNot, TellsLine, IsToldOrNot, IsTold}
+use Rattle.word_reader.specs.declared.program.Program.{Program}
+use Rattle.command_form.specs.Stops.{told_line, TellsLine, IsToldOrNot, IsTold}
 use Rattle.command_form.specs.declared.stop.Stop.{Stop}
 
--- a stop whose line was told, or that memory was wanting for it, is told, where it is one of those of which that is all
-pub told-line : (err : Device) (fault stop told : Stop) (line : List ℕ) → (IsToldOrNot err fault told → IsTold err fault told) →
-    stop ≡ fault → line ≡ told_line fault → IsLineToldOrNot err line fault told → IsTold err stop told
-told-line err fault stop told line all is line_is by =
-    subst (λ (s : Stop). IsTold err s told) (sym is) (all (subst (λ (l : List ℕ). IsLineToldOrNot err l fault told) line_is by))
-
--- a line that was made, or that memory was wanting for
-pub tells-line : {E : Type 0} (err : Device) (made : Result (List ℕ) E) (line : List ℕ) (stop told : Stop) → IfOk made (λ text. text ≡ line) →
-    TellsLine err made stop told → IsLineToldOrNot err line stop told
-tells-line err (Ok text) line stop told is tells = inl (tells.0, subst (GainsLine err) is tells.1)
-tells-line err (Err refused) line stop told is tells = inr tells
+-- a stop whose line was made and told, or that memory was wanting for it, is told, where it is one of those of which
+-- that is all
+pub told-line : {E : Type 0} (program : Program) (err : Device) (fault stop told : Stop) (made : Result (List ℕ) E) →
+    (IsToldOrNot program err fault told → IsTold program err fault told) → stop ≡ fault →
+    IfOk made (λ text. text ≡ told_line program fault) → TellsLine program err made stop told → IsTold program err stop told
+told-line program err fault stop told made all same line tells =
+    subst (λ (s : Stop). IsTold program err s told) (sym same)
+    (all (by made line (subst (λ (s : Stop). TellsLine program err made s told) same tells)))
+  where
+    by : (r : Result (List ℕ) _) → IfOk r (λ text. text ≡ told_line program fault) → TellsLine program err r fault told →
+        IsToldOrNot program err fault told
+    by (Ok text) is tells = inl (tells.0, subst (GainsLine err) is tells.1)
+    by (Err refused) is tells = inr tells
 
 -- a stop that is handed on
 pub handed-on : {A : Type 0} (result : Result A Stop) (stop : Stop) → IsErr result × IsErrAnd result (λ made. made ≡ stop) → result ≡ Err stop

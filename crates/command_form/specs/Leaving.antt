@@ -2,15 +2,14 @@
 use Rattle.std.specs.Prelude.{◌≡◌, ℕ, ◌⊎◌, List, Option, Some, None, Result, Ok, Err, IsTrue}
 use Rattle.gr_io.specs.Counts.{Rose}
 use Rattle.gr_io.specs.Devices.{Device, Reading, IsUntouched, Gains, GainsPart}
-use Rattle.gr_io.specs.declared.shelf.Slot.TheVariants.{Design, Library, Solution}
-use Rattle.command_form.specs.Commands.{HandedBack, Command, reads_some}
+use Rattle.command_form.specs.Commands.{Command, reads_some}
 use Rattle.command_form.specs.declared.stop.Outcome.{Outcome}
 use Rattle.command_form.specs.declared.stop.Outcome.TheVariants.{Whole}
 use Rattle.command_form.specs.declared.stop.Stop.{Stop}
-use Rattle.command_form.specs.declared.stop.Stop.TheVariants.{Usage, DesignFault, LibraryFault, SolutionFault, NotTree, ReadFailed, WriteFailed, NoMemory}
+use Rattle.command_form.specs.declared.stop.Stop.TheVariants.{Usage, Fault, NotTree, ReadFailed, WriteFailed, NoMemory}
 
 -- out and err gained their whole texts
-pub record IsDone (command : Command) (shelf : Reading) (out err : Device) (kept : Option HandedBack)
+pub record IsDone {K : Type 0} (command : Command K) (shelf : Reading) (out err : Device) (kept : Option K)
     (outcome : Outcome) : Type 0 where
   pub reads : shelf.faults_after ≡ shelf.faults
   pub text : List ℕ
@@ -20,7 +19,7 @@ pub record IsDone (command : Command) (shelf : Reading) (out err : Device) (kept
   pub says : command.says shelf kept outcome text report
 
 -- out gained a first part of its text
-pub record IsPartDone (command : Command) (shelf : Reading) (out : Device) (kept : Option HandedBack) : Type 0 where
+pub record IsPartDone {K : Type 0} (command : Command K) (shelf : Reading) (out : Device) (kept : Option K) : Type 0 where
   pub outcome : Outcome
   pub text : List ℕ
   pub report : List ℕ
@@ -28,7 +27,7 @@ pub record IsPartDone (command : Command) (shelf : Reading) (out : Device) (kept
   pub says : command.says shelf kept outcome text report
 
 -- out gained its whole text, and err a first part of its own, at a write that failed
-pub record IsHalfDone (command : Command) (shelf : Reading) (out err : Device) (kept : Option HandedBack) : Type 0 where
+pub record IsHalfDone {K : Type 0} (command : Command K) (shelf : Reading) (out err : Device) (kept : Option K) : Type 0 where
   pub reads : shelf.faults_after ≡ shelf.faults
   pub outcome : Outcome
   pub text : List ℕ
@@ -40,63 +39,57 @@ pub record IsHalfDone (command : Command) (shelf : Reading) (out err : Device) (
   pub says : command.says shelf kept outcome text report
 
 -- a fault of a text that the command reads
-abbrev pub IsOfText : Command → Stop → Type 0
-IsOfText command (DesignFault fault token) = IsTrue (command.reads Design)
-IsOfText command (LibraryFault fault token) = IsTrue (command.reads Library)
-IsOfText command (SolutionFault fault token) = IsTrue (command.reads Solution)
+abbrev pub IsOfText : {K : Type 0} → Command K → Stop → Type 0
+IsOfText command (Fault text number token) = IsTrue (command.reads text)
 IsOfText command stop = ⊥
 
 -- the held texts have this first fault
-pub record IsFaulty (command : Command) (shelf : Reading) (out : Device) (stop : Stop) : Type 0 where
+pub record IsFaulty {K : Type 0} (command : Command K) (shelf : Reading) (out : Device) (stop : Stop) : Type 0 where
   pub read : IsOfText command stop
   pub reads : shelf.faults_after ≡ shelf.faults
   pub said : IsTrue shelf.tells → command.files shelf ≡ Some (Err stop)
   pub unwritten : IsUntouched out
 
 -- the held texts are accepted, and the command stops for another cause that they have
-pub record IsRefused (command : Command) (shelf : Reading) (out : Device) (stop : Stop) : Type 0 where
+pub record IsRefused {K : Type 0} (command : Command K) (shelf : Reading) (out : Device) (stop : Stop) : Type 0 where
   pub reads : shelf.faults_after ≡ shelf.faults
   pub refuses : command.refuses shelf stop
   pub unwritten : IsUntouched out
 
 -- a name of the command is missing
-abbrev pub IsMissing : Command → Reading → Type 0
+abbrev pub IsMissing : {K : Type 0} → Command K → Reading → Type 0
 IsMissing command shelf = Rose shelf.misses shelf.misses_after × (IsTrue shelf.tells → command.files shelf ≡ None)
 
 -- a read failed, or a name is missing
-pub record FailsToRead (command : Command) (shelf : Reading) (out : Device) : Type 0 where
+pub record FailsToRead {K : Type 0} (command : Command K) (shelf : Reading) (out : Device) : Type 0 where
   pub read : IsTrue (reads_some command)
   pub cause : Rose shelf.faults shelf.faults_after ⊎ IsMissing command shelf
   pub unwritten : IsUntouched out
 
 -- a write to out failed, before err was written to
-pub record FailsOut (command : Command) (shelf : Reading) (out err : Device) (kept : Option HandedBack) : Type 0 where
+pub record FailsOut {K : Type 0} (command : Command K) (shelf : Reading) (out err : Device) (kept : Option K) : Type 0 where
   pub reads : shelf.faults_after ≡ shelf.faults
   pub cause : Rose out.faults out.faults_after
   pub part : IsPartDone command shelf out kept
   pub silent : IsUntouched err
 
 -- a write to out failed, or one to err
-abbrev pub FailsToWrite : Command → Reading → (out err : Device) → Option HandedBack → Type 0
+abbrev pub FailsToWrite : {K : Type 0} → Command K → Reading → (out err : Device) → Option K → Type 0
 FailsToWrite command shelf out err kept = FailsOut command shelf out err kept ⊎ IsHalfDone command shelf out err kept
 
 -- memory was wanting before out was written to, or as it was
-abbrev pub WantsMemory : Command → Reading → (out : Device) → Option HandedBack → Type 0
+abbrev pub WantsMemory : {K : Type 0} → Command K → Reading → (out : Device) → Option K → Type 0
 WantsMemory command shelf out kept = (IsUntouched out × (kept ≡ None)) ⊎ IsPartDone command shelf out kept
 
 -- err gained nothing, and nothing is handed back
-abbrev pub IsSilent : (err : Device) → Option HandedBack → Type 0
+abbrev pub IsSilent : {K : Type 0} → (err : Device) → Option K → Type 0
 IsSilent err kept = IsUntouched err × (kept ≡ None)
 
 -- what a command leaves, by how it ends, before err is told of a stop; that memory is wanting says nothing of the cause
-abbrev pub Leaves : Command → Reading → (out err : Device) → Option HandedBack → Result Outcome Stop → Type 0
+abbrev pub Leaves : {K : Type 0} → Command K → Reading → (out err : Device) → Option K → Result Outcome Stop → Type 0
 Leaves command shelf out err kept (Ok outcome) = IsDone command shelf out err kept outcome
-Leaves command shelf out err kept (Err (DesignFault fault token)) =
-    IsFaulty command shelf out (DesignFault fault token) × IsSilent err kept
-Leaves command shelf out err kept (Err (LibraryFault fault token)) =
-    IsFaulty command shelf out (LibraryFault fault token) × IsSilent err kept
-Leaves command shelf out err kept (Err (SolutionFault fault token)) =
-    IsFaulty command shelf out (SolutionFault fault token) × IsSilent err kept
+Leaves command shelf out err kept (Err (Fault text number token)) =
+    IsFaulty command shelf out (Fault text number token) × IsSilent err kept
 Leaves command shelf out err kept (Err (NotTree id)) = IsRefused command shelf out (NotTree id) × IsSilent err kept
 Leaves command shelf out err kept (Err ReadFailed) = FailsToRead command shelf out × IsSilent err kept
 Leaves command shelf out err kept (Err WriteFailed) = FailsToWrite command shelf out err kept
@@ -104,16 +97,16 @@ Leaves command shelf out err kept (Err NoMemory) = WantsMemory command shelf out
 Leaves command shelf out err kept (Err Usage) = ⊥
 
 -- what a command leaves that writes nothing on err
-abbrev pub LeavesOut : Command → Reading → (out : Device) → Option HandedBack → Result Outcome Stop → Type 0
+abbrev pub LeavesOut : {K : Type 0} → Command K → Reading → (out : Device) → Option K → Result Outcome Stop → Type 0
 LeavesOut command shelf out kept end = (err : Device) → IsUntouched err → Leaves command shelf out err kept end
 
 -- what a command leaves that reads no texts
-abbrev pub LeavesApart : Command → (out err : Device) → Option HandedBack → Result Outcome Stop → Type 0
+abbrev pub LeavesApart : {K : Type 0} → Command K → (out err : Device) → Option K → Result Outcome Stop → Type 0
 LeavesApart command out err kept end =
     (shelf : Reading) → shelf.faults_after ≡ shelf.faults → Leaves command shelf out err kept end
 
 -- what a command leaves that reads no texts, and writes nothing on err
-abbrev pub LeavesAlone : Command → (out : Device) → Option HandedBack → Result Outcome Stop → Type 0
+abbrev pub LeavesAlone : {K : Type 0} → Command K → (out : Device) → Option K → Result Outcome Stop → Type 0
 LeavesAlone command out kept end =
     (shelf : Reading) → shelf.faults_after ≡ shelf.faults → LeavesOut command shelf out kept end
 

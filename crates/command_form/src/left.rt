@@ -1,20 +1,9 @@
 //! What a command leaves.
-ghost use Rattle.std.specs.Prelude.{◌≡◌, None, Err};
+ghost use Rattle.std.specs.Prelude.{◌≡◌, None};
 
 use crate::stop::{Outcome, Stop};
 use gr_base::{Design, Routes};
 use rc_library::Library;
-use round_core::HandLog;
-use track_book::ClosedBook;
-
-/// The book of a command's rounds, once its routes are made.
-#[derive(Debug, Drop)]
-pub struct Kept {
-    pub book: ClosedBook,
-    /// Which entries of the book's history are whose: the marks are those of number 0, the claims and
-    /// releases those of the workers, from number 1, and in batches all of number 1.
-    pub hands: Vec<HandLog>,
-}
 
 /// What a command read and made, and needs no more. To let go of it takes as long as there are nets
 /// and trees, which a program that ends need not wait for.
@@ -25,17 +14,17 @@ pub struct Spent {
     pub routes: Routes,
 }
 
-/// How a command ended, and what it keeps.
+/// How a command ended, and what it keeps and hands back, which is of type `K`.
 #[derive(Drop)]
-pub struct Left {
+pub struct Left<K> {
     pub end: Result<Outcome, Stop>,
-    pub kept: Option<Kept>,
+    pub kept: Option<K>,
     pub spent: Option<Spent>,
 }
 
-impl Left {
+impl<K> Left<K> {
     /// Ended so, with nothing kept.
-    pub fn without_book(end: Result<Outcome, Stop>) -> Left
+    pub fn with_nothing(end: Result<Outcome, Stop>) -> Left<K>
         ensures end { result.end ≡ end }
         ensures kept { result.kept ≡ None }
     {

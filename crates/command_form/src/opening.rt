@@ -7,8 +7,7 @@ ghost use Rattle.rc_library.specs.Libraries.{IsLibraryOf};
 ghost use Rattle.route_reader.specs.Solutions.{IsOf};
 ghost use Rattle.gr_io.specs.Devices.{reading_of};
 ghost use Rattle.command_form.specs.Opening.{IsReached, Opens, IsCovered};
-ghost use Rattle.command_form.specs.Said.{design_said, library_said, solution_said};
-ghost use Rattle.command_form.specs.declared.stop.Stop.TheVariants.{DesignFault, LibraryFault, SolutionFault};
+ghost use Rattle.command_form.specs.Said.{design_fault, design_said, library_fault, library_said, solution_fault, solution_said};
 
 use crate::stop::Stop;
 use gr_base::Design;
@@ -18,12 +17,16 @@ use rc_library::{Library, LibraryError, read_library};
 use route_reader::{Solution, SolutionError, read_solution};
 use std::alloc::Global;
 
-/// What a reader gives, where each error of its own is why a command stops.
+/// What a reader gives of a text, where each error of its own is why a command stops.
 macro_rules! read_or_stop {
-    ($read:expr, $error:ident, $fault:ident) => {
+    ($text:expr, $read:expr, $error:ident) => {
         match $read {
             Ok(read) => Ok(read),
-            Err($error::Fault { fault, token }) => Err(Stop::$fault { fault, token }),
+            Err($error::Fault { fault, token }) => Err(Stop::Fault {
+                text: $text,
+                number: fault.number(),
+                token,
+            }),
             Err($error::Failed) => Err(Stop::ReadFailed),
             Err($error::NoMemory) => Err(Stop::NoMemory),
         }
@@ -33,12 +36,13 @@ macro_rules! read_or_stop {
 /// Reads the design that is held under a name.
 pub fn open_design<S: Shelf>(alloc: Global, shelf: &mut S, name: &str) -> Result<Design, Stop>
     ensures opens { Opens (reading_of S.tells S.held S.faults S.misses shelf.old shelf.new)
-        (S.held shelf.old DesignSlot name.now) (design_said (S.held shelf.old) name.now) DesignFault result }
+        (S.held shelf.old DesignSlot name.now) (design_said (S.held shelf.old) name.now) design_fault
+        result }
     ensures held { (slot : Slot) → (other : List ℕ) → S.held shelf.new slot other ≡ S.held shelf.old slot other }
     ensures design { IfOk result IsDesign }
 {
     reach(alloc, shelf, Slot::Design, name)?;
-    read_or_stop!(read_design(alloc, shelf), DesignError, DesignFault)
+    read_or_stop!(Slot::Design, read_design(alloc, shelf), DesignError)
 }
 
 /// Reads the library that is held under a name, for this design.
@@ -49,16 +53,16 @@ pub fn open_library<S: Shelf>(
     name: &str,
 ) -> Result<Library, Stop>
     ensures opens { Opens (reading_of S.tells S.held S.faults S.misses shelf.old shelf.new)
-        (S.held shelf.old LibrarySlot name.now) (library_said (S.held shelf.old) name.now design.now) LibraryFault
+        (S.held shelf.old LibrarySlot name.now) (library_said (S.held shelf.old) name.now design.now) library_fault
         result }
     ensures held { (slot : Slot) → (other : List ℕ) → S.held shelf.new slot other ≡ S.held shelf.old slot other }
     ensures library { IfOk result (IsLibraryOf design.now) }
 {
     reach(alloc, shelf, Slot::Library, name)?;
     read_or_stop!(
+        Slot::Library,
         read_library(alloc, shelf, design),
-        LibraryError,
-        LibraryFault
+        LibraryError
     )
 }
 
@@ -70,7 +74,7 @@ pub fn open_solution<S: Shelf>(
     name: &str,
 ) -> Result<Solution, Stop>
     ensures opens { Opens (reading_of S.tells S.held S.faults S.misses shelf.old shelf.new)
-        (S.held shelf.old SolutionSlot name.now) (solution_said (S.held shelf.old) name.now design.now) SolutionFault
+        (S.held shelf.old SolutionSlot name.now) (solution_said (S.held shelf.old) name.now design.now) solution_fault
         result }
     ensures solution { IfOk result (IsOf design.now) }
     ensures covered { IfOk result
@@ -78,9 +82,9 @@ pub fn open_solution<S: Shelf>(
 {
     reach(alloc, shelf, Slot::Solution, name)?;
     read_or_stop!(
+        Slot::Solution,
         read_solution(alloc, shelf, design),
-        SolutionError,
-        SolutionFault
+        SolutionError
     )
 }
 

@@ -2,7 +2,7 @@
 use Rattle.std.proofs.Common.{◌≡◌, ℕ, suc, zero, ◌+◌, ◌<◌, List, [], ◌∷◌, ◌++◌, map, length, get_or, slice_index_or, All, Some, slice_get, remove, refl, sym, ap, subst, ◌∙◌, arith}
 use Rattle.std.proofs.lemmas.List.{append-nil}
 use Rattle.std.proofs.lemmas.Option.{same_Some, slice_get-get_or}
-use Rattle.round_core.specs.RunHistories.{Setting}
+use Rattle.run_histories.specs.RunHistories.{Setting}
 use Rattle.track_book.specs.Passes.{PassView, IsNew, AreBegun, AreAll}
 use Rattle.ripup_workers.specs.Closing.{AreNew}
 use Rattle.ripup_workers.specs.Rounding.{HaveRun}

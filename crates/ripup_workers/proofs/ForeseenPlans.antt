@@ -17,7 +17,7 @@ use Rattle.book_state.specs.declared.entry.Call.TheVariants.{Release}
 use Rattle.book_state.specs.declared.entry.Entry.{Entry}
 use Rattle.book_state.specs.declared.entry.PlanKind.{PlanKind}
 use Rattle.book_state.specs.declared.entry.Reply.TheVariants.{Released}
-use Rattle.round_core.specs.Rounds.{IsPlanFor}
+use Rattle.run_histories.specs.Rounds.{IsPlanFor}
 use Rattle.ripup_workers.specs.Foresight.{IsForeseen}
 use Rattle.ripup_workers.specs.Turning.{IsPlanWithout, IsWindowOf}
 use Rattle.ripup_workers.specs.declared.foresight.Foreseen.{Foreseen}

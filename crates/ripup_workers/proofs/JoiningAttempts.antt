@@ -12,8 +12,8 @@ use Rattle.cost_rules.specs.declared.site.Formula.{Formula}
 use Rattle.gr_base.specs.Designs.{DesignView}
 use Rattle.grid_demand.specs.Tables.{CapacityView, capacity_of}
 use Rattle.book_state.specs.Books.{IsLegal}
-use Rattle.round_core.specs.Attempts.{Rests}
-use Rattle.round_core.specs.RunHistories.{Setting, asked_for}
+use Rattle.run_histories.specs.Attempts.{Rests}
+use Rattle.run_histories.specs.RunHistories.{Setting, asked_for}
 use Rattle.track_book.specs.Passes.{PassView}
 use Rattle.work_share.specs.Views.{ShareView, HandView, IsHandOf, IsNewHand, AreHandsOf, IsDealt, times}
 use Rattle.ripup_workers.specs.Crews.{IsWorked, HasAttemptedOver}

@@ -26,15 +26,13 @@ use Rattle.book_state.specs.declared.entry.Call.{Call}
 use Rattle.book_state.specs.declared.entry.Call.TheVariants.{Claim as Claims, Release, Mark}
 use Rattle.book_state.specs.declared.entry.Entry.{Entry}
 use Rattle.book_state.specs.declared.entry.Reply.{Reply}
-use Rattle.round_core.specs.RunHistories.{Setting, Overflows, IsNumbered, is_due, says, says_at, IsOver, IsRunHistory}
-use Rattle.round_core.specs.Standing.{Stands}
-use Rattle.round_core.specs.Worlds.{routed_nets}
-use Rattle.round_core.proofs.CutSteps.{cut-whole}
-use Rattle.round_core.proofs.RangeCounts.{times-kept}
-use Rattle.round_core.proofs.RoutedTrees.{attempts-stand}
-use Rattle.round_core.proofs.StandLemmas.{victims-routed, mark-stands, least-place, least-call, some-least}
-use Rattle.round_core.proofs.TurnLemmas.{routed-within}
-use Rattle.round_core.proofs.WorldEnds.{first-rules}
+use Rattle.run_histories.specs.RunHistories.{Setting, Overflows, IsNumbered, is_due, says, says_at, IsOver, IsRunHistory}
+use Rattle.run_histories.specs.Standing.{Stands}
+use Rattle.run_histories.proofs.CutSteps.{cut-whole}
+use Rattle.run_histories.proofs.RangeCounts.{times-kept}
+use Rattle.run_histories.proofs.RoutedTrees.{attempts-stand}
+use Rattle.run_histories.proofs.StandLemmas.{victims-routed, mark-stands, least-place, least-call, some-least}
+use Rattle.run_histories.proofs.TurnLemmas.{routed-within}
 use Rattle.track_book.specs.Passes.{PassView, IsNew, IsIn, IsClosed}
 use Rattle.track_book.proofs.Dealing.{get-there}
 use Rattle.ripup_workers.specs.Closing.{AreNew}
@@ -42,6 +40,8 @@ use Rattle.ripup_workers.specs.Rounding.{AreOf, HasSeen, IsNext, HasEnded, AreBe
 use Rattle.work_share.specs.Views.{times}
 use Rattle.ripup_workers.proofs.JoiningLists.{all-prefix, same-history}
 use Rattle.ripup_workers.proofs.JoiningSegments.{mark-call}
+use Rattle.run_histories.proofs.KeptRules.{first-rules}
+use Rattle.run_histories.specs.RunHistories.{routed_nets}
 
 -- at the begin nothing is seen
 new-seen : (c : CapacityView) (number : ℕ) (p : PassView) → IsNew number p → HasSeen c [] p

@@ -12,6 +12,7 @@ use Rattle.book_front.proofs.Prefixes.{prefix-length}
 use Rattle.book_state.proofs.HistoryLists.{slice_get-right}
 use Rattle.book_state.proofs.RangeSums.{sum-change}
 use Rattle.book_state.specs.Entries.{calls_of}
+use Rattle.net_order.proofs.RegionLemmas.{all-first}
 use Rattle.book_state.specs.declared.entry.Entry.{Entry}
 
 -- the entries of a number in a longer history begin with those in the shorter one
@@ -103,11 +104,7 @@ sum-places f g (x ∷ xs) from same =
     let rest = sum-places f g xs (from + 1) (λ place y number there is. same (suc place) y number there (omega (arith, is))) in
     sum_by-cons g from (range_with_len (from + 1) (length xs)) ∙ omega (arith, first, rest) ∙ sym (sum_by-cons f x xs)
 
--- what holds of all of a list holds of its first part, and of its last
-pub all-first : {A : Type 0} (P : A → Type 0) (xs ys : List A) → All P (xs ++ ys) → All P xs
-all-first P [] ys all = All-nil P
-all-first P (x ∷ xs) ys all = All-cons P x xs (All-head P x (xs ++ ys) all) (all-first P xs ys (All-tail P x (xs ++ ys) all))
-
+-- what holds of all of a list holds of its last part, and of its first
 pub all-second : {A : Type 0} (P : A → Type 0) (xs ys : List A) → All P (xs ++ ys) → All P ys
 all-second P [] ys all = all
 all-second P (x ∷ xs) ys all = all-second P xs ys (All-tail P x (xs ++ ys) all)

@@ -7,7 +7,7 @@ use Rattle.book_state.specs.Entries.{AtEach, calls_of}
 use Rattle.book_state.specs.declared.entry.Call.TheVariants.{Claim as Claims}
 use Rattle.book_state.specs.declared.entry.Claim.{Claim}
 use Rattle.book_state.specs.declared.entry.Entry.{Entry}
-use Rattle.round_core.specs.RunHistories.{Setting, IsPlanned}
+use Rattle.run_histories.specs.RunHistories.{Setting, IsPlanned}
 use Rattle.track_book.specs.Passes.{PassView}
 use Rattle.ripup_workers.specs.Meetings.{Learns}
 use Rattle.ripup_workers.specs.Working.{ArePlanned}

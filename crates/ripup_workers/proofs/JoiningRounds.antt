@@ -21,15 +21,13 @@ use Rattle.book_state.specs.declared.entry.Call.TheVariants.{Claim as Claims, Ma
 use Rattle.book_state.specs.declared.entry.Claim.{Claim}
 use Rattle.book_state.specs.declared.entry.Entry.{Entry}
 use Rattle.book_state.specs.declared.entry.Reply.TheVariants.{Marked as Answer}
-use Rattle.round_core.specs.Attempts.{stage_of, begins, attempts_at}
-use Rattle.round_core.specs.RunHistories.{Setting, Overflows, IsNumbered, IsPlanned, IsAsked, AreWhole, AreOfDue, AreAttempts, ends_with_mark, overflows_of}
-use Rattle.round_core.specs.Standing.{Stands}
-use Rattle.round_core.specs.WorldRules.{KeepsRules}
-use Rattle.round_core.proofs.CutSteps.{grown, closed, cut-mark, cut-whole, each-next}
-use Rattle.round_core.proofs.JoiningLaw.{attempts-granted}
-use Rattle.round_core.proofs.RoutedTrees.{attempts-stand}
-use Rattle.round_core.proofs.StandLemmas.{mark-stands}
-use Rattle.round_core.proofs.WorldFields.{overflows-push}
+use Rattle.run_histories.specs.Attempts.{stage_of, begins, attempts_at}
+use Rattle.run_histories.specs.RunHistories.{Setting, Overflows, IsNumbered, IsPlanned, IsAsked, AreWhole, AreOfDue, AreAttempts, ends_with_mark, overflows_of}
+use Rattle.run_histories.specs.Standing.{Stands}
+use Rattle.run_histories.proofs.CutSteps.{grown, closed, cut-mark, cut-whole, each-next}
+use Rattle.run_histories.proofs.JoiningLaw.{attempts-granted}
+use Rattle.run_histories.proofs.RoutedTrees.{attempts-stand}
+use Rattle.run_histories.proofs.StandLemmas.{mark-stands}
 use Rattle.track_book.specs.Passes.{PassView, IsAnswered}
 use Rattle.track_book.proofs.Dealing.{get-there}
 use Rattle.ripup_workers.specs.Marking.{AreMarked}
@@ -41,6 +39,8 @@ use Rattle.ripup_workers.specs.declared.team.Marked.{Marked}
 use Rattle.ripup_workers.proofs.JoiningLists.{all-at, all-prefix, all-second, calls-append, prefix-calls, prefix-long, squeeze, same-history, calls-first, calls-after, count-parts, sum-places}
 use Rattle.ripup_workers.proofs.JoiningPasses.{learns-own, nothing-more, planned-learns}
 use Rattle.ripup_workers.proofs.JoiningSegments.{whole-unmarked, calls-all, calls-none, each-more, marks-more, cut-more, numbered, overflows-more}
+use Rattle.run_histories.proofs.KeptRules.{overflows-push}
+use Rattle.run_histories.specs.RunHistories.{KeepsRules}
 
 abbrev cut_of : ℕ → List Entry → List Entry → Cut
 cut_of round before segment = record { round = round; before = before; segment = segment }

@@ -15,13 +15,13 @@ use Rattle.book_state.specs.declared.entry.Call.TheVariants.{Claim as Claims, Re
 use Rattle.book_state.specs.declared.entry.Entry.{Entry}
 use Rattle.book_state.specs.declared.entry.Reply.{Reply}
 use Rattle.book_state.specs.Marks.{overflow_of}
-use Rattle.round_core.specs.Attempts.{Stage, Rests, Claiming, Broken, kind_of, first_stage, later_stage, stage_after, stage_of}
-use Rattle.round_core.proofs.CutSteps.{with_segment, grown, closed, each-next}
-use Rattle.round_core.proofs.StandLemmas.{marked-mark, reply-marked}
-use Rattle.round_core.proofs.WorldFields.{overflows-push}
-use Rattle.round_core.specs.RunHistories.{IsNumbered, overflows_after, overflows_of}
-use Rattle.round_core.proofs.StageSteps.{broken-stays, rests-broken}
+use Rattle.run_histories.specs.Attempts.{Stage, Rests, Claiming, Broken, kind_of, first_stage, later_stage, stage_after, stage_of}
+use Rattle.run_histories.proofs.CutSteps.{with_segment, grown, closed, each-next}
+use Rattle.run_histories.proofs.StandLemmas.{marked-mark, reply-marked}
+use Rattle.run_histories.specs.RunHistories.{IsNumbered, overflows_after, overflows_of}
+use Rattle.run_histories.proofs.StageSteps.{broken-stays, rests-broken}
 use Rattle.ripup_workers.proofs.JoiningLists.{calls-first, calls-after}
+use Rattle.run_histories.proofs.KeptRules.{overflows-push}
 
 -- a mark is no part of an attempt
 mark-breaks : (round : ℕ) (stage : Stage) (e : Entry) → is_mark e ≡ true → stage_after round stage e ≡ Broken

@@ -11,7 +11,3 @@ pub mod JoiningAttempts
 pub mod JoiningEnds
 pub mod CallerLists
 pub mod MeetingSteps
-pub mod FreedomLemmas
-pub mod KeyLemmas
-pub mod RegionLemmas
-pub mod DealingLemmas

@@ -11,7 +11,7 @@ use Rattle.book_state.specs.declared.entry.Call.TheVariants.{Mark}
 use Rattle.book_state.specs.declared.entry.Entry.{Entry}
 use Rattle.book_state.specs.declared.entry.Reply.{Reply}
 use Rattle.book_state.specs.declared.entry.Reply.TheVariants.{Marked}
-use Rattle.round_core.proofs.CutSteps.{each-next}
+use Rattle.run_histories.proofs.CutSteps.{each-next}
 use Rattle.track_book.specs.Passes.{PassView, IsAnswered}
 use Rattle.ripup_workers.specs.Meetings.{Learns, HasMet, HaveMet}
 

@@ -19,9 +19,9 @@ use Rattle.book_state.specs.declared.entry.PlanKind.TheVariants.{Maze}
 use Rattle.book_state.specs.declared.entry.Reply.{Reply}
 use Rattle.book_state.specs.declared.entry.Call.{Call}
 use Rattle.book_state.specs.declared.entry.Call.TheVariants.{Claim as Claims}
-use Rattle.round_core.proofs.StillPlans.{still-maze}
-use Rattle.round_core.specs.Rounds.{IsPlan, IsPlanFor}
-use Rattle.round_core.specs.RunHistories.{Setting, one_worker}
+use Rattle.run_histories.proofs.StillPlans.{still-maze}
+use Rattle.run_histories.specs.Rounds.{IsPlan, IsPlanFor}
+use Rattle.run_histories.specs.RunHistories.{Setting, one_worker}
 use Rattle.track_book.specs.Passes.{PassView, IsAnswered}
 use Rattle.ripup_workers.specs.Turning.{IsOver, HasTried, IsWindowOf, WasPlanned}
 

@@ -9,8 +9,8 @@ use Rattle.gr_base.specs.Designs.{DesignView}
 use Rattle.grid_demand.specs.Tables.{CapacityView, capacity_of}
 use Rattle.book_front.proofs.Prefixes.{prefix-length}
 use Rattle.book_state.specs.Books.{IsLegal}
-use Rattle.round_core.specs.Attempts.{Rests}
-use Rattle.round_core.specs.RunHistories.{Setting, one_worker}
+use Rattle.run_histories.specs.Attempts.{Rests}
+use Rattle.run_histories.specs.RunHistories.{Setting, one_worker}
 use Rattle.track_book.specs.Passes.{PassView}
 use Rattle.ripup_workers.specs.Turning.{IsOver, HasWorked}
 use Rattle.work_share.specs.Views.{times}

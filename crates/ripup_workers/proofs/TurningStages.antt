@@ -24,11 +24,11 @@ use Rattle.book_state.specs.declared.entry.PlanKind.{PlanKind}
 use Rattle.book_state.specs.declared.entry.PlanKind.TheVariants.{Pattern, Maze}
 use Rattle.book_state.specs.declared.entry.Reply.{Reply}
 use Rattle.book_state.specs.declared.entry.Reply.TheVariants.{Claimed, Taken, Full, Released, NotBooked, Marked}
-use Rattle.round_core.specs.Attempts.{Stage, Rests, Claiming, Broken, kind_of, is_kind, is_slack, is_claim_for, stage_replied, stage_after, begins, attempts_at}
-use Rattle.round_core.specs.Rounds.{IsFull, claim_of, slacks_of_turn, IsPlanFor}
-use Rattle.round_core.specs.RunHistories.{Setting, IsPlanOver, IsPlanned}
-use Rattle.round_core.proofs.Answered.{full-goes}
-use Rattle.round_core.proofs.StageSteps.{attempts-push}
+use Rattle.run_histories.specs.Attempts.{Stage, Rests, Claiming, Broken, kind_of, is_kind, is_slack, is_claim_for, stage_replied, stage_after, begins, attempts_at}
+use Rattle.run_histories.specs.Rounds.{IsFull, claim_of, slacks_of_turn, IsPlanFor}
+use Rattle.run_histories.specs.RunHistories.{Setting, IsPlanOver, IsPlanned}
+use Rattle.run_histories.proofs.Answered.{full-goes}
+use Rattle.run_histories.proofs.StageSteps.{attempts-push}
 use Rattle.track_book.specs.Passes.{PassView, IsPass, IsAnswered, HasLearnt}
 use Rattle.ripup_workers.specs.Turning.{IsOver, HasFollowed, HasTried}
 use Rattle.work_share.specs.Views.{times}

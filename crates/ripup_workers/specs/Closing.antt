@@ -2,8 +2,8 @@
 use Rattle.std.specs.Prelude.{◌≡◌, ℕ, ◌+◌, List, length, Some, slice_get}
 use Rattle.grid_demand.specs.Tables.{capacity_of}
 use Rattle.book_state.specs.Views.{BookView}
-use Rattle.round_core.specs.Rounds.{marker}
-use Rattle.round_core.specs.RunHistories.{Setting, IsRunHistory}
+use Rattle.run_histories.specs.Rounds.{marker}
+use Rattle.run_histories.specs.RunHistories.{Setting, IsRunHistory}
 use Rattle.track_book.specs.Passes.{PassView, IsNew}
 
 -- the coordinator and the workers have passes that have seen nothing

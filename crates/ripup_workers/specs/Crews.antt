@@ -2,7 +2,7 @@
 use Rattle.std.specs.Prelude.{◌≡◌, ℕ, List, Result, Ok}
 use Rattle.cost_rules.specs.declared.site.Formula.{Formula}
 use Rattle.gr_base.specs.Designs.{DesignView}
-use Rattle.round_core.specs.RunHistories.{Setting}
+use Rattle.run_histories.specs.RunHistories.{Setting}
 use Rattle.track_book.specs.Passes.{PassView}
 use Rattle.work_share.specs.Views.{ShareView, HandView, IsHandOf}
 use Rattle.ripup_workers.specs.Turning.{IsOver, HasWorked}

@@ -7,6 +7,3 @@ pub mod Meetings
 pub mod Marking
 pub mod Rounding
 pub mod Closing
-pub mod Freedoms
-pub mod Orders
-pub mod Surveys

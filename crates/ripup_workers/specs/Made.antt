@@ -3,9 +3,9 @@ use Rattle.std.specs.Prelude.{◌≡◌, ◌≤◌, Some, length, take}
 use Rattle.grid_demand.specs.Tables.{capacity_of}
 use Rattle.book_state.specs.Books.{IsLegal}
 use Rattle.book_state.specs.Marks.{least_mark}
-use Rattle.round_core.specs.Hands.{ArePartedTo}
-use Rattle.round_core.specs.RunHistories.{Setting, IsRunHistory}
-use Rattle.round_core.specs.Standing.{Stands}
+use Rattle.run_histories.specs.Hands.{ArePartedTo}
+use Rattle.run_histories.specs.RunHistories.{Setting, IsRunHistory}
+use Rattle.run_histories.specs.Standing.{Stands}
 use Rattle.ripup_workers.specs.declared.rounds.Rounds.{Rounds}
 
 -- what rounds give: each entry of the history has the reply that the rules give, the history is a run history, the

@@ -13,14 +13,14 @@ use Rattle.book_state.specs.Books.{victims}
 use Rattle.book_state.specs.Cuts.{cut}
 use Rattle.book_state.specs.Entries.{calls_of}
 use Rattle.book_state.specs.declared.entry.Entry.{Entry}
-use Rattle.round_core.specs.Rounds.{marker}
-use Rattle.round_core.specs.RunHistories.{Setting, Overflows, asked_for, is_due, ends_with_mark, overflows_of, says_at, IsAsked, IsRunHistory}
-use Rattle.round_core.specs.Standing.{Stands}
-use Rattle.round_core.specs.WorldRules.{KeepsRules}
+use Rattle.run_histories.specs.Rounds.{marker}
+use Rattle.run_histories.specs.RunHistories.{Setting, Overflows, asked_for, is_due, ends_with_mark, overflows_of, says_at, IsAsked, IsRunHistory}
+use Rattle.run_histories.specs.Standing.{Stands}
 use Rattle.track_book.specs.Passes.{PassView, IsPass}
 use Rattle.work_share.specs.Views.{times}
 use Rattle.ripup_workers.specs.Working.{HasAttempted, ArePlanned}
 use Rattle.ripup_workers.specs.declared.asked.Asked.{Asked}
+use Rattle.run_histories.specs.RunHistories.{KeepsRules}
 
 -- what is asked for, as run histories know it
 abbrev pub setting_of : {X Y : Type 0} {price : Mut X (Site × Unit {0}) ℕ} {look : Mut Y (Sight × Unit {0}) Going} →

@@ -14,9 +14,9 @@ use Rattle.book_state.specs.declared.entry.PlanKind.TheVariants.{Maze}
 use Rattle.book_state.specs.declared.entry.Reply.{Reply}
 use Rattle.maze_route.specs.declared.window.Window.{Window}
 use Rattle.net_plan.specs.Mazes.{window_of}
-use Rattle.round_core.specs.Attempts.{Rests, Claiming}
-use Rattle.round_core.specs.Rounds.{IsPlanFor}
-use Rattle.round_core.specs.RunHistories.{Setting}
+use Rattle.run_histories.specs.Attempts.{Rests, Claiming}
+use Rattle.run_histories.specs.Rounds.{IsPlanFor}
+use Rattle.run_histories.specs.RunHistories.{Setting}
 use Rattle.track_book.specs.Passes.{PassView, IsAnswered, HasLearnt}
 use Rattle.ripup_workers.specs.Working.{ArePlanned, HasLed, HasAttempted}
 

@@ -8,8 +8,8 @@ use Rattle.book_state.specs.Entries.{AtEach}
 use Rattle.book_state.specs.declared.entry.Call.TheVariants.{Claim as Claims}
 use Rattle.book_state.specs.declared.entry.Claim.{Claim}
 use Rattle.book_state.specs.declared.entry.Entry.{Entry}
-use Rattle.round_core.specs.Attempts.{Stage, Rests, stage_after, attempts_at}
-use Rattle.round_core.specs.RunHistories.{Setting, IsPlanned}
+use Rattle.run_histories.specs.Attempts.{Stage, Rests, stage_after, attempts_at}
+use Rattle.run_histories.specs.RunHistories.{Setting, IsPlanned}
 use Rattle.track_book.specs.Passes.{PassView}
 use Rattle.work_share.specs.Views.{times}
 

@@ -6,9 +6,9 @@
 ghost use Rattle.std.specs.Prelude.{◌≡◌, ◌<◌, ℕ, [], length, IfOk, IfSome, OnOk, IsTrue};
 ghost use Rattle.book_state.specs.Books.{nets_of};
 ghost use Rattle.book_state.specs.Replicas.{StandsFor};
-ghost use Rattle.round_core.specs.Attempts.{Rests};
-ghost use Rattle.round_core.specs.Rounds.{IsPlanFor};
-ghost use Rattle.round_core.specs.RunHistories.{Setting};
+ghost use Rattle.run_histories.specs.Attempts.{Rests};
+ghost use Rattle.run_histories.specs.Rounds.{IsPlanFor};
+ghost use Rattle.run_histories.specs.RunHistories.{Setting};
 ghost use Rattle.ripup_workers.specs.Foresight.{IsForeseen};
 ghost use Rattle.ripup_workers.specs.Turning.{HasCapacity, IsOver, HasFollowed};
 ghost use Rattle.ripup_workers.specs.Working.{HasLed};

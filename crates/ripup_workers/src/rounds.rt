@@ -1,7 +1,7 @@
 //! The rounds.
 ghost use Rattle.std.specs.Prelude.{◌≤◌, IfOk};
 ghost use Rattle.gr_base.specs.Limits.{most_rounds, most_workers};
-ghost use Rattle.round_core.specs.RunHistories.{asked_for};
+ghost use Rattle.run_histories.specs.RunHistories.{asked_for};
 ghost use Rattle.ripup_workers.specs.Made.{IsMade};
 
 use crate::asked::Asked;
@@ -9,7 +9,7 @@ use crate::gate::Gate;
 use crate::run::book_of_rounds;
 use cost_rules::{CostRule, Watcher};
 use gr_base::Design;
-use round_core::{HandLog, hands_of};
+use run_histories::{HandLog, hands_of};
 use std::alloc::{AllocError, Global};
 use std::marker::Brand;
 use std::sync::Wait;

@@ -10,15 +10,14 @@ ghost use Rattle.ripup_workers.specs.Rounding.{setting_of, is_stop_at, IsRoundOv
 use crate::asked::Asked;
 use crate::gate::Gate;
 use crate::ground::Ground;
-use crate::order::by_regions;
 use crate::round::attempt_nets;
-use crate::survey::Survey;
 use crate::team::{Coordinator, RoundEnd};
 use crate::worker::Worker;
 use book_state::Replica;
 use cost_rules::{Going, Sight};
 use gr_base::Design;
-use round_core::routed_nets;
+use net_order::{Survey, by_regions};
+use run_histories::routed_nets;
 use std::alloc::{AllocError, Global};
 use std::sync::Wait;
 use std::thread::Threads;

@@ -5,7 +5,7 @@ ghost use Rattle.book_state.specs.declared.entry.Entry.{Entry};
 ghost use Rattle.gr_base.specs.Designs.{is_routed};
 ghost use Rattle.grid_demand.specs.Tables.{capacity_of};
 ghost use Rattle.net_plan.specs.Prices.{HasBoundedDemand};
-ghost use Rattle.round_core.specs.Rounds.{IsPlanFor};
+ghost use Rattle.run_histories.specs.Rounds.{IsPlanFor};
 ghost use Rattle.ripup_workers.specs.Turning.{IsWindowOf};
 
 use book_state::PlanKind;
@@ -14,7 +14,7 @@ use gr_base::{Design, RouteTree};
 use grid_demand::{Capacity, Loads};
 use maze_route::Window;
 use net_plan::{Planner, maze_window};
-use round_core::plan_of;
+use run_histories::plan_of;
 use std::alloc::{AllocError, Global};
 
 /// A net that is to be planned, and what its plans are made with.

@@ -3,7 +3,7 @@ ghost use Rattle.std.specs.Prelude.{◌≡◌, ◌≤◌, All, OnOk, IsTrue};
 ghost use Rattle.gr_base.specs.Designs.{is_routed};
 ghost use Rattle.gr_base.specs.Limits.{most_rounds};
 ghost use Rattle.grid_demand.specs.Tables.{capacity_of};
-ghost use Rattle.round_core.specs.RunHistories.{Setting};
+ghost use Rattle.run_histories.specs.RunHistories.{Setting};
 ghost use Rattle.work_share.specs.Views.{IsHandOf};
 ghost use Rattle.ripup_workers.specs.Turning.{IsOver, HasWorked};
 

@@ -6,7 +6,7 @@ ghost use Rattle.book_state.specs.declared.entry.Entry.{Entry};
 ghost use Rattle.ripup_workers.specs.Turning.{HasCapacity, IsPlanWithout};
 ghost use Rattle.book_state.specs.Replicas.{StandsFor};
 ghost use Rattle.book_state.specs.Still.{StaysBest};
-ghost use Rattle.round_core.specs.Rounds.{claim_of};
+ghost use Rattle.run_histories.specs.Rounds.{claim_of};
 ghost use Rattle.track_book.specs.Passes.{IsPass, IsAnswered, HasLearnt};
 
 use crate::wish::Wish;

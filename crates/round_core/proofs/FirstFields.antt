@@ -9,14 +9,15 @@ use Rattle.gr_base.specs.Limits.{most_nets, most_rounds, most_workers}
 use Rattle.grid_demand.specs.Tables.{capacity_of}
 use Rattle.book_state.specs.Views.{BookView}
 use Rattle.book_state.specs.declared.entry.Entry.{Entry}
-use Rattle.round_core.specs.RunHistories.{Setting, asked_for, overflows_of}
+use Rattle.run_histories.specs.RunHistories.{Setting, asked_for, overflows_of}
 use Rattle.round_core.specs.WorldRules.{IsWorld}
-use Rattle.round_core.specs.Worlds.{routed_nets, at_first, WorldView}
+use Rattle.round_core.specs.Worlds.{at_first, WorldView}
 use Rattle.round_core.specs.WorldStore.{setting_of, seen, Keeps}
 use Rattle.round_core.specs.declared.steps.Phase.{Phase}
 use Rattle.round_core.specs.declared.steps.Phase.TheVariants.{Idle}
 use Rattle.round_core.specs.declared.world.World.TheInside.{Inside}
 use Rattle.round_core.proofs.WorldEnds.{first-world}
+use Rattle.run_histories.specs.RunHistories.{routed_nets}
 
 -- the fields at first
 abbrev made_view : Setting → List Entry → List ℕ → List Phase → List ℕ → WorldView

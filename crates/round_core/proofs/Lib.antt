@@ -1,15 +1,3 @@
-pub mod HandLemmas
-pub mod StandLemmas
-pub mod TurnLemmas
-pub mod PlanLemmas
-pub mod CutSteps
-pub mod StageSteps
-pub mod ApartSteps
-pub mod Answered
-pub mod JoiningLaw
-pub mod RoutedTrees
-pub mod TurnWordLemmas
-pub mod RangeCounts
 pub mod HeldCounts
 pub mod WorldSteps
 pub mod WorldCalls
@@ -20,4 +8,3 @@ pub mod WorldSpan
 pub mod WorldFields
 pub mod MarkFields
 pub mod FirstFields
-pub mod StillPlans

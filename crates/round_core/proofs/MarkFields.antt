@@ -24,14 +24,14 @@ use Rattle.book_state.specs.Views.{BookView, entry_of, with_call}
 use Rattle.book_state.specs.declared.entry.Call.TheVariants.{Mark as Marks}
 use Rattle.book_state.specs.declared.entry.Entry.{Entry}
 use Rattle.book_state.specs.declared.entry.Reply.{Reply}
-use Rattle.round_core.specs.RunHistories.{Overflows, overflows_after, overflows_of, says_at, says}
+use Rattle.run_histories.specs.RunHistories.{Overflows, overflows_after, overflows_of, says_at, says}
 use Rattle.round_core.specs.WorldRules.{IsWorld}
 use Rattle.round_core.specs.Worlds.{WorldView, marked, is_on, goes_on_by, goes_on, with_mark, entry_by, is_allowed, happens}
 use Rattle.round_core.specs.WorldStore.{setting_of, seen, Keeps}
 use Rattle.round_core.specs.declared.steps.Step.TheVariants.{Mark}
 use Rattle.round_core.specs.declared.world.World.TheInside.{Inside}
 use Rattle.round_core.proofs.WorldMarks.{mark-allowed, marked-world}
-use Rattle.round_core.proofs.WorldFields.{overflows-push}
+use Rattle.run_histories.proofs.KeptRules.{overflows-push}
 
 -- there are no more victims than nets
 few-victims : (w : Inside) → Keeps w → length (victims w.book.capacity w.book.history) ≤ most_nets

@@ -14,20 +14,21 @@ use Rattle.book_state.specs.declared.entry.Claim.{Claim as ClaimOf}
 use Rattle.book_state.specs.declared.entry.Entry.{Entry}
 use Rattle.book_state.specs.declared.entry.Reply.{Reply}
 use Rattle.book_state.specs.declared.entry.Reply.TheVariants.{Claimed, Taken, Full, Released, NotBooked, Marked}
-use Rattle.round_core.specs.Apart.{AreApart}
-use Rattle.round_core.specs.Attempts.{Stage, Rests, Claiming, Broken, kind_of, is_claim_for, stage_replied, stage_after, first_stage, later_stage, stage_of, is_claim_of, is_release_of, begins, attempts_at}
-use Rattle.round_core.specs.Rounds.{IsFull, slacks_of_turn}
-use Rattle.round_core.specs.RunHistories.{IsPlanOver, IsPlanned, is_due}
+use Rattle.run_histories.specs.Apart.{AreApart}
+use Rattle.run_histories.specs.Attempts.{Stage, Rests, Claiming, Broken, kind_of, is_claim_for, stage_replied, stage_after, first_stage, later_stage, stage_of, is_claim_of, is_release_of, begins, attempts_at}
+use Rattle.run_histories.specs.Rounds.{IsFull, slacks_of_turn}
+use Rattle.run_histories.specs.RunHistories.{IsPlanOver, IsPlanned, is_due}
 use Rattle.round_core.specs.WorldRules.{stage_in, is_holding_net, times_in, IsPhaseRight, IsRunning, IsWorld}
 use Rattle.round_core.specs.Worlds.{WorldView, phase_in, phase_before_end, phase_at, since_of, is_holding, slack_after, allows_claim, net_in, tries_in, phase_replied, entry_by, with_entry_by, is_allowed, happens, IsStep}
 use Rattle.round_core.specs.declared.steps.Phase.{Phase}
 use Rattle.round_core.specs.declared.steps.Phase.TheVariants.{Idle, Holding, Trying, Ended}
 use Rattle.round_core.specs.declared.steps.Step.TheVariants.{Release, Claim}
-use Rattle.round_core.proofs.Answered.{held-routed, none-is, is-later, full-slack}
+use Rattle.run_histories.proofs.Answered.{held-routed, none-is, is-later, full-slack}
 use Rattle.round_core.proofs.HeldCounts.{held-change, held-some}
-use Rattle.round_core.proofs.StageSteps.{claim-for}
-use Rattle.round_core.proofs.TurnLemmas.{unbounded-claimed, routed-within}
-use Rattle.round_core.proofs.WorldSteps.{IsCallOf, one-more, call-world}
+use Rattle.run_histories.proofs.StageSteps.{claim-for}
+use Rattle.run_histories.proofs.TurnLemmas.{unbounded-claimed, routed-within}
+use Rattle.round_core.proofs.WorldSteps.{IsCallOf, call-world}
+use Rattle.run_histories.proofs.KeptRules.{one-more}
 
 -- a worker that may release a net holds it, before the end
 holding-by : (over : Bool) (phase : Phase) → is_holding (if over then Ended else phase) ≡ true → (over ≡ false) × (phase ≡ Holding (net_in phase))

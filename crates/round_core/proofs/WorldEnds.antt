@@ -9,14 +9,16 @@ use Rattle.gr_base.specs.Designs.{is_routed}
 use Rattle.grid_demand.specs.Tables.{capacity_of}
 use Rattle.book_state.proofs.LegalHistories.{legal-nothing}
 use Rattle.book_state.specs.Cuts.{cut}
-use Rattle.round_core.specs.Attempts.{Rests}
-use Rattle.round_core.specs.RunHistories.{Setting, IsRunHistory}
-use Rattle.round_core.specs.WorldRules.{KeepsRules, stage_in, stage_at, is_holding_net, IsPhaseRight, IsRunning, IsWorld}
+use Rattle.run_histories.specs.Attempts.{Rests}
+use Rattle.run_histories.specs.RunHistories.{Setting, IsRunHistory}
+use Rattle.round_core.specs.WorldRules.{stage_in, stage_at, is_holding_net, IsPhaseRight, IsRunning, IsWorld}
 use Rattle.round_core.specs.Worlds.{WorldView, phase_in, phase_before_end, phase_at, since_in, since_of, at_first}
 use Rattle.round_core.specs.declared.steps.Phase.{Phase}
 use Rattle.round_core.specs.declared.steps.Phase.TheVariants.{Idle, Ended}
-use Rattle.round_core.proofs.JoiningLaw.{none-apart}
-use Rattle.round_core.proofs.RangeCounts.{times-kept}
+use Rattle.run_histories.proofs.JoiningLaw.{none-apart}
+use Rattle.run_histories.proofs.RangeCounts.{times-kept}
+use Rattle.run_histories.specs.RunHistories.{KeepsRules}
+use Rattle.run_histories.proofs.KeptRules.{first-rules}
 
 -- the state at first
 first-phase : (n worker : ℕ) → phase_in (slice_get (replicate n Idle) worker) ≡ Idle
@@ -53,18 +55,6 @@ first-running t = record {
   exact = λ worker some. let none = first-since t.workers worker in absurd (omega (arith, some, none));
   right = λ worker. subst (λ (p : Phase). IsPhaseRight 0 (since_of (at_first t) worker) p) (sym (first-phase t.workers worker)) tt;
   apart = none-apart t.design;
-}
-
--- a history without entries keeps all rules
-pub first-rules : (t : Setting) → KeepsRules t []
-first-rules t = record {
-  legal = legal-nothing (capacity_of t.design);
-  numbers = λ p e there. absurd (none-some e there);
-  plans = λ p e there. absurd (none-some e there);
-  granted = λ p e there. absurd (none-some e there);
-  whole = λ p e there. absurd (none-some e there);
-  due = λ p e there. absurd (none-some e there);
-  asked = λ p e there. absurd (none-some e there);
 }
 
 pub first-world : (t : Setting) → IsWorld (at_first t)

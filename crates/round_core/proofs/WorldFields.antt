@@ -19,7 +19,7 @@ use Rattle.book_state.specs.declared.entry.Claim.{Claim}
 use Rattle.book_state.specs.declared.entry.Entry.{Entry}
 use Rattle.book_state.specs.declared.entry.Reply.{Reply}
 use Rattle.book_state.specs.declared.entry.Reply.TheVariants.{Taken, Released, NotBooked}
-use Rattle.round_core.specs.RunHistories.{Overflows, no_overflows, overflows_after, overflows_of, IsRunHistory}
+use Rattle.run_histories.specs.RunHistories.{Overflows, no_overflows, overflows_after, overflows_of, IsRunHistory}
 use Rattle.round_core.specs.WorldRules.{IsPhaseRight, IsWorld}
 use Rattle.round_core.specs.Worlds.{WorldView, phase_in, phase_at, phase_before_end, net_in, tries_in, phase_replied, IsStep, with_taken, entry_by, with_entry_by, is_allowed, happens}
 use Rattle.round_core.specs.WorldStore.{seen, Keeps}
@@ -104,9 +104,6 @@ reply-unmarked c h (Releases net) other = by (is_some (booked h net))
     by true = refl
     by false = refl
 reply-unmarked c h Marks other = absurd (both_ways true other refl)
-
-pub overflows-push : (h : List Entry) (e : Entry) → overflows_of (h ++ e ∷ []) ≡ overflows_after (overflows_of h) (overflow_in e.reply)
-overflows-push h e = fold_push (λ (o : Overflows) (x : Entry). overflows_after o (overflow_in x.reply)) no_overflows h e
 
 -- after a worker's call
 abbrev pub called_fields : Inside → BookView → ℕ → Phase → ℕ → Inside

@@ -17,20 +17,21 @@ use Rattle.book_state.specs.Entries.{is_mark}
 use Rattle.book_state.specs.declared.entry.Call.TheVariants.{Claim as Claims, Mark as Marks}
 use Rattle.book_state.specs.declared.entry.Claim.{Claim as ClaimOf}
 use Rattle.book_state.specs.declared.entry.Entry.{Entry}
-use Rattle.round_core.specs.Apart.{AreApartIn}
-use Rattle.round_core.specs.Attempts.{Rests, IsGranted}
-use Rattle.round_core.specs.Rounds.{marker}
-use Rattle.round_core.specs.RunHistories.{IsNumbered, IsPlanned, is_due, AreWhole, AreOfDue, says, IsAsked, IsOver}
-use Rattle.round_core.specs.WorldRules.{KeepsRules, stage_in, stage_at, times_in, IsPhaseRight, IsRunning, HasEnded, IsWorld}
+use Rattle.run_histories.specs.Apart.{AreApartIn}
+use Rattle.run_histories.specs.Attempts.{Rests, IsGranted}
+use Rattle.run_histories.specs.Rounds.{marker}
+use Rattle.run_histories.specs.RunHistories.{IsNumbered, IsPlanned, is_due, AreWhole, AreOfDue, says, IsAsked, IsOver}
+use Rattle.round_core.specs.WorldRules.{stage_in, stage_at, times_in, IsPhaseRight, IsRunning, HasEnded, IsWorld}
 use Rattle.round_core.specs.Worlds.{WorldView, phase_before_end, since_of, first_busy, entry_by, marked, is_on, goes_on, with_mark, is_allowed, happens}
 use Rattle.round_core.specs.declared.steps.Phase.{Phase}
 use Rattle.round_core.specs.declared.steps.Step.TheVariants.{Mark}
-use Rattle.round_core.proofs.CutSteps.{closed, cut-mark, closed-before}
+use Rattle.run_histories.proofs.CutSteps.{closed, cut-mark, closed-before}
 use Rattle.round_core.proofs.HeldCounts.{all-idle, none-held}
-use Rattle.round_core.proofs.JoiningLaw.{AreHeld, all-held, mark-apart}
-use Rattle.round_core.proofs.RangeCounts.{times-kept}
-use Rattle.round_core.proofs.TurnLemmas.{routed-within}
+use Rattle.run_histories.proofs.JoiningLaw.{AreHeld, all-held, mark-apart}
+use Rattle.run_histories.proofs.RangeCounts.{times-kept}
+use Rattle.run_histories.proofs.TurnLemmas.{routed-within}
 use Rattle.round_core.proofs.WorldSteps.{entry-cases, own-kept}
+use Rattle.run_histories.specs.RunHistories.{KeepsRules}
 
 -- a mark at which every worker is idle, and no net is left
 none-busy : (o : Option Phase) → is_none o ≡ true → o ≡ None

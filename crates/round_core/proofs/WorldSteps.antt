@@ -15,16 +15,19 @@ use Rattle.book_state.specs.declared.entry.Call.{Call}
 use Rattle.book_state.specs.declared.entry.Call.TheVariants.{Claim as Claims, Release as Releases, Mark as Marks}
 use Rattle.book_state.specs.declared.entry.Claim.{Claim as ClaimOf}
 use Rattle.book_state.specs.declared.entry.Entry.{Entry}
-use Rattle.round_core.specs.Attempts.{Stage, Broken, stage_after, stage_of, begins, attempts_at, IsGranted}
-use Rattle.round_core.specs.RunHistories.{IsNumbered, IsPlanned, is_due, AreWhole, AreOfDue, IsAsked}
-use Rattle.round_core.specs.WorldRules.{KeepsRules, HasOwnBefore, stage_in, stage_at, is_holding_net, times_in, IsPhaseRight, IsRunning, IsWorld}
+use Rattle.run_histories.specs.Attempts.{Stage, Broken, stage_after, stage_of, begins, attempts_at, IsGranted}
+use Rattle.run_histories.specs.RunHistories.{IsNumbered, IsPlanned, is_due, AreWhole, AreOfDue, IsAsked}
+use Rattle.round_core.specs.WorldRules.{HasOwnBefore, stage_in, stage_at, is_holding_net, times_in, IsPhaseRight, IsRunning, IsWorld}
 use Rattle.round_core.specs.Worlds.{WorldView, phase_in, phase_before_end, since_in, since_of, entry_by, with_entry_by}
 use Rattle.round_core.specs.declared.steps.Phase.{Phase}
 use Rattle.round_core.specs.declared.steps.Phase.TheVariants.{Idle, Holding, Trying, Ended}
-use Rattle.round_core.proofs.Answered.{GoesWell, answered}
-use Rattle.round_core.proofs.CutSteps.{grown, cut-other}
-use Rattle.round_core.proofs.HeldCounts.{set-here, set-elsewhere}
-use Rattle.round_core.proofs.StageSteps.{stage-own, stage-other, attempts-push}
+use Rattle.run_histories.proofs.Answered.{GoesWell, answered}
+use Rattle.run_histories.proofs.CutSteps.{grown, cut-other}
+use Rattle.run_histories.proofs.StageSteps.{stage-own, stage-other, attempts-push}
+use Rattle.run_histories.proofs.ListPlaces.{set-here}
+use Rattle.run_histories.proofs.ListPlaces.{set-elsewhere}
+use Rattle.run_histories.specs.RunHistories.{KeepsRules}
+use Rattle.run_histories.proofs.KeptRules.{one-more}
 
 -- a call of a worker that leaves it in a phase: the call is in range and part of an attempt, which it may begin at a
 -- net that the worker held
@@ -45,9 +48,6 @@ stage-unbroken Idle is = cc
 stage-unbroken (Holding net) is = cc
 stage-unbroken (Trying net tries since) is = cc
 stage-unbroken Ended is = cc
-
-pub one-more : (worker : ℕ) → worker + 1 ≡ suc worker
-one-more worker = omega arith
 
 numbered : (workers worker : ℕ) (call : Call) → worker < workers → is_mark_call call ≡ false → IsNumbered workers call (worker + 1)
 numbered workers worker (Claims claim) one other = (omega arith, omega arith)

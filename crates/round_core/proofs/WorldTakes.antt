@@ -6,14 +6,16 @@ use Rattle.std.proofs.lemmas.Bool.Decides.{nat_tests}
 use Rattle.book_state.proofs.ReplicaSteps.{is_same}
 use Rattle.book_state.specs.Cuts.{Cut, cut}
 use Rattle.book_state.specs.Entries.{calls_of}
-use Rattle.round_core.specs.Attempts.{stage_of}
-use Rattle.round_core.specs.RunHistories.{is_due}
+use Rattle.run_histories.specs.Attempts.{stage_of}
+use Rattle.run_histories.specs.RunHistories.{is_due}
 use Rattle.round_core.specs.WorldRules.{stage_in, stage_at, is_holding_net, times_in, IsPhaseRight, IsRunning, IsWorld}
 use Rattle.round_core.specs.Worlds.{WorldView, phase_in, phase_before_end, phase_at, since_of, is_left, is_idle, with_taken, is_allowed, happens}
 use Rattle.round_core.specs.declared.steps.Phase.{Phase}
 use Rattle.round_core.specs.declared.steps.Phase.TheVariants.{Idle, Holding, Trying, Ended}
 use Rattle.round_core.specs.declared.steps.Step.TheVariants.{Take}
-use Rattle.round_core.proofs.HeldCounts.{set-here, set-elsewhere, held-change, left-some, taken-none, taken-other}
+use Rattle.round_core.proofs.HeldCounts.{held-change, left-some, taken-none, taken-other}
+use Rattle.run_histories.proofs.ListPlaces.{set-here}
+use Rattle.run_histories.proofs.ListPlaces.{set-elsewhere}
 
 -- a worker that may take a net is idle, before the end
 idle-by : (over : Bool) (phase : Phase) → is_idle (if over then Ended else phase) ≡ true → (over ≡ false) × (phase ≡ Idle)

@@ -1,10 +1,3 @@
-pub mod Rounds
-pub mod Standing
-pub mod Hands
-pub mod Attempts
-pub mod TurnWords
-pub mod RunHistories
-pub mod Apart
 pub mod Worlds
 pub mod WorldRules
 pub mod WorldStore

@@ -8,23 +8,13 @@ use Rattle.book_state.specs.Entries.{AtEach, calls_of}
 use Rattle.book_state.specs.declared.entry.Call.TheVariants.{Claim as Claims}
 use Rattle.book_state.specs.declared.entry.Claim.{Claim}
 use Rattle.book_state.specs.declared.entry.Entry.{Entry}
-use Rattle.round_core.specs.Apart.{AreApartIn}
-use Rattle.round_core.specs.Attempts.{Stage, Rests, Claiming, stage_of, attempts_at}
-use Rattle.round_core.specs.Rounds.{slacks_of_turn}
-use Rattle.round_core.specs.RunHistories.{Setting, IsNumbered, IsPlanned, is_due, AreWhole, AreOfDue, ends_with_mark, AreGranted, IsAsked, IsOver}
+use Rattle.run_histories.specs.Apart.{AreApartIn}
+use Rattle.run_histories.specs.Attempts.{Stage, Rests, Claiming, stage_of, attempts_at}
+use Rattle.run_histories.specs.Rounds.{slacks_of_turn}
+use Rattle.run_histories.specs.RunHistories.{Setting, IsNumbered, IsPlanned, is_due, AreWhole, AreOfDue, ends_with_mark, AreGranted, IsAsked, IsOver, KeepsRules}
 use Rattle.round_core.specs.Worlds.{WorldView, phase_before_end, since_of}
 use Rattle.round_core.specs.declared.steps.Phase.{Phase}
 use Rattle.round_core.specs.declared.steps.Phase.TheVariants.{Idle, Holding, Trying, Ended}
-
--- a history of which all finished segments are those of a run history
-pub record KeepsRules (t : Setting) (h : List Entry) : Type 0 where
-  pub legal : IsLegal (capacity_of t.design) h
-  pub numbers : AtEach (λ before e. IsNumbered t.workers e.call e.number) h
-  pub plans : AtEach (λ before e. (claim : Claim) → e.call ≡ Claims claim → IsPlanned t before e.number claim) h
-  pub granted : AreGranted h
-  pub whole : AtMarks AreWhole h
-  pub due : AtMarks (AreOfDue t.design) h
-  pub asked : AtMarks (λ s. 0 < s.round → IsAsked t s) h
 
 -- where the entries of a worker in a phase have led
 abbrev pub stage_in : Phase → Stage

@@ -2,7 +2,7 @@
 use Rattle.std.specs.Prelude.{◌≡◌, ◌≤◌, length}
 use Rattle.gr_base.specs.Limits.{most_nets, most_rounds, most_workers}
 use Rattle.grid_demand.specs.Tables.{capacity_of}
-use Rattle.round_core.specs.RunHistories.{Setting, overflows_of}
+use Rattle.run_histories.specs.RunHistories.{Setting, overflows_of}
 use Rattle.round_core.specs.WorldRules.{IsWorld}
 use Rattle.round_core.specs.Worlds.{WorldView}
 use Rattle.round_core.specs.declared.world.World.TheInside.{Inside}

@@ -13,9 +13,9 @@ use Rattle.book_state.specs.declared.entry.Claim.{Claim as ClaimOf}
 use Rattle.book_state.specs.declared.entry.Entry.{Entry}
 use Rattle.book_state.specs.declared.entry.Reply.{Reply}
 use Rattle.book_state.specs.declared.entry.Reply.TheVariants.{Full}
-use Rattle.round_core.specs.Attempts.{kind_of, is_claim_for}
-use Rattle.round_core.specs.Rounds.{marker}
-use Rattle.round_core.specs.RunHistories.{Setting, IsPlanOver, says}
+use Rattle.run_histories.specs.Attempts.{kind_of, is_claim_for}
+use Rattle.run_histories.specs.Rounds.{marker}
+use Rattle.run_histories.specs.RunHistories.{Setting, IsPlanOver, says, routed_nets}
 use Rattle.round_core.specs.declared.steps.Phase.{Phase}
 use Rattle.round_core.specs.declared.steps.Phase.TheVariants.{Idle, Holding, Trying, Ended}
 use Rattle.round_core.specs.declared.steps.Step.{Step}
@@ -183,9 +183,6 @@ IsStep v (Claim worker claim) =
 IsStep v Mark = Unit {0}
 
 -- the state at first: each routed net is left, and each worker is idle
-abbrev pub routed_nets : DesignView → List ℕ
-routed_nets d = filter (is_routed d) (range_with_len 0 (length d.nets))
-
 abbrev pub at_first : Setting → WorldView
 at_first t = record {
   setting = t;

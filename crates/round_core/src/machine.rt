@@ -1,10 +1,10 @@
 //! What can be asked of the machine.
 ghost use Rattle.std.specs.Prelude.{◌≡◌, ◌<◌, ◌≤◌, length, IfOk, IfErr, OnOk, OnErr, IsTrue};
-ghost use Rattle.gr_base.specs.Limits.{most_nets, most_rounds, most_workers};
+ghost use Rattle.gr_base.specs.Limits.{most_rounds, most_workers};
 ghost use Rattle.grid_demand.specs.Tables.{capacity_of};
-ghost use Rattle.round_core.specs.RunHistories.{asked_for, IsRunHistory};
+ghost use Rattle.run_histories.specs.RunHistories.{asked_for, IsRunHistory};
 ghost use Rattle.round_core.specs.WorldRules.{IsWorld};
-ghost use Rattle.round_core.specs.Worlds.{routed_nets as nets_routed, phase_at, since_of, is_allowed, happens, IsStep, IsRefusal, at_first};
+ghost use Rattle.round_core.specs.Worlds.{phase_at, since_of, is_allowed, happens, IsStep, IsRefusal, at_first};
 ghost use Rattle.round_core.specs.declared.steps.StepRefused.TheVariants.{NoMemory};
 
 use crate::steps::{Phase, Step, StepRefused};
@@ -12,6 +12,7 @@ use crate::world::World;
 use book_state::BookState;
 use cost_rules::{Formula, Watcher};
 use gr_base::Design;
+use run_histories::routed_nets;
 use std::alloc::{AllocError, Global};
 
 impl<'a> World<'a> {
@@ -146,18 +147,4 @@ impl<'a> World<'a> {
     {
         self.since[worker as usize]
     }
-}
-
-/// The routed nets of a design, in its order. The only error is want of memory.
-pub fn routed_nets(alloc: Global, design: &Design) -> Result<Vec<u32>, AllocError>
-    ensures nets { IfOk result (λ nets. nets.items ≡ nets_routed design.now) }
-    ensures few { length design.now.nets ≤ most_nets }
-{
-    let mut nets = Vec::new(alloc);
-    for net in 0..design.nets() {
-        if design.routed(net) {
-            nets.push(net)?;
-        }
-    }
-    Ok(nets)
 }

@@ -5,7 +5,6 @@ ghost use Rattle.cost_rules.specs.Watching.{watch_says};
 ghost use Rattle.round_core.specs.WorldRules.{IsWorld};
 ghost use Rattle.round_core.specs.Worlds.{is_allowed, refused_phase as phase_refused, happens, goes_on_by, is_on as is_on_by, IsStep};
 
-use crate::hands::MARKER;
 use crate::phases::{
     allows_claim, first_busy, is_holding, is_idle, is_in, net_of, phase_replied, tries_of,
 };
@@ -13,6 +12,7 @@ use crate::steps::{Phase, Step};
 use crate::world::World;
 use book_state::{Claim, ClaimRefused, Reply};
 use cost_rules::{Going, Sight, Watch, goal, never, still};
+use run_histories::MARKER;
 use std::alloc::AllocError;
 
 impl<'a> World<'a> {

@@ -2,12 +2,12 @@
 ghost use Rattle.std.specs.Prelude.{◌≡◌, ◌≤◌, ◌==◌};
 ghost use Rattle.std.specs.List.{list_any};
 ghost use Rattle.gr_base.specs.Limits.{most_rounds};
-ghost use Rattle.round_core.specs.Attempts.{is_kind as kind_test, is_slack as slack_test, is_claim_for as claim_test};
+ghost use Rattle.run_histories.specs.Attempts.{is_kind as kind_test, is_slack as slack_test, is_claim_for as claim_test};
 ghost use Rattle.round_core.specs.Worlds.{is_idle as idle_test, is_holding as holding_test, first_busy as first_busy_in, slack_after as slack_by, allows_claim as claim_allowed, net_in, tries_in, phase_replied as phase_by};
 
-use crate::plans::kind_of;
 use crate::steps::Phase;
 use book_state::{Claim, PlanKind, Reply};
+use run_histories::kind_of;
 
 pub(crate) fn is_idle(phase: Phase) -> bool
     ensures { result ≡ idle_test phase }

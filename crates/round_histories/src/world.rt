@@ -3,7 +3,7 @@ ghost use Rattle.std.specs.Prelude.{◌≡◌, [], None, ◌<◌, OnOk, IfOk, Is
 ghost use Rattle.gr_base.specs.Designs.{IsDesign, is_routed};
 ghost use Rattle.book_state.specs.declared.entry.PlanKind.TheVariants.{Pattern};
 ghost use Rattle.cost_rules.specs.declared.site.Formula.TheVariants.{First};
-ghost use Rattle.round_core.specs.Rounds.{IsPlanFor};
+ghost use Rattle.run_histories.specs.Rounds.{IsPlanFor};
 ghost use Rattle.round_core.specs.Worlds.{IsStep};
 
 use book_state::{Claim, PlanKind, Replica};

@@ -3,7 +3,7 @@ use crate::devices::Devices;
 use cost_rules::Rules;
 use gr_io::{MemoryShelf, MemorySink};
 use ripup_workers::Gate;
-use round_core::HandLog;
+use run_histories::HandLog;
 use router_top::{Ended, run};
 use std::alloc::{AllocError, Global};
 use std::sync::Wait;

@@ -2,7 +2,7 @@
 use crate::bench::Left;
 use book_state::{BookState, Call, History, Reply};
 use gr_text::Text;
-use round_core::HandLog;
+use run_histories::HandLog;
 use std::alloc::{AllocError, Global};
 
 /// The most bytes of a text that is printed whole.

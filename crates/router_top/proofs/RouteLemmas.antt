@@ -25,8 +25,8 @@ use Rattle.book_state.specs.Views.{BookView}
 use Rattle.book_state.specs.declared.entry.Entry.{Entry}
 use Rattle.route_evaluator.specs.Verdicts.{AreLoadsBy}
 use Rattle.straight_runs.specs.Routed.{HaveTrees}
-use Rattle.round_core.specs.Hands.{log_of}
-use Rattle.round_core.specs.Rounds.{marker}
+use Rattle.run_histories.specs.Hands.{log_of}
+use Rattle.run_histories.specs.Rounds.{marker}
 use Rattle.batch_rounds.specs.BatchedHistories.{batches_of, claimant, IsBatched, IsNumbered}
 use Rattle.batch_rounds.specs.Made.{IsMade as IsMadeInBatches}
 use Rattle.batch_rounds.specs.declared.rounds.Batched.{Batched}
@@ -36,7 +36,7 @@ use Rattle.router_top.proofs.DemandLemmas.{booked-demand}
 use Rattle.router_top.specs.Booking.{setting_of, AllJoined, AreTrees, AreBookedRoutes, AreChosenRoutes, AreRoundsOf, IsBookOf, IsHistoryBy}
 use Rattle.router_top.specs.declared.booking.BookedRoutes.{BookedRoutes}
 use Rattle.word_reader.specs.declared.order.Options.{Options}
-use Rattle.round_core.specs.Standing.{Stands}
+use Rattle.run_histories.specs.Standing.{Stands}
 
 past-unrouted : (d : DesignView) (net : ℕ) → length d.nets ≤ net → is_routed d net ≡ false
 past-unrouted d net past = ap is_routed_net (slice_get_past d.nets net past)

@@ -19,10 +19,10 @@ use Rattle.route_evaluator.specs.declared.verdict.Verdict.{Verdict}
 use Rattle.straight_runs.specs.Routed.{HaveTrees}
 use Rattle.batch_rounds.specs.BatchedHistories.{Batching, batches_of, IsBatched, IsNumbered}
 use Rattle.ripup_workers.specs.declared.rounds.Rounds.{Rounds}
-use Rattle.round_core.specs.Hands.{ArePartedTo}
-use Rattle.round_core.specs.RunHistories.{Setting, asked_for, IsRunHistory}
-use Rattle.round_core.specs.Standing.{Stands}
-use Rattle.round_core.specs.declared.hands.HandLog.{HandLog}
+use Rattle.run_histories.specs.Hands.{ArePartedTo}
+use Rattle.run_histories.specs.RunHistories.{Setting, asked_for, IsRunHistory}
+use Rattle.run_histories.specs.Standing.{Stands}
+use Rattle.run_histories.specs.declared.hands.HandLog.{HandLog}
 use Rattle.router_top.specs.declared.booking.BookedRoutes.{BookedRoutes}
 use Rattle.word_reader.specs.declared.order.Options.{Options}
 use Rattle.word_reader.specs.declared.order.Stopping.{Stopping}

@@ -3,7 +3,7 @@ use Rattle.std.specs.Prelude.{◌≡◌, ℕ, List, Some}
 use Rattle.gr_base.specs.Designs.{DesignView}
 use Rattle.book_state.specs.Views.{BookView}
 use Rattle.rc_library.specs.Libraries.{LibraryView}
-use Rattle.round_core.specs.declared.hands.HandLog.{HandLog}
+use Rattle.run_histories.specs.declared.hands.HandLog.{HandLog}
 use Rattle.router_top.specs.Routing.{IsRoutingOf}
 use Rattle.word_reader.specs.declared.order.Options.{Options}
 

@@ -22,7 +22,7 @@ use Rattle.gr_io.specs.declared.shelf.Slot.{Slot}
 use Rattle.gr_io.specs.declared.shelf.Slot.TheVariants.{Design, Library, Solution}
 use Rattle.rc_library.specs.Libraries.{LibraryView}
 use Rattle.report_text.specs.BufferTexts.{buffers_text}
-use Rattle.round_core.specs.declared.hands.HandLog.{HandLog}
+use Rattle.run_histories.specs.declared.hands.HandLog.{HandLog}
 use Rattle.route_evaluator.specs.Verdicts.{IsVerdict}
 use Rattle.route_evaluator.specs.declared.verdict.Verdict.{Verdict}
 use Rattle.router_top.specs.Booking.{booked_edges, AllJoined, AreChosenRoutes, AreTrees, IsBookOf, IsVerdictOn}

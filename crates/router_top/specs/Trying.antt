@@ -8,7 +8,7 @@ use Rattle.design_maker.specs.Texts.{text_of}
 use Rattle.design_maker.specs.declared.made.Made.{Made}
 use Rattle.gr_base.specs.Designs.{DesignView}
 use Rattle.ispd_reader.specs.DesignText.{design_of}
-use Rattle.round_core.specs.declared.hands.HandLog.{HandLog}
+use Rattle.run_histories.specs.declared.hands.HandLog.{HandLog}
 use Rattle.route_evaluator.specs.Verdicts.{IsVerdict}
 use Rattle.route_evaluator.specs.declared.verdict.Verdict.{Verdict}
 use Rattle.router_top.specs.Booking.{booked_edges, IsBookOf}

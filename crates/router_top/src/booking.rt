@@ -3,7 +3,7 @@ ghost use Rattle.std.specs.Prelude.{◌≡◌, Some, IfOk, OnOk};
 ghost use Rattle.gr_base.specs.Designs.{IsDesign};
 ghost use Rattle.route_evaluator.specs.NetTrees.{AreTrees};
 ghost use Rattle.ripup_workers.specs.Made.{IsMade};
-ghost use Rattle.round_core.specs.RunHistories.{asked_for};
+ghost use Rattle.run_histories.specs.RunHistories.{asked_for};
 ghost use Rattle.router_top.specs.Booking.{setting_of, AreBookedRoutes, AreRoundsOf, IsVerdictOn};
 ghost use Rattle.word_reader.specs.Orders.{AreInRange};
 
@@ -12,7 +12,7 @@ use batch_rounds::batch_rounds;
 use cost_rules::Watcher;
 use gr_base::{Design, Routes};
 use ripup_workers::{Gate, Rounds, route_rounds};
-use round_core::hands_of;
+use run_histories::hands_of;
 use route_evaluator::{Verdict, evaluate_routes};
 use std::alloc::{AllocError, Global};
 use std::sync::Wait;

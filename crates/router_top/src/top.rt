@@ -16,7 +16,7 @@ use command_form::{Kept, Left, Spent, Stop, finish};
 use cost_rules::Rules;
 use gr_io::{Shelf, Sink};
 use ripup_workers::Gate;
-use round_core::HandLog;
+use run_histories::HandLog;
 use std::alloc::Global;
 use std::sync::Wait;
 use std::thread::Threads;

@@ -5,7 +5,7 @@ use Rattle.std.specs.Str.{bytes_eq}
 use Rattle.gr_base.specs.Limits.{most_workers}
 use Rattle.word_reader.specs.Numbers.{most_number}
 use Rattle.word_reader.specs.declared.form.Command.{Command}
-use Rattle.word_reader.specs.declared.form.Command.TheVariants.{Route, Evaluate, Buffer, Make, Trial, Panels}
+use Rattle.word_reader.specs.declared.form.Command.TheVariants.{Route, Evaluate, Buffer, Make, Trial, Panels, Bound}
 use Rattle.word_reader.specs.declared.form.OptionKind.{OptionKind}
 use Rattle.word_reader.specs.declared.form.OptionKind.TheVariants.{Workers, ViaCost, Batch, Rule, Stop}
 
@@ -86,7 +86,7 @@ is_option one other = place one == place other
 abbrev pub option_of : List ℕ → Option OptionKind
 option_of word = find (λ option. bytes_eq word (option_row option).word) every_option
 
--- a command's word, how many words behind it are no options, and which options it has
+-- a command's word (none names grbound's), how many words behind it are no options, and which options it has
 pub record CommandRow : Type 0 where
   pub word : List ℕ
   pub positionals : ℕ
@@ -104,8 +104,9 @@ command_row Buffer = record { word = codes "buffer"; positionals = 3; options = 
 command_row Make = record { word = codes "make"; positionals = 5; options = [] }
 command_row Trial = record { word = codes "trial"; positionals = 6; options = Workers ∷ Rule ∷ [] }
 command_row Panels = record { word = codes "panels"; positionals = 2; options = [] }
+command_row Bound = record { word = []; positionals = 1; options = ViaCost ∷ [] }
 
--- the commands, each once
+-- the commands that words name, each once
 abbrev pub every_command : List Command
 every_command = Route ∷ Evaluate ∷ Buffer ∷ Make ∷ Trial ∷ Panels ∷ []
 

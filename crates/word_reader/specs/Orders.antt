@@ -16,13 +16,15 @@ use Rattle.word_reader.specs.Values.{Value, Absent, Choice, Count, number_of, va
 use Rattle.word_reader.specs.declared.error.WordError.{WordError}
 use Rattle.word_reader.specs.declared.error.WordError.TheVariants.{Usage}
 use Rattle.word_reader.specs.declared.form.Command.{Command}
-use Rattle.word_reader.specs.declared.form.Command.TheVariants.{Route as Routes, Evaluate as Evaluates, Buffer as Buffers, Make as Makes, Trial as Tries, Panels as Tracks}
+use Rattle.word_reader.specs.declared.form.Command.TheVariants.{Route as Routes, Evaluate as Evaluates, Buffer as Buffers, Make as Makes, Trial as Tries, Panels as Tracks, Bound as Bounds}
 use Rattle.word_reader.specs.declared.form.OptionKind.{OptionKind}
 use Rattle.word_reader.specs.declared.form.OptionKind.TheVariants.{Workers, ViaCost, Batch, Rule, Stop}
 use Rattle.word_reader.specs.declared.order.Options.{Options}
 use Rattle.word_reader.specs.declared.order.Order.{Order as Given}
 use Rattle.word_reader.specs.declared.order.Stopping.{Stopping}
 use Rattle.word_reader.specs.declared.order.Stopping.TheVariants.{Never, Still, Goal}
+use Rattle.word_reader.specs.declared.program.Program.{Program}
+use Rattle.word_reader.specs.declared.program.Program.TheVariants.{Groute, Grbound}
 use Rattle.word_reader.specs.declared.sorted.Next.TheVariants.{Any}
 
 -- what words ask for, with the names of the texts that it needs
@@ -33,6 +35,7 @@ pub data Order : Type 0 where
   Make : Made → Order
   Trial : Made → Options → Order
   Panels : (design solution : List ℕ) → Order
+  Bound : (design : List ℕ) → (via_cost : ℕ) → Order
 
 infixl 10 ◌>>=◌
 abbrev ◌>>=◌ : {A B : Type 0} → Option A → (A → Option B) → Option B
@@ -145,7 +148,8 @@ trial_of sorted = do
   Some (Trial made options)
 
 -- what each command asks for: `route DESIGN LIBRARY ROUNDS`, `evaluate DESIGN SOLUTION`,
--- `buffer DESIGN LIBRARY SOLUTION`, `make SEED X Y L NETS`, `trial SEED X Y L NETS ROUNDS` and `panels DESIGN SOLUTION`
+-- `buffer DESIGN LIBRARY SOLUTION`, `make SEED X Y L NETS`, `trial SEED X Y L NETS ROUNDS`, `panels DESIGN SOLUTION`,
+-- and grbound's one, `DESIGN`
 abbrev pub order_as : Command → Sorted → Option Order
 order_as Routes sorted = option_map (Route (positional sorted 0) (positional sorted 1)) (options_of sorted 2)
 order_as Evaluates sorted =
@@ -154,18 +158,27 @@ order_as Buffers sorted = Some (Buffer (positional sorted 0) (positional sorted 
 order_as Makes sorted = option_map Make (made_of sorted)
 order_as Tries sorted = trial_of sorted
 order_as Tracks sorted = Some (Panels (positional sorted 0) (positional sorted 1))
+order_as Bounds sorted = option_map (Bound (positional sorted 0)) (number_of ViaCost sorted)
 
 -- the order of a command by the words behind its own
 abbrev pub order_by : Command → Sorted → Option Order
 order_by command sorted = if fits command sorted then order_as command sorted else None
 
--- the order that words give: the first names a command, and the others are its own
-unfoldable pub order_of : List (List ℕ) → Option Order
-order_of [] = None
-order_of (first ∷ rest) = do
+-- the order of a command by the words that are all its own
+abbrev pub order_with : Command → List (List ℕ) → Option Order
+order_with command words = option_and_then (order_by command) (sorted Any words)
+
+-- the order whose command the first word names, where the others are its own
+unfoldable pub named_order : List (List ℕ) → Option Order
+named_order [] = None
+named_order (first ∷ rest) = do
   command ← command_of first
-  words ← sorted Any rest
-  order_by command words
+  order_with command rest
+
+-- the order that the words of a program give
+abbrev pub order_of : Program → List (List ℕ) → Option Order
+order_of Groute words = named_order words
+order_of Grbound words = order_with Bounds words
 
 -- the order that was read
 abbrev pub named : Given → Order
@@ -175,6 +188,7 @@ named (Given.Buffer design library solution) = Buffer design.now library.now sol
 named (Given.Make made) = Make made
 named (Given.Trial made options) = Trial made options
 named (Given.Panels design solution) = Panels design.now solution.now
+named (Given.Bound design via_cost) = Bound design.now via_cost
 
 -- the order of the words, or that they give none
 abbrev pub Answers : Option Order → Result Given WordError → Type 0
@@ -197,3 +211,4 @@ AsksInRange (Given.Buffer design library solution) = Unit {0}
 AsksInRange (Given.Make made) = IsMade made
 AsksInRange (Given.Trial made options) = IsMade made × AreInRange options
 AsksInRange (Given.Panels design solution) = Unit {0}
+AsksInRange (Given.Bound design via_cost) = via_cost ≤ most_via_cost

@@ -20,12 +20,14 @@ pub(crate) enum Command {
     Make,
     Trial,
     Panels,
+    /// grbound's, which no word names.
+    Bound,
 }
 
 /// What words a command takes.
 #[derive(Clone, Copy)]
 pub(crate) struct CommandRow {
-    /// The command's own.
+    /// The command's own; empty where none names it.
     pub word: &'static str,
     /// How many words behind it aren't options.
     pub positionals: usize,
@@ -75,7 +77,7 @@ pub(crate) enum Takes {
 /// The most positionals that a command has.
 pub(crate) const MOST_POSITIONALS: usize = 6;
 
-/// The commands, each once.
+/// The commands that words name, each once.
 const EVERY_COMMAND: [Command; 6] = [
     Command::Route,
     Command::Evaluate,
@@ -158,6 +160,11 @@ impl Command {
                 word: "panels",
                 positionals: 2,
                 options: &[],
+            },
+            Command::Bound => CommandRow {
+                word: "",
+                positionals: 1,
+                options: &[OptionKind::ViaCost],
             },
         }
     }

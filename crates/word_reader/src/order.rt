@@ -5,7 +5,7 @@ ghost use Rattle.design_maker.specs.Ranges.{IsMade};
 ghost use Rattle.word_reader.specs.Forms.{command_row, most_batch};
 ghost use Rattle.word_reader.specs.Kept.{words_seen};
 ghost use Rattle.word_reader.specs.Orders.{named, batch_of, options_of, in_range, made_of, order_as, rule_of, stop_of, trial_of, AreInRange, AsksInRange};
-ghost use Rattle.word_reader.specs.declared.form.Command.TheVariants.{Route as Routes, Evaluate as Evaluates, Buffer as Buffers, Make as Makes, Trial as Tries, Panels as Tracks};
+ghost use Rattle.word_reader.specs.declared.form.Command.TheVariants.{Route as Routes, Evaluate as Evaluates, Buffer as Buffers, Make as Makes, Trial as Tries, Panels as Tracks, Bound as Bounds};
 
 use crate::form::{Command, OptionKind};
 use crate::numbers::{MOST_DIGITS, number_of_word};
@@ -87,6 +87,12 @@ pub enum Order<'w> {
         design: &'w str,
         solution: &'w str,
     },
+    /// grbound's `DESIGN [--via-cost V]` tells what no solution of the design can be better in.
+    Bound {
+        design: &'w str,
+        /// As for `evaluate`.
+        via_cost: u32,
+    },
 }
 
 /// What a command asks for by as many positionals as it has, and its options.
@@ -102,6 +108,7 @@ pub(crate) fn order_as<'w>(command: Command, sorted: &Sorted<'w>) -> Option<Orde
         Command::Make => make(sorted),
         Command::Trial => trial(sorted),
         Command::Panels => Some(panels(sorted)),
+        Command::Bound => bound(sorted),
     }
 }
 
@@ -211,6 +218,18 @@ fn panels<'w>(sorted: &Sorted<'w>) -> Order<'w>
         design: sorted.positional(0),
         solution: sorted.positional(1),
     }
+}
+
+fn bound<'w>(sorted: &Sorted<'w>) -> Option<Order<'w>>
+    requires { 1 ≤ length (words_seen sorted.now).positionals }
+    ensures order { option_map named result ≡ order_as Bounds (words_seen sorted.now) }
+    ensures range { IfSome result AsksInRange }
+{
+    let via_cost = number_of(OptionKind::ViaCost, sorted)?;
+    Some(Order::Bound {
+        design: sorted.positional(0),
+        via_cost: via_cost as u32,
+    })
 }
 
 fn make<'w>(sorted: &Sorted<'w>) -> Option<Order<'w>>

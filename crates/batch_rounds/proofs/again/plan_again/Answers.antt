@@ -1,7 +1,7 @@
 use Rattle.std.proofs.Common.{List, sym, subst, ◌∙◌}
 use Rattle.book_state.specs.declared.entry.Entry.{Entry}
-use Rattle.round_core.specs.Attempts.{kind_of}
-use Rattle.round_core.specs.Rounds.{IsPlanFor}
+use Rattle.run_histories.specs.Attempts.{kind_of}
+use Rattle.run_histories.specs.Rounds.{IsPlanFor}
 use Rattle.batch_rounds.specs.SecondTries.{EndsWith}
 use Rattle.batch_rounds.proofs.KeptPlans.{kept-plan, of-copy}
 use Rattle.batch_rounds.proofs.again.plan_again.Goals as goal

@@ -1,7 +1,7 @@
 use Rattle.std.proofs.Common.{Some, refl, sym, ap, ◌∙◌}
 use Rattle.gr_base.specs.Trees.{TreeView}
 use Rattle.book_state.specs.declared.entry.Entry.{Entry}
-use Rattle.round_core.specs.Rounds.{claim_of}
+use Rattle.run_histories.specs.Rounds.{claim_of}
 use Rattle.std.proofs.Common.{List, ℕ, None, length}
 use Rattle.batch_rounds.specs.Rounds.{batching_of}
 use Rattle.batch_rounds.proofs.RoundSteps.{is-added, claim-over, alone-fits, alone-forced}

@@ -2,7 +2,7 @@ use Rattle.std.proofs.Common.{sym, ap, subst, ◌∙◌}
 use Rattle.std.specs.Option.{is_some}
 use Rattle.grid_demand.specs.Tables.{CapacityView}
 use Rattle.book_state.specs.Books.{IsLegal}
-use Rattle.round_core.proofs.StandLemmas.{mark-within}
+use Rattle.run_histories.proofs.StandLemmas.{mark-within}
 use Rattle.batch_rounds.specs.BatchedHistories.{batches_of}
 use Rattle.batch_rounds.proofs.HeldNets.{batched-sound, batched-stands, batched-marked}
 use Rattle.batch_rounds.proofs.rounds.batch_rounds.Goals as goal

@@ -1,12 +1,12 @@
 use Rattle.std.proofs.Common.{ℕ, List, [], ◌+◌, length, All, IsTrue, refl, sym, subst, ◌∙◌}
 use Rattle.gr_base.specs.Designs.{is_routed}
 use Rattle.book_state.specs.declared.entry.Entry.{Entry}
-use Rattle.round_core.proofs.WorldSteps.{one-more}
 use Rattle.batch_rounds.specs.BatchedHistories.{IsRound}
 use Rattle.batch_rounds.specs.Rounds.{batching_of}
 use Rattle.batch_rounds.proofs.HeldNets.{IsReady, ready-first, ready-next, round-stands}
 use Rattle.batch_rounds.proofs.RoundSteps.{few-victims, few-routed, goes-on, stops-last, run-first, run-more}
 use Rattle.batch_rounds.proofs.run.run_rounds.Goals as goal
+use Rattle.run_histories.proofs.KeptRules.{one-more}
 
 pub run_round-requires-clause-nets : goal.run_round-requires-clause-nets
 run_round-requires-clause-nets g c lives in_lives =

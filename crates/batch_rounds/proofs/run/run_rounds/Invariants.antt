@@ -1,7 +1,7 @@
 use Rattle.std.specs.Prelude.{◌≡◌, length}
 use Rattle.grid_demand.specs.Tables.{capacity_of}
 use Rattle.book_state.specs.Books.{victims, IsLegal}
-use Rattle.round_core.specs.Standing.{Stands}
+use Rattle.run_histories.specs.Standing.{Stands}
 use Rattle.batch_rounds.specs.Rounds.{batching_of, HasRun}
 use Rattle.batch_rounds.proofs.run.run_rounds.Given as goal
 

@@ -6,9 +6,9 @@ use Rattle.book_state.specs.Books.{IsLegal}
 use Rattle.book_state.specs.Marks.{least_mark}
 use Rattle.book_state.specs.Views.{BookView}
 use Rattle.book_state.specs.declared.entry.Entry.{Entry}
-use Rattle.round_core.specs.Hands.{log_of}
-use Rattle.round_core.specs.RunHistories.{Setting, asked_for}
-use Rattle.round_core.proofs.StandLemmas.{mark-within}
+use Rattle.run_histories.specs.Hands.{log_of}
+use Rattle.run_histories.specs.RunHistories.{Setting, asked_for}
+use Rattle.run_histories.proofs.StandLemmas.{mark-within}
 use Rattle.ripup_workers.proofs.JoiningEnds.{run-numbers, run-marked, run-stands}
 use Rattle.ripup_workers.proofs.rounds.route_rounds.Goals as goal
 

@@ -1,5 +1,5 @@
 use Rattle.std.proofs.Common.{◌≡◌}
-use Rattle.round_core.specs.RunHistories.{Setting}
+use Rattle.run_histories.specs.RunHistories.{Setting}
 use Rattle.work_share.specs.Views.{IsHandOf}
 use Rattle.ripup_workers.specs.Turning.{IsOver, HasWorked}
 use Rattle.ripup_workers.proofs.work.work.Given as goal

@@ -7,9 +7,9 @@ use Rattle.book_state.specs.Books.{AreLoadsOf}
 use Rattle.book_state.specs.declared.entry.PlanKind.TheVariants.{Pattern}
 use Rattle.net_plan.proofs.FlatLemmas.{if-both}
 use Rattle.net_plan.specs.Prices.{HasBoundedDemand}
-use Rattle.round_core.proofs.PlanLemmas.{plan-pattern, routes-net}
-use Rattle.round_core.proofs.TurnLemmas.{bounded-loads}
-use Rattle.round_core.specs.Rounds.{IsPlanFor}
+use Rattle.run_histories.proofs.PlanLemmas.{plan-pattern, routes-net}
+use Rattle.run_histories.proofs.TurnLemmas.{bounded-loads}
+use Rattle.run_histories.specs.Rounds.{IsPlanFor}
 use Rattle.round_histories.proofs.world.first_plan.Goals as goal
 
 pub pattern_plan-requires-clause-demand : goal.pattern_plan-requires-clause-demand

@@ -5,8 +5,8 @@ use Rattle.gr_base.specs.declared.frame.Net.{Net}
 use Rattle.grid_demand.specs.Tables.{capacity_of}
 use Rattle.book_state.specs.Books.{nets_of, IsClaim}
 use Rattle.book_state.specs.declared.entry.PlanKind.TheVariants.{Pattern}
-use Rattle.round_core.specs.Rounds.{claim_of}
-use Rattle.round_core.specs.RunHistories.{Setting, IsPlanOver}
+use Rattle.run_histories.specs.Rounds.{claim_of}
+use Rattle.run_histories.specs.RunHistories.{Setting, IsPlanOver}
 use Rattle.round_histories.proofs.world.put_first_round.Goals as goal
 
 pub put_step-requires-4 : goal.put_step-requires-4

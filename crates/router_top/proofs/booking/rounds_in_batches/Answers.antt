@@ -1,7 +1,7 @@
 use Rattle.std.proofs.Common.{List, ℕ, ◌+◌, map, refl, ap, ◌∙◌}
 use Rattle.std.specs.List.{range_with_len}
 use Rattle.book_state.specs.declared.entry.Entry.{Entry}
-use Rattle.round_core.specs.Hands.{log_of}
+use Rattle.run_histories.specs.Hands.{log_of}
 use Rattle.router_top.proofs.RouteLemmas.{rounds-batched}
 use Rattle.router_top.proofs.booking.rounds_in_batches.Goals as goal
 

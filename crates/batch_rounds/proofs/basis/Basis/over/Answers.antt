@@ -4,7 +4,7 @@ use Rattle.gr_base.specs.declared.frame.Frame.{Frame}
 use Rattle.grid_demand.specs.Tables.{CapacityView}
 use Rattle.book_state.proofs.ReplicaSteps.{one-shape}
 use Rattle.book_state.specs.Books.{AreLoadsOf}
-use Rattle.round_core.proofs.TurnLemmas.{bounded-loads}
+use Rattle.run_histories.proofs.TurnLemmas.{bounded-loads}
 use Rattle.batch_rounds.proofs.basis.Basis.over.Goals as goal
 
 pub prove-unreachable-requires : goal.prove-unreachable-requires

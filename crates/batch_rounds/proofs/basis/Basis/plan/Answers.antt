@@ -1,6 +1,6 @@
 use Rattle.std.proofs.Common.{IfOk, subst}
 use Rattle.book_state.specs.declared.entry.PlanKind.{PlanKind}
-use Rattle.round_core.specs.Rounds.{IsPlanFor}
+use Rattle.run_histories.specs.Rounds.{IsPlanFor}
 use Rattle.batch_rounds.proofs.basis.Basis.plan.Goals as goal
 
 pub returns-clause-plan : goal.returns-clause-plan

@@ -1,7 +1,7 @@
 use Rattle.std.proofs.Common.{ℕ, [], ◌∷◌, sym, subst}
 use Rattle.std.proofs.lemmas.Result.{IfOk-weaker}
-use Rattle.round_core.specs.Attempts.{Rests, Claiming}
-use Rattle.round_core.specs.Rounds.{slacks_of_turn}
+use Rattle.run_histories.specs.Attempts.{Rests, Claiming}
+use Rattle.run_histories.specs.Rounds.{slacks_of_turn}
 use Rattle.ripup_workers.specs.Working.{HasLed, HasAttempted}
 use Rattle.ripup_workers.proofs.ForeseenPlans.{foreseen-after}
 use Rattle.ripup_workers.proofs.TurningPlans.{answered-begins}

@@ -1,6 +1,6 @@
 use Rattle.std.proofs.Common.{[], ◌∷◌, None, subst}
 use Rattle.book_state.specs.declared.entry.PlanKind.{PlanKind}
-use Rattle.round_core.specs.Attempts.{Rests}
+use Rattle.run_histories.specs.Attempts.{Rests}
 use Rattle.track_book.specs.Passes.{PassView}
 use Rattle.ripup_workers.specs.Turning.{HasTried}
 use Rattle.ripup_workers.proofs.TurningStages.{led-then, followed-led, first-led}

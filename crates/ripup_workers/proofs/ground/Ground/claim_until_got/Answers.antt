@@ -1,8 +1,8 @@
 use Rattle.std.proofs.Common.{[], ◌∷◌, Option, Some, None, IfSome, subst}
 use Rattle.gr_base.specs.Trees.{TreeView}
 use Rattle.book_state.specs.declared.entry.PlanKind.{PlanKind}
-use Rattle.round_core.specs.Attempts.{Rests, Claiming}
-use Rattle.round_core.specs.Rounds.{slacks_of_turn, IsPlanFor}
+use Rattle.run_histories.specs.Attempts.{Rests, Claiming}
+use Rattle.run_histories.specs.Rounds.{slacks_of_turn, IsPlanFor}
 use Rattle.ripup_workers.specs.Turning.{HasTried, HasLedOn}
 use Rattle.ripup_workers.proofs.TurningPlans.{planned-now}
 use Rattle.ripup_workers.proofs.TurningStages.{led-then, followed-led, got-led, last-got}

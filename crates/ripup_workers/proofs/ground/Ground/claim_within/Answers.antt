@@ -1,7 +1,7 @@
 use Rattle.std.proofs.Common.{[], ◌∷◌, false, Some, refl, sym, subst, ◌∙◌}
 use Rattle.std.proofs.lemmas.Bool.{both_ways}
 use Rattle.book_state.specs.declared.entry.PlanKind.{PlanKind}
-use Rattle.round_core.specs.Attempts.{Claiming}
+use Rattle.run_histories.specs.Attempts.{Claiming}
 use Rattle.ripup_workers.specs.Turning.{HasTried}
 use Rattle.ripup_workers.proofs.TurningStages.{led-then, followed-led, got-led, full-led}
 use Rattle.ripup_workers.proofs.TurningPlans.{was-planned}

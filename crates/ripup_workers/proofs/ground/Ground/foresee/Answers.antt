@@ -1,5 +1,5 @@
 use Rattle.std.proofs.Common.{[], sym, subst}
-use Rattle.round_core.specs.Attempts.{Rests}
+use Rattle.run_histories.specs.Attempts.{Rests}
 use Rattle.track_book.specs.Passes.{PassView}
 use Rattle.ripup_workers.specs.Working.{HasLed}
 use Rattle.ripup_workers.proofs.TurningStages.{followed, followed-led, led-then}

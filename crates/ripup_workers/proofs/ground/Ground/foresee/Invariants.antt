@@ -1,7 +1,7 @@
 use Rattle.std.proofs.Common.{◌≡◌, ℕ, [], length}
 use Rattle.book_state.specs.Replicas.{StandsFor}
-use Rattle.round_core.specs.Attempts.{Rests}
-use Rattle.round_core.specs.RunHistories.{Setting}
+use Rattle.run_histories.specs.Attempts.{Rests}
+use Rattle.run_histories.specs.RunHistories.{Setting}
 use Rattle.ripup_workers.specs.Turning.{IsOver}
 use Rattle.ripup_workers.specs.Working.{HasLed}
 use Rattle.ripup_workers.proofs.ground.Ground.foresee.Given as goal

@@ -1,6 +1,6 @@
 use Rattle.std.proofs.Common.{sym, subst}
 use Rattle.net_plan.specs.Prices.{HasBoundedDemand}
-use Rattle.round_core.proofs.TurnLemmas.{bounded-loads}
+use Rattle.run_histories.proofs.TurnLemmas.{bounded-loads}
 use Rattle.ripup_workers.proofs.ground.Ground.plan.Goals as goal
 
 pub plan-requires-clause-demand : goal.plan-requires-clause-demand

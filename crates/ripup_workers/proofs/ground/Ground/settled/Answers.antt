@@ -1,5 +1,5 @@
 use Rattle.std.proofs.Common.{[]}
-use Rattle.round_core.specs.Attempts.{Rests}
+use Rattle.run_histories.specs.Attempts.{Rests}
 use Rattle.ripup_workers.proofs.TurningStages.{followed-led, led-then, ok-then}
 use Rattle.ripup_workers.proofs.ground.Ground.settled.Goals as goal
 

@@ -5,7 +5,7 @@ use Rattle.grid_demand.specs.Tables.{CapacityView, capacity_of}
 use Rattle.net_plan.specs.Prices.{HasBoundedDemand}
 use Rattle.book_state.specs.Books.{AreLoadsOf}
 use Rattle.book_state.specs.declared.entry.Entry.{Entry}
-use Rattle.round_core.proofs.TurnLemmas.{bounded-loads}
+use Rattle.run_histories.proofs.TurnLemmas.{bounded-loads}
 use Rattle.ripup_workers.proofs.ForeseenPlans.{lifted-loads}
 use Rattle.ripup_workers.proofs.worker.Worker.plan_without.Goals as goal
 

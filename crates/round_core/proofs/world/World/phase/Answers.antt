@@ -1,5 +1,5 @@
 use Rattle.std.proofs.Common.{◌≡◌, ◌<◌, sym, subst, ◌∙◌}
-use Rattle.round_core.specs.RunHistories.{IsRunHistory}
+use Rattle.run_histories.specs.RunHistories.{IsRunHistory}
 use Rattle.round_core.specs.Worlds.{WorldView, phase_at}
 use Rattle.round_core.proofs.WorldFields.{phase-read, over-ended}
 use Rattle.round_core.proofs.WorldEnds.{ended-run}

@@ -1,0 +1,4 @@
+pub mod FreedomLemmas
+pub mod KeyLemmas
+pub mod RegionLemmas
+pub mod DealingLemmas

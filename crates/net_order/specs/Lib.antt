@@ -1,0 +1,3 @@
+pub mod Freedoms
+pub mod Orders
+pub mod Surveys

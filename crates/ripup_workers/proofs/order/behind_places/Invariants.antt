@@ -1,6 +1,0 @@
-use Rattle.std.proofs.Common.{◌≡◌, map, take}
-use Rattle.ripup_workers.specs.Orders.{net_in}
-use Rattle.ripup_workers.proofs.order.behind_places.Given as goal
-
-abbrev pub invariant-loop-net : goal.invariant-loop-net
-invariant-loop-net l = map net_in l.placed.items ≡ take l.net-index l.nets

@@ -1,0 +1,15 @@
+pub mod ListPlaces
+pub mod HandLemmas
+pub mod StandLemmas
+pub mod TurnLemmas
+pub mod PlanLemmas
+pub mod CutSteps
+pub mod StageSteps
+pub mod ApartSteps
+pub mod Answered
+pub mod JoiningLaw
+pub mod RoutedTrees
+pub mod TurnWordLemmas
+pub mod RangeCounts
+pub mod KeptRules
+pub mod StillPlans

@@ -1,0 +1,7 @@
+pub mod Rounds
+pub mod Standing
+pub mod Hands
+pub mod Attempts
+pub mod TurnWords
+pub mod RunHistories
+pub mod Apart
