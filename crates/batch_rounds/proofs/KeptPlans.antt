@@ -231,10 +231,10 @@ kept-plan d formula (suc r) net sum h l u later routed of refused ends same =
         (part-same (demand_from_cell tree.shape (demand c first)) (demand_from_cell tree.shape (demand c h))
         (cell-rises tree.shape (demand c first) (demand c h) rises) 0 tree.nodes e.low sums held)
 
-    best : StaysBestIn c net (window_of c.shape (pins_at d net) (4 * suc r)) tree first h
+    best : StaysBestIn c formula net (window_of c.shape (pins_at d net) (4 * suc r)) tree first h
     best = record {
       rises = λ e is_in wire. let more = rises e in omega (arith, more);
-      stays = λ e is_in wire low high. ap (over_with c net e) (sym (kept e is_in.edge wire low));
+      stays = λ e is_in wire low high. ap (over_with c formula net e) (sym (kept e is_in.edge wire low));
       marks = λ e is_in wire. refused.was.grows.marks e;
     }
 

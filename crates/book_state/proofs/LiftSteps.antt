@@ -23,6 +23,7 @@ use Rattle.book_state.specs.Views.{entry_of}
 use Rattle.book_state.specs.declared.entry.Call.TheVariants.{Release}
 use Rattle.book_state.specs.declared.entry.Entry.{Entry}
 use Rattle.book_state.specs.declared.entry.Reply.TheVariants.{Released}
+use Rattle.cost_rules.specs.declared.site.Formula.{Formula}
 
 -- the loads of a replica without a net's tree
 pub lifts : (c : CapacityView) (h : List Entry) (net : ℕ) (t : TreeView) (r : ReplicaView) (new : LoadsView) → StandsFor c h r → net < nets_of c →
@@ -77,14 +78,14 @@ room-back c h net r t lifted tables few tree same = λ e inside wire.
     omega (arith, demand_is, most)
 
 -- how much an edge is over without a tree, by how much it is over with the tree
-over-without : (c : CapacityView) (net taken : ℕ) (x : Edge) (d e with_d with_e : ℕ) → with_d ≡ d + taken → with_e ≡ e + taken →
-    over_with c net x with_d ≤ over_with c net x with_e → over_with c net x d ≤ over_with c net x e
+over-without : {formula : Formula} (c : CapacityView) (net taken : ℕ) (x : Edge) (d e with_d with_e : ℕ) → with_d ≡ d + taken → with_e ≡ e + taken →
+    over_with c formula net x with_d ≤ over_with c formula net x with_e → over_with c formula net x d ≤ over_with c formula net x e
 over-without c net taken x d e with_d with_e one two more = omega (arith, one, two, more)
 
 -- where one history leaves a net's plan the best after another, so do the two with an entry more each that frees the net
-pub freed-still : (c : CapacityView) (w : Window) (t : TreeView) (h k : List Entry) (net : ℕ) (e f : Entry) → net < nets_of c → StaysBest c net w t h k →
-    IsFreeing net e → IsFreeing net f → StaysBest c net w t (h ++ e ∷ []) (k ++ f ∷ [])
-freed-still c w t h k net e f within still one two =
+pub freed-still : {formula : Formula} (c : CapacityView) (w : Window) (t : TreeView) (h k : List Entry) (net : ℕ) (e f : Entry) → net < nets_of c → StaysBest c formula net w t h k →
+    IsFreeing net e → IsFreeing net f → StaysBest c formula net w t (h ++ e ∷ []) (k ++ f ∷ [])
+freed-still {formula = formula} c w t h k net e f within still one two =
     let freed : (l : List Entry) (g : Entry) (x : Edge) → IsFreeing net g → demand c l x ≡ demand c (l ++ g ∷ []) x + share_of c net (booked l net) x =
     λ l g x freeing.
     let change = steps.demand-change c l (l ++ g ∷ []) x net within (λ other apart. booked-release_other l g net other freeing.call freeing.reply apart) in
@@ -93,7 +94,7 @@ freed-still c w t h k net e f within still one two =
     let first : (x : Edge) → demand c h x ≡ demand c (h ++ e ∷ []) x + share_of c net (booked h net) x = λ x. freed h e x one in
     let second : (x : Edge) → demand c k x ≡ demand c (k ++ f ∷ []) x + share_of c net (booked h net) x =
     λ x. freed k f x two ∙ ap (λ (o : Option TreeView). demand c (k ++ f ∷ []) x + share_of c net o x) still.booking in
-    let rises : (x : Edge) → IsWireIn c w x → over_with c net x (demand c (h ++ e ∷ []) x) ≤ over_with c net x (demand c (k ++ f ∷ []) x) =
+    let rises : (x : Edge) → IsWireIn c w x → over_with c formula net x (demand c (h ++ e ∷ []) x) ≤ over_with c formula net x (demand c (k ++ f ∷ []) x) =
     λ x is_in. over-without c net (share_of c net (booked h net) x) x (demand c (h ++ e ∷ []) x) (demand c (k ++ f ∷ []) x)
     (demand c h x) (demand c k x) (first x) (second x) (still.rises x is_in) in
     record {
@@ -110,10 +111,10 @@ freed-still c w t h k net e f within still one two =
     }
 
 -- the same, where the later history is a whole one without its last entry
-pub last-freed : (c : CapacityView) (w : Window) (t : TreeView) (h whole : List Entry) (last net : ℕ) (f : Entry) → net < nets_of c → length whole ≡ last + 1 → slice_get whole last ≡ Some f →
-    StaysBest c net w t h (take last whole) → IsFreeing net f → (e : Entry) → IsFreeing net e → StaysBest c net w t (h ++ e ∷ []) whole
-last-freed c w t h whole last net f within long there still two e one =
-    subst (λ (k : List Entry). StaysBest c net w t (h ++ e ∷ []) k) (sym (take-entry whole last f there) ∙ take_all (last + 1) whole (omega (arith, long)))
+pub last-freed : {formula : Formula} (c : CapacityView) (w : Window) (t : TreeView) (h whole : List Entry) (last net : ℕ) (f : Entry) → net < nets_of c → length whole ≡ last + 1 → slice_get whole last ≡ Some f →
+    StaysBest c formula net w t h (take last whole) → IsFreeing net f → (e : Entry) → IsFreeing net e → StaysBest c formula net w t (h ++ e ∷ []) whole
+last-freed {formula = formula} c w t h whole last net f within long there still two e one =
+    subst (λ (k : List Entry). StaysBest c formula net w t (h ++ e ∷ []) k) (sym (take-entry whole last f there) ∙ take_all (last + 1) whole (omega (arith, long)))
     (freed-still c w t h (take last whole) net e f within still one two)
 
 -- the tree of a booked net, read off a past with the same entries

@@ -25,6 +25,8 @@ use Rattle.book_state.specs.declared.entry.Call.TheVariants.{Claim as Claims, Re
 use Rattle.book_state.specs.declared.entry.Claim.{Claim}
 use Rattle.book_state.specs.declared.entry.Entry.{Entry}
 use Rattle.book_state.specs.declared.touches.Touch.{Touch}
+use Rattle.cost_rules.specs.Formulas.{reach}
+use Rattle.cost_rules.specs.declared.site.Formula.{Formula}
 
 -- the last of three tests fails where the whole fails and the others pass
 last-fails : (a b t : Bool) → a ≡ true → b ≡ true → (a && (b && t)) ≡ false → t ≡ false
@@ -33,11 +35,11 @@ last-fails true false t first second none = absurd (both_ways false refl second)
 last-fails false b t first second none = absurd (both_ways false refl first)
 
 -- a wire edge in the window that doesn't lack room has room
-room-in : (c : CapacityView) (w : Window) (l : LoadsView) (h : List Entry) (net : ℕ) (beside : Option ℕ) (x : Edge) → AreLoadsOf c h l → IsTrue (has_edge c.shape x) →
-    IsWireIn c w x → lacks_room c w (demand_at l) net beside x ≡ false → demand c h x + need_of c beside x + need_at c net x ≤ capacity_at c x
-room-in c w l h net beside x of edge is_in fails =
-    let test : nat_lt (capacity_at c x) (demand_at l x + need_of c beside x + need_at c net x) ≡ false =
-    last-fails (is_wire x) (in_window c.shape w x.low) (nat_lt (capacity_at c x) (demand_at l x + need_of c beside x + need_at c net x)) is_in.wire is_in.begins fails in
+room-in : {formula : Formula} (c : CapacityView) (w : Window) (l : LoadsView) (h : List Entry) (net : ℕ) (beside : Option ℕ) (x : Edge) → AreLoadsOf c h l → IsTrue (has_edge c.shape x) →
+    IsWireIn c w x → lacks_room c formula w (demand_at l) net beside x ≡ false → demand c h x + need_of c beside x + need_at c net x + reach formula (need_at c net x) ≤ capacity_at c x
+room-in {formula = formula} c w l h net beside x of edge is_in fails =
+    let test : nat_lt (capacity_at c x) (demand_at l x + need_of c beside x + need_at c net x + reach formula (need_at c net x)) ≡ false =
+    last-fails (is_wire x) (in_window c.shape w x.low) (nat_lt (capacity_at c x) (demand_at l x + need_of c beside x + need_at c net x + reach formula (need_at c net x))) is_in.wire is_in.begins fails in
     let demand_is = of.demand x edge is_in.wire in
     grind (arith, nat_tests, test, demand_is)
 
@@ -45,11 +47,11 @@ room-in c w l h net beside x of edge is_in fails =
 edge-in : (g : Shape) (t : TreeView) (x : Edge) → IsTree t → t.shape ≡ g → edges_of t x ≡ true → IsTrue (has_edge g x)
 edge-in g t x tree shape there = subst (λ (s : Shape). IsTrue (has_edge s x)) shape (tree-edge t x (tree-grid_edges t tree) there)
 
-pub still-same : (c : CapacityView) (net : ℕ) (w : Window) (t : TreeView) (h : List Entry) → StaysBest c net w t h h
+pub still-same : {formula : Formula} (c : CapacityView) (net : ℕ) (w : Window) (t : TreeView) (h : List Entry) → StaysBest c formula net w t h h
 still-same c net w t h =
     record { booking = refl; rises = λ e is_in. omega arith; stays = λ e is_in joins. refl; marks = λ e is_in. refl }
 
-pub still-then : (c : CapacityView) (net : ℕ) (w : Window) (t : TreeView) (h k l : List Entry) → StaysBest c net w t h k → StaysBest c net w t k l → StaysBest c net w t h l
+pub still-then : {formula : Formula} (c : CapacityView) (net : ℕ) (w : Window) (t : TreeView) (h k l : List Entry) → StaysBest c formula net w t h k → StaysBest c formula net w t k l → StaysBest c formula net w t h l
 still-then c net w t h k l one two = record {
   booking = two.booking ∙ one.booking;
   rises = λ e is_in. let first = one.rises e is_in in let second = two.rises e is_in in omega arith;
@@ -58,9 +60,9 @@ still-then c net w t h k l one two = record {
 }
 
 -- a demand that grows or shrinks by what a tree takes, where there is room for that and for the net
-over-share : (c : CapacityView) (net other : ℕ) (t : TreeView) (x : Edge) (less more : ℕ) → more ≡ less + share c other t x →
-    (edges_of t x ≡ true → less + need_at c other x + need_at c net x ≤ capacity_at c x) → over_with c net x more ≡ over_with c net x less
-over-share c net other t x less more grown room = elim (cases_Bool (edges_of t x)) [
+over-share : {formula : Formula} (c : CapacityView) (net other : ℕ) (t : TreeView) (x : Edge) (less more : ℕ) → more ≡ less + share c other t x →
+    (edges_of t x ≡ true → less + need_at c other x + need_at c net x + reach formula (need_at c net x) ≤ capacity_at c x) → over_with c formula net x more ≡ over_with c formula net x less
+over-share {formula = formula} c net other t x less more grown room = elim (cases_Bool (edges_of t x)) [
   | inl inside ↦
       let there = room inside in
       let taken : share c other t x ≡ need_at c other x = rw inside refl in
@@ -68,7 +70,7 @@ over-share c net other t x less more grown room = elim (cases_Bool (edges_of t x
   | inr outside ↦
       let nothing : share c other t x ≡ 0 = rw outside refl in
       let same : more ≡ less = omega (arith, nothing, grown) in
-      ap (over_with c net x) same
+      ap (over_with c formula net x) same
 ]
 
 -- where the booking of one net alone changes from none to a tree, the demand grows by what the tree takes
@@ -81,9 +83,9 @@ grown-by c h k other t x within others before after =
     omega (arith, change, nothing, all)
 
 -- an edge that isn't noted doesn't lack room, where each that lacks it is noted
-lacks-not : (c : CapacityView) (w : Window) (l : LoadsView) (net : ℕ) (beside : Option ℕ) (touches : List Touch) (x : Edge) → (IsTrue (lacks_room c w (demand_at l) net beside x) → IsTrue (is_noted touches x)) →
-    is_noted touches x ≡ false → lacks_room c w (demand_at l) net beside x ≡ false
-lacks-not c w l net beside touches x noted unnoted = elim (cases_Bool (lacks_room c w (demand_at l) net beside x)) [
+lacks-not : {formula : Formula} (c : CapacityView) (w : Window) (l : LoadsView) (net : ℕ) (beside : Option ℕ) (touches : List Touch) (x : Edge) → (IsTrue (lacks_room c formula w (demand_at l) net beside x) → IsTrue (is_noted touches x)) →
+    is_noted touches x ≡ false → lacks_room c formula w (demand_at l) net beside x ≡ false
+lacks-not {formula = formula} c w l net beside touches x noted unnoted = elim (cases_Bool (lacks_room c formula w (demand_at l) net beside x)) [
   | inl lack ↦ absurd (both_ways (is_noted touches x) unnoted (noted lack))
   | inr room ↦ room
 ]
@@ -99,11 +101,11 @@ adds-of c w l h old new of adds =
         are k d below ∙ of.demand t.edge (each k d below).edge (each k d below).is_in.wire
 
 -- one entry more, where the edges that aren't noted have room
-pub noted-claim : (c : CapacityView) (net : ℕ) (w : Window) (first h : List Entry) (place : ℕ) (claim : Claim) (l : LoadsView) (old new : List Touch) → IsLegal c h → IsClaimed h place claim →
+pub noted-claim : {formula : Formula} (c : CapacityView) (net : ℕ) (w : Window) (first h : List Entry) (place : ℕ) (claim : Claim) (l : LoadsView) (old new : List Touch) → IsLegal c h → IsClaimed h place claim →
     AreLoadsOf c (take place h) l → (claim.net ≡ net → ⊥) → IsTree claim.tree → AddsTouches c w (demand_at l) old new →
-    ((e : Edge) → IsTrue (lacks_room c w (demand_at l) net (Some claim.net) e) → IsTrue (edges_of claim.tree e) → IsTrue (is_noted new e)) →
-    AreTouches c net w first (take place h) old → AreTouches c net w first (take (place + 1) h) new
-noted-claim c net w first h place claim l old new legal is of apart tree adds noted are =
+    ((e : Edge) → IsTrue (lacks_room c formula w (demand_at l) net (Some claim.net) e) → IsTrue (edges_of claim.tree e) → IsTrue (is_noted new e)) →
+    AreTouches c formula net w first (take place h) old → AreTouches c formula net w first (take (place + 1) h) new
+noted-claim {formula = formula} c net w first h place claim l old new legal is of apart tree adds noted are =
     let before = take place h in
     let e = is.e in
     let after = before ++ e ∷ [] in
@@ -114,18 +116,18 @@ noted-claim c net w first h place claim l old new legal is of apart tree adds no
     let grown : (x : Edge) → demand c after x ≡ demand c before x + share c claim.net claim.tree x =
     λ x. grown-by c before after claim.net claim.tree x in_range.net others
     (claimed-free c before e claim right is.call is.reply) (booked-claim before e claim is.call is.reply) in
-    subst (λ (k : List Entry). AreTouches c net w first k new) (sym (take-entry h place e is.there))
+    subst (λ (k : List Entry). AreTouches c formula net w first k new) (sym (take-entry h place e is.there))
     (touches-then c net w first before after old new are (adds-of c w l before old new of adds) (others net (λ same. apart (sym same)))
     (λ x is_in. steps.marks-idle c before e x (ap (λ (k : Call). is_mark_call k) is.call))
     (λ x is_in unnoted. over-share c net claim.net claim.tree x (demand c before x) (demand c after x) (grown x) (λ there.
     room-in c w l before net (Some claim.net) x of (edge-in c.shape claim.tree x tree in_range.shape there) is_in
     (lacks-not c w l net (Some claim.net) new x (λ lack. noted x lack there) unnoted))))
 
-pub noted-release : (c : CapacityView) (net : ℕ) (w : Window) (first h : List Entry) (place freed : ℕ) (u : TreeView) (l : LoadsView) (old new : List Touch) → IsLegal c h → IsReleased h place freed →
+pub noted-release : {formula : Formula} (c : CapacityView) (net : ℕ) (w : Window) (first h : List Entry) (place freed : ℕ) (u : TreeView) (l : LoadsView) (old new : List Touch) → IsLegal c h → IsReleased h place freed →
     AreLoadsOf c (take place h) l → (freed ≡ net → ⊥) → IsTree u → u.shape ≡ c.shape → booked (take place h) freed ≡ Some u → AddsTouches c w (demand_at l) old new →
-    ((e : Edge) → IsTrue (lacks_room c w (demand_at l) net None e) → IsTrue (edges_of u e) → IsTrue (is_noted new e)) →
-    AreTouches c net w first (take place h) old → AreTouches c net w first (take (place + 1) h) new
-noted-release c net w first h place freed u l old new legal is of apart tree shape held adds noted are =
+    ((e : Edge) → IsTrue (lacks_room c formula w (demand_at l) net None e) → IsTrue (edges_of u e) → IsTrue (is_noted new e)) →
+    AreTouches c formula net w first (take place h) old → AreTouches c formula net w first (take (place + 1) h) new
+noted-release {formula = formula} c net w first h place freed u l old new legal is of apart tree shape held adds noted are =
     let before = take place h in
     let e = is.e in
     let after = before ++ e ∷ [] in
@@ -134,7 +136,7 @@ noted-release c net w first h place freed u l old new legal is of apart tree sha
     λ other apart. booked-release_other before e freed other is.call is.reply apart in
     let grown : (x : Edge) → demand c before x ≡ demand c after x + share c freed u x =
     λ x. grown-by c after before freed u x within (λ other apart. sym (others other apart)) (booked-release before e freed is.call is.reply) held in
-    subst (λ (k : List Entry). AreTouches c net w first k new) (sym (take-entry h place e is.there))
+    subst (λ (k : List Entry). AreTouches c formula net w first k new) (sym (take-entry h place e is.there))
     (touches-then c net w first before after old new are (adds-of c w l before old new of adds) (others net (λ same. apart (sym same)))
     (λ x is_in. steps.marks-idle c before e x (ap (λ (k : Call). is_mark_call k) is.call))
     (λ x is_in unnoted. sym (over-share c net freed u x (demand c after x) (demand c before x) (grown x) (λ there.
@@ -149,13 +151,13 @@ is_mark-idle (Claims claim) e is idle = ap (λ (k : Call). is_mark_call k) is
 is_mark-idle (Release net) e is idle = ap (λ (k : Call). is_mark_call k) is
 is_mark-idle Mark e is idle = absurd idle
 
-pub noted-idle : (c : CapacityView) (net : ℕ) (w : Window) (first h : List Entry) (place : ℕ) (e : Entry) (old new : List Touch) → slice_get h place ≡ Some e → IsIdle e.call e.reply → new ≡ old →
-    AreTouches c net w first (take place h) old → AreTouches c net w first (take (place + 1) h) new
-noted-idle c net w first h place e old new there idle none are =
+pub noted-idle : {formula : Formula} (c : CapacityView) (net : ℕ) (w : Window) (first h : List Entry) (place : ℕ) (e : Entry) (old new : List Touch) → slice_get h place ≡ Some e → IsIdle e.call e.reply → new ≡ old →
+    AreTouches c formula net w first (take place h) old → AreTouches c formula net w first (take (place + 1) h) new
+noted-idle {formula = formula} c net w first h place e old new there idle none are =
     let before = take place h in
     let same : (other : ℕ) → booked (before ++ e ∷ []) other ≡ booked before other =
     λ other. steps.booked-idle before e other (idle-by other (booked before other) e.call e.reply idle) in
-    subst (λ (k : List Entry). AreTouches c net w first k new) (sym (take-entry h place e there))
+    subst (λ (k : List Entry). AreTouches c formula net w first k new) (sym (take-entry h place e there))
     (touches-then c net w first before (before ++ e ∷ []) old new are (notes-none c w (demand c before) old new none) (same net)
     (λ x is_in. steps.marks-idle c before e x (is_mark-idle e.call e refl idle))
-    (λ x is_in unnoted. ap (over_with c net x) (steps.demand-same c before (before ++ e ∷ []) x same)))
+    (λ x is_in unnoted. ap (over_with c formula net x) (steps.demand-same c before (before ++ e ∷ []) x same)))

@@ -21,6 +21,7 @@ use Rattle.book_state.specs.Still.{StaysBest, IsWireIn, over_with, joins_cells, 
 use Rattle.book_state.specs.Touches.{is_noted, IsTouch, AddsTouches, IsTold, AreTouches, IsSettled}
 use Rattle.book_state.specs.declared.entry.Entry.{Entry}
 use Rattle.book_state.specs.declared.touches.Touch.{Touch}
+use Rattle.cost_rules.specs.declared.site.Formula.{Formula}
 
 -- nothing is noted
 pub notes-none : (c : CapacityView) (w : Window) (demands : Edge → ℕ) (old new : List Touch) → new ≡ old → AddsTouches c w demands old new
@@ -141,7 +142,7 @@ noted-all lacks t node touches x all are lack there wire = elim (are x lack ther
 ]
 
 -- only wire edges lack room
-pub lack-wire : (c : CapacityView) (w : Window) (demands : Edge → ℕ) (net : ℕ) (beside : Option ℕ) (e : Edge) → IsTrue (lacks_room c w demands net beside e) → IsTrue (is_wire e)
+pub lack-wire : {formula : Formula} (c : CapacityView) (w : Window) (demands : Edge → ℕ) (net : ℕ) (beside : Option ℕ) (e : Edge) → IsTrue (lacks_room c formula w demands net beside e) → IsTrue (is_wire e)
 lack-wire c w demands net beside e lack = first (is_wire e) _ lack
   where
     first : (a b : Bool) → (a && b) ≡ true → a ≡ true
@@ -157,60 +158,60 @@ noted-holds P Q S R each (t ∷ ts) e ps qs ss there = elim (or_cases (is_edge e
 ]
 
 -- no entries
-pub touches-none : (c : CapacityView) (net : ℕ) (w : Window) (h : List Entry) (touches : List Touch) → touches ≡ [] → AreTouches c net w h h touches
-touches-none c net w h touches none = record {
+pub touches-none : {formula : Formula} (c : CapacityView) (net : ℕ) (w : Window) (h : List Entry) (touches : List Touch) → touches ≡ [] → AreTouches c formula net w h h touches
+touches-none {formula = formula} c net w h touches none = record {
   booking = refl;
   marks = λ e is_in. refl;
   each = All-same (IsTouch c w) touches [] none (All-nil (IsTouch c w));
-  told = All-same (IsTold c net h) touches [] none (All-nil (IsTold c net h));
+  told = All-same (IsTold c formula net h) touches [] none (All-nil (IsTold c formula net h));
   others = λ e is_in unnoted. refl;
 }
 
 -- entries, and one more, which changes what isn't noted in no way that matters
-pub touches-then : (c : CapacityView) (net : ℕ) (w : Window) (first before after : List Entry) (old new : List Touch) → AreTouches c net w first before old → AddsTouches c w (demand c before) old new →
+pub touches-then : {formula : Formula} (c : CapacityView) (net : ℕ) (w : Window) (first before after : List Entry) (old new : List Touch) → AreTouches c formula net w first before old → AddsTouches c w (demand c before) old new →
     booked after net ≡ booked before net → ((e : Edge) → IsWireIn c w e → marks c after e ≡ marks c before e) →
-    ((e : Edge) → IsWireIn c w e → is_noted new e ≡ false → over_with c net e (demand c after e) ≡ over_with c net e (demand c before e)) → AreTouches c net w first after new
-touches-then c net w first before after old new are adds booking same others = record {
+    ((e : Edge) → IsWireIn c w e → is_noted new e ≡ false → over_with c formula net e (demand c after e) ≡ over_with c formula net e (demand c before e)) → AreTouches c formula net w first after new
+touches-then {formula = formula} c net w first before after old new are adds booking same others = record {
   booking = booking ∙ are.booking;
   marks = λ e is_in. same e is_in ∙ are.marks e is_in;
   each = All-same (IsTouch c w) new (old ++ adds.added) adds.new_is (All-append (IsTouch c w) old adds.added are.each adds.each);
-  told = All-same (IsTold c net first) new (old ++ adds.added) adds.new_is
-      (All-append (IsTold c net first) old adds.added are.told (all-told adds.added adds.each adds.told adds.fresh));
+  told = All-same (IsTold c formula net first) new (old ++ adds.added) adds.new_is
+      (All-append (IsTold c formula net first) old adds.added are.told (all-told adds.added adds.each adds.told adds.fresh));
   others = λ e is_in unnoted. others e is_in unnoted ∙ are.others e is_in (unnoted-before c w (demand c before) old new e adds unnoted);
 }
   where
-    all-told : (ts : List Touch) → All (IsTouch c w) ts → All (λ (t : Touch). t.demand ≡ demand c before t.edge) ts → All (λ (t : Touch). is_noted old t.edge ≡ false) ts → All (IsTold c net first) ts
+    all-told : (ts : List Touch) → All (IsTouch c w) ts → All (λ (t : Touch). t.demand ≡ demand c before t.edge) ts → All (λ (t : Touch). is_noted old t.edge ≡ false) ts → All (IsTold c formula net first) ts
     all-told ts each told fresh = λ k d below.
         let t = slice_index_or ts k d in
-        ap (over_with c net t.edge) (told k d below) ∙ are.others t.edge (each k d below).is_in (fresh k d below)
+        ap (over_with c formula net t.edge) (told k d below) ∙ are.others t.edge (each k d below).is_in (fresh k d below)
 
 -- noted edges that leave the plan the best, and the others, which stay
-pub settled-best : (c : CapacityView) (net : ℕ) (w : Window) (u : TreeView) (first now : List Entry) (l : LoadsView) (touches : List Touch) → AreTouches c net w first now touches → AreLoadsOf c now l →
-    All (IsSettled c net u (demand_at l)) touches → StaysBest c net w u first now
-settled-best c net w u first now l touches are of settled = record {
+pub settled-best : {formula : Formula} (c : CapacityView) (net : ℕ) (w : Window) (u : TreeView) (first now : List Entry) (l : LoadsView) (touches : List Touch) → AreTouches c formula net w first now touches → AreLoadsOf c now l →
+    All (IsSettled c formula net u (demand_at l)) touches → StaysBest c formula net w u first now
+settled-best {formula = formula} c net w u first now l touches are of settled = record {
   booking = are.booking;
   rises = λ e is_in. elim (cases_Bool (is_noted touches e)) [
-    | inl noted ↦ noted-holds (IsTouch c w) (IsTold c net first) (IsSettled c net u (demand_at l)) (Rises) rises touches e are.each are.told settled noted
+    | inl noted ↦ noted-holds (IsTouch c w) (IsTold c formula net first) (IsSettled c formula net u (demand_at l)) (Rises) rises touches e are.each are.told settled noted
     | inr other ↦ let same = are.others e is_in other in omega (arith, same)
   ];
   stays = λ e is_in joins. elim (cases_Bool (is_noted touches e)) [
-    | inl noted ↦ noted-holds (IsTouch c w) (IsTold c net first) (IsSettled c net u (demand_at l)) (Stays) stays touches e are.each are.told settled noted joins
+    | inl noted ↦ noted-holds (IsTouch c w) (IsTold c formula net first) (IsSettled c formula net u (demand_at l)) (Stays) stays touches e are.each are.told settled noted joins
     | inr other ↦ are.others e is_in other
   ];
   marks = are.marks;
 }
   where
     Rises : Edge → Type 0
-    Rises e = over_with c net e (demand c first e) ≤ over_with c net e (demand c now e)
+    Rises e = over_with c formula net e (demand c first e) ≤ over_with c formula net e (demand c now e)
 
     Stays : Edge → Type 0
-    Stays e = IsTrue (joins_cells c.shape u e) → over_with c net e (demand c now e) ≡ over_with c net e (demand c first e)
+    Stays e = IsTrue (joins_cells c.shape u e) → over_with c formula net e (demand c now e) ≡ over_with c formula net e (demand c first e)
 
-    now-is : (t : Touch) → IsTouch c w t → over_with c net t.edge (demand_at l t.edge) ≡ over_with c net t.edge (demand c now t.edge)
-    now-is t touch = ap (over_with c net t.edge) (of.demand t.edge touch.edge touch.is_in.wire)
+    now-is : (t : Touch) → IsTouch c w t → over_with c formula net t.edge (demand_at l t.edge) ≡ over_with c formula net t.edge (demand c now t.edge)
+    now-is t touch = ap (over_with c formula net t.edge) (of.demand t.edge touch.edge touch.is_in.wire)
 
-    rises : (t : Touch) → IsTouch c w t → IsTold c net first t → IsSettled c net u (demand_at l) t → Rises t.edge
+    rises : (t : Touch) → IsTouch c w t → IsTold c formula net first t → IsSettled c formula net u (demand_at l) t → Rises t.edge
     rises t touch told settled = let more = settled.rises in let now = now-is t touch in omega (arith, more, told, now)
 
-    stays : (t : Touch) → IsTouch c w t → IsTold c net first t → IsSettled c net u (demand_at l) t → Stays t.edge
+    stays : (t : Touch) → IsTouch c w t → IsTold c formula net first t → IsSettled c formula net u (demand_at l) t → Stays t.edge
     stays t touch told settled joins = sym (now-is t touch) ∙ settled.stays joins ∙ told

@@ -64,7 +64,7 @@ impl Replica {
         ensures stands { OnOk result (StandsFor capacity.now past.now self.new) }
         ensures part { StandsFor capacity.now (take self.new.front past.now) self.new }
         ensures still { IfOk result (λ still. IsTrue still → (e : Entry) → IsFreeing sought.now.net e →
-            StaysBest capacity.now sought.now.net sought.now.window sought.now.tree.now
+            StaysBest capacity.now sought.now.formula sought.now.net sought.now.window sought.now.tree.now
             (take self.old.front past.now ++ e ∷ []) past.now) }
     {
         let history = past.entries();

@@ -11,15 +11,18 @@ use crate::history::History;
 use crate::past::Past;
 use crate::replica::Replica;
 use crate::touches::{Touch, are_settled, lies_beyond, note_tree};
+use cost_rules::Formula;
 use gr_base::RouteTree;
 use grid_demand::Capacity;
 use maze_route::Window;
 use std::alloc::AllocError;
 
-/// A net, the window in which its route is searched, and the tree that was found to be its plan there.
+/// A net, the formula of its costs, the window in which its route is searched, and the tree that was found
+/// to be its plan there.
 #[derive(Clone, Copy, Debug)]
 pub struct Sought<'a> {
     pub net: u32,
+    pub formula: Formula,
     pub window: Window,
     pub tree: &'a RouteTree,
 }
@@ -41,7 +44,7 @@ impl Replica {
         requires stands { StandsFor capacity.now (take self.old.front past.now) self.old }
         ensures stands { OnOk result (StandsFor capacity.now past.now self.new) }
         ensures part { StandsFor capacity.now (take self.new.front past.now) self.new }
-        ensures still { IfOk result (λ still. IsTrue still → StaysBest capacity.now sought.now.net sought.now.window
+        ensures still { IfOk result (λ still. IsTrue still → StaysBest capacity.now sought.now.formula sought.now.net sought.now.window
             sought.now.tree.now (take self.old.front past.now) past.now) }
     {
         let history = past.entries();
@@ -62,7 +65,7 @@ impl Replica {
         requires end { end ≤ length history.now }
         ensures stands { OnOk result (StandsFor capacity.now (take end history.now) self.new) }
         ensures part { StandsFor capacity.now (take self.new.front history.now) self.new }
-        ensures still { IfOk result (λ still. IsTrue still → StaysBest capacity.now sought.now.net sought.now.window
+        ensures still { IfOk result (λ still. IsTrue still → StaysBest capacity.now sought.now.formula sought.now.net sought.now.window
             sought.now.tree.now (take self.old.front history.now) (take end history.now)) }
     {
         let near = self.nodes_near(history, end, sought.window);
@@ -118,8 +121,8 @@ impl Replica {
         requires stands { StandsFor capacity.now (take place history.now) self.now }
         requires place { place < length history.now }
         ensures { IfOk result (λ noted. IsTrue noted → (first : List Entry) →
-            AreTouches capacity.now sought.now.net sought.now.window first (take place history.now) touches.old.items →
-            AreTouches capacity.now sought.now.net sought.now.window first (take (place + 1) history.now)
+            AreTouches capacity.now sought.now.formula sought.now.net sought.now.window first (take place history.now) touches.old.items →
+            AreTouches capacity.now sought.now.formula sought.now.net sought.now.window first (take (place + 1) history.now)
             touches.new.items) }
     {
         let entry = history.entry(place);

@@ -13,6 +13,7 @@ ghost use Rattle.book_state.specs.Still.{joins_cells as joins_cells_of, lacks_ro
 ghost use Rattle.book_state.specs.Touches.{is_noted as noted_in, IsTouch, AddsTouches, IsSettled};
 
 use crate::still::Sought;
+use cost_rules::reach;
 use gr_base::{Cell, Edge, RouteTree};
 use grid_demand::{Capacity, Loads};
 use maze_route::Window;
@@ -39,7 +40,7 @@ pub(crate) fn note_tree(
     requires tree { tree.now.shape ≡ capacity.now.shape }
     requires loads { loads.now.shape ≡ capacity.now.shape }
     ensures adds { AddsTouches capacity.now sought.now.window (demand_at loads.now) touches.old.items touches.new.items }
-    ensures noted { (e : Edge) → IsTrue (lacks_room capacity.now sought.now.window (demand_at loads.now)
+    ensures noted { (e : Edge) → IsTrue (lacks_room capacity.now sought.now.formula sought.now.window (demand_at loads.now)
         sought.now.net beside e) → IsTrue (edges_of tree.now e) → OnOk result (IsTrue (noted_in touches.new.items e)) }
     ensures tree { IsTree tree.now }
 {
@@ -93,7 +94,7 @@ fn note_edge(
     requires wire { IsTrue (is_wire e) }
     requires loads { loads.now.shape ≡ capacity.now.shape }
     ensures adds { AddsTouches capacity.now sought.now.window (demand_at loads.now) touches.old.items touches.new.items }
-    ensures noted { IsTrue (lacks_room capacity.now sought.now.window (demand_at loads.now) sought.now.net beside e) →
+    ensures noted { IsTrue (lacks_room capacity.now sought.now.formula sought.now.window (demand_at loads.now) sought.now.net beside e) →
         OnOk result (IsTrue (noted_in touches.new.items e)) }
 {
     if !is_short(capacity, loads, e, sought, beside) || is_noted(touches, e) {
@@ -125,13 +126,14 @@ fn is_short(
     requires edge { IsTrue (has_edge capacity.now.shape e) }
     requires wire { IsTrue (is_wire e) }
     requires loads { loads.now.shape ≡ capacity.now.shape }
-    ensures { result ≡ lacks_room capacity.now sought.now.window (demand_at loads.now) sought.now.net beside e }
+    ensures { result ≡ lacks_room capacity.now sought.now.formula sought.now.window (demand_at loads.now) sought.now.net beside e }
 {
     let taken = match beside {
         Some(other) => capacity.need(other, e),
         None => 0,
     };
-    let wanted = taken + capacity.need(sought.net, e);
+    let need = capacity.need(sought.net, e);
+    let wanted = taken + need + reach(sought.formula, need);
     loads.demand(e).saturating_add(wanted) > capacity.at(e)
         && sought.window.holds(capacity.shape().place_of(e.low))
 }
@@ -147,7 +149,7 @@ pub(crate) fn are_settled(
     requires loads { loads.now.shape ≡ capacity.now.shape }
     requires touches { All (IsTouch capacity.now sought.now.window) touches.now }
     ensures { IsTrue result →
-        All (IsSettled capacity.now sought.now.net sought.now.tree.now (demand_at loads.now)) touches.now }
+        All (IsSettled capacity.now sought.now.formula sought.now.net sought.now.tree.now (demand_at loads.now)) touches.now }
 {
     for touch in touches {
         if !is_settled(capacity, loads, sought, *touch) {
@@ -161,10 +163,13 @@ pub(crate) fn are_settled(
 fn is_settled(capacity: &Capacity, loads: &Loads, sought: &Sought<'_>, touch: Touch) -> bool
     requires loads { loads.now.shape ≡ capacity.now.shape }
     requires touch { IsTouch capacity.now sought.now.window touch }
-    ensures { IsTrue result → IsSettled capacity.now sought.now.net sought.now.tree.now (demand_at loads.now) touch }
+    ensures { IsTrue result → IsSettled capacity.now sought.now.formula sought.now.net sought.now.tree.now (demand_at loads.now) touch }
 {
     let e = touch.edge;
-    let free = capacity.at(e).saturating_sub(capacity.need(sought.net, e));
+    let need = capacity.need(sought.net, e);
+    let free = capacity
+        .at(e)
+        .saturating_sub(need + reach(sought.formula, need));
     let before = touch.demand.max(free);
     let now = loads.demand(e).max(free);
     before == now || before < now && !joins_cells(capacity, sought.tree, e)

@@ -12,7 +12,7 @@ mod site;
 mod watcher;
 
 pub use costs::Costs;
-pub use formula::{MOST_COST, VIA_PRICE, first_cost, flat_cost, steep_cost};
+pub use formula::{MOST_COST, VIA_PRICE, first_cost, flat_cost, near_cost, reach, steep_cost};
 pub use look::{goal, never, still};
 pub use rule::CostRule;
 pub use rules::Rules;

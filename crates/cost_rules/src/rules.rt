@@ -1,5 +1,5 @@
 ghost use Rattle.std.specs.Prelude.{◌≡◌};
-ghost use Rattle.cost_rules.specs.declared.site.Formula.TheVariants.{First, Steep, Flat};
+ghost use Rattle.cost_rules.specs.declared.site.Formula.TheVariants.{First, Steep, Flat, Near};
 ghost use Rattle.cost_rules.specs.declared.sight.Watch.TheVariants.{Never, Still, Goal};
 
 use crate::rule::CostRule;
@@ -12,12 +12,14 @@ pub struct Rules {
     first: CostRule,
     steep: CostRule,
     flat: CostRule,
+    near: CostRule,
     never: Watcher,
     still: Watcher,
     goal: Watcher,
     ghost is_first: { first.formula ≡ First },
     ghost is_steep: { steep.formula ≡ Steep },
     ghost is_flat: { flat.formula ≡ Flat },
+    ghost is_near: { near.formula ≡ Near },
     ghost is_never: { never.watch ≡ Never },
     ghost is_still: { still.watch ≡ Still },
     ghost is_goal: { goal.watch ≡ Goal },
@@ -29,6 +31,7 @@ impl Rules {
         first: CostRule,
         steep: CostRule,
         flat: CostRule,
+        near: CostRule,
         never: Watcher,
         still: Watcher,
         goal: Watcher,
@@ -36,12 +39,14 @@ impl Rules {
         requires first { first.formula ≡ First }
         requires steep { steep.formula ≡ Steep }
         requires flat { flat.formula ≡ Flat }
+        requires near { near.formula ≡ Near }
         requires never { never.watch ≡ Never }
         requires still { still.watch ≡ Still }
         requires goal { goal.watch ≡ Goal }
         ensures first { result.first ≡ first }
         ensures steep { result.steep ≡ steep }
         ensures flat { result.flat ≡ flat }
+        ensures near { result.near ≡ near }
         ensures never { result.never ≡ never }
         ensures still { result.still ≡ still }
         ensures goal { result.goal ≡ goal }
@@ -50,6 +55,7 @@ impl Rules {
             first,
             steep,
             flat,
+            near,
             never,
             still,
             goal,
@@ -64,6 +70,7 @@ impl Rules {
             Formula::First => self.first(),
             Formula::Steep => self.steep(),
             Formula::Flat => self.flat(),
+            Formula::Near => self.near(),
         }
     }
 
@@ -89,6 +96,14 @@ impl Rules {
         ensures formula { result.now.formula ≡ Flat }
     {
         &self.flat
+    }
+
+    /// The rule of the near formula.
+    pub fn near(&self) -> &CostRule
+        ensures value { result.now ≡ self.now.near }
+        ensures formula { result.now.formula ≡ Near }
+    {
+        &self.near
     }
 
     /// The watcher that stops the rounds at no sight.

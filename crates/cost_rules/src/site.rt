@@ -23,4 +23,6 @@ pub enum Formula {
     Steep,
     /// Overflow alone counts.
     Flat,
+    /// Overflow weighs as by the first, and an edge that is nearly full costs more, with its marks.
+    Near,
 }

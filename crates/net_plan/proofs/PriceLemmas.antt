@@ -3,7 +3,7 @@ use Rattle.std.proofs.Common.{◌≡◌, ℕ, ◌+◌, ◌*◌, ◌<◌, ◌≤�
 use Rattle.cost_rules.specs.Formulas.{cost_at, most_cost, overflow_at, via_price}
 use Rattle.cost_rules.specs.Prices.{layer_of, ArePrices, IsBelowVias}
 use Rattle.cost_rules.specs.declared.site.Formula.{Formula}
-use Rattle.cost_rules.specs.declared.site.Formula.TheVariants.{First, Steep, Flat}
+use Rattle.cost_rules.specs.declared.site.Formula.TheVariants.{First, Steep, Flat, Near}
 use Rattle.cost_rules.specs.declared.site.Site.{Site}
 use Rattle.gr_base.specs.Capacities.{usable_along, need_along, width_in}
 use Rattle.gr_base.specs.Grid.{has_edge, edge_at, is_wire, is_wire_way}
@@ -13,6 +13,8 @@ use Rattle.gr_base.specs.declared.grid.Way.{Way}
 use Rattle.grid_demand.specs.LoadSums.{LoadsView, demand_at, marks_at}
 use Rattle.grid_demand.specs.Tables.{CapacityView, capacity_at, need_at, usable_at}
 use Rattle.maze_route.specs.Runs.{AreSideBySide}
+use Rattle.cost_rules.proofs.RiseLemmas.{near-calm}
+use Rattle.net_plan.specs.Sites.{calm_room}
 use Rattle.net_plan.specs.Prices.{site_of, price_of, ways_of}
 
 -- a formula gives at least 1 and at most the greatest cost
@@ -20,11 +22,13 @@ cost-least : (f : Formula) (site : Site) → 1 ≤ cost_at f site
 cost-least First site = omega arith
 cost-least Steep site = omega arith
 cost-least Flat site = omega arith
+cost-least Near site = omega arith
 
 cost-most : (f : Formula) (site : Site) → cost_at f site ≤ most_cost
 cost-most First site = omega arith
 cost-most Steep site = omega arith
 cost-most Flat site = omega arith
+cost-most Near site = omega arith
 
 some-if : (b : Bool) (n : ℕ) → IsSome (if b then Some n else None) ↔ IsTrue b
 some-if true n = (λ h. h, λ h. h)
@@ -57,13 +61,14 @@ vias-of_net c l f net e edge up =
     ap (λ (way : Way). if is_wire_way way then cost_at f (site_of c l net e) else via_price) up in
     if-paid (usable_at c e) _ (λ n. via_price ≤ n) (omega (arith, no_wire))
 
--- where a net fits and there is no mark each formula gives 1
-pub cost-free : (f : Formula) (site : Site) → site.marks ≡ 0 → site.demand + site.need ≤ site.capacity → 1 ≡ cost_at f site
+-- where a net fits with the room that a formula wants beside it, and there is no mark, it gives 1
+pub cost-free : (f : Formula) (site : Site) → site.marks ≡ 0 → site.demand + site.need + calm_room f site.need ≤ site.capacity → 1 ≡ cost_at f site
 cost-free First site none fits = let free : overflow_at site ≡ 0 = omega arith in omega (arith, free, none)
 cost-free Steep site none fits =
     let free : overflow_at site ≡ 0 = omega arith in
     sym (ap (λ (m : ℕ). min most_cost (1 + m + (8 + m) * overflow_at site)) none ∙ ap (λ (k : ℕ). min most_cost (1 + 0 + (8 + 0) * k)) free)
 cost-free Flat site none fits = let free : overflow_at site ≡ 0 = omega arith in omega (arith, free)
+cost-free Near site none fits = sym (near-calm 3 site (omega (arith, none)) fits)
 
 -- the price of one of the edges that lie side by side
 same-site : (a b : Site) → a.demand ≡ b.demand → a.capacity ≡ b.capacity → a.need ≡ b.need → a.marks ≡ b.marks → a ≡ b

@@ -1,7 +1,9 @@
-ghost use Rattle.std.specs.Prelude.{◌≡◌, ◌≤◌, IsTrue};
+ghost use Rattle.std.specs.Prelude.{◌≡◌, ◌*◌, ◌≤◌, IsTrue};
 ghost use Rattle.cost_rules.specs.Formulas.{IsInRange, most_cost, cost_at};
 ghost use Rattle.gr_base.specs.Grid.{has_edge, is_wire};
+ghost use Rattle.gr_base.specs.Limits.{most_width};
 ghost use Rattle.grid_demand.specs.Tables.{capacity_of};
+ghost use Rattle.net_plan.specs.Sites.{calm_room};
 ghost use Rattle.net_plan.specs.Prices.{HasBoundedDemand, HasNetPrices, kept_prices, site_of, price_of, ways_of};
 
 use crate::site_run::SiteRun;
@@ -65,7 +67,8 @@ impl<'a> NetCosts<'a> {
         }
     }
 
-    /// What a site costs by the rule. Where the net fits and no mark was left, each formula gives 1.
+    /// What a site costs by the rule. Where the net fits, with what the rule wants beside it, and no mark was
+    /// left, each formula gives 1.
     #[inline(always)]
     pub(crate) fn cost_at(&self, site: Site) -> u64
         requires { IsInRange site }
@@ -73,10 +76,24 @@ impl<'a> NetCosts<'a> {
         ensures least { 1 ≤ result }
         ensures most { result ≤ most_cost }
     {
-        if site.marks == 0 && site.demand + site.need <= site.capacity {
+        let room = site.demand + site.need + self.calm_room(site.need);
+        if site.marks == 0 && room <= site.capacity {
             return 1;
         }
         self.rule.cost(site)
+    }
+
+    /// How much free room beside the net makes an edge without marks cost no more than an empty one.
+    #[inline(always)]
+    fn calm_room(&self, need: u64) -> u64
+        requires { need ≤ 2 * most_width }
+        ensures value { result ≡ calm_room self.now.rule.now.formula need }
+        ensures most { result ≤ 6 * most_width }
+    {
+        match self.rule.formula() {
+            Formula::First | Formula::Steep | Formula::Flat => 0,
+            Formula::Near => 3 * need.max(1),
+        }
     }
 }
 
@@ -148,6 +165,7 @@ impl RunCosts for NetCosts<'_> {
             Formula::First => self.price_sites(Formula::First, from, &sites, first, prices),
             Formula::Steep => self.price_sites(Formula::Steep, from, &sites, first, prices),
             Formula::Flat => self.price_sites(Formula::Flat, from, &sites, first, prices),
+            Formula::Near => self.price_sites(Formula::Near, from, &sites, first, prices),
         }
     }
 }

@@ -1,7 +1,7 @@
 //! Prices of wire edges that lie side by side.
 ghost use Rattle.std.specs.Prelude.{◌≡◌, ◌+◌, ◌*◌, ◌≤◌, Some, length};
 ghost use Rattle.cost_rules.specs.Formulas.{IsInRange, cost_at};
-ghost use Rattle.cost_rules.specs.declared.site.Formula.TheVariants.{First};
+ghost use Rattle.cost_rules.specs.declared.site.Formula.TheVariants.{First, Near};
 ghost use Rattle.cost_rules.specs.Prices.{layer_of};
 ghost use Rattle.gr_base.specs.Limits.{most_capacity, most_width};
 ghost use Rattle.grid_demand.specs.LoadSums.{demand_at, marks_at};
@@ -12,7 +12,7 @@ ghost use Rattle.net_plan.specs.Prices.{price_of, ways_of};
 ghost use Rattle.net_plan.specs.Sites.{whole_site};
 
 use crate::net_costs::NetCosts;
-use cost_rules::{Formula, MOST_COST, Site, flat_cost, steep_cost};
+use cost_rules::{Formula, MOST_COST, Site, flat_cost, near_cost, steep_cost};
 use gr_base::Edge;
 
 /// The sites of a net at wire edges that lie side by side on a layer. The net takes the same of each.
@@ -101,6 +101,7 @@ fn site_price(formula: Formula, site: SmallSite) -> u32
         Formula::First => first_price(site),
         Formula::Steep => steep_cost(site.whole()) as u32,
         Formula::Flat => flat_cost(site.whole()) as u32,
+        Formula::Near => near_price(site),
     }
 }
 
@@ -115,4 +116,19 @@ fn first_price(site: SmallSite) -> u32
     // As much overflow has the greatest cost.
     let counted = overflow.min(most / 8);
     most.min(1 + u32::from(site.marks) + 8 * counted)
+}
+
+/// What a site costs by the near formula. Most edges hold many nets more, and then no more than an empty
+/// one unless many rounds left marks there.
+#[inline(always)]
+fn near_price(site: SmallSite) -> u32
+    requires capacity { site.capacity ≤ most_capacity }
+    requires need { site.need ≤ 2 * most_width }
+    ensures { result ≡ cost_at Near (whole_site site) }
+{
+    let taken = u32::from(site.demand) + site.need;
+    if site.marks < 127 && taken + 9 * site.need.max(1) <= site.capacity {
+        return 1;
+    }
+    near_cost(site.whole()) as u32
 }

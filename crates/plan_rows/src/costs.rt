@@ -4,8 +4,8 @@ ghost use Rattle.cost_rules.specs.Formulas.{IsInRange};
 use crate::numbers::{at, great};
 use crate::own_rule::flat_by_cases;
 use cost_rules::{
-    CostRule, Formula, Rules, Sight, Site, Watch, Watcher, first_cost, flat_cost, goal, never,
-    steep_cost, still,
+    CostRule, Formula, Rules, Sight, Site, Watch, Watcher, first_cost, flat_cost, goal, near_cost,
+    never, steep_cost, still,
 };
 use std::io;
 
@@ -15,6 +15,7 @@ pub(crate) fn tell<R: Print>(rt: &R, command: &str, numbers: &[u64]) -> io::Resu
         CostRule::new(Formula::First, first_cost),
         CostRule::new(Formula::Steep, steep_cost),
         CostRule::new(Formula::Flat, flat_cost),
+        CostRule::new(Formula::Near, near_cost),
         Watcher::new(Watch::Never, never),
         Watcher::new(Watch::Still, still),
         Watcher::new(Watch::Goal, goal),
@@ -45,6 +46,7 @@ fn tell_site<R: Print>(rt: &R, rules: &Rules, own: &CostRule, numbers: &[u64]) -
     tell_cost(rt, rules.first(), site)?;
     tell_cost(rt, rules.steep(), site)?;
     tell_cost(rt, rules.flat(), site)?;
+    tell_cost(rt, rules.near(), site)?;
     tell_cost(rt, own, site)
 }
 

@@ -54,19 +54,19 @@ foreseen-more d formula net kind seen now f more was = record {
 
 -- what was seen since leaves the plan the best
 pub foreseen-later : (d : DesignView) (formula : Formula) (net : ℕ) (kind : PlanKind) (seen now : List Entry) (f g : Foreseen) → g.tree ≡ f.tree → g.window ≡ f.window → g.front ≡ length now →
-    net < nets_of (capacity_of d) → IsForeseen d formula net kind seen f → IsPrefix seen now → StaysBest (capacity_of d) net f.window f.tree (take f.front now) now →
+    net < nets_of (capacity_of d) → IsForeseen d formula net kind seen f → IsPrefix seen now → StaysBest (capacity_of d) formula net f.window f.tree (take f.front now) now →
     IsForeseen d formula net kind now g
 foreseen-later d formula net kind seen now f g same_tree same_window long within was more still =
     let c = capacity_of d in
     let later_is = take-first was.later now f.front (prefix-then was.later seen now was.begins more) was.front_is in
-    let since : StaysBest c net f.window f.tree was.later now = subst (λ (h : List Entry). StaysBest c net f.window f.tree h now) later_is still in
+    let since : StaysBest c formula net f.window f.tree was.later now = subst (λ (h : List Entry). StaysBest c formula net f.window f.tree h now) later_is still in
     record {
       window_of_net = subst (λ w. IsWindowOf d net kind w) (sym same_window) was.window_of_net;
       first = was.first;
       plan = subst (λ t. IsPlanWithout d formula was.first net kind t) (sym same_tree) was.plan;
       later = now;
-      still = λ e freeing. subst (λ w. StaysBest c net w g.tree (was.first ++ e ∷ []) (now ++ e ∷ [])) (sym same_window)
-          (subst (λ t. StaysBest c net f.window t (was.first ++ e ∷ []) (now ++ e ∷ [])) (sym same_tree)
+      still = λ e freeing. subst (λ w. StaysBest c formula net w g.tree (was.first ++ e ∷ []) (now ++ e ∷ [])) (sym same_window)
+          (subst (λ t. StaysBest c formula net f.window t (was.first ++ e ∷ []) (now ++ e ∷ [])) (sym same_tree)
           (still-then c net f.window f.tree (was.first ++ e ∷ []) (was.later ++ e ∷ []) (now ++ e ∷ []) (was.still e freeing)
           (freed-still c f.window f.tree was.later now net e e within since freeing freeing)));
       front_is = long;
@@ -75,7 +75,7 @@ foreseen-later d formula net kind seen now f g same_tree same_window long within
 
 -- the net was freed, and what else was seen since leaves the plan the best
 pub foreseen-plan : (d : DesignView) (formula : Formula) (net : ℕ) (kind : PlanKind) (seen now : List Entry) (f : Foreseen) (loads : LoadsView) → IsForeseen d formula net kind seen f →
-    IsPrefix seen now → AreLoadsOf (capacity_of d) now loads → ((e : Entry) → IsFreeing net e → StaysBest (capacity_of d) net f.window f.tree (take f.front now ++ e ∷ []) now) →
+    IsPrefix seen now → AreLoadsOf (capacity_of d) now loads → ((e : Entry) → IsFreeing net e → StaysBest (capacity_of d) formula net f.window f.tree (take f.front now ++ e ∷ []) now) →
     IsPlanFor d formula now net kind f.tree
 foreseen-plan d formula net kind seen now f loads was more of still =
     let c = capacity_of d in
@@ -83,7 +83,7 @@ foreseen-plan d formula net kind seen now f loads was more of still =
     let later_is = take-first was.later now f.front (prefix-then was.later seen now was.begins more) was.front_is in
     still-plan d formula net kind f.tree f.window (was.first ++ e ∷ []) now loads (was.plan e (freeing-entry net)) was.window_of_net of
     (still-then c net f.window f.tree (was.first ++ e ∷ []) (was.later ++ e ∷ []) now (was.still e (freeing-entry net))
-    (subst (λ (h : List Entry). StaysBest c net f.window f.tree (h ++ e ∷ []) now) later_is (still e (freeing-entry net))))
+    (subst (λ (h : List Entry). StaysBest c formula net f.window f.tree (h ++ e ∷ []) now) later_is (still e (freeing-entry net))))
 
 pub foreseen-after : (d : DesignView) (formula : Formula) (net : ℕ) (kind : PlanKind) (seen now : List Entry) (o : Option Foreseen) → IsPrefix seen now →
     IfSome o (IsForeseen d formula net kind seen) → IfSome o (IsForeseen d formula net kind now)

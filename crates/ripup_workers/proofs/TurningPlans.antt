@@ -34,10 +34,10 @@ take-first first now front begins long =
 
 -- where a later history leaves it the best in its window, the plan over the one history is one over the other
 pub still-plan : (d : DesignView) (formula : Formula) (net : ℕ) (kind : PlanKind) (tree : TreeView) (w : Window) (first now : List Entry) (loads : LoadsView) →
-    IsPlanFor d formula first net kind tree → IsWindowOf d net kind w → AreLoadsOf (capacity_of d) now loads → StaysBest (capacity_of d) net w tree first now → IsPlanFor d formula now net kind tree
+    IsPlanFor d formula first net kind tree → IsWindowOf d net kind w → AreLoadsOf (capacity_of d) now loads → StaysBest (capacity_of d) formula net w tree first now → IsPlanFor d formula now net kind tree
 still-plan d formula net kind tree w first now loads was of_net of still =
     let c = capacity_of d in
-    let there : StaysBest c net (window_of c.shape (pins_at d net) of_net.margin) tree first now = subst (λ (v : Window). StaysBest c net v tree first now) of_net.window_is still in
+    let there : StaysBest c formula net (window_of c.shape (pins_at d net) of_net.margin) tree first now = subst (λ (v : Window). StaysBest c formula net v tree first now) of_net.window_is still in
     let plan : IsMaze c was.plan.loads formula net (pins_at d net) of_net.margin tree =
     subst (λ (k : PlanKind). IsPlan c was.plan.loads formula net (pins_at d net) k tree) of_net.kind_is was.plan.plan in
     let after : IsPlan c loads formula net (pins_at d net) (Maze of_net.margin) tree =
@@ -64,11 +64,11 @@ answered-begins c p q call reply answered =
 -- where what was seen since leaves it the best in its window, the plan is the same
 pub same-plan : (d : DesignView) (formula : Formula) (net : ℕ) (kind : PlanKind) (tree : TreeView) (front : ℕ) (w : Window) (seen now : List Entry) (loads : LoadsView) →
     WasPlanned d formula net kind tree front seen → IsPrefix seen now → IsWindowOf d net kind w → AreLoadsOf (capacity_of d) now loads →
-    StaysBest (capacity_of d) net w tree (take front now) now → IsPlanFor d formula now net kind tree
+    StaysBest (capacity_of d) formula net w tree (take front now) now → IsPlanFor d formula now net kind tree
 same-plan d formula net kind tree front w seen now loads was more of_net of still =
     let first_is = take-first was.first now front (prefix-then was.first seen now was.begins more) was.front_is in
     still-plan d formula net kind tree w was.first now loads was.plan of_net of
-    (subst (λ (h : List Entry). StaysBest (capacity_of d) net w tree h now) first_is still)
+    (subst (λ (h : List Entry). StaysBest (capacity_of d) formula net w tree h now) first_is still)
 
 -- after a claim the plan that was claimed is one over a first part of what was seen
 pub was-planned : (d : DesignView) (formula : Formula) (net : ℕ) (kind : PlanKind) (slack : Option ℕ) (tree copy : TreeView) (front : ℕ) (reply : Reply) (p q : PassView) → copy ≡ tree → front ≡ length p.seen →

@@ -20,6 +20,6 @@ pub record IsForeseen (d : DesignView) (formula : Formula) (net : ℕ) (kind : P
   pub plan : IsPlanWithout d formula first net kind f.tree
   pub later : List Entry
   pub still : (e : Entry) → IsFreeing net e →
-      StaysBest (capacity_of d) net f.window f.tree (first ++ e ∷ []) (later ++ e ∷ [])
+      StaysBest (capacity_of d) formula net f.window f.tree (first ++ e ∷ []) (later ++ e ∷ [])
   pub front_is : f.front ≡ length later
   pub begins : IsPrefix later seen

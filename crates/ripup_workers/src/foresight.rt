@@ -151,6 +151,7 @@ impl<N: BookName, R: Threads + Wait + Sync, G: Gate> Ground<'_, N, R, G> {
     {
         let sought = Sought {
             net: wish.net,
+            formula: wish.rule.formula(),
             window: plan.window,
             tree: &plan.tree,
         };
@@ -187,6 +188,7 @@ impl<N: BookName, R: Threads + Wait + Sync, G: Gate> Ground<'_, N, R, G> {
         };
         let sought = Sought {
             net: wish.net,
+            formula: wish.rule.formula(),
             window: foreseen.window,
             tree: &foreseen.tree,
         };

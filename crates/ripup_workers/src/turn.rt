@@ -216,6 +216,7 @@ impl<N: BookName, R: Threads + Wait + Sync, G: Gate> Ground<'_, N, R, G> {
         };
         let sought = Sought {
             net: wish.net,
+            formula: wish.rule.formula(),
             window,
             tree: &tree,
         };

@@ -61,7 +61,7 @@ impl<N: BookName> Worker<N> {
         ensures pass { OnOk result (IsPass N.capacity self.new.pass) }
         ensures held { OnOk result (self.new.pass.held ≡ length self.new.pass.seen) }
         ensures stands { OnOk result (StandsFor N.capacity self.new.pass.seen self.new.replica) }
-        ensures still { IfOk result (λ still. IsTrue still → StaysBest N.capacity sought.now.net sought.now.window
+        ensures still { IfOk result (λ still. IsTrue still → StaysBest N.capacity sought.now.formula sought.now.net sought.now.window
             sought.now.tree.now (take front self.new.pass.seen) self.new.pass.seen) }
     {
         self.hold_more(rt, visit)?;
@@ -89,7 +89,7 @@ impl<N: BookName> Worker<N> {
         ensures pass { OnOk result (IsPass N.capacity self.new.pass) }
         ensures stands { OnOk result (StandsFor N.capacity self.new.pass.seen self.new.replica) }
         ensures still { IfOk result (λ still. IsTrue still → (e : Entry) → IsFreeing sought.now.net e →
-            StaysBest N.capacity sought.now.net sought.now.window sought.now.tree.now
+            StaysBest N.capacity sought.now.formula sought.now.net sought.now.window sought.now.tree.now
             (take front self.new.pass.seen ++ e ∷ []) self.new.pass.seen) }
     {
         self.hold(rt, visit)?;

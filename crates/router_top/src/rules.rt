@@ -11,6 +11,7 @@ macro_rules! own_rules {
             cost_rules::CostRule::new(cost_rules::Formula::First, cost_rules::first_cost),
             cost_rules::CostRule::new(cost_rules::Formula::Steep, cost_rules::steep_cost),
             cost_rules::CostRule::new(cost_rules::Formula::Flat, cost_rules::flat_cost),
+            cost_rules::CostRule::new(cost_rules::Formula::Near, cost_rules::near_cost),
             cost_rules::Watcher::new(cost_rules::Watch::Never, cost_rules::never),
             cost_rules::Watcher::new(cost_rules::Watch::Still, cost_rules::still),
             cost_rules::Watcher::new(cost_rules::Watch::Goal, cost_rules::goal),

@@ -1,12 +1,12 @@
 -- Plans that stay the same while in their window only edges off them get dearer.
 use Rattle.std.proofs.Common.{◌≡◌, ℕ, ◌+◌, ◌*◌, ◌≤◌, Bool, true, false, ◌&&◌, min, List, Some, None, if◌then◌else◌, IsTrue, refl, sym, ap, subst, ◌∙◌, arith}
-use Rattle.std.proofs.Math.Nat.{le-min, min-le_left, min-le_right, mul-le-mul_left}
 use Rattle.std.proofs.lemmas.Option.{same_Some}
-use Rattle.cost_rules.specs.Formulas.{cost_at, overflow_at, most_cost, via_price}
+use Rattle.cost_rules.proofs.RiseLemmas.{cost-rises}
+use Rattle.cost_rules.specs.Formulas.{cost_at, reach, via_price}
 use Rattle.cost_rules.specs.declared.site.Formula.{Formula}
-use Rattle.cost_rules.specs.declared.site.Formula.TheVariants.{First, Steep, Flat}
 use Rattle.cost_rules.specs.declared.site.Site.{Site}
-use Rattle.gr_base.specs.Grid.{is_wire, high_of}
+use Rattle.gr_base.specs.Grid.{has_edge, is_wire, high_of}
+use Rattle.gr_base.specs.Limits.{most_marks}
 use Rattle.gr_base.specs.Trees.{TreeView, holds}
 use Rattle.gr_base.specs.declared.grid.Edge.{Edge}
 use Rattle.grid_demand.specs.LoadSums.{LoadsView, demand_at, marks_at}
@@ -20,60 +20,50 @@ use Rattle.book_state.specs.Books.{demand, marks, AreLoadsOf}
 use Rattle.book_state.specs.Still.{StaysBest, IsWireIn, over_with}
 use Rattle.book_state.specs.declared.entry.Entry.{Entry}
 
--- the lesser of a bound and a number rises with the number
-least-rises : (most a b : ℕ) → a ≤ b → min most a ≤ min most b
-least-rises most a b below =
-    let low = min-le_left most a in
-    let other = min-le_right most a in
-    le-min low (omega (arith, other, below))
+-- a site tells its cost by its marks and by what it would be over its capacity within the formula's reach
+cost-by : (formula : Formula) (s u : Site) → s.capacity ≡ u.capacity → s.need ≡ u.need → s.marks ≡ u.marks → s.marks ≤ most_marks →
+    s.demand + s.need + reach formula s.need - s.capacity ≤ u.demand + s.need + reach formula s.need - s.capacity → cost_at formula s ≤ cost_at formula u
+cost-by formula s u capacity need marks few over =
+    let by : ℕ → ℕ → ℕ → Type 0 = λ c n m. cost_at formula s ≤ cost_at formula (record { demand = u.demand; capacity = c; need = n; marks = m }) in
+    let rises = cost-rises formula s s.demand u.demand few over in
+    subst (λ (m : ℕ). by u.capacity u.need m) marks (subst (λ (n : ℕ). by u.capacity n s.marks) need (subst (λ (c : ℕ). by c s.need s.marks) capacity rises))
 
--- what an edge costs rises with what it would be over its capacity, at the same marks
-cost-rises : (formula : Formula) (s u : Site) → overflow_at s ≤ overflow_at u → s.marks ≡ u.marks → cost_at formula s ≤ cost_at formula u
-cost-rises First s u over marks =
-    least-rises most_cost (1 + s.marks + 8 * overflow_at s) (1 + u.marks + 8 * overflow_at u) (omega (arith, over, marks))
-cost-rises Steep s u over marks =
-    let steeper : (8 + s.marks) * overflow_at s ≤ (8 + u.marks) * overflow_at u =
-    subst (λ (n : ℕ). (8 + s.marks) * overflow_at s ≤ (8 + n) * overflow_at u) marks (mul-le-mul_left (8 + s.marks) over) in
-    least-rises most_cost (1 + s.marks + (8 + s.marks) * overflow_at s) (1 + u.marks + (8 + u.marks) * overflow_at u) (omega (arith, steeper, marks))
-cost-rises Flat s u over marks = least-rises most_cost (1 + overflow_at s) (1 + overflow_at u) (omega (arith, over))
-
--- so it is told by that and the marks
-cost-same : (formula : Formula) (s u : Site) → overflow_at s ≡ overflow_at u → s.marks ≡ u.marks → cost_at formula s ≡ cost_at formula u
-cost-same formula s u over marks =
-    let up = cost-rises formula s u (omega (arith, over)) marks in
-    let down = cost-rises formula u s (omega (arith, over)) (sym marks) in
-    omega (arith, up, down)
-
-price-same : (c : CapacityView) (l m : LoadsView) (formula : Formula) (net : ℕ) (e : Edge) →
-    (IsTrue (is_wire e) → (over_with c net e (demand_at l e) ≡ over_with c net e (demand_at m e)) × (marks_at l e ≡ marks_at m e)) → price_of c l formula net e ≡ price_of c m formula net e
-price-same c l m formula net e same = ap (λ (n : ℕ). if usable_at c e then Some n else None) (by_way (is_wire e) refl)
+price-same : (c : CapacityView) (l m : LoadsView) (formula : Formula) (net : ℕ) (e : Edge) → (IsTrue (is_wire e) → marks_at l e ≤ most_marks) →
+    (IsTrue (is_wire e) → (over_with c formula net e (demand_at l e) ≡ over_with c formula net e (demand_at m e)) × (marks_at l e ≡ marks_at m e)) → price_of c l formula net e ≡ price_of c m formula net e
+price-same c l m formula net e few same = ap (λ (n : ℕ). if usable_at c e then Some n else None) (by_way (is_wire e) refl)
   where
     by_way : (b : Bool) → is_wire e ≡ b → (if b then cost_at formula (site_of c l net e) else via_price) ≡ (if b then cost_at formula (site_of c m net e) else via_price)
     by_way false is = refl
-    by_way true is = let two = same is in cost-same formula (site_of c l net e) (site_of c m net e) two.0 two.1
+    by_way true is =
+        let two = same is in
+        let up = cost-by formula (site_of c l net e) (site_of c m net e) refl refl two.1 (few is) (omega (arith, two.0)) in
+        let down = cost-by formula (site_of c m net e) (site_of c l net e) refl refl (sym two.1) (let most = few is in omega (arith, most, two.1)) (omega (arith, two.0)) in
+        omega (arith, up, down)
 
-price-rises : (c : CapacityView) (l m : LoadsView) (formula : Formula) (net : ℕ) (e : Edge) (b : ℕ) →
-    (IsTrue (is_wire e) → (over_with c net e (demand_at l e) ≤ over_with c net e (demand_at m e)) × (marks_at l e ≡ marks_at m e)) → price_of c m formula net e ≡ Some b →
+price-rises : (c : CapacityView) (l m : LoadsView) (formula : Formula) (net : ℕ) (e : Edge) (b : ℕ) → (IsTrue (is_wire e) → marks_at l e ≤ most_marks) →
+    (IsTrue (is_wire e) → (over_with c formula net e (demand_at l e) ≤ over_with c formula net e (demand_at m e)) × (marks_at l e ≡ marks_at m e)) → price_of c m formula net e ≡ Some b →
     (a : ℕ) × ((price_of c l formula net e ≡ Some a) × (a ≤ b))
-price-rises c l m formula net e b rises is =
+price-rises c l m formula net e b few rises is =
     let cost : LoadsView → ℕ = λ v. if is_wire e then cost_at formula (site_of c v net e) else via_price in
     let two = chosen-some (usable_at c e) (Some (cost m)) b is in
     (cost l, (ap (λ u. if u then Some (cost l) else None) two.0, subst (λ (n : ℕ). cost l ≤ n) (same_Some (cost m) b two.1) (by_way (is_wire e) refl)))
   where
     by_way : (w : Bool) → is_wire e ≡ w → (if w then cost_at formula (site_of c l net e) else via_price) ≤ (if w then cost_at formula (site_of c m net e) else via_price)
     by_way false is = omega arith
-    by_way true is = let two = rises is in cost-rises formula (site_of c l net e) (site_of c m net e) two.0 two.1
+    by_way true is =
+        let two = rises is in
+        cost-by formula (site_of c l net e) (site_of c m net e) refl refl two.1 (few is) two.0
 
 -- from one history to another each wire edge of the grid that begins in the window stays as much over its capacity with the
 -- net on it, or gets more so where it doesn't join two cells of the tree, and keeps its marks
-pub record StaysBestIn (c : CapacityView) (net : ℕ) (w : Window) (t : TreeView) (before after : List Entry) : Type 0 where
-  pub rises : (e : Edge) → IsIn c.shape w e → IsTrue (is_wire e) → over_with c net e (demand c before e) ≤ over_with c net e (demand c after e)
+pub record StaysBestIn (c : CapacityView) (formula : Formula) (net : ℕ) (w : Window) (t : TreeView) (before after : List Entry) : Type 0 where
+  pub rises : (e : Edge) → IsIn c.shape w e → IsTrue (is_wire e) → over_with c formula net e (demand c before e) ≤ over_with c formula net e (demand c after e)
   pub stays : (e : Edge) → IsIn c.shape w e → IsTrue (is_wire e) → IsTrue (holds t e.low) → IsTrue (holds t (high_of c.shape e)) →
-      over_with c net e (demand c after e) ≡ over_with c net e (demand c before e)
+      over_with c formula net e (demand c after e) ≡ over_with c formula net e (demand c before e)
   pub marks : (e : Edge) → IsIn c.shape w e → IsTrue (is_wire e) → marks c after e ≡ marks c before e
 
-best-in : (c : CapacityView) (net : ℕ) (w : Window) (t : TreeView) (before after : List Entry) → StaysBest c net w t before after → StaysBestIn c net w t before after
-best-in c net w t before after still = record {
+best-in : (c : CapacityView) (formula : Formula) (net : ℕ) (w : Window) (t : TreeView) (before after : List Entry) → StaysBest c formula net w t before after → StaysBestIn c formula net w t before after
+best-in c formula net w t before after still = record {
   rises = λ e is_in wire. still.rises e (wire_in e is_in wire);
   stays = λ e is_in wire low high. still.stays e (wire_in e is_in wire) (both (holds t e.low) (holds t (high_of c.shape e)) low high);
   marks = λ e is_in wire. still.marks e (wire_in e is_in wire);
@@ -88,33 +78,36 @@ best-in c net w t before after still = record {
 
 -- prices off a tree that stays the best only rise
 prices-dearer : (c : CapacityView) (l m : LoadsView) (formula : Formula) (net : ℕ) (w : Window) (t : TreeView) (first now : List Entry) →
-    AreLoadsOf c first l → AreLoadsOf c now m → StaysBestIn c net w t first now → AreDearerIn c.shape w (holds t) (price_of c l formula net) (price_of c m formula net)
+    AreLoadsOf c first l → AreLoadsOf c now m → StaysBestIn c formula net w t first now → AreDearerIn c.shape w (holds t) (price_of c l formula net) (price_of c m formula net)
 prices-dearer c l m formula net w t first now of_first of_now still = record {
-  lower = λ e b is_in is. price-rises c l m formula net e b (λ wire.
+  lower = λ e b is_in is. price-rises c l m formula net e b (λ wire. few first l of_first e is_in.edge wire) (λ wire.
       let before = of_first.demand e is_in.edge wire in
       let after = of_now.demand e is_in.edge wire in
       let rises = still.rises e is_in wire in
       (omega (arith, before, after, rises), sym (marked e is_in wire))) is;
-  same = λ e is_in low high. price-same c m l formula net e (λ wire. (
-    ap (over_with c net e) (of_now.demand e is_in.edge wire)
+  same = λ e is_in low high. price-same c m l formula net e (λ wire. few now m of_now e is_in.edge wire) (λ wire. (
+    ap (over_with c formula net e) (of_now.demand e is_in.edge wire)
         ∙ still.stays e is_in wire low high
-        ∙ sym (ap (over_with c net e) (of_first.demand e is_in.edge wire)),
+        ∙ sym (ap (over_with c formula net e) (of_first.demand e is_in.edge wire)),
     marked e is_in wire,
   ));
 }
   where
+    few : (h : List Entry) (v : LoadsView) → AreLoadsOf c h v → (e : Edge) → IsTrue (has_edge c.shape e) → IsTrue (is_wire e) → marks_at v e ≤ most_marks
+    few h v of e edge wire = let is = of.marks e edge wire in omega (arith, is)
+
     marked : (e : Edge) → IsIn c.shape w e → IsTrue (is_wire e) → marks_at m e ≡ marks_at l e
     marked e is_in wire = of_now.marks e is_in.edge wire ∙ still.marks e is_in wire ∙ sym (of_first.marks e is_in.edge wire)
 
 -- a maze plan over a history is one over a later history that leaves it the best in its window
 pub still-maze-in : (c : CapacityView) (l m : LoadsView) (formula : Formula) (net : ℕ) (pins : List ℕ) (margin : ℕ) (t : TreeView) (first now : List Entry) →
-    AreLoadsOf c first l → AreLoadsOf c now m → StaysBestIn c net (window_of c.shape pins margin) t first now → IsMaze c l formula net pins margin t → IsMaze c m formula net pins margin t
+    AreLoadsOf c first l → AreLoadsOf c now m → StaysBestIn c formula net (window_of c.shape pins margin) t first now → IsMaze c l formula net pins margin t → IsMaze c m formula net pins margin t
 still-maze-in c l m formula net pins margin t first now of_first of_now still plan =
     let w = window_of c.shape pins margin in
     grows-dearer w (price_of c l formula net) (price_of c m formula net) pins _ t
     (prices-dearer c l m formula net w t first now of_first of_now still) plan
 
 pub still-maze : (c : CapacityView) (l m : LoadsView) (formula : Formula) (net : ℕ) (pins : List ℕ) (margin : ℕ) (t : TreeView) (first now : List Entry) →
-    AreLoadsOf c first l → AreLoadsOf c now m → StaysBest c net (window_of c.shape pins margin) t first now → IsMaze c l formula net pins margin t → IsMaze c m formula net pins margin t
+    AreLoadsOf c first l → AreLoadsOf c now m → StaysBest c formula net (window_of c.shape pins margin) t first now → IsMaze c l formula net pins margin t → IsMaze c m formula net pins margin t
 still-maze c l m formula net pins margin t first now of_first of_now still =
-    still-maze-in c l m formula net pins margin t first now of_first of_now (best-in c net (window_of c.shape pins margin) t first now still)
+    still-maze-in c l m formula net pins margin t first now of_first of_now (best-in c formula net (window_of c.shape pins margin) t first now still)

@@ -55,7 +55,7 @@ option_row Batch = record {
 }
 option_row Rule = record {
   word = codes "--rule";
-  takes = Word (codes "first" ∷ codes "steep" ∷ codes "flat" ∷ []);
+  takes = Word (codes "first" ∷ codes "steep" ∷ codes "flat" ∷ codes "near" ∷ []);
   default = Some (codes "first");
   excludes = None;
 }

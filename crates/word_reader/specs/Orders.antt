@@ -3,7 +3,7 @@ use Rattle.std.specs.Prelude.{◌≡◌, ℕ, ◌≤◌, Bool, ◌&&◌, ◌||�
 use Rattle.std.specs.Option.{option_map, option_map_or, option_and_then}
 use Rattle.std.specs.List.{list_all}
 use Rattle.cost_rules.specs.declared.site.Formula.{Formula}
-use Rattle.cost_rules.specs.declared.site.Formula.TheVariants.{First, Steep, Flat}
+use Rattle.cost_rules.specs.declared.site.Formula.TheVariants.{First, Steep, Flat, Near}
 use Rattle.design_maker.specs.Ranges.{is_made, IsMade}
 use Rattle.design_maker.specs.declared.made.Made.{Made}
 use Rattle.design_maker.specs.Ranges.{most_made_nets, most_side}
@@ -88,7 +88,7 @@ batch_of sorted = option_map batch_as (value_of Batch sorted)
 
 -- the rules, in the order of the words that name them
 abbrev pub every_rule : List Formula
-every_rule = First ∷ Steep ∷ Flat ∷ []
+every_rule = First ∷ Steep ∷ Flat ∷ Near ∷ []
 
 -- the rule that a value names
 abbrev pub rule_as : Value → Option Formula

@@ -212,7 +212,7 @@ impl OptionKind {
             },
             OptionKind::Rule => OptionRow {
                 word: "--rule",
-                takes: Takes::Word(&["first", "steep", "flat"]),
+                takes: Takes::Word(&["first", "steep", "flat", "near"]),
                 default: Some("first"),
                 excludes: None,
             },

@@ -46,7 +46,7 @@ pub enum Stopping {
 }
 
 /// The rules, in the order of the words that name them.
-const EVERY_RULE: [Formula; 3] = [Formula::First, Formula::Steep, Formula::Flat];
+const EVERY_RULE: [Formula; 4] = [Formula::First, Formula::Steep, Formula::Flat, Formula::Near];
 
 /// What the words ask for, with the names of the texts that it needs.
 #[derive(Clone, Copy, Debug)]

@@ -8,7 +8,7 @@ use Rattle.book_state.proofs.touches.are_settled.Goals as goal
 
 pub loop-touch-preserved : goal.loop-touch-preserved
 loop-touch-preserved c =
-    let P : Touch → Type 0 = IsSettled c.args.capacity.now c.args.sought.now.net c.args.sought.now.tree.now (demand_at c.args.loads.now) in
+    let P : Touch → Type 0 = IsSettled c.args.capacity.now c.args.sought.now.formula c.args.sought.now.net c.args.sought.now.tree.now (demand_at c.args.loads.now) in
     let ts = c.args.touches.now in
     let at = c.loop-touch.touch-index in
     let here = slice_index_or ts at _ in
@@ -17,6 +17,6 @@ loop-touch-preserved c =
 
 pub returns : goal.returns
 returns c = λ always.
-    let P : Touch → Type 0 = IsSettled c.args.capacity.now c.args.sought.now.net c.args.sought.now.tree.now (demand_at c.args.loads.now) in
+    let P : Touch → Type 0 = IsSettled c.args.capacity.now c.args.sought.now.formula c.args.sought.now.net c.args.sought.now.tree.now (demand_at c.args.loads.now) in
     All-same P c.args.touches.now (take c.loop-touch.touch-index c.args.touches.now)
     (sym (take_all c.loop-touch.touch-index c.args.touches.now (omega (arith, c.loop-touch-test.false)))) c.loop-touch.invariant

@@ -11,7 +11,7 @@ use Rattle.book_state.proofs.touches.note_tree.Goals.{in-Some+in_ok-note_edge, i
 
 pub loop-node-init : goal.loop-node-init
 loop-node-init c =
-    let lacks : Edge → _ = lacks_room c.args.capacity.now c.args.sought.now.window (demand_at c.args.loads.now) c.args.sought.now.net c.args.beside in (
+    let lacks : Edge → _ = lacks_room c.args.capacity.now c.args.sought.now.formula c.args.sought.now.window (demand_at c.args.loads.now) c.args.sought.now.net c.args.beside in (
       notes-none c.args.capacity.now c.args.sought.now.window (demand_at c.args.loads.now) c.args.touches.now.items c.args.touches.now.items refl,
       noted-first lacks c.args.tree.now c.args.touches.now.items,
     )
@@ -28,7 +28,7 @@ returns-in_err-note_edge-clause-adds c =
 
 pub loop-node-preserved : goal.loop-node-preserved
 loop-node-preserved c =
-    let lacks : Edge → _ = lacks_room c.args.capacity.now c.args.sought.now.window (demand_at c.args.loads.now) c.args.sought.now.net c.args.beside in
+    let lacks : Edge → _ = lacks_room c.args.capacity.now c.args.sought.now.formula c.args.sought.now.window (demand_at c.args.loads.now) c.args.sought.now.net c.args.beside in
     let t = c.args.tree.now in
     let node = c.loop-node.node in
     let cap = c.args.capacity.now in
@@ -53,7 +53,7 @@ loop-node-preserved c =
 
 pub returns-clause-noted : goal.returns-clause-noted
 returns-clause-noted c = λ e lack there.
-    let lacks : Edge → _ = lacks_room c.args.capacity.now c.args.sought.now.window (demand_at c.args.loads.now) c.args.sought.now.net c.args.beside in
+    let lacks : Edge → _ = lacks_room c.args.capacity.now c.args.sought.now.formula c.args.sought.now.window (demand_at c.args.loads.now) c.args.sought.now.net c.args.beside in
     noted-all lacks c.args.tree.now c.loop-node.node c.loop-node.touches.items e
     (omega (arith, c.loop-node-test.false, c.loop-node.auto.node-end, c.len-node-end.ensures.len)) c.loop-node.invariant.1 lack there
     (lack-wire c.args.capacity.now c.args.sought.now.window (demand_at c.args.loads.now) c.args.sought.now.net c.args.beside e lack)

@@ -8,4 +8,4 @@ use Rattle.book_state.proofs.touches.note_tree.Given as goal
 abbrev pub invariant-loop-node : goal.invariant-loop-node
 invariant-loop-node l =
     AddsTouches l.capacity l.sought.window (demand_at l.loads) l.fn.touches.items l.touches.items ×
-    AreNotedTo (lacks_room l.capacity l.sought.window (demand_at l.loads) l.sought.net l.beside) l.tree l.node l.touches.items
+    AreNotedTo (lacks_room l.capacity l.sought.formula l.sought.window (demand_at l.loads) l.sought.net l.beside) l.tree l.node l.touches.items

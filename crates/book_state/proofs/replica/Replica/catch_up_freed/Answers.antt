@@ -13,6 +13,6 @@ returns-then-still-clause-still c = λ freed e freeing.
     let long = c.len-last.ensures.len in
     let first = c.len.ensures.len in
     let all : length history ≡ last + 1 = grind (arith, nat_tests, more, long, first) in
-    subst (λ (h : List Entry). StaysBest c.args.capacity.now c.args.sought.now.net c.args.sought.now.window c.args.sought.now.tree.now (take c.args.self.now.front h ++ e ∷ []) h) c.entries-history.ensures
+    subst (λ (h : List Entry). StaysBest c.args.capacity.now c.args.sought.now.formula c.args.sought.now.net c.args.sought.now.window c.args.sought.now.tree.now (take c.args.self.now.front h ++ e ∷ []) h) c.entries-history.ensures
     (last-freed c.args.capacity.now c.args.sought.now.window c.args.sought.now.tree.now (take c.args.self.now.front history) history last c.args.sought.now.net c.entry.result.now c.requires.net
     all c.entry.ensures.entry (c.in_ok-still.ensures.still c.if-still.true) (c.frees.ensures freed) e freeing)

@@ -25,13 +25,13 @@ returns-clause-still c = λ yes.
     let u = c.args.sought.now.tree.now in
     let first = take c.args.self.now.front c.args.history.now in
     let now = take c.loop-place.place c.args.history.now in
-    subst (λ (n : ℕ). StaysBest cap net w u first (take n c.args.history.now)) all (elim c.if-still-2.branch [
+    subst (λ (n : ℕ). StaysBest cap c.args.sought.now.formula net w u first (take n c.args.history.now)) all (elim c.if-still-2.branch [
       | else-still-2 b ↦ absurd (both_ways c.loop-place.still b.if-still-2.false (sym b.result-is ∙ yes))
       | then-still-2 b ↦
           let l = b.loads.result.now in
           let of : AreLoadsOf cap now l = subst (λ (l : LoadsView). AreLoadsOf cap now l) (sym b.loads.ensures) c.loop-place.invariant.0.loads in
           settled-best cap net w u first now l c.loop-place.touches.items (c.loop-place.invariant.1 b.if-still-2.true) of
-          (subst (λ (ts : List Touch). All (IsSettled cap net u (demand_at l)) ts) b.deref.ensures.value (b.are_settled.ensures (sym b.result-is ∙ yes)))
+          (subst (λ (ts : List Touch). All (IsSettled cap c.args.sought.now.formula net u (demand_at l)) ts) b.deref.ensures.value (b.are_settled.ensures (sym b.result-is ∙ yes)))
     ])
 
 pub returns-clause-part : goal.returns-clause-part

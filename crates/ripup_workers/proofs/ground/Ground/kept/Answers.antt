@@ -18,7 +18,7 @@ returns-then-still-clause-foreseen g c =
     let capacity_is = c.requires.design.capacity_is in
     foreseen-later _ _ net _ seen now c.args.plan (record { tree = c.args.plan.tree; front = c.known-front.result; window = c.args.plan.window }) refl refl c.known-front.ensures.known
     (subst (λ (x : CapacityView). net < nets_of x) capacity_is c.requires.net) c.requires.foreseen c.in_ok-still.ensures.learnt.begins
-    (subst (λ (x : CapacityView). StaysBest x net c.args.plan.window c.args.plan.tree (take c.args.plan.front now) now) capacity_is
+    (subst (λ (x : CapacityView). StaysBest x c.args.wish.now.rule.now.formula net c.args.plan.window c.args.plan.tree (take c.args.plan.front now) now) capacity_is
     (c.in_ok-still.ensures.still c.if-still.true))
 
 pub returns-clause-learnt : goal.returns-clause-learnt

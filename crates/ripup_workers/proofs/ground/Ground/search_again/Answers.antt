@@ -18,7 +18,7 @@ returns-then-still-clause-plan g c =
     let capacity_is = c.requires.design.capacity_is in
     same-plan _ _ _ _ _ c.args.front window c.args.worker.now.pass.seen now loads c.requires.planned c.in_ok-still.ensures.learnt.begins c.in-Some.ensures
     (subst (λ (x : CapacityView). AreLoadsOf x now loads) capacity_is c.in_ok-still.ensures.stands.loads)
-    (subst (λ (x : CapacityView). StaysBest x c.args.wish.now.net window c.args.tree (take c.args.front now) now) capacity_is
+    (subst (λ (x : CapacityView). StaysBest x c.args.wish.now.rule.now.formula c.args.wish.now.net window c.args.tree (take c.args.front now) now) capacity_is
     (c.in_ok-still.ensures.still c.if-still.true))
 
 pub returns-clause-learnt : goal.returns-clause-learnt

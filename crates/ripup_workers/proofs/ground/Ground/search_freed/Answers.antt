@@ -27,7 +27,7 @@ returns-then-still-clause-plan g c =
     (subst (λ (o : Option Foreseen). IfSome o (IsForeseen d formula net kind seen)) c.in-Some.is c.requires.foreseen)
     c.in_ok-still.ensures.learnt.begins
     (subst (λ (x : CapacityView). AreLoadsOf x now loads) capacity_is c.in_ok-still.ensures.stands.loads)
-    (λ e freeing. subst (λ (x : CapacityView). StaysBest x net f.window f.tree (take f.front now ++ e ∷ []) now) capacity_is
+    (λ e freeing. subst (λ (x : CapacityView). StaysBest x c.args.wish.now.rule.now.formula net f.window f.tree (take f.front now ++ e ∷ []) now) capacity_is
     (c.in_ok-still.ensures.still c.if-still.true e freeing))
 
 pub returns-clause-learnt : goal.returns-clause-learnt

@@ -15,7 +15,7 @@ returns-then-still-clause-still g c = λ same e freeing.
     let front = sym c.front-read.ensures ∙ read in
     let held = c.in_ok-hold.ensures.held in
     let whole : past ≡ seen = c.past-past.ensures.past ∙ take_all c.hold.new.self.pass.held seen (omega (arith, held)) in
-    subst (λ (h : List Entry). StaysBest g.N.BookName.capacity sought.net sought.window sought.tree.now (take c.args.front h ++ e ∷ []) h) whole
-    (subst (λ (n : ℕ). StaysBest g.N.BookName.capacity sought.net sought.window sought.tree.now (take n past ++ e ∷ []) past) front
-    (subst (λ (k : CapacityView). StaysBest k sought.net sought.window sought.tree.now (take c.hold.new.self.replica.front past ++ e ∷ []) past) c.capacity.ensures
+    subst (λ (h : List Entry). StaysBest g.N.BookName.capacity sought.formula sought.net sought.window sought.tree.now (take c.args.front h ++ e ∷ []) h) whole
+    (subst (λ (n : ℕ). StaysBest g.N.BookName.capacity sought.formula sought.net sought.window sought.tree.now (take n past ++ e ∷ []) past) front
+    (subst (λ (k : CapacityView). StaysBest k sought.formula sought.net sought.window sought.tree.now (take c.hold.new.self.replica.front past ++ e ∷ []) past) c.capacity.ensures
     (c.in_ok-still.ensures.still c.if-still.true e freeing)))
