@@ -33,12 +33,12 @@ _groute() {
     groute-where) options="--help" ;;
     esac
     case "$command $before" in
-    'groute route --rule') values="first steep flat" ;;
+    'groute route --rule') values="first steep flat near" ;;
     'groute route --stop') values="still" ;;
-    'groute trial --rule') values="first steep flat" ;;
+    'groute trial --rule') values="first steep flat near" ;;
     'groute-adjust --direction') values="h v" ;;
     'groute-congestion --direction') values="h v" ;;
-    'groute-flow --rule') values="first steep flat" ;;
+    'groute-flow --rule') values="first steep flat near" ;;
     'groute-hotspots --nets') values="clocks signals" ;;
     'groute-slowest --nets') values="clocks signals" ;;
     esac

@@ -1,7 +1,7 @@
 #!/usr/bin/env python3
 """A slow router for small designs, to compare the proved one with:
 
-    reference/route.py route DESIGN LIBRARY ROUNDS [--via-cost V] [--rule first|steep|flat] [--stop still|N | --batch B]
+    reference/route.py route DESIGN LIBRARY ROUNDS [--via-cost V] [--rule first|steep|flat|near] [--stop still|N | --batch B]
     reference/route.py evaluate DESIGN SOLUTION [--via-cost V]
     reference/route.py buffer DESIGN LIBRARY SOLUTION
 
@@ -26,19 +26,23 @@ TOP = 1048576
 
 # Costs, watches and the book.
 
-def first_cost(over, marks):
+def first_cost(over, free, marks):
     return 1 + marks + 8 * over
 
 
-def steep_cost(over, marks):
+def steep_cost(over, free, marks):
     return 1 + marks + (8 + marks) * over
 
 
-def flat_cost(over, marks):
+def flat_cost(over, free, marks):
     return 1 + over
 
 
-FORMULAS = {"first": first_cost, "steep": steep_cost, "flat": flat_cost}
+def near_cost(over, free, marks):
+    return 1 + 4 * (marks + 1) // 2 ** free + 8 * over
+
+
+FORMULAS = {"first": first_cost, "steep": steep_cost, "flat": flat_cost, "near": near_cost}
 
 
 def stops(stop, overflows):
@@ -66,8 +70,10 @@ class Book:
             return VIA
         if not usable(d, e):
             return None
-        over = max(0, self.demand.get(e, 0) + need(d, net, e) - capacity(d, e))
-        return min(TOP, self.formula(over, self.marks.get(e, 0)))
+        taken = self.demand.get(e, 0) + need(d, net, e)
+        over = max(0, taken - capacity(d, e))
+        free = max(0, capacity(d, e) - taken) // max(1, need(d, net, e))        # further nets of this need
+        return min(TOP, self.formula(over, free, self.marks.get(e, 0)))
 
     def wires(self, edges):
         return [e for e in edges if way(self.d, e) != "Up"]

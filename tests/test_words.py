@@ -57,7 +57,7 @@ class Tables(unittest.TestCase):
                          ["--workers", "--via-cost", "--batch", "--rule", "--stop"])
         self.assertEqual(self.completed("groute", "make", "--"), [])
         for words in (("--rule", ""), ("--rule", "=", ""), ("--rule", "=")):
-            self.assertEqual(self.completed("groute", "route", *words), ["first", "steep", "flat"])
+            self.assertEqual(self.completed("groute", "route", *words), ["first", "steep", "flat", "near"])
         self.assertEqual(self.completed("groute", "trial", "--rule", "st"), ["steep"])
         self.assertEqual(self.completed("grbound", "--"), ["--via-cost"])
         self.assertEqual(self.completed("/usr/bin/groute-slowest", "--w"), ["--worst"])

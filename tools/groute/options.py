@@ -17,12 +17,12 @@ class Status(enum.IntEnum):
 
 # The words of each command, and what it does.
 USAGE = {
-    "route DESIGN LIBRARY ROUNDS [--workers N] [--via-cost V] [--batch B] [--rule first|steep|flat] [--stop still|N]":
+    "route DESIGN LIBRARY ROUNDS [--workers N] [--via-cost V] [--batch B] [--rule first|steep|flat|near] [--stop still|N]":
         "routes a design",
     "evaluate DESIGN SOLUTION [--via-cost V]": "judges the routes of any router",
     "buffer DESIGN LIBRARY SOLUTION": "places buffers on the routes of any router",
     "make SEED X Y L NETS": "makes a design",
-    "trial SEED X Y L NETS ROUNDS [--workers N] [--rule first|steep|flat]": "makes a design and routes it",
+    "trial SEED X Y L NETS ROUNDS [--workers N] [--rule first|steep|flat|near]": "makes a design and routes it",
     "panels DESIGN SOLUTION": "gives straight runs the fewest tracks",
 }
 BOUNDS = "DESIGN [--via-cost V]"     # the words of grbound
