@@ -3,7 +3,7 @@ ghost use Rattle.std.specs.Prelude.{◌≡◌, ℕ, ◌≤◌, true, false, List
 ghost use Rattle.gr_base.specs.declared.grid.Edge.{Edge};
 ghost use Rattle.gr_io.specs.Counts.{Rose};
 ghost use Rattle.gr_io.specs.declared.shelf.Slot.{Slot};
-ghost use Rattle.gr_text.specs.Reads.{Moves, Says, Onward, AtFault};
+ghost use Rattle.gr_text.specs.Reads.{Moves, Counts, Says, Onward, AtFault};
 ghost use Rattle.gr_text.specs.Unread.{IsReadTo};
 ghost use Rattle.solution_text.specs.Cover.{cover};
 ghost use Rattle.solution_text.specs.Grammar.{Progress, start};
