@@ -1,7 +1,7 @@
 //! A batch: its nets are planned side by side over one history, and then claimed in order.
-ghost use Rattle.std.specs.Prelude.{◌≡◌, ◌<◌, ◌≤◌, List, All, length, IfOk, OnOk, IsTrue};
+ghost use Rattle.std.specs.Prelude.{◌≡◌, ◌<◌, ◌≤◌, List, All, length, IfOk, OnOk};
 ghost use Rattle.book_state.specs.Books.{nets_of};
-ghost use Rattle.gr_base.specs.Designs.{is_routed};
+ghost use Rattle.gr_base.specs.Designs.{AreRouted};
 ghost use Rattle.gr_base.specs.Limits.{most_nets};
 ghost use Rattle.grid_demand.specs.Tables.{capacity_of};
 ghost use Rattle.batch_rounds.specs.BatchedHistories.{after_releases, AreTurns, IsBatch};
@@ -38,7 +38,7 @@ pub(crate) fn run_batch<R: Threads + Sync>(
 ) -> Result<(), AllocError>
     requires capacity { book.old.capacity ≡ capacity_of asked.now.design.now }
     requires round { round ≤ asked.now.rounds }
-    requires nets { All (λ net. IsTrue (is_routed asked.now.design.now net)) nets.now }
+    requires nets { AreRouted asked.now.design.now nets.now }
     requires few { length nets.now ≤ most_nets }
     requires seats { length seats.old ≡ asked.now.threads }
     ensures capacity { OnOk result (book.new.capacity ≡ capacity_of asked.now.design.now) }
@@ -93,7 +93,7 @@ fn plan_beside<R: Threads + Sync>(
 )
     requires capacity { book.now.capacity ≡ capacity_of asked.now.design.now }
     requires round { round ≤ asked.now.rounds }
-    requires nets { All (λ net. IsTrue (is_routed asked.now.design.now net)) nets.now }
+    requires nets { AreRouted asked.now.design.now nets.now }
     requires few { length nets.now ≤ most_nets }
     requires some { 0 < length seats.old }
     requires most { length seats.old ≤ asked.now.threads }
@@ -108,7 +108,7 @@ fn plan_beside<R: Threads + Sync>(
         seats,
         count,
         &|first, seat: &mut Seat|
-            requires { IsShare first count nets.now × All (λ net. IsTrue (is_routed basis.design.now net)) nets.now }
+            requires { IsShare first count nets.now × AreRouted basis.design.now nets.now }
             ensures { seat.exit.now.done ≡ Ok tt → HasPlanned basis.entry.design.now basis.entry.rule.now.formula
                 basis.entry.round basis.entry.loads.now nets.entry.now first count seat.exit.now }
         { seat.plan_share(&basis, nets, first, count) },
@@ -127,7 +127,7 @@ fn claim_all(
 ) -> Result<(), AllocError>
     requires capacity { book.old.capacity ≡ capacity_of asked.now.design.now }
     requires round { round ≤ asked.now.rounds }
-    requires nets { All (λ net. IsTrue (is_routed asked.now.design.now net)) nets.now }
+    requires nets { AreRouted asked.now.design.now nets.now }
     requires some { 0 < length seats.old }
     requires plans { HavePlans asked.now.design.now asked.now.rule.now.formula round book.old.history nets.now 0
         seats.old }

@@ -1,6 +1,6 @@
 //! The rounds, one after another.
-ghost use Rattle.std.specs.Prelude.{◌≡◌, ◌<◌, ◌≤◌, [], List, All, length, IfOk, OnOk, IsTrue};
-ghost use Rattle.gr_base.specs.Designs.{is_routed};
+ghost use Rattle.std.specs.Prelude.{◌≡◌, ◌<◌, ◌≤◌, [], List, length, IfOk, OnOk};
+ghost use Rattle.gr_base.specs.Designs.{AreRouted};
 ghost use Rattle.gr_base.specs.Limits.{most_nets};
 ghost use Rattle.grid_demand.specs.Tables.{capacity_of};
 ghost use Rattle.book_state.specs.Books.{victims, IsLegal};
@@ -67,7 +67,7 @@ fn run_round<R: Threads + Sync>(
     requires capacity { book.old.capacity ≡ capacity_of asked.now.design.now }
     requires round { round ≤ asked.now.rounds }
     requires due { nets.now ≡ nets_due (batching_of asked.now) round book.old.history }
-    requires nets { All (λ net. IsTrue (is_routed asked.now.design.now net)) nets.now }
+    requires nets { AreRouted asked.now.design.now nets.now }
     requires few { length nets.now ≤ most_nets }
     requires seats { length seats.old ≡ asked.now.threads }
     ensures capacity { OnOk result (book.new.capacity ≡ capacity_of asked.now.design.now) }
@@ -94,7 +94,7 @@ fn run_batches<R: Threads + Sync>(
 ) -> Result<(), AllocError>
     requires capacity { book.old.capacity ≡ capacity_of asked.now.design.now }
     requires round { round ≤ asked.now.rounds }
-    requires nets { All (λ net. IsTrue (is_routed asked.now.design.now net)) nets.now }
+    requires nets { AreRouted asked.now.design.now nets.now }
     requires few { length nets.now ≤ most_nets }
     requires seats { length seats.old ≡ asked.now.threads }
     ensures capacity { OnOk result (book.new.capacity ≡ capacity_of asked.now.design.now) }

@@ -1,7 +1,7 @@
 //! Seats, at which the nets of a batch are planned side by side.
-ghost use Rattle.std.specs.Prelude.{◌≡◌, ◌<◌, ◌≤◌, ℕ, List, All, Some, IfOk, OnOk, IsSome, IsTrue, length, Ok};
+ghost use Rattle.std.specs.Prelude.{◌≡◌, ◌<◌, ◌≤◌, ℕ, List, All, Some, IfOk, OnOk, IsSome, length, Ok};
 ghost use Rattle.batch_rounds.specs.Seats.{IsShare, plan_for, HasPlanned};
-ghost use Rattle.gr_base.specs.Designs.{is_routed};
+ghost use Rattle.gr_base.specs.Designs.{AreRouted};
 
 use crate::basis::Basis;
 use gr_base::RouteTree;
@@ -30,7 +30,7 @@ impl Seat {
     /// Plans the nets of a batch from the first on, each so many places behind the one before.
     pub(crate) fn plan_share(&mut self, basis: &Basis<'_>, nets: &[u32], first: usize, count: usize)
         requires share { IsShare first count nets.now }
-        requires nets { All (λ net. IsTrue (is_routed basis.now.design.now net)) nets.now }
+        requires nets { AreRouted basis.now.design.now nets.now }
         ensures { self.new.done ≡ Ok tt → HasPlanned basis.now.design.now basis.now.rule.now.formula basis.now.round
             basis.now.loads.now nets.now first count self.new }
     {
@@ -46,7 +46,7 @@ impl Seat {
         count: usize,
     ) -> Result<(), AllocError>
         requires share { IsShare first count nets.now }
-        requires nets { All (λ net. IsTrue (is_routed basis.now.design.now net)) nets.now }
+        requires nets { AreRouted basis.now.design.now nets.now }
         ensures { OnOk result (HasPlanned basis.now.design.now basis.now.rule.now.formula basis.now.round
             basis.now.loads.now nets.now first count self.new) }
     {

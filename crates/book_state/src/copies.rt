@@ -10,7 +10,11 @@ use std::alloc::AllocError;
 
 /// The tree of each net's claim, where the claims stand at these places. The history shares the trees'
 /// nodes. The only error is want of memory.
-pub(crate) fn copied_routes(history: &History, places: &Places, nets: u32) -> Result<Routes, AllocError>
+pub(crate) fn copied_routes(
+    history: &History,
+    places: &Places,
+    nets: u32,
+) -> Result<Routes, AllocError>
     ensures { IfOk result (λ routes. routes ≡
         map (λ net. tree_at_place history.now (place_of places.now net)) (range_with_len 0 nets)) }
 {

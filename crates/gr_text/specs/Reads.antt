@@ -41,13 +41,6 @@ Says said (Err (Fault fault token)) = said ≡ Err (fault, token)
 Says said (Err Failed) = Unit {0}
 Says said (Err NoMemory) = Unit {0}
 
--- the result is what the grammar says of a whole text
-abbrev pub OfPlace : {F A V : Type 0} → Read F A → (V → A) → Result V (ReadError F) → Type 0
-OfPlace read view (Ok value) = (place : Place) × (read ≡ Ok (view value, place))
-OfPlace read view (Err (Fault fault token)) = read ≡ Err (fault, token)
-OfPlace read view (Err Failed) = Unit {0}
-OfPlace read view (Err NoMemory) = Unit {0}
-
 -- a source goes on from what it has read of a text: a value leaves it so that little more is read, and so does a fault
 -- behind the token that it names; a failed read and want of memory say nothing
 abbrev pub Reaches : {F V : Type 0} → Result V (ReadError F) → Type 0 → (ℕ → Type 0) → Type 0

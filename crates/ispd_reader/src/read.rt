@@ -1,8 +1,7 @@
 ghost use Rattle.std.specs.Prelude.{◌≡◌, ℕ, ◌≤◌, List, [], IsTrue, OnOk};
 ghost use Rattle.gr_io.specs.Counts.{Rose};
 ghost use Rattle.gr_io.specs.declared.shelf.Slot.{Slot};
-ghost use Rattle.gr_text.specs.Reads.{ReadsBy, Moves, Counts, OfPlace, Says, AtFault, GoesThrough};
-ghost use Rattle.gr_text.specs.Streams.{place_at};
+ghost use Rattle.gr_text.specs.Reads.{ReadsBy, Moves, Says, AtFault};
 ghost use Rattle.gr_text.specs.Unread.{IsReadTo};
 ghost use Rattle.ispd_reader.specs.DesignText.{design, design_of};
 
@@ -29,25 +28,6 @@ fn design<S: TokenSource>(alloc: Global, source: &mut S) -> Result<Design, ReadE
     nets(alloc, source, &mut design)?;
     adjustments(source, &mut design)?;
     Ok(design)
-}
-
-/// Reads a whole design text from a shelf.
-fn read<S: Shelf>(
-    alloc: Global,
-    reader: &mut TokenReader<'_, '_, S>,
-) -> Result<Design, ReadError<DesignFault>>
-    ensures reads { IsTrue S.tells →
-        OfPlace (design (place_at reader.old.tokens.now (S.left reader.old.shelf.now))) (λ design. design) result }
-    ensures ended { OnOk result (IsTrue S.tells → S.left reader.new.shelf.now reader.new.tokens.now.slot ≡ []) }
-    ensures faults { Counts result (S.faults reader.old.shelf.now) (S.faults reader.new.shelf.now) }
-    ensures onward { GoesThrough S.tells result reader.old.tokens.now (S.left reader.old.shelf.now)
-        reader.new.tokens.now (S.left reader.new.shelf.now) }
-    ensures same_reference { reader.new.shelf.ghost_name ≡ reader.old.shelf.ghost_name }
-    ensures slot { reader.new.tokens.now.slot ≡ reader.old.tokens.now.slot }
-    ensures misses { S.misses reader.new.shelf.now ≡ S.misses reader.old.shelf.now }
-    ensures held { S.held reader.new.shelf.now ≡ S.held reader.old.shelf.now }
-{
-    design(alloc, reader)
 }
 
 /// Reads the design text that was reached on the shelf, from its next byte to its end.
@@ -77,5 +57,5 @@ pub fn read_design<S: Shelf>(alloc: Global, shelf: &mut S) -> Result<Design, Des
         tokens: &mut tokens,
         shelf,
     };
-    read(alloc, &mut reader)
+    design(alloc, &mut reader)
 }

@@ -1,12 +1,12 @@
 -- Trees that are raised node by node in an order.
-use Rattle.std.proofs.Common.{◌≡◌, ◌≢◌, ℕ, zero, suc, ◌+◌, ◌-◌, ◌<◌, ◌≤◌, ◌==◌, inl, inr, Bool, true, false, List, length, Option, Some, None, unwrap_or, slice_index, if◌then◌else◌, refl, sym, ap, ◌∙◌, arith}
+use Rattle.std.proofs.Common.{◌≡◌, ℕ, zero, suc, ◌+◌, ◌-◌, ◌<◌, ◌≤◌, true, false, List, length, Option, Some, None, unwrap_or, slice_index, if◌then◌else◌, refl, sym, ap, ◌∙◌, arith}
 use Rattle.gr_base.proofs.TreeLemmas.{node_with-at, cell_at-within}
 use Rattle.gr_base.specs.Trees.{TreeView, IsTree, holds, node_with}
 use Rattle.gr_base.specs.declared.grid.Shape.{Shape}
 use Rattle.layer_assign.specs.declared.span.Span.{Span}
 use Rattle.layer_assign.specs.Spans.{span_in, span_of}
 use Rattle.layer_assign.specs.Assignments.{cell_on, tile_of, tile_at, parent_of, met}
-use Rattle.layer_assign.specs.NodeOrder.{hung_on, rising, sinking, spreading, entering, visiting, climbing, filled, filling, planted, raised_from, met_span, raised_tree}
+use Rattle.layer_assign.specs.NodeOrder.{hung_on, rising, sinking, entering, visiting, climbing, filled, filling, planted, raised_from, met_span, raised_tree}
 use Rattle.layer_assign.specs.Raising.{IsIn, HoldEdges}
 use Rattle.layer_assign.proofs.FlatLemmas.{parent-before}
 

@@ -1,5 +1,5 @@
 -- The nodes of the tree that is raised from an assignment, in the order in which they are hung.
-use Rattle.std.specs.Prelude.{ℕ, zero, suc, ◌+◌, ◌-◌, List, [], ◌∷◌, length, Option, unwrap_or, slice_index, if◌then◌else◌}
+use Rattle.std.specs.Prelude.{ℕ, zero, suc, ◌+◌, ◌-◌, List, [], ◌∷◌, length, unwrap_or, slice_index, if◌then◌else◌}
 use Rattle.gr_base.specs.Trees.{TreeView, attached, holds, node_of, node_with}
 use Rattle.gr_base.specs.declared.grid.Shape.{Shape}
 use Rattle.layer_assign.specs.declared.span.Span.{Span}

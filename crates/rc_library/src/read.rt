@@ -2,11 +2,10 @@
 ghost use Rattle.std.specs.Prelude.{◌≡◌, ℕ, ◌≤◌, List, [], IsTrue, IfOk, OnOk, Err};
 ghost use Rattle.gr_io.specs.Counts.{Rose};
 ghost use Rattle.gr_io.specs.declared.shelf.Slot.{Slot};
-ghost use Rattle.gr_text.specs.Reads.{Counts, OfPlace, Says, AtFault, GoesThrough};
-ghost use Rattle.gr_text.specs.Streams.{place_at};
+ghost use Rattle.gr_text.specs.Reads.{Says, AtFault};
 ghost use Rattle.gr_text.specs.Unread.{IsReadTo};
 ghost use Rattle.rc_library.specs.Libraries.{IsLibraryOf};
-ghost use Rattle.rc_library.specs.LibraryText.{library, library_of};
+ghost use Rattle.rc_library.specs.LibraryText.{library_of};
 
 use crate::fault::{LibraryError, LibraryFault};
 use crate::library::Library;
@@ -15,28 +14,6 @@ use gr_base::{Design, MOST_BYTES};
 use gr_io::{Shelf, Slot};
 use gr_text::{ReadError, TokenReader, Tokens};
 use std::alloc::Global;
-
-/// Reads a whole library from a shelf.
-fn read<S: Shelf>(
-    alloc: Global,
-    reader: &mut TokenReader<'_, '_, S>,
-    design: &Design,
-) -> Result<Library, ReadError<LibraryFault>>
-    ensures reads { IsTrue S.tells →
-        OfPlace (library design.now (place_at reader.old.tokens.now (S.left reader.old.shelf.now)))
-        (λ library. library) result }
-    ensures of { IfOk result (IsLibraryOf design.now) }
-    ensures ended { OnOk result (IsTrue S.tells → S.left reader.new.shelf.now reader.new.tokens.now.slot ≡ []) }
-    ensures faults { Counts result (S.faults reader.old.shelf.now) (S.faults reader.new.shelf.now) }
-    ensures onward { GoesThrough S.tells result reader.old.tokens.now (S.left reader.old.shelf.now)
-        reader.new.tokens.now (S.left reader.new.shelf.now) }
-    ensures same_reference { reader.new.shelf.ghost_name ≡ reader.old.shelf.ghost_name }
-    ensures slot { reader.new.tokens.now.slot ≡ reader.old.tokens.now.slot }
-    ensures misses { S.misses reader.new.shelf.now ≡ S.misses reader.old.shelf.now }
-    ensures held { S.held reader.new.shelf.now ≡ S.held reader.old.shelf.now }
-{
-    library(alloc, reader, design)
-}
 
 /// Reads the library that was reached on the shelf, from its next byte to its end: a text of version
 /// 1 to 3, for the layers, tiles, nets and pins of the design.
@@ -73,5 +50,5 @@ pub fn read_library<S: Shelf>(
         tokens: &mut tokens,
         shelf,
     };
-    read(alloc, &mut reader, design)
+    library(alloc, &mut reader, design)
 }

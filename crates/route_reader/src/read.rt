@@ -3,8 +3,7 @@ ghost use Rattle.std.specs.Prelude.{◌≡◌, ℕ, ◌≤◌, true, false, List
 ghost use Rattle.gr_base.specs.declared.grid.Edge.{Edge};
 ghost use Rattle.gr_io.specs.Counts.{Rose};
 ghost use Rattle.gr_io.specs.declared.shelf.Slot.{Slot};
-ghost use Rattle.gr_text.specs.Reads.{Moves, Counts, Says, Onward, AtFault, GoesThrough};
-ghost use Rattle.gr_text.specs.Streams.{place_at};
+ghost use Rattle.gr_text.specs.Reads.{Moves, Counts, Says, Onward, AtFault};
 ghost use Rattle.gr_text.specs.Unread.{IsReadTo};
 ghost use Rattle.solution_text.specs.Cover.{cover};
 ghost use Rattle.solution_text.specs.Grammar.{Progress, start};
@@ -99,27 +98,6 @@ fn solution<S: TokenSource>(
     Err(ReadError::NoMemory)
 }
 
-/// Reads a whole solution from a shelf.
-fn read<S: Shelf>(
-    alloc: Global,
-    reader: &mut TokenReader<'_, '_, S>,
-    design: &Design,
-) -> Result<Solution, ReadError<SolutionFault>>
-    ensures says { IsTrue S.tells →
-        Says (solution_at design.now start (place_at reader.old.tokens.now (S.left reader.old.shelf.now))) result }
-    ensures of { IfOk result (IsOf design.now) }
-    ensures ended { OnOk result (IsTrue S.tells → S.left reader.new.shelf.now reader.new.tokens.now.slot ≡ []) }
-    ensures faults { Counts result (S.faults reader.old.shelf.now) (S.faults reader.new.shelf.now) }
-    ensures onward { GoesThrough S.tells result reader.old.tokens.now (S.left reader.old.shelf.now)
-        reader.new.tokens.now (S.left reader.new.shelf.now) }
-    ensures same_reference { reader.new.shelf.ghost_name ≡ reader.old.shelf.ghost_name }
-    ensures slot { reader.new.tokens.now.slot ≡ reader.old.tokens.now.slot }
-    ensures misses { S.misses reader.new.shelf.now ≡ S.misses reader.old.shelf.now }
-    ensures held { S.held reader.new.shelf.now ≡ S.held reader.old.shelf.now }
-{
-    solution(alloc, reader, design)
-}
-
 /// Reads the solution that was reached on the shelf, from its next byte to its end: the routes that
 /// any router wrote for the design. Nets may come in any order, and segments may overlap, go
 /// backward or be empty.
@@ -158,5 +136,5 @@ pub fn read_solution<S: Shelf>(
         tokens: &mut tokens,
         shelf,
     };
-    read(alloc, &mut reader, design)
+    solution(alloc, &mut reader, design)
 }

@@ -1,4 +1,4 @@
-ghost use Rattle.std.specs.Prelude.{◌≡◌, ◌+◌, ◌*◌, ◌<◌, ◌≤◌, min, length, Err, OnOk, OnErr};
+ghost use Rattle.std.specs.Prelude.{◌≡◌, ◌<◌, ◌≤◌, length, Err, OnOk, OnErr};
 ghost use Rattle.gr_io.specs.Counts.{Rose};
 ghost use Rattle.straight_runs.specs.Routed.{HaveTrees};
 ghost use Rattle.route_writer.specs.Written.{AddsRoutes, AddsPart};
@@ -6,6 +6,7 @@ ghost use Rattle.route_writer.specs.Written.{AddsRoutes, AddsPart};
 use crate::blocks::{MOST_IN_BLOCK, blocks, put_blocks, write_blocks};
 use crate::error::WriteError;
 use crate::write::write_solution;
+use beside_calls::block_start;
 use gr_base::{Design, Routes};
 use gr_io::Sink;
 use std::alloc::Global;
@@ -46,18 +47,10 @@ pub fn write_solution_by<R: Threads + Sync, K: Sink>(
     while from < design.nets() {
         put_blocks(rt, design, routes, from, size, &mut blocks);
         write_blocks(sink, &blocks)?;
-        from = behind(from, size, workers, design.nets());
+        from = block_start(design.nets(), from, size, workers as usize);
         size = next_size(size, blocks[0].draft.text.bytes().len());
     }
     Ok(())
-}
-
-/// The net behind so many blocks of nets, or the number of nets.
-fn behind(from: u32, size: u32, blocks: u32, nets: u32) -> u32
-    ensures { result ≡ min nets (from + blocks * size) }
-{
-    let last = u64::from(blocks) * u64::from(size) + u64::from(from);
-    last.min(u64::from(nets)) as u32
 }
 
 /// How many nets the next blocks have.

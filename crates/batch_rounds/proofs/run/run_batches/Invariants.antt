@@ -1,6 +1,6 @@
-use Rattle.std.specs.Prelude.{◌≡◌, ◌≤◌, All, IsTrue, length}
+use Rattle.std.specs.Prelude.{◌≡◌, ◌≤◌, length}
 use Rattle.std.specs.Slice.Iter.{chunks_rest, chunks_size}
-use Rattle.gr_base.specs.Designs.{is_routed}
+use Rattle.gr_base.specs.Designs.{AreRouted}
 use Rattle.gr_base.specs.Limits.{most_nets}
 use Rattle.grid_demand.specs.Tables.{capacity_of}
 use Rattle.batch_rounds.specs.Rounds.{batching_of}
@@ -15,7 +15,7 @@ invariant-loop-batch g l = record {
   size : chunks_size l.batch-iterator ≡ l.asked.batch;
   capacity : l.book.capacity ≡ capacity_of l.asked.design.now;
   seats : length l.seats ≡ l.asked.threads;
-  nets : All (λ net. IsTrue (is_routed l.asked.design.now net)) (chunks_rest l.batch-iterator);
+  nets : AreRouted l.asked.design.now (chunks_rest l.batch-iterator);
   few : length (chunks_rest l.batch-iterator) ≤ most_nets;
   batches : BatchesGoOn (batching_of l.asked) l.round l.fn.book.history l.nets (chunks_rest l.batch-iterator) l.book.history;
 }

@@ -9,9 +9,9 @@ use Rattle.cut_bounds.proofs.text.bounds_text.Goals as goal
 pub returns : goal.returns
 returns c =
     let b = c.args.bounds.now in
-    let first = c.put_number_line.new.text in
-    let second = c.put_number_line-2.new.text in
-    let third = c.put_number_line-3.new.text in
+    let first = c.put_number_line.new.self in
+    let second = c.put_number_line-2.new.self in
+    let third = c.put_number_line-3.new.self in
     five-pieces (number_line (codes "overflow at least") b.overflow) (number_line (codes "wirelength at least") b.wirelength)
     (number_line (codes "usable wirelength at least") b.usable_wirelength) (taken_text b) (flat_map wall_line b.fullest) first second third
     c.put_taken.new.text c.put_walls.new.text

@@ -65,7 +65,7 @@ loop-net-preserved g c =
     record {
       quiet = c.in_ok-flush.ensures.quiet ∙ l.invariant.quiet;
       stands = λ tells.
-          stands-flushed (g.K.Sink.written c.flush.new.sink) c.flush.new.text (c.in_ok-flush.ensures.ok tells) c.in_ok-flush.ensures.empty
+          stands-flushed (g.K.Sink.written c.flush.new.sink) c.flush.new.self (c.in_ok-flush.ensures.ok tells) c.in_ok-flush.ensures.empty
           (stands-more c.args.made l.net l.draws.state c.put_net.new.text l.invariant.draws c.in_ok-more.ensures.text (l.invariant.stands tells));
       draws = c.in_ok-more.ensures.draws ∙ state-more c.args.made l.net l.draws.state l.invariant.draws;
       pins = omega (arith, l.invariant.pins, c.in_ok-more.ensures.pins, more);

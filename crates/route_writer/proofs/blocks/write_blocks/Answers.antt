@@ -9,7 +9,7 @@ pub returns-in_err-write_whole-clause-prefix : goal.returns-in_err-write_whole-c
 returns-in_err-write_whole-clause-prefix g c =
     let part : IsTrue g.K.Sink.tells → AppendsPart (g.K.Sink.written c.args.sink.now) (g.K.Sink.written c.write_whole.new.sink) (texts_of c.args.blocks.now) = λ tells.
     block-cut c.args.blocks.now c.loop-block.block-index c.block-item.result c.loop-block-test.true c.block-item.is c.if-not-block.false
-    (g.K.Sink.written c.write_whole.new.sink) c.deref.result.now c.deref.ensures.value (c.in_err-write_whole.ensures.prefix tells) (c.loop-block.invariant.stands tells) in
+    (g.K.Sink.written c.write_whole.new.sink) c.bytes.result.now c.bytes.ensures (c.in_err-write_whole.ensures.prefix tells) (c.loop-block.invariant.stands tells) in
     on-err c.from_residual.result (IsTrue g.K.Sink.tells → AppendsPart (g.K.Sink.written c.args.sink.now) (g.K.Sink.written c.write_whole.new.sink) (texts_of c.args.blocks.now)) part
 
 pub loop-block-preserved : goal.loop-block-preserved
@@ -18,7 +18,7 @@ loop-block-preserved g c = record {
   whole = whole-next c.args.blocks.now c.loop-block.block-index c.block-item.result c.loop-block-test.true c.block-item.is c.if-not-block.false c.loop-block.invariant.whole;
   stands = λ tells.
       stands-block c.args.blocks.now c.loop-block.block-index c.block-item.result c.loop-block-test.true c.block-item.is c.if-not-block.false
-      (g.K.Sink.written c.write_whole.new.sink) c.deref.result.now c.deref.ensures.value (c.in_ok-write_whole.ensures.ok tells) (c.loop-block.invariant.stands tells);
+      (g.K.Sink.written c.write_whole.new.sink) c.bytes.result.now c.bytes.ensures (c.in_ok-write_whole.ensures.ok tells) (c.loop-block.invariant.stands tells);
 }
 
 pub returns-clause-whole : goal.returns-clause-whole

@@ -17,8 +17,8 @@ returns-in_err-put_net-clause-prefix g c =
     stands-part (written_text d sets) (text_behind d sets n) (before-behind d sets n most) (c.loop-net.invariant.stands tells) in
     on-err c.from_residual.result (IsTrue g.K.Sink.tells → AppendsPart old now (written_text d sets)) part
 
-pub loop-net-preserved-then-len-lt-FULL : goal.loop-net-preserved-then-len-lt-FULL
-loop-net-preserved-then-len-lt-FULL g c =
+pub loop-net-preserved-then-bytes-lt-FULL : goal.loop-net-preserved-then-bytes-lt-FULL
+loop-net-preserved-then-bytes-lt-FULL g c =
     let d = c.args.design.now in
     let sets = route_edges c.args.routes.now in
     let n = c.loop-net.net in
@@ -51,7 +51,7 @@ loop-net-preserved g c =
     record {
       quiet = c.in_ok-flush.ensures.quiet ∙ c.loop-net.invariant.quiet;
       stands = λ tells.
-          stands-flushed (g.K.Sink.written c.flush.new.sink) c.flush.new.text (c.in_ok-flush.ensures.ok tells) c.in_ok-flush.ensures.empty
+          stands-flushed (g.K.Sink.written c.flush.new.sink) c.flush.new.self (c.in_ok-flush.ensures.ok tells) c.in_ok-flush.ensures.empty
           (stands-net d c.args.routes.now n c.put_net.new.draft.text c.in_ok-put_net.ensures
           (c.loop-net.invariant.stands tells));
     }

@@ -1,9 +1,10 @@
-use Rattle.std.proofs.Common.{◌≡◌, ◌+◌, ◌*◌, ◌++◌, ℕ, min, List, All, length, IsTrue, sym, ap, subst, ◌∙◌, arith}
+use Rattle.std.proofs.Common.{◌≡◌, ◌++◌, ℕ, List, All, length, IsTrue, sym, ap, subst, ◌∙◌, arith}
+use Rattle.beside_calls.specs.Blocks.{block_start}
 use Rattle.gr_io.specs.Parts.{AppendsPart}
 use Rattle.route_writer.specs.Blocks.{texts_of}
 use Rattle.route_writer.specs.RouteTexts.{nets_text, routes_text}
 use Rattle.route_writer.specs.declared.blocks.Block.{Block}
-use Rattle.route_writer.proofs.BlockLemmas.{behind, batch-written, batch-cut}
+use Rattle.route_writer.proofs.BlockLemmas.{batch-written, batch-cut}
 use Rattle.route_writer.proofs.WriteLemmas.{on-err}
 use Rattle.route_writer.proofs.write_by.write_solution_by.Goals as goal
 
@@ -27,8 +28,8 @@ loop-from-preserved g c =
     let kept = c.loop-from.invariant in
     let blocks : List Block = c.put_blocks.new.blocks.items in
     let long : length blocks ≡ c.args.workers = c.put_blocks.ensures.long ∙ kept.count in
-    let last : c.behind-from.result ≡ behind d c.loop-from.from c.loop-from.size c.args.workers =
-    c.behind-from.ensures ∙ ap (λ (n : ℕ). min n (c.loop-from.from + c.args.workers * c.loop-from.size)) c.nets-in-loop-from.ensures.nets in
+    let last : c.block_start-from.result ≡ block_start (length d.nets) c.loop-from.from c.loop-from.size c.args.workers =
+    c.block_start-from.ensures ∙ ap (λ (n : ℕ). block_start n c.loop-from.from c.loop-from.size c.args.workers) c.nets-in-loop-from.ensures.nets in
     record {
       count = long;
       some = c.next_size-size.ensures.some;
