@@ -2,14 +2,13 @@
 #![tactic(auto)]
 
 use bound_top::bound;
-use gr_io::{HostShelf, HostSink, write_whole};
+use command_form::{Stop, finish};
+use gr_io::{HostShelf, HostSink};
 use std::env::Env;
 use std::io::ErrorKind;
 use std::process::ExitCode;
 use std::{env, io};
-
-/// The status where memory is wanting for the words.
-const NO_MEMORY: u8 = 8;
+use word_reader::Program;
 
 /// The words after the program's name.
 fn words<R: Env + AllocGlobal>(rt: &R) -> io::Result<Vec<String>> {
@@ -27,8 +26,8 @@ fn main(rt: HostRuntime) -> ExitCode {
     let words = match words(&rt) {
         Ok(words) => words,
         Err(error) if error.kind() == ErrorKind::OutOfMemory => {
-            let _ = write_whole(&mut err, b"grbound: out of memory\n");
-            return ExitCode::from(NO_MEMORY);
+            let end = Err(Stop::NoMemory);
+            return ExitCode::from(finish(rt.alloc(), Program::Grbound, &mut err, end));
         }
         // Words that are no text ask for nothing.
         Err(_) => Vec::new(rt.alloc()),
