@@ -10,7 +10,7 @@ use Rattle.elmore_delay.specs.declared.plans.Plan.{Plan}
 use Rattle.buffer_plan.specs.Plans.{AreRoutesOf, loading_of, IsPlan, ArePlans}
 use Rattle.polar_lists.specs.PolarPlans.{ArePolarPlans, IsPolarPlan}
 use Rattle.report_text.specs.BufferTexts.{IsPlanFor, ArePlanned, AreSomePlanned}
-use Rattle.run_histories.proofs.TurnLemmas.{IsNetOf, routed-net}
+use Rattle.gr_base.proofs.DesignLemmas.{IsNetOf, routed-net}
 
 pub planned-for : (d : DesignView) (lib : LibraryView) (trees : List (Option TreeView)) (plans : List (Option Plan)) →
     AreRoutesOf d trees → ArePlans d lib trees plans → ArePlanned d lib trees plans
