@@ -10,6 +10,7 @@ use std::io::ErrorKind;
 use std::mem::forget;
 use std::process::ExitCode;
 use std::{env, io};
+use word_reader::Program;
 
 /// The words after the program's name.
 fn words<R: Env + AllocGlobal>(rt: &R) -> io::Result<Vec<String>> {
@@ -27,7 +28,8 @@ fn main(rt: HostRuntime) -> ExitCode {
     let words = match words(&rt) {
         Ok(words) => words,
         Err(error) if error.kind() == ErrorKind::OutOfMemory => {
-            return ExitCode::from(finish(rt.alloc(), &mut err, Err(Stop::NoMemory)));
+            let end = Err(Stop::NoMemory);
+            return ExitCode::from(finish(rt.alloc(), Program::Groute, &mut err, end));
         }
         // Words that are no text give no order.
         Err(_) => Vec::new(rt.alloc()),
