@@ -180,12 +180,7 @@ fn look<R: Print>(rt: &R, book: &BookState) -> io::Result<()> {
 }
 
 /// Which nets had a tree at a front, and the demand there.
-fn look_back<R: Print>(
-    rt: &R,
-    book: &BookState,
-    capacity: &Capacity,
-    front: u64,
-) -> io::Result<()>
+fn look_back<R: Print>(rt: &R, book: &BookState, capacity: &Capacity, front: u64) -> io::Result<()>
     requires capacity { capacity.now ≡ book.now.capacity }
     requires edge { IsTrue (has_edge capacity.now.shape first_edge) }
 {

@@ -47,4 +47,4 @@ abbrev pub lacks_room : CapacityView → Formula → Window → (Edge → ℕ) �
 lacks_room c formula w demands net beside e =
     is_wire e && (in_window c.shape w e.low
     && nat_lt (capacity_at c e)
-        (demands e + need_of c beside e + need_at c net e + reach formula (need_at c net e)))
+    (demands e + need_of c beside e + need_at c net e + reach formula (need_at c net e)))

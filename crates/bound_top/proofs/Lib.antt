@@ -1,2 +1,2 @@
-pub mod StatusLemmas
-pub mod LeavingLemmas
+pub mod BoundingLemmas
+pub mod EndLemmas

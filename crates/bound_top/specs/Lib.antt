@@ -1,4 +1,1 @@
-pub mod Words
-pub mod Asking
-pub mod Stops
 pub mod Bounding

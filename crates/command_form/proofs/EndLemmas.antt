@@ -349,7 +349,7 @@ pub ends-with : {K : Type 0} (program : Program) (asked : Asked K) (shelf : Read
     (end : Result Outcome Stop) (status told : ℕ) → kept ≡ given → status ≡ told →
     LeavesFor asked shelf out (upto err faults written) given end → Finishes program (afterwards err faults written) end told →
     Ends program asked shelf out err kept status
-ends-with program asked shelf out err faults written kept given end status told same is leaves finishes = record {
+ends-with {K = K} program asked shelf out err faults written kept given end status told same is leaves finishes = record {
   end = end;
   faults = faults;
   written = written;

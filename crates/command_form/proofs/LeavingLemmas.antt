@@ -24,7 +24,7 @@ written command shelf out err kept text report (Ok outcome) reports reads says i
     subst (IsDone command shelf out err kept) (sym is.0)
     (record { reads = reads; text = text; report = report; out_gains = is.1; err_gains = is.2; says = says })
 written command shelf out err kept text report (Err Usage) reports reads says is = absurd is
-written command shelf out err kept text report (Err (Fault text number token)) reports reads says is = absurd is
+written command shelf out err kept text report (Err (Fault which number token)) reports reads says is = absurd is
 written command shelf out err kept text report (Err (NotTree id)) reports reads says is = absurd is
 written command shelf out err kept text report (Err ReadFailed) reports reads says is = absurd is
 written command shelf out err kept text report (Err WriteFailed) reports reads says is = cut is
@@ -79,7 +79,7 @@ module _ {K : Type 0} (command : Command K) (shelf : Reading) (out : Device) (re
   written-one (Err (NotTree id)) is err untouched =
       (record { reads = reads; refuses = refuses (NotTree id) is.0; unwritten = is.1 }, (untouched, refl))
   written-one (Err Usage) is err untouched = absurd (other Usage (λ id same. cc) is)
-  written-one (Err (Fault text number token)) is err untouched = absurd (other (Fault text number token) (λ id same. cc) is)
+  written-one (Err (Fault which number token)) is err untouched = absurd (other (Fault which number token) (λ id same. cc) is)
   written-one (Err ReadFailed) is err untouched = absurd (other ReadFailed (λ id same. cc) is)
 
 -- a sink that gained nothing gained a first part of each text
@@ -98,7 +98,7 @@ leaves-alone command out kept text (Ok outcome) says is = λ shelf reads err unt
     subst (λ (o : Outcome). Leaves command shelf out err kept (Ok o)) (sym is.0)
     (record { reads = reads; text = text; report = []; out_gains = is.1; err_gains = gains-nothing err untouched; says = says shelf })
 leaves-alone command out kept text (Err Usage) says is = absurd is
-leaves-alone command out kept text (Err (Fault text number token)) says is = absurd is
+leaves-alone command out kept text (Err (Fault which number token)) says is = absurd is
 leaves-alone command out kept text (Err (NotTree id)) says is = absurd is
 leaves-alone command out kept text (Err ReadFailed) says is = absurd is
 leaves-alone command out kept text (Err WriteFailed) says is = λ shelf reads err untouched.
@@ -118,6 +118,6 @@ wants-alone command out untouched = λ shelf reads err silent. (inl (untouched, 
 -- memory was wanting before anything was written
 pub wants-memory : {K : Type 0} (command : Command K) (shelf : Reading) (out err : Device) (kept : Option K) (end : Result Outcome Stop) →
     end ≡ Err NoMemory → kept ≡ None → IsUntouched out → IsUntouched err → Leaves command shelf out err kept end
-wants-memory command shelf out err kept end is none unwritten silent =
+wants-memory {K = K} command shelf out err kept end is none unwritten silent =
     subst (Leaves command shelf out err kept) (sym is)
-    (subst (λ (k : Option _). Leaves command shelf out err k (Err NoMemory)) (sym none) (inl (unwritten, refl), silent))
+    (subst (λ (k : Option K). Leaves command shelf out err k (Err NoMemory)) (sym none) (inl (unwritten, refl), silent))

@@ -9,12 +9,12 @@ use Rattle.command_form.specs.declared.stop.Stop.{Stop}
 -- that is all
 pub told-line : {E : Type 0} (program : Program) (err : Device) (fault stop told : Stop) (made : Result (List ℕ) E) →
     (IsToldOrNot program err fault told → IsTold program err fault told) → stop ≡ fault →
-    IfOk made (λ text. text ≡ told_line program fault) → TellsLine program err made stop told → IsTold program err stop told
-told-line program err fault stop told made all same line tells =
+    IfOk made (λ text. text ≡ told_line program fault) → TellsLine program err made fault told → IsTold program err stop told
+told-line {E = E} program err fault stop told made all same line tells =
     subst (λ (s : Stop). IsTold program err s told) (sym same)
-    (all (by made line (subst (λ (s : Stop). TellsLine program err made s told) same tells)))
+    (all (by made line tells))
   where
-    by : (r : Result (List ℕ) _) → IfOk r (λ text. text ≡ told_line program fault) → TellsLine program err r fault told →
+    by : (r : Result (List ℕ) E) → IfOk r (λ text. text ≡ told_line program fault) → TellsLine program err r fault told →
         IsToldOrNot program err fault told
     by (Ok text) is tells = inl (tells.0, subst (GainsLine err) is tells.1)
     by (Err refused) is tells = inr tells

@@ -2,7 +2,6 @@
 ghost use Rattle.std.specs.Prelude.{◌≡◌, ◌+◌, ◌*◌, ◌^◌, ◌≤◌, min};
 ghost use Rattle.cost_rules.specs.declared.site.Formula.TheVariants.{First, Steep, Flat, Near};
 ghost use Rattle.cost_rules.specs.Formulas.{IsInRange, free_at, overflow_at, most_cost, cost_at, reach, scarcity as scarcity_of};
-
 ghost use Rattle.gr_base.specs.Limits.{most_marks, most_width};
 
 use crate::site::{Formula, Site};

@@ -19,9 +19,7 @@ pub fn bounds_text(alloc: Global, bounds: &Bounds) -> Result<Text, AllocError>
     let mut text = Text::new(alloc);
     text.put_number_line(b"overflow at least", bounds.overflow)?;
     text.put_number_line(b"wirelength at least", bounds.wirelength)?;
-    text.put_number_line(b"usable wirelength at least",
-        bounds.usable_wirelength,
-    )?;
+    text.put_number_line(b"usable wirelength at least", bounds.usable_wirelength)?;
     put_taken(&mut text, bounds)?;
     put_walls(&mut text, &bounds.fullest)?;
     Ok(text)

@@ -2,12 +2,11 @@
 #![tactic(auto)]
 
 use bound_top::bound;
-use gr_io::{HostShelf, HostSink, words, write_whole};
+use command_form::{Stop, finish};
+use gr_io::{HostShelf, HostSink, words};
 use std::io::ErrorKind;
 use std::process::ExitCode;
-
-/// The status where memory is wanting for the words.
-const NO_MEMORY: u8 = 8;
+use word_reader::Program;
 
 fn main(rt: HostRuntime) -> ExitCode {
     let mut shelf = HostShelf::new(&rt);
@@ -16,8 +15,8 @@ fn main(rt: HostRuntime) -> ExitCode {
     let words = match words(&rt) {
         Ok(words) => words,
         Err(error) if error.kind() == ErrorKind::OutOfMemory => {
-            let _ = write_whole(&mut err, b"grbound: out of memory\n");
-            return ExitCode::from(NO_MEMORY);
+            let end = Err(Stop::NoMemory);
+            return ExitCode::from(finish(rt.alloc(), Program::Grbound, &mut err, end));
         }
         // Words that are no text ask for nothing.
         Err(_) => Vec::new(rt.alloc()),

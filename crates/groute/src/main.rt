@@ -8,6 +8,7 @@ use router_top::{own_rules, run};
 use std::io::ErrorKind;
 use std::mem::forget;
 use std::process::ExitCode;
+use word_reader::Program;
 
 fn main(rt: HostRuntime) -> ExitCode {
     let mut shelf = HostShelf::new(&rt);
@@ -16,7 +17,8 @@ fn main(rt: HostRuntime) -> ExitCode {
     let words = match words(&rt) {
         Ok(words) => words,
         Err(error) if error.kind() == ErrorKind::OutOfMemory => {
-            return ExitCode::from(finish(rt.alloc(), &mut err, Err(Stop::NoMemory)));
+            let end = Err(Stop::NoMemory);
+            return ExitCode::from(finish(rt.alloc(), Program::Groute, &mut err, end));
         }
         // Words that are no text give no order.
         Err(_) => Vec::new(rt.alloc()),

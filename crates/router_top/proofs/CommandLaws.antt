@@ -1,11 +1,10 @@
 -- The laws of the commands: what the texts that one writes say of its files.
 use Rattle.std.proofs.Common.{◌≡◌, ℕ, Bool, List, Option, Some, None, Result, Ok, IsTrue, refl, sym, ap, subst, ◌∙◌}
-use Rattle.command_form.specs.Commands.{HandedBack, IsLawful, checked}
-use Rattle.command_form.specs.Leaving.{Leaves}
-use Rattle.command_form.specs.Said.{library_said}
+use Rattle.command_form.specs.Commands.{IsLawful, checked}
+use Rattle.command_form.specs.Ends.{LeavesFor}
+use Rattle.command_form.specs.Said.{design_fault, library_fault, library_said}
 use Rattle.command_form.specs.declared.stop.Outcome.{Outcome}
 use Rattle.command_form.specs.declared.stop.Stop.{Stop}
-use Rattle.command_form.specs.declared.stop.Stop.TheVariants.{DesignFault, LibraryFault}
 use Rattle.command_form.proofs.EndLemmas.{IsLawfully}
 use Rattle.command_form.proofs.LeavingLemmas.{open-whole}
 use Rattle.design_maker.specs.declared.made.Made.{Made}
@@ -14,24 +13,25 @@ use Rattle.gr_io.specs.Devices.{Device, IsUntouched, Reading, device_of}
 use Rattle.ispd_reader.specs.declared.fault.DesignFault.{DesignFault as DesignFaultKind}
 use Rattle.rc_library.specs.Libraries.{LibraryView}
 use Rattle.rc_library.specs.declared.fault.LibraryFault.{LibraryFault as LibraryFaultKind}
-use Rattle.router_top.specs.Orders.{asked_by, command_of}
+use Rattle.router_top.specs.Orders.{asked_by}
 use Rattle.router_top.specs.Routing.{routing}
 use Rattle.router_top.specs.Trying.{trying}
+use Rattle.router_top.specs.declared.kept.Kept.{Kept}
 use Rattle.text_commands.proofs.BufferingLemmas.{buffering-lawful}
 use Rattle.text_commands.proofs.JudgingLemmas.{judging-lawful}
 use Rattle.text_commands.proofs.MakingLemmas.{making-lawful}
 use Rattle.text_commands.proofs.TrackingLemmas.{tracking-lawful}
-use Rattle.word_reader.specs.Orders.{Order, Route, Evaluate, Buffer, Make, Trial, Panels, named}
+use Rattle.word_reader.specs.Orders.{Order, Route, Evaluate, Buffer, Make, Trial, Panels, Bound, named}
 use Rattle.word_reader.specs.declared.order.Order.{Order as Given}
 use Rattle.word_reader.specs.declared.order.Options.{Options}
 
-routing-accepts : (design library : List ℕ) (options : Options) (shelf : Reading) (kept : Option HandedBack) (outcome : Outcome) (text report : List ℕ) →
+routing-accepts : (design library : List ℕ) (options : Options) (shelf : Reading) (kept : Option Kept) (outcome : Outcome) (text report : List ℕ) →
     (routing design library options).says shelf kept outcome text report → IsTrue shelf.tells →
     (routing design library options).files shelf ≡ Some (Ok tt)
 routing-accepts design library options shelf None outcome text report says tells = absurd says.1
 routing-accepts design library options shelf (Some k) outcome text report says tells =
-    ap (λ (o : Option (Result DesignView (DesignFaultKind × ℕ))). checked o DesignFault (λ d. checked (library_said shelf.held library d) LibraryFault (λ lib. Some (Ok tt)))) (says.1.said tells)
-    ∙ ap (λ (o : Option (Result LibraryView (LibraryFaultKind × ℕ))). checked o LibraryFault (λ lib. Some (Ok tt))) (says.1.read tells)
+    ap (λ (o : Option (Result DesignView (DesignFaultKind × ℕ))). checked o design_fault (λ d. checked (library_said shelf.held library d) library_fault (λ lib. Some (Ok tt)))) (says.1.said tells)
+    ∙ ap (λ (o : Option (Result LibraryView (LibraryFaultKind × ℕ))). checked o library_fault (λ lib. Some (Ok tt))) (says.1.read tells)
 
 pub routing-lawful : (design library : List ℕ) (options : Options) → IsLawful (routing design library options)
 routing-lawful design library options = record {
@@ -55,23 +55,21 @@ trying-lawful made options = record {
   opens_read = λ shelf kept text report says. absurd (open-whole says.0);
 }
 
-lawful : (order : Order) → IsLawful (command_of order)
-lawful (Route design library options) = routing-lawful design library options
-lawful (Evaluate design solution via_cost) = judging-lawful design solution via_cost
-lawful (Buffer design library solution) = buffering-lawful design library solution
-lawful (Make made) = making-lawful made
-lawful (Trial made options) = trying-lawful made options
-lawful (Panels design solution) = tracking-lawful design solution
-
 pub asked-lawful : (order : Option Order) → IsLawfully (asked_by order)
 asked-lawful None = tt
-asked-lawful (Some order) = lawful order
+asked-lawful (Some (Route design library options)) = routing-lawful design library options
+asked-lawful (Some (Evaluate design solution via_cost)) = judging-lawful design solution via_cost
+asked-lawful (Some (Buffer design library solution)) = buffering-lawful design library solution
+asked-lawful (Some (Make made)) = making-lawful made
+asked-lawful (Some (Trial made options)) = trying-lawful made options
+asked-lawful (Some (Panels design solution)) = tracking-lawful design solution
+asked-lawful (Some (Bound design via_cost)) = tt
 
 -- what the command of an order leaves, where it is given these devices
-pub for-order : (given order : Given) (shelf : Reading) (out err : Device) (kept : Option HandedBack) (end : Result Outcome Stop) → order ≡ given →
-    Leaves (command_of (named given)) shelf out err kept end → Leaves (command_of (named order)) shelf out err kept end
+pub for-order : (given order : Given) (shelf : Reading) (out err : Device) (kept : Option Kept) (end : Result Outcome Stop) → order ≡ given →
+    LeavesFor (asked_by (Some (named given))) shelf out err kept end → LeavesFor (asked_by (Some (named order))) shelf out err kept end
 for-order given order shelf out err kept end is leaves =
-    subst (λ (o : Given). Leaves (command_of (named o)) shelf out err kept end) (sym is) leaves
+    subst (λ (o : Given). LeavesFor (asked_by (Some (named o))) shelf out err kept end) (sym is) leaves
 
 -- a sink that it isn't given
 pub untouched : {E : Type 0} (tells : Bool) (faults : E → ℕ) (written : E → List ℕ) (err : E) → IsUntouched (device_of tells faults written err err)

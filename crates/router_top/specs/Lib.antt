@@ -1,3 +1,4 @@
+pub mod Handing
 pub mod Booking
 pub mod Routing
 pub mod Repeating

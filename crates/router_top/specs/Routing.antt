@@ -9,13 +9,12 @@ use Rattle.gr_base.specs.declared.grid.Edge.{Edge}
 use Rattle.book_state.specs.Books.{booked, demand as demand_after}
 use Rattle.book_state.specs.Marks.{least_mark}
 use Rattle.book_state.specs.Views.{BookView}
-use Rattle.command_form.specs.Commands.{Command, HandedBack, checked}
+use Rattle.command_form.specs.Commands.{Command, checked}
 use Rattle.command_form.specs.Leaving.{Leaves}
-use Rattle.command_form.specs.Said.{design_said, library_said}
+use Rattle.command_form.specs.Said.{design_fault, design_said, library_fault, library_said}
 use Rattle.command_form.specs.declared.stop.Outcome.{Outcome}
 use Rattle.command_form.specs.declared.stop.Outcome.TheVariants.{Whole}
 use Rattle.command_form.specs.declared.stop.Stop.{Stop}
-use Rattle.command_form.specs.declared.stop.Stop.TheVariants.{DesignFault, LibraryFault}
 use Rattle.elmore_delay.specs.declared.plans.Plan.{Plan}
 use Rattle.gr_io.specs.Devices.{Device, Reading}
 use Rattle.gr_io.specs.declared.shelf.Slot.{Slot}
@@ -26,6 +25,7 @@ use Rattle.run_histories.specs.declared.hands.HandLog.{HandLog}
 use Rattle.route_evaluator.specs.Verdicts.{IsVerdict}
 use Rattle.route_evaluator.specs.declared.verdict.Verdict.{Verdict}
 use Rattle.router_top.specs.Booking.{booked_edges, AllJoined, AreChosenRoutes, AreTrees, IsBookOf, IsVerdictOn}
+use Rattle.router_top.specs.declared.kept.Kept.{Kept}
 use Rattle.router_top.specs.declared.routing.RoutedDesign.{RoutedDesign}
 use Rattle.solution_text.specs.Cover.{cover}
 use Rattle.solution_text.specs.WrittenText.{written_text}
@@ -90,20 +90,20 @@ routing_reads Design = true
 routing_reads Library = true
 routing_reads Solution = false
 
-abbrev pub routing : (design library : List ℕ) → Options → Command
+abbrev pub routing : (design library : List ℕ) → Options → Command Kept
 routing design library options = record {
   reads = routing_reads;
-  files = λ shelf. checked (design_said shelf.held design) DesignFault
-      (λ d. checked (library_said shelf.held library d) LibraryFault (λ lib. Some (Ok tt)));
+  files = λ shelf. checked (design_said shelf.held design) design_fault
+      (λ d. checked (library_said shelf.held library d) library_fault (λ lib. Some (Ok tt)));
   refuses = λ shelf stop. ⊥;
   says = λ shelf kept outcome text report.
-      (outcome ≡ Whole) × IsSomeAnd kept (λ k. IsRouting shelf design library options k.book k.hands text report);
+      (outcome ≡ Whole) × IsSomeAnd kept (λ k. IsRouting shelf design library options k.book.state k.hands.items text report);
   reports = true;
   is_open = λ shelf. ⊥;
 }
 
 -- the routing of a design and a library, where no read failed and the texts of some names say them
-abbrev pub LeavesRouted : DesignView → LibraryView → Options → (out err : Device) → Option HandedBack →
+abbrev pub LeavesRouted : DesignView → LibraryView → Options → (out err : Device) → Option Kept →
     Result Outcome Stop → Type 0
 LeavesRouted d lib options out err kept end =
     (shelf : Reading) (design library : List ℕ) → shelf.faults_after ≡ shelf.faults →

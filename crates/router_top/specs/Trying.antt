@@ -12,6 +12,7 @@ use Rattle.run_histories.specs.declared.hands.HandLog.{HandLog}
 use Rattle.route_evaluator.specs.Verdicts.{IsVerdict}
 use Rattle.route_evaluator.specs.declared.verdict.Verdict.{Verdict}
 use Rattle.router_top.specs.Booking.{booked_edges, IsBookOf}
+use Rattle.router_top.specs.declared.kept.Kept.{Kept}
 use Rattle.text_commands.specs.Judging.{report_of}
 use Rattle.word_reader.specs.declared.order.Options.{Options}
 
@@ -27,13 +28,13 @@ pub record IsTried (made : Made) (options : Options) (book : BookView) (hands : 
   pub judged : IsVerdict design options.via_cost (booked_edges (take chosen book.history)) verdict
   pub says : text ≡ report_of verdict
 
-abbrev pub trying : Made → Options → Command
+abbrev pub trying : Made → Options → Command Kept
 trying made options = record {
   reads = λ slot. false;
   files = λ shelf. Some (Ok tt);
   refuses = λ shelf stop. ⊥;
   says = λ shelf kept outcome text report.
-      (outcome ≡ Whole) × (report ≡ []) × IsSomeAnd kept (λ k. IsTried made options k.book k.hands text);
+      (outcome ≡ Whole) × (report ≡ []) × IsSomeAnd kept (λ k. IsTried made options k.book.state k.hands.items text);
   reports = false;
   is_open = λ shelf. ⊥;
 }

@@ -2,10 +2,12 @@
 #![tactic(auto)]
 
 mod booking;
+mod kept;
 mod means;
 mod routing;
 mod rules;
 mod top;
 mod trying;
 
+pub use kept::Kept;
 pub use top::{Ended, run};

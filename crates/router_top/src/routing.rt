@@ -6,7 +6,6 @@ ghost use Rattle.rc_library.specs.Libraries.{IsLibraryOf};
 ghost use Rattle.gr_io.specs.Devices.{device_of, reading_of};
 ghost use Rattle.straight_runs.specs.Routed.{HaveTrees};
 ghost use Rattle.solution_text.specs.WrittenText.{written_text};
-ghost use Rattle.command_form.specs.Commands.{kept_back};
 ghost use Rattle.command_form.specs.Leaving.{IsWritten, Leaves};
 ghost use Rattle.word_reader.specs.Orders.{AreInRange};
 ghost use Rattle.buffer_plan.specs.Plans.{AreRoutesOf};
@@ -17,8 +16,9 @@ ghost use Rattle.router_top.specs.Booking.{AreBookedRoutes, GivesVerdict, IsVerd
 ghost use Rattle.router_top.specs.Routing.{IsRoutedDesign, LeavesRouted, routing};
 
 use crate::booking::{BookedRoutes, booked_routes, verdict_on};
+use crate::kept::Kept;
 use crate::means::Means;
-use command_form::{Kept, Left, Outcome, Spent, Stop, open_design, open_library};
+use command_form::{Left, Outcome, Spent, Stop, open_design, open_library};
 use gr_base::{Design, Routes};
 use gr_io::{Shelf, Sink, write_whole};
 use gr_text::Text;
@@ -53,21 +53,21 @@ pub(crate) fn route<R: Threads + Wait + Sync, S: Shelf, O: Sink, E: Sink, G: Gat
     design: &str,
     library: &str,
     options: Options,
-) -> Left
+) -> Left<Kept>
     requires { AreInRange options }
     ensures { Leaves (routing design.now library.now options)
         (reading_of S.tells S.held S.faults S.misses shelf.old shelf.new)
         (device_of O.tells O.faults O.written out.old out.new)
         (device_of E.tells E.faults E.written err.old err.new)
-        (kept_back result.kept) result.end }
+        result.kept result.end }
 {
     let design = match open_design(means.alloc, shelf, design) {
         Ok(design) => design,
-        Err(stop) => return Left::without_book(Err(stop)),
+        Err(stop) => return Left::with_nothing(Err(stop)),
     };
     let library = match open_library(means.alloc, shelf, &design, library) {
         Ok(library) => library,
-        Err(stop) => return Left::without_book(Err(stop)),
+        Err(stop) => return Left::with_nothing(Err(stop)),
     };
     route_opened(means, out, err, design, library, options)
 }
@@ -80,17 +80,17 @@ fn route_opened<R: Threads + Wait + Sync, O: Sink, E: Sink, G: Gate + Sync>(
     design: Design,
     library: Library,
     options: Options,
-) -> Left
+) -> Left<Kept>
     requires design { IsDesign design }
     requires library { IsLibraryOf design library }
     requires options { AreInRange options }
     ensures { LeavesRouted design library options
         (device_of O.tells O.faults O.written out.old out.new)
         (device_of E.tells E.faults E.written err.old err.new)
-        (kept_back result.kept) result.end }
+        result.kept result.end }
 {
     let Ok(routed) = route_design(means, &design, &library, options) else {
-        return Left::without_book(Err(Stop::NoMemory));
+        return Left::with_nothing(Err(Stop::NoMemory));
     };
     let end = write_routes(
         means.rt,

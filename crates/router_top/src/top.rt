@@ -1,18 +1,19 @@
 //! The public call.
-ghost use Rattle.std.specs.Prelude.{◌≡◌, [], None, map, string_bytes, IsTrue, IsFalse};
+ghost use Rattle.std.specs.Prelude.{◌≡◌, [], None, Some, map, string_bytes, IsTrue};
 ghost use Rattle.gr_io.specs.Devices.{device_of, reading_of};
-ghost use Rattle.command_form.specs.Commands.{handed_back, kept_back, reads_some};
 ghost use Rattle.command_form.specs.Ends.{LeavesFor, Ends};
-ghost use Rattle.command_form.specs.Leaving.{Leaves};
 ghost use Rattle.command_form.specs.Statuses.{is_apart, IsApart, IsByStatus};
-ghost use Rattle.router_top.specs.Orders.{asked_by, command_of};
+ghost use Rattle.router_top.specs.Handing.{handed_back};
+ghost use Rattle.router_top.specs.Orders.{asked_by};
 ghost use Rattle.router_top.specs.Repeating.{BatchesDecide};
 ghost use Rattle.word_reader.specs.Orders.{named, order_of, AsksInRange};
+ghost use Rattle.word_reader.specs.declared.program.Program.TheVariants.{Groute};
 
+use crate::kept::Kept;
 use crate::means::Means;
 use crate::routing::route;
 use crate::trying::trial;
-use command_form::{Kept, Left, Spent, Stop, finish};
+use command_form::{Left, Spent, Stop, finish};
 use cost_rules::Rules;
 use gr_io::{Shelf, Sink};
 use ripup_workers::Gate;
@@ -22,7 +23,7 @@ use std::sync::Wait;
 use std::thread::Threads;
 use text_commands::{buffer, judge, make_design, panels};
 use track_book::ClosedBook;
-use word_reader::{Order, read_words};
+use word_reader::{Order, Program, read_words};
 
 /// How a run ended.
 #[derive(Debug, Drop)]
@@ -44,7 +45,7 @@ impl Ended {
     /// Ended with a status, and with what a command left.
     fn of(alloc: Global, status: u8, kept: Option<Kept>, spent: Option<Spent>) -> Ended
         ensures status { result.status ≡ status }
-        ensures kept { handed_back result.book result.hands.items ≡ kept_back kept }
+        ensures kept { handed_back result.book result.hands ≡ kept }
         ensures hands { result.book ≡ None → result.hands.items ≡ [] }
     {
         match kept {
@@ -109,17 +110,17 @@ pub fn run<R: Threads + Wait + Sync, S: Shelf, O: Sink, E: Sink, G: Gate + Sync>
     gate: &G,
     rules: &Rules,
 ) -> Ended
-    ensures ends { Ends (asked_by (order_of (map string_bytes words.now)))
+    ensures ends { Ends Groute (asked_by (order_of Groute (map string_bytes words.now)))
         (reading_of S.tells S.held S.faults S.misses shelf.old shelf.new)
         (device_of O.tells O.faults O.written out.old out.new)
         (device_of E.tells E.faults E.written err.old err.new)
-        (handed_back result.book result.hands.items) result.status }
-    ensures by_status { IsByStatus (asked_by (order_of (map string_bytes words.now)))
+        (handed_back result.book result.hands) result.status }
+    ensures by_status { IsByStatus Groute (asked_by (order_of Groute (map string_bytes words.now)))
         (reading_of S.tells S.held S.faults S.misses shelf.old shelf.new)
         (device_of O.tells O.faults O.written out.old out.new)
         (device_of E.tells E.faults E.written err.old err.new)
-        (handed_back result.book result.hands.items) result.status }
-    ensures apart { IsTrue (is_apart (asked_by (order_of (map string_bytes words.now))))
+        (handed_back result.book result.hands) result.status }
+    ensures apart { IsTrue (is_apart (asked_by (order_of Groute (map string_bytes words.now))))
         → IsApart shelf.old shelf.new result.status }
     ensures hands { result.book ≡ None → result.hands.items ≡ [] }
     ensures batches { BatchesDecide }
@@ -131,7 +132,7 @@ pub fn run<R: Threads + Wait + Sync, S: Shelf, O: Sink, E: Sink, G: Gate + Sync>
         rules,
     };
     let left = carry_out_words(&means, words, shelf, out, err);
-    let status = finish(alloc, err, left.end);
+    let status = finish(alloc, Program::Groute, err, left.end);
     Ended::of(alloc, status, left.kept, left.spent)
 }
 
@@ -142,17 +143,17 @@ fn carry_out_words<R: Threads + Wait + Sync, S: Shelf, O: Sink, E: Sink, G: Gate
     shelf: &mut S,
     out: &mut O,
     err: &mut E,
-) -> Left
-    ensures leaves { LeavesFor (asked_by (order_of (map string_bytes words.now)))
+) -> Left<Kept>
+    ensures leaves { LeavesFor (asked_by (order_of Groute (map string_bytes words.now)))
         (reading_of S.tells S.held S.faults S.misses shelf.old shelf.new)
         (device_of O.tells O.faults O.written out.old out.new)
         (device_of E.tells E.faults E.written err.old err.new)
-        (kept_back result.kept) result.end }
-    ensures apart { IsTrue (is_apart (asked_by (order_of (map string_bytes words.now)))) → shelf.new ≡ shelf.old }
+        result.kept result.end }
+    ensures apart { IsTrue (is_apart (asked_by (order_of Groute (map string_bytes words.now)))) → shelf.new ≡ shelf.old }
 {
-    match read_words(words) {
+    match read_words(Program::Groute, words) {
         Ok(order) => carry_out(means, order, shelf, out, err),
-        Err(_) => Left::without_book(Err(Stop::Usage)),
+        Err(_) => Left::with_nothing(Err(Stop::Usage)),
     }
 }
 
@@ -163,14 +164,14 @@ fn carry_out<R: Threads + Wait + Sync, S: Shelf, O: Sink, E: Sink, G: Gate + Syn
     shelf: &mut S,
     out: &mut O,
     err: &mut E,
-) -> Left
+) -> Left<Kept>
     requires { AsksInRange order }
-    ensures leaves { Leaves (command_of (named order.entry))
+    ensures leaves { LeavesFor (asked_by (Some (named order.entry)))
         (reading_of S.tells S.held S.faults S.misses shelf.old shelf.new)
         (device_of O.tells O.faults O.written out.old out.new)
         (device_of E.tells E.faults E.written err.old err.new)
-        (kept_back result.kept) result.end }
-    ensures apart { IsFalse (reads_some (command_of (named order.entry))) → shelf.new ≡ shelf.old }
+        result.kept result.end }
+    ensures apart { IsTrue (is_apart (asked_by (Some (named order.entry)))) → shelf.new ≡ shelf.old }
 {
     let alloc = means.alloc;
     match order {
@@ -192,5 +193,7 @@ fn carry_out<R: Threads + Wait + Sync, S: Shelf, O: Sink, E: Sink, G: Gate + Syn
         Order::Make { made } => make_design(alloc, out, err, made),
         Order::Trial { made, options } => trial(means, out, made, options),
         Order::Panels { design, solution } => panels(alloc, shelf, out, design, solution),
+        // No word of groute's gives it.
+        Order::Bound { .. } => Left::with_nothing(Err(Stop::Usage)),
     }
 }

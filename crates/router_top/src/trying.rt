@@ -1,6 +1,5 @@
 //! The command `trial`.
 ghost use Rattle.std.specs.Prelude.{◌≡◌, IfOk, Ok};
-ghost use Rattle.command_form.specs.Commands.{kept_back};
 ghost use Rattle.command_form.specs.Leaving.{LeavesAlone, WritesOut};
 ghost use Rattle.design_maker.specs.Ranges.{IsMade};
 ghost use Rattle.design_maker.specs.Texts.{text_of};
@@ -12,8 +11,9 @@ ghost use Rattle.text_commands.specs.Judging.{report_of};
 ghost use Rattle.word_reader.specs.Orders.{AreInRange};
 
 use crate::booking::{booked_routes, verdict_on};
+use crate::kept::Kept;
 use crate::means::Means;
-use command_form::{Kept, Left, Outcome, Stop};
+use command_form::{Left, Outcome, Stop};
 use design_maker::{Made, made_text};
 use gr_base::{Design, Name};
 use gr_io::{Shelf, Sink, Slot, SureShelf, write_whole};
@@ -32,21 +32,21 @@ pub(crate) fn trial<R: Threads + Wait + Sync, O: Sink, G: Gate + Sync>(
     out: &mut O,
     made: Made,
     options: Options,
-) -> Left
+) -> Left<Kept>
     requires made { IsMade made }
     requires options { AreInRange options }
     ensures { LeavesAlone (trying made options)
         (device_of O.tells O.faults O.written out.old out.new)
-        (kept_back result.kept) result.end }
+        result.kept result.end }
 {
     let Ok(design) = made_design(means.alloc, made) else {
-        return Left::without_book(Err(Stop::NoMemory));
+        return Left::with_nothing(Err(Stop::NoMemory));
     };
     let Ok(booked) = booked_routes(means, &design, options) else {
-        return Left::without_book(Err(Stop::NoMemory));
+        return Left::with_nothing(Err(Stop::NoMemory));
     };
     let Ok(verdict) = verdict_on(means.alloc, &design, &booked, options) else {
-        return Left::without_book(Err(Stop::NoMemory));
+        return Left::with_nothing(Err(Stop::NoMemory));
     };
     let end = write_report(means.alloc, out, &verdict);
     Left {

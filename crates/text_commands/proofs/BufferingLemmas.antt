@@ -12,7 +12,7 @@ use Rattle.gr_base.specs.Trees.{TreeView, tree_at}
 use Rattle.gr_io.specs.Devices.{Device, Reading, IsUntouched}
 use Rattle.gr_io.specs.Counts.{Rose}
 use Rattle.gr_io.specs.declared.shelf.Slot.{Slot}
-use Rattle.gr_io.specs.declared.shelf.Slot.TheVariants.{Solution}
+use Rattle.gr_io.specs.declared.shelf.Slot.TheVariants.{Design, Library, Solution}
 use Rattle.ispd_reader.specs.declared.fault.DesignFault.{DesignFault as DesignFaultKind}
 use Rattle.rc_library.specs.Libraries.{LibraryView}
 use Rattle.rc_library.specs.declared.fault.LibraryFault.{LibraryFault as LibraryFaultKind}
@@ -25,10 +25,10 @@ use Rattle.command_form.proofs.LeavingLemmas.{open-whole, written-one}
 use Rattle.command_form.specs.Commands.{IsLawful, checked}
 use Rattle.command_form.specs.Leaving.{IsMissing, LeavesOut, WritesOne}
 use Rattle.command_form.specs.Opening.{IsCovered, Opens}
-use Rattle.command_form.specs.Said.{design_said, library_said, solution_said}
+use Rattle.command_form.specs.Said.{design_fault, design_said, library_fault, library_said, solution_fault, solution_said}
 use Rattle.command_form.specs.declared.stop.Outcome.{Outcome}
 use Rattle.command_form.specs.declared.stop.Stop.{Stop}
-use Rattle.command_form.specs.declared.stop.Stop.TheVariants.{Usage, DesignFault, LibraryFault, SolutionFault, NotTree, ReadFailed, WriteFailed, NoMemory}
+use Rattle.command_form.specs.declared.stop.Stop.TheVariants.{Usage, Fault, NotTree, ReadFailed, WriteFailed, NoMemory}
 
 -- what holds of the sets of edges that a solution's runs cover holds of those that the held bytes cover
 pub by-cover : (P : (ℕ → Edges) → Type 0) (d : DesignView) (s : SolutionView) (held : Option (List ℕ)) → IsCovered d held s → P (edges_by s) →
@@ -60,7 +60,7 @@ are-read shelf design_name library_name solution_name d lib s solution said libr
 }
 
 -- the texts of a buffering, all of which are accepted
-module _ (shelf : Reading) (design_name library_name solution_name : List ℕ) (files : AreAccepted shelf design_name library_name solution_name)
+module _ {K : Type 0} (shelf : Reading) (design_name library_name solution_name : List ℕ) (files : AreAccepted shelf design_name library_name solution_name)
     (covered : IsTrue shelf.tells → IsCovered files.design (shelf.held Solution solution_name) files.solution) where
   is-buffering : (trees : List (Option TreeView)) (text : List ℕ) → AreTreesBy files.design (edges_by files.solution) trees →
       IsBuffersText files.design files.library trees text → IsBuffering shelf design_name library_name solution_name text
@@ -82,9 +82,9 @@ module _ (shelf : Reading) (design_name library_name solution_name : List ℕ) (
   -- what was written, or the stop before it, is what the command leaves
   pub placed : (out : Device) (end : Result Outcome Stop) → shelf.faults_after ≡ shelf.faults →
       WritesOne (IsPlacedText files.design files.library (edges_by files.solution)) (StopsAtNet files.design (edges_by files.solution)) out end →
-      LeavesOut (buffering design_name library_name solution_name) shelf out None end
+      LeavesOut (buffering {K = K} design_name library_name solution_name) shelf out None end
   placed out end reads is =
-      written-one (buffering design_name library_name solution_name) shelf out reads (IsPlacedText files.design files.library (edges_by files.solution))
+      written-one (buffering {K = K} design_name library_name solution_name) shelf out reads (IsPlacedText files.design files.library (edges_by files.solution))
       (λ outcome text is. (is.whole, refl, refl, is-buffering is.trees text is.are is.says))
       (StopsAtNet files.design (edges_by files.solution)) (λ stop first. (first.net.id, first.is)) refused end is
 
@@ -94,9 +94,7 @@ pub stops-unwritten : (d : DesignView) (sets : ℕ → Edges) (says : Outcome �
 stops-unwritten d sets says out NoMemory untouched is = untouched
 stops-unwritten d sets says out WriteFailed untouched is = absurd (let same = is.is in cc)
 stops-unwritten d sets says out Usage untouched is = (is, untouched)
-stops-unwritten d sets says out (DesignFault fault token) untouched is = (is, untouched)
-stops-unwritten d sets says out (LibraryFault fault token) untouched is = (is, untouched)
-stops-unwritten d sets says out (SolutionFault fault token) untouched is = (is, untouched)
+stops-unwritten d sets says out (Fault which number token) untouched is = (is, untouched)
 stops-unwritten d sets says out (NotTree id) untouched is = (is, untouched)
 stops-unwritten d sets says out ReadFailed untouched is = (is, untouched)
 
@@ -123,9 +121,7 @@ stops-at d sets net stop routed before given = by stop given
     by NoMemory given = tt
     by (NotTree id) given = stopped-by (NotTree id) (given one.net one.there)
     by Usage given = stopped-by Usage (given one.net one.there)
-    by (DesignFault fault token) given = stopped-by (DesignFault fault token) (given one.net one.there)
-    by (LibraryFault fault token) given = stopped-by (LibraryFault fault token) (given one.net one.there)
-    by (SolutionFault fault token) given = stopped-by (SolutionFault fault token) (given one.net one.there)
+    by (Fault which number token) given = stopped-by (Fault which number token) (given one.net one.there)
     by ReadFailed given = stopped-by ReadFailed (given one.net one.there)
     by WriteFailed given = stopped-by WriteFailed (given one.net one.there)
 
@@ -192,17 +188,17 @@ below-all d sets trees most all are net routed =
     are.trees_are net (omega (arith, all, inside)) routed
 
 -- files of which the design and the library are accepted say what the solution says
-pub files-read : (design library solution : List ℕ) (shelf : Reading) (d : DesignView) (lib : LibraryView) →
+pub files-read : {K : Type 0} (design library solution : List ℕ) (shelf : Reading) (d : DesignView) (lib : LibraryView) →
     design_said shelf.held design ≡ Some (Ok d) → library_said shelf.held library d ≡ Some (Ok lib) →
-    (buffering design library solution).files shelf ≡ checked (solution_said shelf.held solution d) SolutionFault (λ s. Some (Ok tt))
+    (buffering {K = K} design library solution).files shelf ≡ checked (solution_said shelf.held solution d) solution_fault (λ s. Some (Ok tt))
 files-read design library solution shelf d lib said read =
-    ap (λ (o : Option (Result DesignView (DesignFaultKind × ℕ))). checked o DesignFault (λ d. checked (library_said shelf.held library d) LibraryFault
-    (λ lib. checked (solution_said shelf.held solution d) SolutionFault (λ s. Some (Ok tt))))) said
-    ∙ ap (λ (o : Option (Result LibraryView (LibraryFaultKind × ℕ))). checked o LibraryFault
-    (λ lib. checked (solution_said shelf.held solution d) SolutionFault (λ s. Some (Ok tt)))) read
+    ap (λ (o : Option (Result DesignView (DesignFaultKind × ℕ))). checked o design_fault (λ d. checked (library_said shelf.held library d) library_fault
+    (λ lib. checked (solution_said shelf.held solution d) solution_fault (λ s. Some (Ok tt))))) said
+    ∙ ap (λ (o : Option (Result LibraryView (LibraryFaultKind × ℕ))). checked o library_fault
+    (λ lib. checked (solution_said shelf.held solution d) solution_fault (λ s. Some (Ok tt)))) read
 
 -- a command that stopped at the solution's text
-module _ (shelf : Reading) (design library solution : List ℕ) (d : DesignView) (lib : LibraryView)
+module _ {K : Type 0} (shelf : Reading) (design library solution : List ℕ) (d : DesignView) (lib : LibraryView)
     (said : IsTrue shelf.tells → design_said shelf.held design ≡ Some (Ok d)) (read : IsTrue shelf.tells → library_said shelf.held library d ≡ Some (Ok lib))
     (held_then : Slot → List ℕ → Option (List ℕ)) (faults misses : ℕ) (same_faults : faults ≡ shelf.faults) (same_misses : misses ≡ shelf.misses)
     (same_held : held_then Solution solution ≡ shelf.held Solution solution) (out : Device) (unwritten : IsUntouched out) where
@@ -217,54 +213,54 @@ module _ (shelf : Reading) (design library solution : List ℕ) (d : DesignView)
   }
 
   abbrev after : Option (List ℕ) → Option (Result (Unit {0}) Stop)
-  after held = checked (option_map (solution_of d) held) SolutionFault (λ s. Some (Ok tt))
+  after held = checked (option_map (solution_of d) held) solution_fault (λ s. Some (Ok tt))
 
-  files-then : IsTrue shelf.tells → (buffering design library solution).files shelf ≡ after (held_then Solution solution)
-  files-then tells = files-read design library solution shelf d lib (said tells) (read tells) ∙ ap after (sym same_held)
+  files-then : IsTrue shelf.tells → (buffering {K = K} design library solution).files shelf ≡ after (held_then Solution solution)
+  files-then tells = files-read {K = K} design library solution shelf d lib (said tells) (read tells) ∙ ap after (sym same_held)
 
   cause : Rose faults shelf.faults_after ⊎ (Rose misses shelf.misses_after × (IsTrue shelf.tells → held_then Solution solution ≡ None)) →
-      Rose shelf.faults shelf.faults_after ⊎ IsMissing (buffering design library solution) shelf
+      Rose shelf.faults shelf.faults_after ⊎ IsMissing (buffering {K = K} design library solution) shelf
   cause (inl rose) = inl (subst (λ (n : ℕ). Rose n shelf.faults_after) same_faults rose)
   cause (inr missing) =
       inr (subst (λ (n : ℕ). Rose n shelf.misses_after) same_misses missing.0, λ tells. files-then tells ∙ ap after (missing.1 tells))
 
   pub solution-fails : (stop : Stop) →
-      Opens then_on (held_then Solution solution) (option_map (solution_of d) (held_then Solution solution)) SolutionFault (Err stop) →
-      LeavesOut (buffering design library solution) shelf out None (Err stop)
+      Opens then_on (held_then Solution solution) (option_map (solution_of d) (held_then Solution solution)) solution_fault (Err stop) →
+      LeavesOut (buffering {K = K} design library solution) shelf out None (Err stop)
   solution-fails NoMemory opens err untouched = (inl (unwritten, refl), untouched)
   solution-fails ReadFailed opens err untouched = (record { read = refl; cause = cause opens; unwritten = unwritten }, (untouched, refl))
-  solution-fails (SolutionFault fault token) opens err untouched = (
+  solution-fails (Fault Solution number token) opens err untouched = (
     record {
       read = refl;
       reads = opens.reads ∙ same_faults;
       said = λ tells.
           files-then tells
-          ∙ ap (λ (o : Option (Result SolutionView (SolutionFaultKind × ℕ))). checked o SolutionFault (λ s. Some (Ok tt))) (opens.says tells)
+          ∙ ap (λ (o : Option (Result SolutionView (SolutionFaultKind × ℕ))). checked o solution_fault (λ s. Some (Ok tt))) (opens.says tells)
           ∙ ap (λ (s : Stop). Some (Err s)) (sym opens.is);
       unwritten = unwritten;
     },
     (untouched, refl),
   )
   solution-fails Usage opens err untouched = absurd (let is = opens.is in cc)
-  solution-fails (DesignFault fault token) opens err untouched = absurd (let is = opens.is in cc)
-  solution-fails (LibraryFault fault token) opens err untouched = absurd (let is = opens.is in cc)
+  solution-fails (Fault Design number token) opens err untouched = absurd (let is = opens.is in cc)
+  solution-fails (Fault Library number token) opens err untouched = absurd (let is = opens.is in cc)
   solution-fails (NotTree id) opens err untouched = absurd (let is = opens.is in cc)
   solution-fails WriteFailed opens err untouched = absurd (let is = opens.is in cc)
 
 -- the law of the command
-buffering-accepts : (design library solution : List ℕ) (shelf : Reading) → AreAccepted shelf design library solution → IsTrue shelf.tells →
-    (buffering design library solution).files shelf ≡ Some (Ok tt)
+buffering-accepts : {K : Type 0} (design library solution : List ℕ) (shelf : Reading) → AreAccepted shelf design library solution → IsTrue shelf.tells →
+    (buffering {K = K} design library solution).files shelf ≡ Some (Ok tt)
 buffering-accepts design library solution shelf files tells =
-    ap (λ (o : Option (Result DesignView (DesignFaultKind × ℕ))). checked o DesignFault (λ d. checked (library_said shelf.held library d) LibraryFault
-    (λ lib. checked (solution_said shelf.held solution d) SolutionFault (λ s. Some (Ok tt))))) (files.said tells)
-    ∙ ap (λ (o : Option (Result LibraryView (LibraryFaultKind × ℕ))). checked o LibraryFault
-    (λ lib. checked (solution_said shelf.held solution files.design) SolutionFault (λ s. Some (Ok tt)))) (files.library_read tells)
-    ∙ ap (λ (o : Option (Result SolutionView (SolutionFaultKind × ℕ))). checked o SolutionFault (λ s. Some (Ok tt))) (files.solution_read tells)
+    ap (λ (o : Option (Result DesignView (DesignFaultKind × ℕ))). checked o design_fault (λ d. checked (library_said shelf.held library d) library_fault
+    (λ lib. checked (solution_said shelf.held solution d) solution_fault (λ s. Some (Ok tt))))) (files.said tells)
+    ∙ ap (λ (o : Option (Result LibraryView (LibraryFaultKind × ℕ))). checked o library_fault
+    (λ lib. checked (solution_said shelf.held solution files.design) solution_fault (λ s. Some (Ok tt)))) (files.library_read tells)
+    ∙ ap (λ (o : Option (Result SolutionView (SolutionFaultKind × ℕ))). checked o solution_fault (λ s. Some (Ok tt))) (files.solution_read tells)
 
-pub buffering-lawful : (design library solution : List ℕ) → IsLawful (buffering design library solution)
-buffering-lawful design library solution = record {
-  refuses = λ shelf stop refused. buffering-accepts design library solution shelf refused.files;
-  accepts = λ shelf kept outcome text report says. buffering-accepts design library solution shelf says.3.files;
+pub buffering-lawful : {K : Type 0} → (design library solution : List ℕ) → IsLawful {K = K} (buffering design library solution)
+buffering-lawful {K = K} design library solution = record {
+  refuses = λ shelf stop refused. buffering-accepts {K = K} design library solution shelf refused.files;
+  accepts = λ shelf kept outcome text report says. buffering-accepts {K = K} design library solution shelf says.3.files;
   opens = λ shelf kept text report says tells. absurd (open-whole says.0);
   closes = λ shelf kept text report says tells left. left;
   unkept = λ shelf kept text report says. says.1;

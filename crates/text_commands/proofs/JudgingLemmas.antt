@@ -12,13 +12,12 @@ use Rattle.command_form.specs.declared.stop.Outcome.{Outcome}
 use Rattle.solution_text.specs.Cover.{cover}
 use Rattle.gr_io.specs.Devices.{Device, Reading}
 use Rattle.command_form.specs.Commands.{IsLawful, checked}
-use Rattle.command_form.specs.Said.{design_said, solution_said}
+use Rattle.command_form.specs.Said.{design_fault, design_said, solution_fault, solution_said}
 use Rattle.text_commands.specs.Judging.{judging, IsJudging, IsCoverVerdict, IsVerdictText, outcome_of, HasOpenNet}
 use Rattle.command_form.specs.Leaving.{LeavesOut, WritesOne}
 use Rattle.command_form.proofs.LeavingLemmas.{written-one}
 use Rattle.command_form.specs.declared.stop.Outcome.TheVariants.{Whole, Open}
 use Rattle.command_form.specs.declared.stop.Stop.{Stop}
-use Rattle.command_form.specs.declared.stop.Stop.TheVariants.{DesignFault, SolutionFault}
 use Rattle.solution_text.specs.declared.fault.SolutionFault.{SolutionFault as SolutionFaultKind}
 
 -- the design is said in one way
@@ -73,7 +72,7 @@ covered-verdict d s via_cost v judged None covered = covered
 covered-verdict d s via_cost v judged (Some bytes) covered = verdict-same d via_cost (edges_by s) (cover d bytes) v covered judged
 
 -- a verdict on what was read, as it was written, is what the command leaves
-module _ (shelf : Reading) (design_name solution_name : List ℕ) (via_cost : ℕ) (d : DesignView) (s : SolutionView)
+module _ {K : Type 0} (shelf : Reading) (design_name solution_name : List ℕ) (via_cost : ℕ) (d : DesignView) (s : SolutionView)
     (said : IsTrue shelf.tells → design_said shelf.held design_name ≡ Some (Ok d)) (read : IsTrue shelf.tells → solution_said shelf.held solution_name d ≡ Some (Ok s))
     (covered : IsTrue shelf.tells → IsCovered d (shelf.held Solution solution_name) s) where
   is-judging : (outcome : Outcome) (text : List ℕ) → IsVerdictText d (edges_by s) via_cost outcome text →
@@ -91,18 +90,18 @@ module _ (shelf : Reading) (design_name solution_name : List ℕ) (via_cost : �
   }
 
   pub judged : (out : Device) (end : Result Outcome Stop) → shelf.faults_after ≡ shelf.faults →
-      WritesOne (IsVerdictText d (edges_by s) via_cost) (λ stop. ⊥) out end → LeavesOut (judging design_name solution_name via_cost) shelf out None end
+      WritesOne (IsVerdictText d (edges_by s) via_cost) (λ stop. ⊥) out end → LeavesOut (judging {K = K} design_name solution_name via_cost) shelf out None end
   judged out end reads is =
-      written-one (judging design_name solution_name via_cost) shelf out reads (IsVerdictText d (edges_by s) via_cost)
+      written-one (judging {K = K} design_name solution_name via_cost) shelf out reads (IsVerdictText d (edges_by s) via_cost)
       (λ outcome text is. (refl, refl, is-judging outcome text is)) (λ stop. ⊥) (λ stop no. absurd no) (λ stop no. absurd no) end is
 
 -- the law of the command
-pub judging-lawful : (design solution : List ℕ) (via_cost : ℕ) → IsLawful (judging design solution via_cost)
+pub judging-lawful : {K : Type 0} → (design solution : List ℕ) (via_cost : ℕ) → IsLawful {K = K} (judging design solution via_cost)
 judging-lawful design solution via_cost = record {
   refuses = λ shelf stop refused. absurd refused;
   accepts = λ shelf kept outcome text report says tells.
-      ap (λ (o : Option (Result DesignView (Fault × ℕ))). checked o DesignFault (λ d. checked (solution_said shelf.held solution d) SolutionFault (λ s. Some (Ok tt)))) (says.2.said tells)
-      ∙ ap (λ (o : Option (Result SolutionView (SolutionFaultKind × ℕ))). checked o SolutionFault (λ s. Some (Ok tt))) (says.2.read tells);
+      ap (λ (o : Option (Result DesignView (Fault × ℕ))). checked o design_fault (λ d. checked (solution_said shelf.held solution d) solution_fault (λ s. Some (Ok tt)))) (says.2.said tells)
+      ∙ ap (λ (o : Option (Result SolutionView (SolutionFaultKind × ℕ))). checked o solution_fault (λ s. Some (Ok tt))) (says.2.read tells);
   opens = λ shelf kept text report says. judged-open shelf design solution via_cost text says.2;
   closes = λ shelf kept text report says. judged-whole shelf design solution via_cost text says.2;
   unkept = λ shelf kept text report says. says.0;

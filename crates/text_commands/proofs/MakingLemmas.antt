@@ -5,7 +5,7 @@ use Rattle.command_form.proofs.LeavingLemmas.{open-whole}
 use Rattle.design_maker.specs.declared.made.Made.{Made}
 use Rattle.text_commands.specs.Making.{making}
 
-pub making-lawful : (made : Made) → IsLawful (making made)
+pub making-lawful : {K : Type 0} → (made : Made) → IsLawful {K = K} (making made)
 making-lawful made = record {
   refuses = λ shelf stop refused. absurd refused;
   accepts = λ shelf kept outcome text report says tells. refl;

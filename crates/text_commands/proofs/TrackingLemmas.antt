@@ -3,10 +3,9 @@ use Rattle.std.proofs.Common.{◌≡◌, ℕ, List, Option, Some, None, Result, 
 use Rattle.command_form.specs.Commands.{IsLawful, checked}
 use Rattle.command_form.specs.Leaving.{LeavesOut, WritesOne}
 use Rattle.command_form.specs.Opening.{IsCovered}
-use Rattle.command_form.specs.Said.{design_said, solution_said}
+use Rattle.command_form.specs.Said.{design_fault, design_said, solution_fault, solution_said}
 use Rattle.command_form.specs.declared.stop.Outcome.{Outcome}
 use Rattle.command_form.specs.declared.stop.Stop.{Stop}
-use Rattle.command_form.specs.declared.stop.Stop.TheVariants.{DesignFault, SolutionFault}
 use Rattle.command_form.proofs.LeavingLemmas.{open-whole, written-one}
 use Rattle.gr_base.specs.Designs.{DesignView}
 use Rattle.gr_io.specs.Devices.{Device, Reading}
@@ -18,7 +17,7 @@ use Rattle.solution_text.specs.declared.fault.SolutionFault.{SolutionFault as So
 use Rattle.text_commands.specs.Tracking.{tracking, IsPanelsText, IsTracking}
 use Rattle.text_commands.proofs.BufferingLemmas.{by-cover}
 
-module _ (shelf : Reading) (design_name solution_name : List ℕ) (d : DesignView) (s : SolutionView)
+module _ {K : Type 0} (shelf : Reading) (design_name solution_name : List ℕ) (d : DesignView) (s : SolutionView)
     (said : IsTrue shelf.tells → design_said shelf.held design_name ≡ Some (Ok d)) (read : IsTrue shelf.tells → solution_said shelf.held solution_name d ≡ Some (Ok s))
     (covered : IsTrue shelf.tells → IsCovered d (shelf.held Solution solution_name) s) where
   is-tracking : (text : List ℕ) → text ≡ panels_text d (edges_by s) → IsTracking shelf design_name solution_name text
@@ -32,18 +31,18 @@ module _ (shelf : Reading) (design_name solution_name : List ℕ) (d : DesignVie
   }
 
   pub tracked : (out : Device) (end : Result Outcome Stop) → shelf.faults_after ≡ shelf.faults →
-      WritesOne (IsPanelsText d (edges_by s)) (λ stop. ⊥) out end → LeavesOut (tracking design_name solution_name) shelf out None end
+      WritesOne (IsPanelsText d (edges_by s)) (λ stop. ⊥) out end → LeavesOut (tracking {K = K} design_name solution_name) shelf out None end
   tracked out end reads is =
-      written-one (tracking design_name solution_name) shelf out reads (IsPanelsText d (edges_by s))
+      written-one (tracking {K = K} design_name solution_name) shelf out reads (IsPanelsText d (edges_by s))
       (λ outcome text is. (is.whole, refl, refl, is-tracking text is.says)) (λ stop. ⊥) (λ stop no. absurd no) (λ stop no. absurd no) end is
 
 -- the law of the command
-pub tracking-lawful : (design solution : List ℕ) → IsLawful (tracking design solution)
+pub tracking-lawful : {K : Type 0} → (design solution : List ℕ) → IsLawful {K = K} (tracking design solution)
 tracking-lawful design solution = record {
   refuses = λ shelf stop refused. absurd refused;
   accepts = λ shelf kept outcome text report says tells.
-      ap (λ (o : Option (Result DesignView (DesignFaultKind × ℕ))). checked o DesignFault (λ d. checked (solution_said shelf.held solution d) SolutionFault (λ s. Some (Ok tt)))) (says.3.said tells)
-      ∙ ap (λ (o : Option (Result SolutionView (SolutionFaultKind × ℕ))). checked o SolutionFault (λ s. Some (Ok tt))) (says.3.read tells);
+      ap (λ (o : Option (Result DesignView (DesignFaultKind × ℕ))). checked o design_fault (λ d. checked (solution_said shelf.held solution d) solution_fault (λ s. Some (Ok tt)))) (says.3.said tells)
+      ∙ ap (λ (o : Option (Result SolutionView (SolutionFaultKind × ℕ))). checked o solution_fault (λ s. Some (Ok tt))) (says.3.read tells);
   opens = λ shelf kept text report says tells. absurd (open-whole says.0);
   closes = λ shelf kept text report says tells left. left;
   unkept = λ shelf kept text report says. says.1;

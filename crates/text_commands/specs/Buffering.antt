@@ -18,11 +18,11 @@ use Rattle.buffer_plan.specs.Plans.{ArePlans}
 use Rattle.polar_lists.specs.PolarPlans.{ArePolarPlans}
 use Rattle.command_form.specs.Commands.{Command, checked}
 use Rattle.command_form.specs.Leaving.{LeavesOut}
-use Rattle.command_form.specs.Said.{design_said, library_said, solution_said}
+use Rattle.command_form.specs.Said.{design_fault, design_said, library_fault, library_said, solution_fault, solution_said}
 use Rattle.command_form.specs.declared.stop.Outcome.{Outcome}
 use Rattle.command_form.specs.declared.stop.Outcome.TheVariants.{Whole}
 use Rattle.command_form.specs.declared.stop.Stop.{Stop}
-use Rattle.command_form.specs.declared.stop.Stop.TheVariants.{DesignFault, LibraryFault, SolutionFault, NotTree, NoMemory}
+use Rattle.command_form.specs.declared.stop.Stop.TheVariants.{NotTree, NoMemory}
 
 -- a net's edges are a tree for its pins
 abbrev pub HasTree : DesignView → (ℕ → Edges) → ℕ → Type 0
@@ -116,12 +116,12 @@ abbrev pub GiveTrees : DesignView → (ℕ → Edges) → Result (List (Option T
 GiveTrees d sets (Ok trees) = AreTreesBy d sets trees
 GiveTrees d sets (Err stop) = StopsAtTrees d sets stop
 
-abbrev pub buffering : (design library solution : List ℕ) → Command
+abbrev pub buffering : {K : Type 0} → (design library solution : List ℕ) → Command K
 buffering design library solution = record {
   reads = λ slot. true;
-  files = λ shelf. checked (design_said shelf.held design) DesignFault
-      (λ d. checked (library_said shelf.held library d) LibraryFault
-      (λ lib. checked (solution_said shelf.held solution d) SolutionFault (λ s. Some (Ok tt))));
+  files = λ shelf. checked (design_said shelf.held design) design_fault
+      (λ d. checked (library_said shelf.held library d) library_fault
+      (λ lib. checked (solution_said shelf.held solution d) solution_fault (λ s. Some (Ok tt))));
   refuses = λ shelf stop. RefusesNet shelf design library solution stop;
   says = λ shelf kept outcome text report.
       (outcome ≡ Whole) × (kept ≡ None) × (report ≡ []) × IsBuffering shelf design library solution text;
@@ -142,11 +142,11 @@ begun_at shelf held faults misses = record {
 
 -- the buffering of a solution that is still to be opened, where no read failed before, and where texts that the shelf
 -- held then say the design and the library
-abbrev pub LeavesPlaced : DesignView → LibraryView → (solution : List ℕ) → Reading → (out : Device) →
+abbrev pub LeavesPlaced : (K : Type 0) → DesignView → LibraryView → (solution : List ℕ) → Reading → (out : Device) →
     Result Outcome Stop → Type 0
-LeavesPlaced d lib solution shelf out end =
+LeavesPlaced K d lib solution shelf out end =
     (held : Slot → List ℕ → Option (List ℕ)) (faults misses : ℕ) (design library : List ℕ) →
     shelf.faults ≡ faults → shelf.misses ≡ misses → shelf.held Solution solution ≡ held Solution solution →
     (IsTrue shelf.tells → design_said held design ≡ Some (Ok d)) →
     (IsTrue shelf.tells → library_said held library d ≡ Some (Ok lib)) →
-    LeavesOut (buffering design library solution) (begun_at shelf held faults misses) out None end
+    LeavesOut (buffering design library solution) (begun_at shelf held faults misses) out (None {A = K}) end

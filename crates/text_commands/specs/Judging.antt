@@ -11,10 +11,9 @@ use Rattle.route_evaluator.specs.declared.verdict.Verdict.{Verdict}
 use Rattle.route_reader.specs.Solutions.{SolutionView, edges_by}
 use Rattle.solution_text.specs.Cover.{cover}
 use Rattle.command_form.specs.Commands.{Command, checked}
-use Rattle.command_form.specs.Said.{design_said, solution_said}
+use Rattle.command_form.specs.Said.{design_fault, design_said, solution_fault, solution_said}
 use Rattle.command_form.specs.declared.stop.Outcome.{Outcome}
 use Rattle.command_form.specs.declared.stop.Outcome.TheVariants.{Whole, Open}
-use Rattle.command_form.specs.declared.stop.Stop.TheVariants.{DesignFault, SolutionFault}
 
 -- nothing is open where no routed net is unjoined
 abbrev pub outcome_of : List ℕ → Outcome
@@ -70,11 +69,11 @@ judging_reads Design = true
 judging_reads Library = false
 judging_reads Solution = true
 
-abbrev pub judging : (design solution : List ℕ) → (via_cost : ℕ) → Command
+abbrev pub judging : {K : Type 0} → (design solution : List ℕ) → (via_cost : ℕ) → Command K
 judging design solution via_cost = record {
   reads = judging_reads;
-  files = λ shelf. checked (design_said shelf.held design) DesignFault
-      (λ d. checked (solution_said shelf.held solution d) SolutionFault (λ s. Some (Ok tt)));
+  files = λ shelf. checked (design_said shelf.held design) design_fault
+      (λ d. checked (solution_said shelf.held solution d) solution_fault (λ s. Some (Ok tt)));
   refuses = λ shelf stop. ⊥;
   says = λ shelf kept outcome text report.
       (kept ≡ None) × (report ≡ []) × IsJudging shelf design solution via_cost outcome text;

@@ -13,7 +13,7 @@ abbrev pub counts_text : Count → List ℕ
 counts_text count = number_line (codes "nets") count.nets ++ number_line (codes "pins") count.pins
 
 -- the text of a made design, and its numbers of nets and pins
-abbrev pub making : Made → Command
+abbrev pub making : {K : Type 0} → Made → Command K
 making made = record {
   reads = λ slot. false;
   files = λ shelf. Some (Ok tt);

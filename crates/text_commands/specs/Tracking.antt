@@ -8,10 +8,9 @@ use Rattle.panel_text.specs.Texts.{panels_text}
 use Rattle.route_reader.specs.Solutions.{SolutionView, edges_by}
 use Rattle.solution_text.specs.Cover.{cover}
 use Rattle.command_form.specs.Commands.{Command, checked}
-use Rattle.command_form.specs.Said.{design_said, solution_said}
+use Rattle.command_form.specs.Said.{design_fault, design_said, solution_fault, solution_said}
 use Rattle.command_form.specs.declared.stop.Outcome.{Outcome}
 use Rattle.command_form.specs.declared.stop.Outcome.TheVariants.{Whole}
-use Rattle.command_form.specs.declared.stop.Stop.TheVariants.{DesignFault, SolutionFault}
 use Rattle.text_commands.specs.Judging.{judging_reads}
 
 -- the panels of these sets of edges
@@ -30,11 +29,11 @@ pub record IsTracking (shelf : Reading) (design_name solution_name text : List �
   pub covered : IsTrue shelf.tells →
       IsSomeAnd (shelf.held Solution solution_name) (λ bytes. text ≡ panels_text design (cover design bytes))
 
-abbrev pub tracking : (design solution : List ℕ) → Command
+abbrev pub tracking : {K : Type 0} → (design solution : List ℕ) → Command K
 tracking design solution = record {
   reads = judging_reads;
-  files = λ shelf. checked (design_said shelf.held design) DesignFault
-      (λ d. checked (solution_said shelf.held solution d) SolutionFault (λ s. Some (Ok tt)));
+  files = λ shelf. checked (design_said shelf.held design) design_fault
+      (λ d. checked (solution_said shelf.held solution d) solution_fault (λ s. Some (Ok tt)));
   refuses = λ shelf stop. ⊥;
   says = λ shelf kept outcome text report.
       (outcome ≡ Whole) × (kept ≡ None) × (report ≡ []) × IsTracking shelf design solution text;

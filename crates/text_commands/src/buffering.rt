@@ -7,7 +7,6 @@ ghost use Rattle.route_evaluator.specs.TreeSets.{AreSetsOf};
 ghost use Rattle.route_reader.specs.Solutions.{IsOf, edges_by};
 ghost use Rattle.buffer_plan.specs.Plans.{AreRoutesOf};
 ghost use Rattle.text_commands.specs.Buffering.{AreTreesBy, StopsAtNet, StopsAtTrees, IsBuffersText, IsPlacedText, GivesTree, GiveTrees, LeavesPlaced, buffering};
-ghost use Rattle.command_form.specs.Commands.{kept_back};
 ghost use Rattle.command_form.specs.Leaving.{LeavesOut, WritesOne};
 
 use buffer_plan::plan_all;
@@ -28,7 +27,7 @@ const ONE_WORKER: u32 = 1;
 
 /// Carries out `buffer`: reads the design, the library and the solution of these names, places buffers
 /// on the solution's trees, and writes them on out.
-pub fn buffer<R: Threads + Sync, S: Shelf, O: Sink>(
+pub fn buffer<K, R: Threads + Sync, S: Shelf, O: Sink>(
     rt: &R,
     alloc: Global,
     shelf: &mut S,
@@ -36,22 +35,19 @@ pub fn buffer<R: Threads + Sync, S: Shelf, O: Sink>(
     design: &str,
     library: &str,
     solution: &str,
-) -> Left
+) -> Left<K>
     ensures { LeavesOut (buffering design.now library.now solution.now)
         (reading_of S.tells S.held S.faults S.misses shelf.old shelf.new)
         (device_of O.tells O.faults O.written out.old out.new)
-        (kept_back result.kept) result.end }
+        result.kept result.end }
 {
-    Left {
-        end: read_and_buffer(rt, alloc, shelf, out, design, library, solution),
-        kept: None,
-        spent: None,
-    }
+    let end = read_and_buffer::<K, R, S, O>(rt, alloc, shelf, out, design, library, solution);
+    Left::with_nothing(end)
 }
 
 /// Reads the design, the library and the solution of these names, places buffers on the solution's
 /// trees, and writes them on out.
-fn read_and_buffer<R: Threads + Sync, S: Shelf, O: Sink>(
+fn read_and_buffer<K, R: Threads + Sync, S: Shelf, O: Sink>(
     rt: &R,
     alloc: Global,
     shelf: &mut S,
@@ -63,16 +59,16 @@ fn read_and_buffer<R: Threads + Sync, S: Shelf, O: Sink>(
     ensures { LeavesOut (buffering design.now library.now solution.now)
         (reading_of S.tells S.held S.faults S.misses shelf.old shelf.new)
         (device_of O.tells O.faults O.written out.old out.new)
-        None result }
+        (None {A = K}) result }
 {
     let design = open_design(alloc, shelf, design)?;
     let library = open_library(alloc, shelf, &design, library)?;
-    buffer_opened(rt, alloc, shelf, out, &design, &library, solution)
+    buffer_opened::<K, R, S, O>(rt, alloc, shelf, out, &design, &library, solution)
 }
 
 /// Reads the solution of this name for a design and a library, places buffers on the solution's
 /// trees, and writes them on out.
-fn buffer_opened<R: Threads + Sync, S: Shelf, O: Sink>(
+fn buffer_opened<K, R: Threads + Sync, S: Shelf, O: Sink>(
     rt: &R,
     alloc: Global,
     shelf: &mut S,
@@ -82,7 +78,7 @@ fn buffer_opened<R: Threads + Sync, S: Shelf, O: Sink>(
     solution: &str,
 ) -> Result<Outcome, Stop>
     requires { IsLibraryOf design.now library.now }
-    ensures { LeavesPlaced design.now library.now solution.now
+    ensures { LeavesPlaced K design.now library.now solution.now
         (reading_of S.tells S.held S.faults S.misses shelf.old shelf.new)
         (device_of O.tells O.faults O.written out.old out.new)
         result }

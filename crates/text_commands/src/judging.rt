@@ -3,7 +3,6 @@ ghost use Rattle.std.specs.Prelude.{◌≡◌, ◌<◌, ◌≤◌, length, All, 
 ghost use Rattle.gr_io.specs.Devices.{device_of, reading_of};
 ghost use Rattle.route_reader.specs.Solutions.{IsOf, edges_by};
 ghost use Rattle.text_commands.specs.Judging.{judging, outcome_of, verdict_text, IsVerdictText};
-ghost use Rattle.command_form.specs.Commands.{kept_back};
 ghost use Rattle.command_form.specs.Leaving.{LeavesOut, WritesOne};
 
 use command_form::{Left, Outcome, Stop, open_design, open_solution};
@@ -17,30 +16,27 @@ use std::alloc::{AllocError, Global};
 
 /// Carries out `evaluate`: reads the design and the solution of these names, judges the solution's
 /// routes, and writes the verdict on out. A via edge counts as `via_cost` wire edges, at most 1,000.
-pub fn judge<S: Shelf, O: Sink>(
+pub fn judge<K, S: Shelf, O: Sink>(
     alloc: Global,
     shelf: &mut S,
     out: &mut O,
     design: &str,
     solution: &str,
     via_cost: u32,
-) -> Left
+) -> Left<K>
     requires { via_cost ≤ 1000 }
     ensures { LeavesOut (judging design.now solution.now via_cost)
         (reading_of S.tells S.held S.faults S.misses shelf.old shelf.new)
         (device_of O.tells O.faults O.written out.old out.new)
-        (kept_back result.kept) result.end }
+        result.kept result.end }
 {
-    Left {
-        end: read_and_judge(alloc, shelf, out, design, solution, via_cost),
-        kept: None,
-        spent: None,
-    }
+    let end = read_and_judge::<K, S, O>(alloc, shelf, out, design, solution, via_cost);
+    Left::with_nothing(end)
 }
 
 /// Reads the design and the solution of these names, judges the solution's routes, and writes the
 /// verdict on out.
-fn read_and_judge<S: Shelf, O: Sink>(
+fn read_and_judge<K, S: Shelf, O: Sink>(
     alloc: Global,
     shelf: &mut S,
     out: &mut O,
@@ -52,7 +48,7 @@ fn read_and_judge<S: Shelf, O: Sink>(
     ensures { LeavesOut (judging design.now solution.now via_cost)
         (reading_of S.tells S.held S.faults S.misses shelf.old shelf.new)
         (device_of O.tells O.faults O.written out.old out.new)
-        None result }
+        (None {A = K}) result }
 {
     let design = open_design(alloc, shelf, design)?;
     let solution = open_solution(alloc, shelf, &design, solution)?;

@@ -4,7 +4,6 @@ ghost use Rattle.design_maker.specs.Nets.{nets_of, count_of};
 ghost use Rattle.design_maker.specs.Ranges.{IsMade};
 ghost use Rattle.design_maker.specs.Texts.{text_of};
 ghost use Rattle.gr_io.specs.Devices.{device_of};
-ghost use Rattle.command_form.specs.Commands.{kept_back};
 ghost use Rattle.command_form.specs.Leaving.{IsWritten, LeavesApart};
 ghost use Rattle.text_commands.specs.Making.{counts_text, making};
 
@@ -17,18 +16,19 @@ use std::alloc::{AllocError, Global};
 
 /// Carries out `make`: writes the text of a made design on out, and on err how many nets and pins it
 /// has.
-pub fn make_design<O: Sink, E: Sink>(alloc: Global, out: &mut O, err: &mut E, made: Made) -> Left
+pub fn make_design<K, O: Sink, E: Sink>(
+    alloc: Global,
+    out: &mut O,
+    err: &mut E,
+    made: Made,
+) -> Left<K>
     requires { IsMade made }
     ensures { LeavesApart (making made)
         (device_of O.tells O.faults O.written out.old out.new)
         (device_of E.tells E.faults E.written err.old err.new)
-        (kept_back result.kept) result.end }
+        result.kept result.end }
 {
-    Left {
-        end: write_design(alloc, out, err, made),
-        kept: None,
-        spent: None,
-    }
+    Left::with_nothing(write_design(alloc, out, err, made))
 }
 
 /// Writes the text of a made design on out, and on err how many nets and pins it has.

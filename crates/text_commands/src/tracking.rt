@@ -2,7 +2,6 @@
 ghost use Rattle.std.specs.Prelude.{None};
 ghost use Rattle.gr_io.specs.Devices.{device_of, reading_of};
 ghost use Rattle.route_reader.specs.Solutions.{IsOf, edges_by};
-ghost use Rattle.command_form.specs.Commands.{kept_back};
 ghost use Rattle.command_form.specs.Leaving.{LeavesOut, WritesOne};
 ghost use Rattle.text_commands.specs.Tracking.{tracking, IsPanelsText};
 
@@ -14,27 +13,24 @@ use std::alloc::Global;
 
 /// Carries out `panels`: reads the design and the solution of these names, gives the straight runs of
 /// each row and column of tiles the fewest tracks, and writes them on out.
-pub fn panels<S: Shelf, O: Sink>(
+pub fn panels<K, S: Shelf, O: Sink>(
     alloc: Global,
     shelf: &mut S,
     out: &mut O,
     design: &str,
     solution: &str,
-) -> Left
+) -> Left<K>
     ensures { LeavesOut (tracking design.now solution.now)
         (reading_of S.tells S.held S.faults S.misses shelf.old shelf.new)
         (device_of O.tells O.faults O.written out.old out.new)
-        (kept_back result.kept) result.end }
+        result.kept result.end }
 {
-    Left {
-        end: read_and_track(alloc, shelf, out, design, solution),
-        kept: None,
-        spent: None,
-    }
+    let end = read_and_track::<K, S, O>(alloc, shelf, out, design, solution);
+    Left::with_nothing(end)
 }
 
 /// Reads the design and the solution of these names, and writes the panels of the solution on out.
-fn read_and_track<S: Shelf, O: Sink>(
+fn read_and_track<K, S: Shelf, O: Sink>(
     alloc: Global,
     shelf: &mut S,
     out: &mut O,
@@ -44,7 +40,7 @@ fn read_and_track<S: Shelf, O: Sink>(
     ensures { LeavesOut (tracking design.now solution.now)
         (reading_of S.tells S.held S.faults S.misses shelf.old shelf.new)
         (device_of O.tells O.faults O.written out.old out.new)
-        None result }
+        (None {A = K}) result }
 {
     let design = open_design(alloc, shelf, design)?;
     let solution = open_solution(alloc, shelf, &design, solution)?;

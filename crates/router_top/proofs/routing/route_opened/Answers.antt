@@ -1,5 +1,4 @@
 use Rattle.std.proofs.Common.{Some, refl}
-use Rattle.command_form.specs.Commands.{kept_back}
 use Rattle.command_form.proofs.LeavingLemmas.{wants-memory, written}
 use Rattle.gr_base.specs.Trees.{route_edges}
 use Rattle.router_top.specs.Routing.{routing}
@@ -9,13 +8,13 @@ use Rattle.solution_text.specs.WrittenText.{written_text}
 
 pub returns-in_default : goal.returns-in_default
 returns-in_default g c = λ shelf design library reads said read.
-    wants-memory (routing design library c.args.options) shelf _ _ c.without_book.result.kept c.without_book.result.end
-    c.without_book.ensures.end c.without_book.ensures.kept (record { faults = refl; written = λ tells. refl }) (record { faults = refl; written = λ tells. refl })
+    wants-memory (routing design library c.args.options) shelf _ _ c.with_nothing.result.kept c.with_nothing.result.end
+    c.with_nothing.ensures.end c.with_nothing.ensures.kept (record { faults = refl; written = λ tells. refl }) (record { faults = refl; written = λ tells. refl })
 
 pub returns : goal.returns
 returns g c = λ shelf design library reads said read.
     let d = c.args.design in
     let r = c.in-Ok.routed in
-    written (routing design library c.args.options) shelf _ _ (kept_back (Some (record { book = r.rounds.book; hands = r.rounds.hands })))
+    written (routing design library c.args.options) shelf _ _ (Some (record { book = r.rounds.book; hands = r.rounds.hands }))
     (written_text d (route_edges r.routes)) r.report c.write_routes-end.result refl reads
     (refl, is-routing shelf design library d c.args.library c.args.options r said read c.requires.design c.in-Ok.ensures) c.write_routes-end.ensures

@@ -1,6 +1,5 @@
 use Rattle.std.proofs.Common.{ℕ, Some, take, refl, subst}
 use Rattle.std.proofs.Math.Path.{fun_ext}
-use Rattle.command_form.specs.Commands.{kept_back}
 use Rattle.command_form.proofs.LeavingLemmas.{leaves-alone}
 use Rattle.gr_base.specs.EdgeSets.{Edges}
 use Rattle.route_evaluator.specs.Verdicts.{IsVerdict}
@@ -16,7 +15,7 @@ returns g c =
     let are = c.in-Ok-booked_routes.ensures in
     let v = c.in-Ok-verdict_on.verdict in
     let h = take r.rounds.chosen r.rounds.book.state.history in
-    leaves-alone (trying c.args.made c.args.options) _ (kept_back (Some (record { book = r.rounds.book; hands = r.rounds.hands }))) (report_of v)
+    leaves-alone (trying c.args.made c.args.options) _ (Some (record { book = r.rounds.book; hands = r.rounds.hands })) (report_of v)
     c.write_report-end.result
     (λ shelf. (
       refl,
