@@ -78,9 +78,9 @@ room-back c h net r t lifted tables few tree same = λ e inside wire.
     omega (arith, demand_is, most)
 
 -- how much an edge is over without a tree, by how much it is over with the tree
-over-without : {formula : Formula} (c : CapacityView) (net taken : ℕ) (x : Edge) (d e with_d with_e : ℕ) → with_d ≡ d + taken → with_e ≡ e + taken →
+over-without : (formula : Formula) (c : CapacityView) (net taken : ℕ) (x : Edge) (d e with_d with_e : ℕ) → with_d ≡ d + taken → with_e ≡ e + taken →
     over_with c formula net x with_d ≤ over_with c formula net x with_e → over_with c formula net x d ≤ over_with c formula net x e
-over-without c net taken x d e with_d with_e one two more = omega (arith, one, two, more)
+over-without formula c net taken x d e with_d with_e one two more = omega (arith, one, two, more)
 
 -- where one history leaves a net's plan the best after another, so do the two with an entry more each that frees the net
 pub freed-still : {formula : Formula} (c : CapacityView) (w : Window) (t : TreeView) (h k : List Entry) (net : ℕ) (e f : Entry) → net < nets_of c → StaysBest c formula net w t h k →
@@ -95,7 +95,7 @@ freed-still {formula = formula} c w t h k net e f within still one two =
     let second : (x : Edge) → demand c k x ≡ demand c (k ++ f ∷ []) x + share_of c net (booked h net) x =
     λ x. freed k f x two ∙ ap (λ (o : Option TreeView). demand c (k ++ f ∷ []) x + share_of c net o x) still.booking in
     let rises : (x : Edge) → IsWireIn c w x → over_with c formula net x (demand c (h ++ e ∷ []) x) ≤ over_with c formula net x (demand c (k ++ f ∷ []) x) =
-    λ x is_in. over-without c net (share_of c net (booked h net) x) x (demand c (h ++ e ∷ []) x) (demand c (k ++ f ∷ []) x)
+    λ x is_in. over-without formula c net (share_of c net (booked h net) x) x (demand c (h ++ e ∷ []) x) (demand c (k ++ f ∷ []) x)
     (demand c h x) (demand c k x) (first x) (second x) (still.rises x is_in) in
     record {
       booking = booked-release k f net two.call two.reply ∙ sym (booked-release h e net one.call one.reply);
@@ -103,7 +103,7 @@ freed-still {formula = formula} c w t h k net e f within still one two =
       stays = λ x is_in joins.
           let same = still.stays x is_in joins in
           let below = rises x is_in in
-          let above = over-without c net (share_of c net (booked h net) x) x (demand c (k ++ f ∷ []) x) (demand c (h ++ e ∷ []) x)
+          let above = over-without formula c net (share_of c net (booked h net) x) x (demand c (k ++ f ∷ []) x) (demand c (h ++ e ∷ []) x)
           (demand c k x) (demand c h x) (second x) (first x) (omega (arith, same)) in
           omega (arith, below, above);
       marks = λ x is_in.

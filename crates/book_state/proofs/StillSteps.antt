@@ -35,9 +35,9 @@ last-fails true false t first second none = absurd (both_ways false refl second)
 last-fails false b t first second none = absurd (both_ways false refl first)
 
 -- a wire edge in the window that doesn't lack room has room
-room-in : {formula : Formula} (c : CapacityView) (w : Window) (l : LoadsView) (h : List Entry) (net : ℕ) (beside : Option ℕ) (x : Edge) → AreLoadsOf c h l → IsTrue (has_edge c.shape x) →
+room-in : (formula : Formula) (c : CapacityView) (w : Window) (l : LoadsView) (h : List Entry) (net : ℕ) (beside : Option ℕ) (x : Edge) → AreLoadsOf c h l → IsTrue (has_edge c.shape x) →
     IsWireIn c w x → lacks_room c formula w (demand_at l) net beside x ≡ false → demand c h x + need_of c beside x + need_at c net x + reach formula (need_at c net x) ≤ capacity_at c x
-room-in {formula = formula} c w l h net beside x of edge is_in fails =
+room-in formula c w l h net beside x of edge is_in fails =
     let test : nat_lt (capacity_at c x) (demand_at l x + need_of c beside x + need_at c net x + reach formula (need_at c net x)) ≡ false =
     last-fails (is_wire x) (in_window c.shape w x.low) (nat_lt (capacity_at c x) (demand_at l x + need_of c beside x + need_at c net x + reach formula (need_at c net x))) is_in.wire is_in.begins fails in
     let demand_is = of.demand x edge is_in.wire in
@@ -60,9 +60,9 @@ still-then c net w t h k l one two = record {
 }
 
 -- a demand that grows or shrinks by what a tree takes, where there is room for that and for the net
-over-share : {formula : Formula} (c : CapacityView) (net other : ℕ) (t : TreeView) (x : Edge) (less more : ℕ) → more ≡ less + share c other t x →
+over-share : (formula : Formula) (c : CapacityView) (net other : ℕ) (t : TreeView) (x : Edge) (less more : ℕ) → more ≡ less + share c other t x →
     (edges_of t x ≡ true → less + need_at c other x + need_at c net x + reach formula (need_at c net x) ≤ capacity_at c x) → over_with c formula net x more ≡ over_with c formula net x less
-over-share {formula = formula} c net other t x less more grown room = elim (cases_Bool (edges_of t x)) [
+over-share formula c net other t x less more grown room = elim (cases_Bool (edges_of t x)) [
   | inl inside ↦
       let there = room inside in
       let taken : share c other t x ≡ need_at c other x = rw inside refl in
@@ -83,9 +83,9 @@ grown-by c h k other t x within others before after =
     omega (arith, change, nothing, all)
 
 -- an edge that isn't noted doesn't lack room, where each that lacks it is noted
-lacks-not : {formula : Formula} (c : CapacityView) (w : Window) (l : LoadsView) (net : ℕ) (beside : Option ℕ) (touches : List Touch) (x : Edge) → (IsTrue (lacks_room c formula w (demand_at l) net beside x) → IsTrue (is_noted touches x)) →
+lacks-not : (formula : Formula) (c : CapacityView) (w : Window) (l : LoadsView) (net : ℕ) (beside : Option ℕ) (touches : List Touch) (x : Edge) → (IsTrue (lacks_room c formula w (demand_at l) net beside x) → IsTrue (is_noted touches x)) →
     is_noted touches x ≡ false → lacks_room c formula w (demand_at l) net beside x ≡ false
-lacks-not {formula = formula} c w l net beside touches x noted unnoted = elim (cases_Bool (lacks_room c formula w (demand_at l) net beside x)) [
+lacks-not formula c w l net beside touches x noted unnoted = elim (cases_Bool (lacks_room c formula w (demand_at l) net beside x)) [
   | inl lack ↦ absurd (both_ways (is_noted touches x) unnoted (noted lack))
   | inr room ↦ room
 ]
@@ -119,9 +119,9 @@ noted-claim {formula = formula} c net w first h place claim l old new legal is o
     subst (λ (k : List Entry). AreTouches c formula net w first k new) (sym (take-entry h place e is.there))
     (touches-then c net w first before after old new are (adds-of c w l before old new of adds) (others net (λ same. apart (sym same)))
     (λ x is_in. steps.marks-idle c before e x (ap (λ (k : Call). is_mark_call k) is.call))
-    (λ x is_in unnoted. over-share c net claim.net claim.tree x (demand c before x) (demand c after x) (grown x) (λ there.
-    room-in c w l before net (Some claim.net) x of (edge-in c.shape claim.tree x tree in_range.shape there) is_in
-    (lacks-not c w l net (Some claim.net) new x (λ lack. noted x lack there) unnoted))))
+    (λ x is_in unnoted. over-share formula c net claim.net claim.tree x (demand c before x) (demand c after x) (grown x) (λ there.
+    room-in formula c w l before net (Some claim.net) x of (edge-in c.shape claim.tree x tree in_range.shape there) is_in
+    (lacks-not formula c w l net (Some claim.net) new x (λ lack. noted x lack there) unnoted))))
 
 pub noted-release : {formula : Formula} (c : CapacityView) (net : ℕ) (w : Window) (first h : List Entry) (place freed : ℕ) (u : TreeView) (l : LoadsView) (old new : List Touch) → IsLegal c h → IsReleased h place freed →
     AreLoadsOf c (take place h) l → (freed ≡ net → ⊥) → IsTree u → u.shape ≡ c.shape → booked (take place h) freed ≡ Some u → AddsTouches c w (demand_at l) old new →
@@ -139,9 +139,9 @@ noted-release {formula = formula} c net w first h place freed u l old new legal 
     subst (λ (k : List Entry). AreTouches c formula net w first k new) (sym (take-entry h place e is.there))
     (touches-then c net w first before after old new are (adds-of c w l before old new of adds) (others net (λ same. apart (sym same)))
     (λ x is_in. steps.marks-idle c before e x (ap (λ (k : Call). is_mark_call k) is.call))
-    (λ x is_in unnoted. sym (over-share c net freed u x (demand c after x) (demand c before x) (grown x) (λ there.
-    let room = room-in c w l before net None x of (edge-in c.shape u x tree shape there) is_in
-    (lacks-not c w l net None new x (λ lack. noted x lack there) unnoted) in
+    (λ x is_in unnoted. sym (over-share formula c net freed u x (demand c after x) (demand c before x) (grown x) (λ there.
+    let room = room-in formula c w l before net None x of (edge-in c.shape u x tree shape there) is_in
+    (lacks-not formula c w l net None new x (λ lack. noted x lack there) unnoted) in
     let taken : share c freed u x ≡ need_at c freed x = rw there refl in
     let less = grown x in
     omega (arith, room, less, taken)))))

@@ -142,8 +142,8 @@ noted-all lacks t node touches x all are lack there wire = elim (are x lack ther
 ]
 
 -- only wire edges lack room
-pub lack-wire : {formula : Formula} (c : CapacityView) (w : Window) (demands : Edge → ℕ) (net : ℕ) (beside : Option ℕ) (e : Edge) → IsTrue (lacks_room c formula w demands net beside e) → IsTrue (is_wire e)
-lack-wire c w demands net beside e lack = first (is_wire e) _ lack
+pub lack-wire : (formula : Formula) (c : CapacityView) (w : Window) (demands : Edge → ℕ) (net : ℕ) (beside : Option ℕ) (e : Edge) → IsTrue (lacks_room c formula w demands net beside e) → IsTrue (is_wire e)
+lack-wire formula c w demands net beside e lack = first (is_wire e) _ lack
   where
     first : (a b : Bool) → (a && b) ≡ true → a ≡ true
     first true b is = refl

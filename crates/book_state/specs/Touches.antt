@@ -41,7 +41,7 @@ pub record AreTouches (c : CapacityView) (formula : Formula) (net : ℕ) (w : Wi
   pub booking : booked after net ≡ booked before net
   pub marks : (e : Edge) → IsWireIn c w e → marks c after e ≡ marks c before e
   pub each : All (IsTouch c w) touches
-  pub told : All (IsTold c net before) touches
+  pub told : All (IsTold c formula net before) touches
   pub others : (e : Edge) → IsWireIn c w e → is_noted touches e ≡ false →
       over_with c formula net e (demand c after e) ≡ over_with c formula net e (demand c before e)
 

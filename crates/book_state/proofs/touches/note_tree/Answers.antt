@@ -56,4 +56,4 @@ returns-clause-noted c = λ e lack there.
     let lacks : Edge → _ = lacks_room c.args.capacity.now c.args.sought.now.formula c.args.sought.now.window (demand_at c.args.loads.now) c.args.sought.now.net c.args.beside in
     noted-all lacks c.args.tree.now c.loop-node.node c.loop-node.touches.items e
     (omega (arith, c.loop-node-test.false, c.loop-node.auto.node-end, c.len-node-end.ensures.len)) c.loop-node.invariant.1 lack there
-    (lack-wire c.args.capacity.now c.args.sought.now.window (demand_at c.args.loads.now) c.args.sought.now.net c.args.beside e lack)
+    (lack-wire c.args.sought.now.formula c.args.capacity.now c.args.sought.now.window (demand_at c.args.loads.now) c.args.sought.now.net c.args.beside e lack)
