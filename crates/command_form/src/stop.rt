@@ -23,15 +23,9 @@ pub enum Stop {
     Usage,
     /// A text is at fault: which text, the number of its first fault in the text's grammar, and of the
     /// token at which it is found.
-    Fault {
-        text: Slot,
-        number: u8,
-        token: u64,
-    },
+    Fault { text: Slot, number: u8, token: u64 },
     /// The edges of a solution's net of this id aren't a tree.
-    NotTree {
-        id: u32,
-    },
+    NotTree { id: u32 },
     ReadFailed,
     WriteFailed,
     NoMemory,
