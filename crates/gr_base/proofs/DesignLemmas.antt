@@ -1,11 +1,12 @@
 -- Nets and their ids.
-use Rattle.std.proofs.Common.{◌≡◌, ℕ, ◌+◌, ◌<◌, ◌≤◌, ◌⊎◌, inl, inr, true, ◌==◌, nat_eq, cond, List, [], ◌∷◌, ◌++◌, length, map, Some, None, refl, ap, subst, ◌∙◌, arith, length-append, zero, suc}
+use Rattle.std.proofs.Common.{◌≡◌, ℕ, ◌+◌, ◌<◌, ◌≤◌, ◌⊎◌, inl, inr, true, false, ◌==◌, nat_eq, cond, List, [], ◌∷◌, ◌++◌, length, map, Option, Some, None, IsTrue, refl, sym, ap, subst, ◌∙◌, arith, length-append, zero, suc}
 use Rattle.std.specs.List.{position_from, slice_get}
-use Rattle.std.proofs.lemmas.Bool.{cases_Bool}
+use Rattle.std.proofs.lemmas.Bool.{both_ways, cases_Bool}
 use Rattle.std.proofs.lemmas.List.Elements.{All-push}
 use Rattle.std.proofs.lemmas.List.Sums.{sum_by-append}
+use Rattle.std.proofs.lemmas.Option.{slice_get_within}
 use Rattle.gr_base.specs.Limits.{most_nets, most_pins}
-use Rattle.gr_base.specs.Designs.{DesignView, IsNet, IsDesign, net_from, net_with_id, pins_of}
+use Rattle.gr_base.specs.Designs.{DesignView, IsNet, IsDesign, net_from, net_with_id, pins_of, is_routed, is_routed_net}
 use Rattle.gr_base.specs.declared.frame.Net.{Net}
 
 -- the ids of the nets, in order
@@ -79,3 +80,20 @@ IsDesign-push_net d net design is_net fresh room pins = record {
 pub ids-fresh : (ids : List ℕ) (id : ℕ) (nets : List Net) → ids ≡ ids_of nets → net_from 0 id nets ≡ None →
     position_from (nat_eq id) 0 ids ≡ None
 ids-fresh ids id nets are none = ap (position_from (nat_eq id) 0) are ∙ net_from-position 0 id nets ∙ none
+
+-- a routed net is one of the design's
+pub record IsNetOf (d : DesignView) (number : ℕ) : Type 0 where
+  pub net : Net
+  pub there : slice_get d.nets number ≡ Some net
+
+pub routed-net : (d : DesignView) (number : ℕ) → IsTrue (is_routed d number) → IsNetOf d number
+routed-net d number routed = by_net (slice_get d.nets number) refl
+  where
+    by_net : (o : Option Net) → slice_get d.nets number ≡ o → IsNetOf d number
+    by_net None is = absurd (both_ways false refl (sym (ap is_routed_net is) ∙ routed))
+    by_net (Some net) is = record { net = net; there = is }
+
+pub routed-below : (d : DesignView) (number : ℕ) → IsTrue (is_routed d number) → number < length d.nets
+routed-below d number routed =
+    let one = routed-net d number routed in
+    slice_get_within d.nets number one.net one.there
