@@ -29,8 +29,9 @@ class Words(unittest.TestCase):
         self.options = {name: (word, takes, default) for name, word, takes, default in re.findall(
             r'OptionKind::(\w+) => OptionRow \{\s*word: "([^"]+)",\s*takes: (.*?),\s*'
             r'default: (?:None|Some\("([^"]+)"\)),\s*excludes: [^}]*\}', self.form, re.DOTALL)}
-        self.commands = [(word, int(count), re.findall(r"OptionKind::(\w+)", options)) for word, count, options in
-                         re.findall(r'word: "([^"]+)",\s*positionals: ([0-9]+),\s*options: &\[([^\]]*)\]', self.form)]
+        self.rows = [(word, int(count), re.findall(r"OptionKind::(\w+)", options)) for word, count, options in
+                     re.findall(r'word: "([^"]*)",\s*positionals: ([0-9]+),\s*options: &\[([^\]]*)\]', self.form)]
+        self.commands = [row for row in self.rows if row[0]]
 
     def number(self, text: str) -> str:
         """A number of a row, as documents write it."""
@@ -46,7 +47,7 @@ class Words(unittest.TestCase):
         return re.findall(r'"([^"]+)"', takes), numbers and [self.number(text) for text in numbers.groups()]
 
     def test_rows(self) -> None:
-        for kind, rows in (("Command", self.commands), ("OptionKind", self.options)):
+        for kind, rows in (("Command", self.rows), ("OptionKind", self.options)):
             variants = found(rf"enum {kind} \{{(.*?)\}}", self.form, re.DOTALL).group(1)
             self.assertEqual(len(rows), variants.count(","))
 

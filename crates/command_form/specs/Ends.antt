@@ -34,8 +34,8 @@ afterwards device faults written = record {
 }
 
 -- a run of a program comes to an end with this status: its command left what it says, and then err was told of it
-pub record Ends {K : Type 0} (program : Program) (asked : Asked K) (shelf : Reading) (out err : Device) (kept : Option K)
-    (status : ℕ) : Type 0 where
+pub record Ends {K : Type 0} (program : Program) (asked : Asked K) (shelf : Reading) (out err : Device)
+    (kept : Option K) (status : ℕ) : Type 0 where
   pub end : Result Outcome Stop
   -- err's count of faults and its bytes before it was told
   pub faults : ℕ

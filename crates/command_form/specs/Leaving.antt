@@ -19,7 +19,8 @@ pub record IsDone {K : Type 0} (command : Command K) (shelf : Reading) (out err 
   pub says : command.says shelf kept outcome text report
 
 -- out gained a first part of its text
-pub record IsPartDone {K : Type 0} (command : Command K) (shelf : Reading) (out : Device) (kept : Option K) : Type 0 where
+pub record IsPartDone {K : Type 0} (command : Command K) (shelf : Reading) (out : Device)
+    (kept : Option K) : Type 0 where
   pub outcome : Outcome
   pub text : List ℕ
   pub report : List ℕ
@@ -27,7 +28,8 @@ pub record IsPartDone {K : Type 0} (command : Command K) (shelf : Reading) (out 
   pub says : command.says shelf kept outcome text report
 
 -- out gained its whole text, and err a first part of its own, at a write that failed
-pub record IsHalfDone {K : Type 0} (command : Command K) (shelf : Reading) (out err : Device) (kept : Option K) : Type 0 where
+pub record IsHalfDone {K : Type 0} (command : Command K) (shelf : Reading) (out err : Device)
+    (kept : Option K) : Type 0 where
   pub reads : shelf.faults_after ≡ shelf.faults
   pub outcome : Outcome
   pub text : List ℕ
@@ -67,7 +69,8 @@ pub record FailsToRead {K : Type 0} (command : Command K) (shelf : Reading) (out
   pub unwritten : IsUntouched out
 
 -- a write to out failed, before err was written to
-pub record FailsOut {K : Type 0} (command : Command K) (shelf : Reading) (out err : Device) (kept : Option K) : Type 0 where
+pub record FailsOut {K : Type 0} (command : Command K) (shelf : Reading) (out err : Device)
+    (kept : Option K) : Type 0 where
   pub reads : shelf.faults_after ≡ shelf.faults
   pub cause : Rose out.faults out.faults_after
   pub part : IsPartDone command shelf out kept

@@ -27,6 +27,7 @@ use Rattle.round_core.specs.declared.steps.Phase.{Phase}
 use Rattle.round_core.specs.declared.steps.Phase.TheVariants.{Idle, Holding, Trying, Ended}
 use Rattle.round_core.specs.declared.steps.Step.TheVariants.{Take, Release, Claim as Claiming}
 use Rattle.round_core.specs.declared.world.World.TheInside.{Inside}
+use Rattle.run_histories.proofs.KeptRules.{overflows-push}
 use Rattle.round_core.proofs.WorldCalls.{release-by, release-world, claim-runs, claim-world}
 use Rattle.round_core.proofs.WorldEnds.{ended-run}
 use Rattle.round_core.proofs.WorldTakes.{taken-world}

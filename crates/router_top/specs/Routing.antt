@@ -97,7 +97,8 @@ routing design library options = record {
       (λ d. checked (library_said shelf.held library d) library_fault (λ lib. Some (Ok tt)));
   refuses = λ shelf stop. ⊥;
   says = λ shelf kept outcome text report.
-      (outcome ≡ Whole) × IsSomeAnd kept (λ k. IsRouting shelf design library options k.book.state k.hands.items text report);
+      (outcome ≡ Whole) ×
+      IsSomeAnd kept (λ k. IsRouting shelf design library options k.book.state k.hands.items text report);
   reports = true;
   is_open = λ shelf. ⊥;
 }

@@ -149,7 +149,8 @@ fn carry_out_words<R: Threads + Wait + Sync, S: Shelf, O: Sink, E: Sink, G: Gate
         (device_of O.tells O.faults O.written out.old out.new)
         (device_of E.tells E.faults E.written err.old err.new)
         result.kept result.end }
-    ensures apart { IsTrue (is_apart (asked_by (order_of Groute (map string_bytes words.now)))) → shelf.new ≡ shelf.old }
+    ensures apart { IsTrue (is_apart (asked_by (order_of Groute (map string_bytes words.now))))
+        → shelf.new ≡ shelf.old }
 {
     match read_words(Program::Groute, words) {
         Ok(order) => carry_out(means, order, shelf, out, err),

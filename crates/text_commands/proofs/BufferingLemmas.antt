@@ -60,7 +60,7 @@ are-read shelf design_name library_name solution_name d lib s solution said libr
 }
 
 -- the texts of a buffering, all of which are accepted
-module _ {K : Type 0} (shelf : Reading) (design_name library_name solution_name : List ℕ) (files : AreAccepted shelf design_name library_name solution_name)
+module _ (shelf : Reading) (design_name library_name solution_name : List ℕ) (files : AreAccepted shelf design_name library_name solution_name)
     (covered : IsTrue shelf.tells → IsCovered files.design (shelf.held Solution solution_name) files.solution) where
   is-buffering : (trees : List (Option TreeView)) (text : List ℕ) → AreTreesBy files.design (edges_by files.solution) trees →
       IsBuffersText files.design files.library trees text → IsBuffering shelf design_name library_name solution_name text
@@ -80,10 +80,10 @@ module _ {K : Type 0} (shelf : Reading) (design_name library_name solution_name 
   }
 
   -- what was written, or the stop before it, is what the command leaves
-  pub placed : (out : Device) (end : Result Outcome Stop) → shelf.faults_after ≡ shelf.faults →
+  pub placed : (K : Type 0) (out : Device) (end : Result Outcome Stop) → shelf.faults_after ≡ shelf.faults →
       WritesOne (IsPlacedText files.design files.library (edges_by files.solution)) (StopsAtNet files.design (edges_by files.solution)) out end →
       LeavesOut (buffering {K = K} design_name library_name solution_name) shelf out None end
-  placed out end reads is =
+  placed K out end reads is =
       written-one (buffering {K = K} design_name library_name solution_name) shelf out reads (IsPlacedText files.design files.library (edges_by files.solution))
       (λ outcome text is. (is.whole, refl, refl, is-buffering is.trees text is.are is.says))
       (StopsAtNet files.design (edges_by files.solution)) (λ stop first. (first.net.id, first.is)) refused end is
@@ -188,17 +188,17 @@ below-all d sets trees most all are net routed =
     are.trees_are net (omega (arith, all, inside)) routed
 
 -- files of which the design and the library are accepted say what the solution says
-pub files-read : {K : Type 0} (design library solution : List ℕ) (shelf : Reading) (d : DesignView) (lib : LibraryView) →
+pub files-read : (K : Type 0) (design library solution : List ℕ) (shelf : Reading) (d : DesignView) (lib : LibraryView) →
     design_said shelf.held design ≡ Some (Ok d) → library_said shelf.held library d ≡ Some (Ok lib) →
     (buffering {K = K} design library solution).files shelf ≡ checked (solution_said shelf.held solution d) solution_fault (λ s. Some (Ok tt))
-files-read design library solution shelf d lib said read =
+files-read K design library solution shelf d lib said read =
     ap (λ (o : Option (Result DesignView (DesignFaultKind × ℕ))). checked o design_fault (λ d. checked (library_said shelf.held library d) library_fault
     (λ lib. checked (solution_said shelf.held solution d) solution_fault (λ s. Some (Ok tt))))) said
     ∙ ap (λ (o : Option (Result LibraryView (LibraryFaultKind × ℕ))). checked o library_fault
     (λ lib. checked (solution_said shelf.held solution d) solution_fault (λ s. Some (Ok tt)))) read
 
 -- a command that stopped at the solution's text
-module _ {K : Type 0} (shelf : Reading) (design library solution : List ℕ) (d : DesignView) (lib : LibraryView)
+module _ (shelf : Reading) (design library solution : List ℕ) (d : DesignView) (lib : LibraryView)
     (said : IsTrue shelf.tells → design_said shelf.held design ≡ Some (Ok d)) (read : IsTrue shelf.tells → library_said shelf.held library d ≡ Some (Ok lib))
     (held_then : Slot → List ℕ → Option (List ℕ)) (faults misses : ℕ) (same_faults : faults ≡ shelf.faults) (same_misses : misses ≡ shelf.misses)
     (same_held : held_then Solution solution ≡ shelf.held Solution solution) (out : Device) (unwritten : IsUntouched out) where
@@ -215,42 +215,42 @@ module _ {K : Type 0} (shelf : Reading) (design library solution : List ℕ) (d 
   abbrev after : Option (List ℕ) → Option (Result (Unit {0}) Stop)
   after held = checked (option_map (solution_of d) held) solution_fault (λ s. Some (Ok tt))
 
-  files-then : IsTrue shelf.tells → (buffering {K = K} design library solution).files shelf ≡ after (held_then Solution solution)
-  files-then tells = files-read {K = K} design library solution shelf d lib (said tells) (read tells) ∙ ap after (sym same_held)
+  files-then : (K : Type 0) → IsTrue shelf.tells → (buffering {K = K} design library solution).files shelf ≡ after (held_then Solution solution)
+  files-then K tells = files-read K design library solution shelf d lib (said tells) (read tells) ∙ ap after (sym same_held)
 
-  cause : Rose faults shelf.faults_after ⊎ (Rose misses shelf.misses_after × (IsTrue shelf.tells → held_then Solution solution ≡ None)) →
+  cause : (K : Type 0) → Rose faults shelf.faults_after ⊎ (Rose misses shelf.misses_after × (IsTrue shelf.tells → held_then Solution solution ≡ None)) →
       Rose shelf.faults shelf.faults_after ⊎ IsMissing (buffering {K = K} design library solution) shelf
-  cause (inl rose) = inl (subst (λ (n : ℕ). Rose n shelf.faults_after) same_faults rose)
-  cause (inr missing) =
-      inr (subst (λ (n : ℕ). Rose n shelf.misses_after) same_misses missing.0, λ tells. files-then tells ∙ ap after (missing.1 tells))
+  cause K (inl rose) = inl (subst (λ (n : ℕ). Rose n shelf.faults_after) same_faults rose)
+  cause K (inr missing) =
+      inr (subst (λ (n : ℕ). Rose n shelf.misses_after) same_misses missing.0, λ tells. files-then K tells ∙ ap after (missing.1 tells))
 
-  pub solution-fails : (stop : Stop) →
+  pub solution-fails : (K : Type 0) (stop : Stop) →
       Opens then_on (held_then Solution solution) (option_map (solution_of d) (held_then Solution solution)) solution_fault (Err stop) →
       LeavesOut (buffering {K = K} design library solution) shelf out None (Err stop)
-  solution-fails NoMemory opens err untouched = (inl (unwritten, refl), untouched)
-  solution-fails ReadFailed opens err untouched = (record { read = refl; cause = cause opens; unwritten = unwritten }, (untouched, refl))
-  solution-fails (Fault Solution number token) opens err untouched = (
+  solution-fails K NoMemory opens err untouched = (inl (unwritten, refl), untouched)
+  solution-fails K ReadFailed opens err untouched = (record { read = refl; cause = cause K opens; unwritten = unwritten }, (untouched, refl))
+  solution-fails K (Fault Solution number token) opens err untouched = (
     record {
       read = refl;
       reads = opens.reads ∙ same_faults;
       said = λ tells.
-          files-then tells
+          files-then K tells
           ∙ ap (λ (o : Option (Result SolutionView (SolutionFaultKind × ℕ))). checked o solution_fault (λ s. Some (Ok tt))) (opens.says tells)
           ∙ ap (λ (s : Stop). Some (Err s)) (sym opens.is);
       unwritten = unwritten;
     },
     (untouched, refl),
   )
-  solution-fails Usage opens err untouched = absurd (let is = opens.is in cc)
-  solution-fails (Fault Design number token) opens err untouched = absurd (let is = opens.is in cc)
-  solution-fails (Fault Library number token) opens err untouched = absurd (let is = opens.is in cc)
-  solution-fails (NotTree id) opens err untouched = absurd (let is = opens.is in cc)
-  solution-fails WriteFailed opens err untouched = absurd (let is = opens.is in cc)
+  solution-fails K Usage opens err untouched = absurd (let is = opens.is in cc)
+  solution-fails K (Fault Design number token) opens err untouched = absurd (let is = opens.is in cc)
+  solution-fails K (Fault Library number token) opens err untouched = absurd (let is = opens.is in cc)
+  solution-fails K (NotTree id) opens err untouched = absurd (let is = opens.is in cc)
+  solution-fails K WriteFailed opens err untouched = absurd (let is = opens.is in cc)
 
 -- the law of the command
-buffering-accepts : {K : Type 0} (design library solution : List ℕ) (shelf : Reading) → AreAccepted shelf design library solution → IsTrue shelf.tells →
+buffering-accepts : (K : Type 0) (design library solution : List ℕ) (shelf : Reading) → AreAccepted shelf design library solution → IsTrue shelf.tells →
     (buffering {K = K} design library solution).files shelf ≡ Some (Ok tt)
-buffering-accepts design library solution shelf files tells =
+buffering-accepts K design library solution shelf files tells =
     ap (λ (o : Option (Result DesignView (DesignFaultKind × ℕ))). checked o design_fault (λ d. checked (library_said shelf.held library d) library_fault
     (λ lib. checked (solution_said shelf.held solution d) solution_fault (λ s. Some (Ok tt))))) (files.said tells)
     ∙ ap (λ (o : Option (Result LibraryView (LibraryFaultKind × ℕ))). checked o library_fault
@@ -259,8 +259,8 @@ buffering-accepts design library solution shelf files tells =
 
 pub buffering-lawful : {K : Type 0} → (design library solution : List ℕ) → IsLawful {K = K} (buffering design library solution)
 buffering-lawful {K = K} design library solution = record {
-  refuses = λ shelf stop refused. buffering-accepts {K = K} design library solution shelf refused.files;
-  accepts = λ shelf kept outcome text report says. buffering-accepts {K = K} design library solution shelf says.3.files;
+  refuses = λ shelf stop refused. buffering-accepts K design library solution shelf refused.files;
+  accepts = λ shelf kept outcome text report says. buffering-accepts K design library solution shelf says.3.files;
   opens = λ shelf kept text report says tells. absurd (open-whole says.0);
   closes = λ shelf kept text report says tells left. left;
   unkept = λ shelf kept text report says. says.1;

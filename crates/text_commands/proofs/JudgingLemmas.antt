@@ -72,7 +72,7 @@ covered-verdict d s via_cost v judged None covered = covered
 covered-verdict d s via_cost v judged (Some bytes) covered = verdict-same d via_cost (edges_by s) (cover d bytes) v covered judged
 
 -- a verdict on what was read, as it was written, is what the command leaves
-module _ {K : Type 0} (shelf : Reading) (design_name solution_name : List ℕ) (via_cost : ℕ) (d : DesignView) (s : SolutionView)
+module _ (shelf : Reading) (design_name solution_name : List ℕ) (via_cost : ℕ) (d : DesignView) (s : SolutionView)
     (said : IsTrue shelf.tells → design_said shelf.held design_name ≡ Some (Ok d)) (read : IsTrue shelf.tells → solution_said shelf.held solution_name d ≡ Some (Ok s))
     (covered : IsTrue shelf.tells → IsCovered d (shelf.held Solution solution_name) s) where
   is-judging : (outcome : Outcome) (text : List ℕ) → IsVerdictText d (edges_by s) via_cost outcome text →
@@ -89,9 +89,9 @@ module _ {K : Type 0} (shelf : Reading) (design_name solution_name : List ℕ) (
     ends = is.ends;
   }
 
-  pub judged : (out : Device) (end : Result Outcome Stop) → shelf.faults_after ≡ shelf.faults →
+  pub judged : (K : Type 0) (out : Device) (end : Result Outcome Stop) → shelf.faults_after ≡ shelf.faults →
       WritesOne (IsVerdictText d (edges_by s) via_cost) (λ stop. ⊥) out end → LeavesOut (judging {K = K} design_name solution_name via_cost) shelf out None end
-  judged out end reads is =
+  judged K out end reads is =
       written-one (judging {K = K} design_name solution_name via_cost) shelf out reads (IsVerdictText d (edges_by s) via_cost)
       (λ outcome text is. (refl, refl, is-judging outcome text is)) (λ stop. ⊥) (λ stop no. absurd no) (λ stop no. absurd no) end is
 

@@ -17,7 +17,7 @@ use Rattle.solution_text.specs.declared.fault.SolutionFault.{SolutionFault as So
 use Rattle.text_commands.specs.Tracking.{tracking, IsPanelsText, IsTracking}
 use Rattle.text_commands.proofs.BufferingLemmas.{by-cover}
 
-module _ {K : Type 0} (shelf : Reading) (design_name solution_name : List ℕ) (d : DesignView) (s : SolutionView)
+module _ (shelf : Reading) (design_name solution_name : List ℕ) (d : DesignView) (s : SolutionView)
     (said : IsTrue shelf.tells → design_said shelf.held design_name ≡ Some (Ok d)) (read : IsTrue shelf.tells → solution_said shelf.held solution_name d ≡ Some (Ok s))
     (covered : IsTrue shelf.tells → IsCovered d (shelf.held Solution solution_name) s) where
   is-tracking : (text : List ℕ) → text ≡ panels_text d (edges_by s) → IsTracking shelf design_name solution_name text
@@ -30,9 +30,9 @@ module _ {K : Type 0} (shelf : Reading) (design_name solution_name : List ℕ) (
     covered = λ tells. by-cover (λ sets. text ≡ panels_text d sets) d s (shelf.held Solution solution_name) (covered tells) says;
   }
 
-  pub tracked : (out : Device) (end : Result Outcome Stop) → shelf.faults_after ≡ shelf.faults →
+  pub tracked : (K : Type 0) (out : Device) (end : Result Outcome Stop) → shelf.faults_after ≡ shelf.faults →
       WritesOne (IsPanelsText d (edges_by s)) (λ stop. ⊥) out end → LeavesOut (tracking {K = K} design_name solution_name) shelf out None end
-  tracked out end reads is =
+  tracked K out end reads is =
       written-one (tracking {K = K} design_name solution_name) shelf out reads (IsPanelsText d (edges_by s))
       (λ outcome text is. (is.whole, refl, refl, is-tracking text is.says)) (λ stop. ⊥) (λ stop no. absurd no) (λ stop no. absurd no) end is
 

@@ -149,4 +149,4 @@ LeavesPlaced K d lib solution shelf out end =
     shelf.faults ≡ faults → shelf.misses ≡ misses → shelf.held Solution solution ≡ held Solution solution →
     (IsTrue shelf.tells → design_said held design ≡ Some (Ok d)) →
     (IsTrue shelf.tells → library_said held library d ≡ Some (Ok lib)) →
-    LeavesOut (buffering design library solution) (begun_at shelf held faults misses) out (None {A = K}) end
+    LeavesOut {K = K} (buffering design library solution) (begun_at shelf held faults misses) out None end

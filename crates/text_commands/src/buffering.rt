@@ -41,8 +41,11 @@ pub fn buffer<K, R: Threads + Sync, S: Shelf, O: Sink>(
         (device_of O.tells O.faults O.written out.old out.new)
         result.kept result.end }
 {
-    let end = read_and_buffer::<K, R, S, O>(rt, alloc, shelf, out, design, library, solution);
-    Left::with_nothing(end)
+    Left {
+        end: read_and_buffer::<K, R, S, O>(rt, alloc, shelf, out, design, library, solution),
+        kept: None,
+        spent: None,
+    }
 }
 
 /// Reads the design, the library and the solution of these names, places buffers on the solution's
@@ -56,10 +59,10 @@ fn read_and_buffer<K, R: Threads + Sync, S: Shelf, O: Sink>(
     library: &str,
     solution: &str,
 ) -> Result<Outcome, Stop>
-    ensures { LeavesOut (buffering design.now library.now solution.now)
+    ensures { LeavesOut {K = K} (buffering design.now library.now solution.now)
         (reading_of S.tells S.held S.faults S.misses shelf.old shelf.new)
         (device_of O.tells O.faults O.written out.old out.new)
-        (None {A = K}) result }
+        None result }
 {
     let design = open_design(alloc, shelf, design)?;
     let library = open_library(alloc, shelf, &design, library)?;

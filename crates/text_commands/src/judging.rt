@@ -30,8 +30,11 @@ pub fn judge<K, S: Shelf, O: Sink>(
         (device_of O.tells O.faults O.written out.old out.new)
         result.kept result.end }
 {
-    let end = read_and_judge::<K, S, O>(alloc, shelf, out, design, solution, via_cost);
-    Left::with_nothing(end)
+    Left {
+        end: read_and_judge::<K, S, O>(alloc, shelf, out, design, solution, via_cost),
+        kept: None,
+        spent: None,
+    }
 }
 
 /// Reads the design and the solution of these names, judges the solution's routes, and writes the
@@ -45,10 +48,10 @@ fn read_and_judge<K, S: Shelf, O: Sink>(
     via_cost: u32,
 ) -> Result<Outcome, Stop>
     requires { via_cost ≤ 1000 }
-    ensures { LeavesOut (judging design.now solution.now via_cost)
+    ensures { LeavesOut {K = K} (judging design.now solution.now via_cost)
         (reading_of S.tells S.held S.faults S.misses shelf.old shelf.new)
         (device_of O.tells O.faults O.written out.old out.new)
-        (None {A = K}) result }
+        None result }
 {
     let design = open_design(alloc, shelf, design)?;
     let solution = open_solution(alloc, shelf, &design, solution)?;

@@ -28,7 +28,11 @@ pub fn make_design<K, O: Sink, E: Sink>(
         (device_of E.tells E.faults E.written err.old err.new)
         result.kept result.end }
 {
-    Left::with_nothing(write_design(alloc, out, err, made))
+    Left {
+        end: write_design(alloc, out, err, made),
+        kept: None,
+        spent: None,
+    }
 }
 
 /// Writes the text of a made design on out, and on err how many nets and pins it has.

@@ -25,8 +25,11 @@ pub fn panels<K, S: Shelf, O: Sink>(
         (device_of O.tells O.faults O.written out.old out.new)
         result.kept result.end }
 {
-    let end = read_and_track::<K, S, O>(alloc, shelf, out, design, solution);
-    Left::with_nothing(end)
+    Left {
+        end: read_and_track::<K, S, O>(alloc, shelf, out, design, solution),
+        kept: None,
+        spent: None,
+    }
 }
 
 /// Reads the design and the solution of these names, and writes the panels of the solution on out.
@@ -37,10 +40,10 @@ fn read_and_track<K, S: Shelf, O: Sink>(
     design: &str,
     solution: &str,
 ) -> Result<Outcome, Stop>
-    ensures { LeavesOut (tracking design.now solution.now)
+    ensures { LeavesOut {K = K} (tracking design.now solution.now)
         (reading_of S.tells S.held S.faults S.misses shelf.old shelf.new)
         (device_of O.tells O.faults O.written out.old out.new)
-        (None {A = K}) result }
+        None result }
 {
     let design = open_design(alloc, shelf, design)?;
     let solution = open_solution(alloc, shelf, &design, solution)?;

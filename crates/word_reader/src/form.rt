@@ -20,7 +20,7 @@ pub(crate) enum Command {
     Make,
     Trial,
     Panels,
-    /// grbound's, which no word names.
+    /// The one of grbound: no word names it.
     Bound,
 }
 

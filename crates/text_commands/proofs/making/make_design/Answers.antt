@@ -5,4 +5,4 @@ use Rattle.text_commands.proofs.making.make_design.Goals as goal
 
 pub returns : goal.returns
 returns g c = λ shelf reads.
-    written (making c.args.made) shelf _ _ None _ _ c.write_design.result refl reads (refl, refl, refl, refl) c.write_design.ensures
+    written {K = g.row.K.Denot} (making c.args.made) shelf _ _ None _ _ c.write_design.result refl reads (refl, refl, refl, refl) c.write_design.ensures

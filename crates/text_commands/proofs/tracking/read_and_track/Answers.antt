@@ -13,5 +13,5 @@ returns g c =
     let held = c.in_ok-design.ensures.held Solution c.args.solution.now in
     tracked _ c.args.design.now c.args.solution.now d s c.in_ok-design.ensures.opens.2
     (λ tells. ap (option_map (solution_of d)) (sym held) ∙ c.in_ok-solution.ensures.opens.2 tells)
-    (λ tells. subst (λ (o : Option (List ℕ)). IsCovered d o s) held (c.in_ok-solution.ensures.covered tells)) _ _
+    (λ tells. subst (λ (o : Option (List ℕ)). IsCovered d o s) held (c.in_ok-solution.ensures.covered tells)) g.row.K.Denot _ _
     (c.in_ok-solution.ensures.opens.0 ∙ c.in_ok-design.ensures.opens.0) c.write_panels.ensures
