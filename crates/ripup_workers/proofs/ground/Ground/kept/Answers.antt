@@ -1,4 +1,5 @@
 use Rattle.std.proofs.Common.{◌<◌, take, refl, subst}
+use Rattle.cost_rules.specs.declared.site.Formula.{Formula}
 use Rattle.grid_demand.specs.Tables.{CapacityView}
 use Rattle.book_state.specs.Books.{nets_of}
 use Rattle.book_state.specs.Still.{StaysBest}
@@ -19,7 +20,8 @@ returns-then-still-clause-foreseen g c =
     foreseen-later _ _ net _ seen now c.args.plan (record { tree = c.args.plan.tree; front = c.known-front.result; window = c.args.plan.window }) refl refl c.known-front.ensures.known
     (subst (λ (x : CapacityView). net < nets_of x) capacity_is c.requires.net) c.requires.foreseen c.in_ok-still.ensures.learnt.begins
     (subst (λ (x : CapacityView). StaysBest x c.args.wish.now.rule.now.formula net c.args.plan.window c.args.plan.tree (take c.args.plan.front now) now) capacity_is
-    (c.in_ok-still.ensures.still c.if-still.true))
+    (subst (λ (r : Formula). StaysBest g.N.BookName.capacity r net c.args.plan.window c.args.plan.tree (take c.args.plan.front now) now) c.formula.ensures
+    (c.in_ok-still.ensures.still c.if-still.true)))
 
 pub returns-clause-learnt : goal.returns-clause-learnt
 returns-clause-learnt g c = λ t over.

@@ -1,4 +1,5 @@
 use Rattle.std.proofs.Common.{take, subst}
+use Rattle.cost_rules.specs.declared.site.Formula.{Formula}
 use Rattle.grid_demand.specs.Tables.{CapacityView}
 use Rattle.book_state.specs.Books.{AreLoadsOf}
 use Rattle.book_state.specs.Still.{StaysBest}
@@ -19,7 +20,8 @@ returns-then-still-clause-plan g c =
     same-plan _ _ _ _ _ c.args.front window c.args.worker.now.pass.seen now loads c.requires.planned c.in_ok-still.ensures.learnt.begins c.in-Some.ensures
     (subst (λ (x : CapacityView). AreLoadsOf x now loads) capacity_is c.in_ok-still.ensures.stands.loads)
     (subst (λ (x : CapacityView). StaysBest x c.args.wish.now.rule.now.formula c.args.wish.now.net window c.args.tree (take c.args.front now) now) capacity_is
-    (c.in_ok-still.ensures.still c.if-still.true))
+    (subst (λ (r : Formula). StaysBest g.N.BookName.capacity r c.args.wish.now.net window c.args.tree (take c.args.front now) now) c.formula.ensures
+    (c.in_ok-still.ensures.still c.if-still.true)))
 
 pub returns-clause-learnt : goal.returns-clause-learnt
 returns-clause-learnt g c = λ t over.

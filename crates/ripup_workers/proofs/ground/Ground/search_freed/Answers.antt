@@ -1,4 +1,5 @@
 use Rattle.std.proofs.Common.{[], ◌∷◌, ◌++◌, Option, IfSome, take, subst}
+use Rattle.cost_rules.specs.declared.site.Formula.{Formula}
 use Rattle.grid_demand.specs.Tables.{CapacityView}
 use Rattle.book_state.specs.Books.{AreLoadsOf}
 use Rattle.book_state.specs.Still.{StaysBest}
@@ -28,7 +29,8 @@ returns-then-still-clause-plan g c =
     c.in_ok-still.ensures.learnt.begins
     (subst (λ (x : CapacityView). AreLoadsOf x now loads) capacity_is c.in_ok-still.ensures.stands.loads)
     (λ e freeing. subst (λ (x : CapacityView). StaysBest x c.args.wish.now.rule.now.formula net f.window f.tree (take f.front now ++ e ∷ []) now) capacity_is
-    (c.in_ok-still.ensures.still c.if-still.true e freeing))
+    (subst (λ (r : Formula). StaysBest g.N.BookName.capacity r net f.window f.tree (take f.front now ++ e ∷ []) now) c.formula.ensures
+    (c.in_ok-still.ensures.still c.if-still.true e freeing)))
 
 pub returns-clause-learnt : goal.returns-clause-learnt
 returns-clause-learnt g c = λ t over.
