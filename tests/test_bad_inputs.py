@@ -121,10 +121,22 @@ class BadInputs(InFolder):
             file.write(data)
         return copy
 
+    def in_folder_of_its_own(self) -> str:
+        """Goes to a folder, in which a word that was drawn for an output's name may be written."""
+        folder, before = os.path.join(self.folder.name, "here"), os.getcwd()
+        os.mkdir(folder)
+        os.chdir(folder)
+        self.addCleanup(os.chdir, before)
+        return folder
+
     def test_drawn(self) -> None:
-        """Whatever comes, a tool ends soon with a status of its own, in lines that can be shown, and leaves no part."""
+        """Whatever comes, a tool ends soon with a status of its own, in lines that can be shown; one that fails leaves
+        no file."""
         rng = random.Random(75)
         calls = self.calls()
+        folders = [self.folder.name, os.path.join(self.folder.name, "out"), self.in_folder_of_its_own()]
+        self.changed(rng, SMALL[0])
+        before = sorted(os.listdir(self.folder.name))
         begun = time.monotonic()
         for number in range(INPUTS):
             name, words, texts = calls[number % len(calls)]
@@ -141,8 +153,11 @@ class BadInputs(InFolder):
                 self.assertNotEqual(err, "", (name, given))
             for line in err.splitlines():
                 self.assertLessEqual(len(line), MOST_LETTERS, (name, line))
-            folders = [self.folder.name, os.path.join(self.folder.name, "out")]
-            self.assertEqual([file for folder in folders for file in os.listdir(folder) if file.endswith(".part")], [])
+            left = [os.path.join(folder, file) for folder in folders[1:] for file in os.listdir(folder)]
+            self.assertEqual([path for path in left if status not in (0, 1) or path.endswith(".part")], [], given)
+            for path in left:
+                os.unlink(path)
+            self.assertEqual(sorted(os.listdir(self.folder.name)), before)
         self.assertLess(time.monotonic() - begun, 60 if os.getloadavg()[0] < (os.cpu_count() or 1) else 240)
 
     def test_numbers(self) -> None:

@@ -213,7 +213,8 @@ class Page(InFolder):
             page.click(*page.middle(first))
             self.assertRegex(page.value("location.hash"), r"^#wall=1&view=[\d.%C]+$")
             with_wall = self.changed(page, whole)[1]
-            self.assertTrue(page.value("document.querySelector('#walls tbody tr').className === 'here'"))
+            colour = "getComputedStyle(document.querySelector('#walls tbody tr')).backgroundColor"
+            self.assertEqual(page.value(colour), "rgb(221, 244, 255)")     # though the pointer is there
             link = page.value("location.href")
             page.press("Escape")
             self.assertEqual(page.value("location.hash"), "")
@@ -223,26 +224,41 @@ class Page(InFolder):
             self.assertLess(self.changed(page, with_wall)[0], 20)
             self.opened(page, address + "#wall=2&view=2,12,40")
             self.assertEqual(page.value("endsOf(data.walls[1])"), [[2, 0], [2, 24]])
+            self.assertEqual(page.value(colour.replace("tr'", "tr:nth-child(2)'")), "rgb(221, 244, 255)")
             self.assertEqual(page.complaints(), [])
 
     def test_six_rows(self) -> None:
-        """On a screen of 1366 by 768 each table shows six rows, walls among them."""
-        text = testing.BOUNDS + "".join(f"row {at} needs 2 holds 9\n" for at in range(8))
-        address, _ = self.grom("--bound", self.put("bounds", text))
-        with browser.Browser(1366, 768) as page:
-            self.opened(page, address)
-            for name in ("layers", "regions", "walls", "closed", "nets"):
-                shown = page.value(f"""(() => {{
-                    const place = document.getElementById("{name}"), box = place.getBoundingClientRect();
-                    const head = place.querySelector("thead").getBoundingClientRect().bottom;
-                    const rows = [...place.querySelectorAll("tbody tr:not(.space), tfoot tr")];
-                    return [rows.length, rows.filter((row) => {{
-                        const side = row.getBoundingClientRect();
-                        return side.top >= head - 1 && side.bottom <= Math.min(box.bottom, innerHeight) + 1;
-                    }}).length];
-                }})()""")
-                self.assertGreaterEqual(shown[1], min(6, shown[0]), name)
-            self.assertEqual(page.complaints(), [])
+        """On a screen of 1366 by 768 each table shows six rows, walls among them, and none covers another."""
+        bounds = self.put("bounds", testing.BOUNDS + "".join(f"row {at} needs 2 holds 9\n" for at in range(12)))
+        address, _ = self.grom("--bound", bounds)
+        many = self.put("many", run(testing.program(), "make", "5", "40", "30", "9", "6000")[1])
+        other = os.path.join(self.folder.name, "many.html")
+        self.assertEqual(tool("report.py", many, self.routed(many, 9), "--bound", bounds, "-o", other)[::2], (0, ""))
+        for link, names in ((address, ["layers", "regions", "walls", "closed", "nets"]),
+                            (f"file://{other}", ["layers", "regions", "walls", "nets"])):
+            with browser.Browser(1366, 768) as page:
+                self.opened(page, link)
+                for name in names:
+                    count, seen = page.value(f"""(() => {{
+                        const place = document.getElementById("{name}"), box = place.getBoundingClientRect();
+                        const head = place.querySelector("thead").getBoundingClientRect().bottom;
+                        const rows = [...place.querySelectorAll("tbody tr:not(.space), tfoot tr")];
+                        return [rows.length, rows.filter((row) => {{
+                            const side = row.getBoundingClientRect();
+                            const [x, y] = [side.left + 60, side.bottom - 2];
+                            return side.top >= head - 1 && side.bottom <= Math.min(box.bottom, innerHeight) + 1
+                                && row.contains(document.elementFromPoint(x, y));
+                        }}).length];
+                    }})()""")
+                    self.assertGreaterEqual(seen, min(6, count), name)
+                page.open("about:blank")
+                self.opened(page, f"{link}#wall=14")     # a row that is reached by scrolling
+                low, here, high = page.value("""(() => {
+                    const box = (words) => document.querySelector(words).getBoundingClientRect();
+                    return [box("#walls thead").bottom, box("#walls tr.here").bottom, box("#walls").bottom];
+                })()""")
+                self.assertTrue(low < here < high)
+                self.assertEqual(page.complaints(), [])
 
     def test_edges(self) -> None:
         """Overflow at capacity 0 is listed; a click on it, or on an edge, tells whose nets cross it."""

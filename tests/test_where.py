@@ -1,8 +1,9 @@
 """Tests of where.py."""
 import random
 import re
+import sys
 
-from testing import ROOT, InFolder, program, run, tool
+from testing import ROOT, TOOLS, InFolder, program, run, tool
 
 NAME = 32   # the token of examples/small.ispd that may be any: its net's name
 
@@ -36,3 +37,8 @@ class Where(InFolder):
         empty = self.put("empty", "")
         self.assertEqual(tool("where.py", empty, "1"), (0, f"{empty}:1:1: the text ends here\n", ""))
         self.assertEqual(tool("where.py", text + ".none", "1")[0], 3)
+
+    def test_pipe(self) -> None:
+        """What can't be mapped is read."""
+        found = run(sys.executable, f"{TOOLS}/where.py", "/dev/stdin", "3", input=b"a bb\n c")
+        self.assertEqual(found, (0, "/dev/stdin:2:2: c\n", ""))

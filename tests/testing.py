@@ -8,10 +8,14 @@ import tempfile
 import unittest
 from typing import Any
 
+from groute import start
+
 HERE = os.path.dirname(os.path.abspath(__file__))
 ROOT = os.path.dirname(HERE)
 TOOLS = os.path.join(ROOT, "tools")
 PICTURES = all(importlib.util.find_spec(name) for name in ("numpy", "matplotlib"))
+# A tool that lacks these would run itself again by a python that may have them.
+ENVIRONMENT = dict(os.environ) if PICTURES else {**os.environ, start.AGAIN: "1"}
 BOUNDS = """overflow at least 1
 wirelength at least 3
 usable wirelength at least 5
@@ -55,7 +59,7 @@ def run(*words: str, folder: str | None = None, **options: Any) -> tuple[int, st
 
 def tool(name: str, *words: str) -> tuple[int, str, str]:
     """What a tool did."""
-    return run(sys.executable, os.path.join(TOOLS, name), *words)
+    return run(sys.executable, os.path.join(TOOLS, name), *words, env=ENVIRONMENT)
 
 
 class InFolder(unittest.TestCase):

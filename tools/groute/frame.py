@@ -5,9 +5,7 @@ import importlib.util
 import io
 import os
 import signal
-import subprocess
 import sys
-import traceback
 from contextlib import contextmanager
 from types import FrameType
 from typing import Any, Callable, Iterator, NoReturn, Sequence
@@ -130,6 +128,7 @@ def ended(name: str, words: Sequence[str]) -> int:
 
 def told(fault: Exception) -> str:
     """An error of the tool itself, in words."""
+    import traceback
     last = traceback.extract_tb(fault.__traceback__)[-1]
     place = f"{os.path.basename(last.filename)}:{last.lineno}"
     return f"an error of this tool, at {place}: {type(fault).__name__}: {str(fault)[:MOST_LETTERS]}"
@@ -171,6 +170,7 @@ def end_by(number: int) -> None:
 def run(words: Sequence[str], **options: Any) -> tuple[int, bytes]:
     """Runs a program to its end; a signal that ends this one reaches it too. The answer is its status, as a shell has
     it, and what it wrote where `stdout` is a pipe."""
+    import subprocess
     with subprocess.Popen(words, **options) as process:
         try:
             written = process.communicate()[0] or b""

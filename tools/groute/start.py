@@ -1,11 +1,11 @@
 """What a script imports first: it finds a python that has what is wanted. Older pythons can read this file."""
 import os
-import subprocess
 import sys
 
 OLDEST = (3, 10)
 OTHER = "/usr/bin/python3"      # Debian's, which finds Debian's numpy and matplotlib
 AGAIN = "GROUTE_AGAIN"          # stands in the environment of a script that runs a second time
+CONTAINERS = 1 << 20            # that come before Python looks for cycles: texts make many, and hardly a cycle
 PACKAGES = {"numpy": "python3-numpy", "matplotlib": "python3-matplotlib"}
 is_again = os.environ.pop(AGAIN, None) is not None
 
@@ -18,7 +18,9 @@ def run(name: str) -> None:
         says = "%s: %s is too old: it is %s, and %s or later is wanted\n"
         sys.stderr.write(says % (name, sys.executable, own, oldest))
         sys.exit(3)
+    import gc
     from groute import frame
+    gc.set_threshold(CONTAINERS)
     sys.exit(frame.done(name, sys.argv[1:]))
 
 
@@ -31,6 +33,7 @@ def again(*modules: str) -> None:
         return
     asks = "import sys; sys.exit(sys.version_info < %r)" % (OLDEST,)
     asks = "; ".join(["import " + module for module in modules] + [asks])
+    import subprocess
     with open(os.devnull, "w") as null:
         if subprocess.call([OTHER, "-c", asks], stdout=null, stderr=null) != 0:
             return

@@ -21,7 +21,6 @@ from argparse import Namespace
 from typing import Sequence
 
 from groute import frame
-from groute.loads import tracks
 from groute.loads.edges import Counted, counted, totals
 from groute.texts.designs import EAST, Cell, Netlist
 from groute.texts.files import Fault, Outputs
@@ -124,6 +123,7 @@ def main(words: Sequence[str]) -> int:
                 draw(asked, edges, outputs, terms)
     sys.stdout.write(totals(edges))
     if asked.tracks:
+        from groute.loads import tracks
         from groute.show import tables
         table = tracks.rows(design, asked.tracks, terms)
         sys.stdout.writelines(f"{line}\n" for line in ["", *tables.lines(tracks.HEAD, table)])

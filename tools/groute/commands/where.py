@@ -5,6 +5,7 @@ and columns count from 1, columns in bytes. Of the number behind the last token 
 """
 import mmap
 import os
+import stat
 from typing import Sequence
 
 from groute import frame
@@ -15,10 +16,11 @@ Text = bytes | mmap.mmap
 
 
 def bytes_of(path: str) -> Text:
-    """What a file holds, without a copy of it."""
+    """What a file holds; of a regular one without a copy."""
     with open(path, "rb") as file:
-        if os.fstat(file.fileno()).st_size == 0:
-            return b""      # which can't be mapped
+        status = os.fstat(file.fileno())
+        if not stat.S_ISREG(status.st_mode) or status.st_size == 0:
+            return file.read()      # which can't be mapped
         return mmap.mmap(file.fileno(), 0, access=mmap.ACCESS_READ)
 
 

@@ -1,17 +1,20 @@
 """The demand of a solution's wire edges, in arrays of numpy: the same as edges_plain, for large designs."""
-from typing import Any, Iterator, Sequence
+from typing import TYPE_CHECKING, Any, Iterator, Sequence
 
 import numpy
-import numpy.typing
 
 from groute.texts.designs import EAST, NORTH, UP, Cell, Design, Netlist
 from groute.texts.files import Fault
 from groute.texts.solutions import first_fault, records
 
-Array = numpy.typing.NDArray[Any]
+if TYPE_CHECKING:
+    import numpy.typing
+    Array = numpy.typing.NDArray[Any]
+else:
+    Array = numpy.ndarray
 
 BATCH = 1 << 19     # segments that are gone through at once
-MOST_LETTERS = 20   # of a coordinate with its sign and a mark
+BLANKS, BLANKS_FOR_SIGNS = (bytes.maketrans(marks, b" " * len(marks)) for marks in (b"(),", b"(),-"))
 
 
 class Edges:
@@ -128,38 +131,46 @@ class Edges:
     def find_unjoined(self) -> list[int]:
         """The ids of the routed nets with a pin that their edges don't join to the first."""
         design = self.design
-        place = {id_: at for at, id_ in enumerate(self.ids)}
         counts = numpy.diff(numpy.array(design.first))
-        wanted = numpy.array([design.widths[id_] is not None for id_ in design.ids], bool) & (counts > 1)
-        # Nets without a record are numbered behind the others.
-        net = numpy.array([place.get(id_, len(place) + at) for at, id_ in enumerate(design.ids)], numpy.int64)
+        wanted = counts > 1
+        if design.unrouted:
+            wanted &= numpy.array([design.widths[id_] is not None for id_ in design.ids], bool)
+        net = numpy.arange(len(design.ids))
+        if self.ids != design.ids:      # nets without a record are numbered behind the others
+            place = {id_: at for at, id_ in enumerate(self.ids)}
+            net = numpy.array([place.get(id_, len(place) + at) for at, id_ in enumerate(design.ids)], numpy.int64)
         try:
             cells = self.cell_numbers(numpy.array(design.points, numpy.int64).reshape(-1, 3))
         except Fault:
             design.check_pins()
             raise
-        pins = numpy.repeat(net, counts), cells
         asked = numpy.repeat(wanted, counts)
-        loose = self.loose(*(some[asked] for some in pins))
-        return [id_ for id_, number in zip(design.ids, net.tolist()) if number in loose]
+        loose = self.loose(numpy.repeat(net, counts)[asked], cells[asked])
+        return [id_ for id_, number in zip(design.ids, net.tolist()) if number in loose] if loose else []
 
     def loose(self, net: Array, pin: Array) -> set[int]:
-        """Of nets with these pins, each with its net's number and its cell's, those whose pins aren't all joined."""
+        """Of nets with these pins side by side, each with its net's number and its cell's, those whose pins aren't all
+        joined."""
+        if not len(net):
+            return set()
+        first = numpy.append(True, net[1:] != net[:-1])
+        group = self.groups_of(net * self.cells + pin)
+        one = group[first.nonzero()[0]][first.cumsum() - 1]
+        return set(net[group != one].tolist())
+
+    def groups_of(self, wanted: Array) -> Array:
+        """Of cells of nets, numbered by net and then by cell, a number that those share that a net's runs join."""
         run, cell = self.cells_of_runs()
-        count = len(self.net)
-        # A pin is a run of one cell.
-        key = numpy.concatenate([self.net[run].astype(numpy.int64), net]) * self.cells + numpy.concatenate([cell, pin])
-        run = numpy.concatenate([run, numpy.arange(count, count + len(net))])
+        key = self.net[run].astype(numpy.int64) * self.cells + cell
         order = key.argsort(kind="stable")
         key, run = key[order], run[order]
-        begins = numpy.append(True, key[1:] != key[:-1]) if len(key) else numpy.zeros(0, bool)
-        sizes = numpy.diff(numpy.append(begins.nonzero()[0], len(key)))
-        # Only where several runs share a cell, something is joined.
-        shared = numpy.repeat(sizes > 1, sizes)
-        group = groups(count + len(net), run[shared], begins[shared].cumsum() - 1)[count:]
-        lowest = numpy.full(int(net.max(initial=-1)) + 1, count + len(net))
-        numpy.minimum.at(lowest, net, group)
-        return set(net[group != lowest[net]].tolist())
+        # Where runs share a cell, they are joined.
+        same = (key[1:] == key[:-1]).nonzero()[0]
+        group = groups(len(self.net), run[same], run[same + 1])
+        if not len(key):
+            return wanted
+        at = numpy.minimum(key.searchsorted(wanted), len(key) - 1)
+        return numpy.where(key[at] == wanted, group[run[at]], -1 - wanted)
 
     def cells_of_runs(self) -> tuple[Array, Array]:
         """The cells of all runs: the run of each, and its number by column, then row, then layer."""
@@ -248,11 +259,13 @@ def parsed(tokens: Sequence[bytes], form: bytes, marks: tuple[bytes, ...], fault
     """The numbers of tokens, a row for each. `form` is one without its numbers, and marks are where none stand."""
     each, count = form.count(b",") + form.count(b"("), len(tokens)
     text = b"\n" + b"\n".join(tokens) + b"\n" * (count > 0)
-    signs = text.translate(None, b"0123456789").replace(b"(-", b"(").replace(b",-", b",")
+    signs = text.translate(None, b"0123456789")
+    is_negative = b"(-" in signs or b",-" in signs
+    if is_negative:
+        signs = signs.replace(b"(-", b"(").replace(b",-", b",")
     has_form = signs == b"\n" + (form + b"\n") * count and all(text.count(mark) == count for mark in marks)
-    has_form = has_form and max(map(len, tokens), default=0) <= each * MOST_LETTERS
-    # A number that is left out would make too few.
-    blanks = text.replace(b")-(", b" ").translate(bytes.maketrans(b"(),", b"   "))
+    # A number that is left out would make too few; one that is too large becomes the largest, which is no place.
+    blanks = text.replace(b")-(", b" ").translate(BLANKS) if is_negative else text.translate(BLANKS_FOR_SIGNS)
     numbers = numpy.fromstring(blanks, numpy.int64, sep=" ") if has_form and count else numpy.zeros(0, int)
     if len(numbers) != each * count:
         raise Fault(fault)
@@ -268,18 +281,16 @@ def merged(first: Array, last: Array) -> tuple[Array, Array]:
     return first[begins], last[numpy.append(begins[1:], True)] if len(first) else last
 
 
-def groups(count: int, run: Array, cell: Array) -> Array:
-    """Of so many runs the least number of those that it is joined with, by pairs of a run and a cell that it has; cells
-    are numbered from 0 on, in order."""
+def groups(count: int, one: Array, other: Array) -> Array:
+    """Of so many runs a number that those share that are joined, by pairs of runs that are."""
     group = numpy.arange(count)
-    if not len(run):
-        return group
-    first = numpy.append(True, cell[1:] != cell[:-1]).nonzero()[0]
-    while True:
-        least = numpy.minimum.reduceat(group[run], first)[cell]
-        found = group.copy()
-        numpy.minimum.at(found, run, least)
-        found = found[found]
-        if (found == group).all():
-            return group
-        group = found
+    while len(one):
+        # Of several that a group is to be joined to at once, it is to any.
+        group[numpy.maximum(one, other)] = numpy.minimum(one, other)
+        found = group[group]
+        while not (found == group).all():
+            group, found = found, found[found]
+        one, other = group[one], group[other]
+        differ = one != other
+        one, other = one[differ], other[differ]
+    return group

@@ -71,9 +71,10 @@ class Design:
     def read_net(self, tokens: Tokens) -> tuple[bytes, int, list[bytes]]:
         """A net; the answer is its name, its id and the tokens of its pins."""
         name, *numbers = tokens.take(4)
-        id_, count, width = map(counted, numbers)
-        if id_ is None or count is None or width is None:
+        digits = b"".join(numbers)
+        if not digits.isdigit() or len(digits) > MOST_DIGITS and None in map(counted, numbers):
             raise tokens.fault("a net's id, number of pins and width are due")
+        id_, count, width = map(int, numbers)
         self.widths[id_] = width if count <= MOST_ROUTED else None
         if count > MOST_ROUTED:
             self.unrouted[id_] = width
@@ -134,7 +135,7 @@ class Netlist(Design):
         self.ids: list[int] = []
         self.names: dict[int, str] = {}
         self.places: dict[int, int] = {}
-        self.first, self.points = [0], array.array("q")
+        self.first, self.points = array.array("q", [0]), array.array("q")
         self.path = tokens.path
         Design.__init__(self, tokens)
 
@@ -143,7 +144,7 @@ class Netlist(Design):
         name, id_, pins = Design.read_net(self, tokens)
         self.places[id_] = len(self.ids)
         self.ids.append(id_)
-        self.names[id_] = name.decode(errors="surrogateescape")
+        self.names[id_] = name.decode("utf-8", "surrogateescape")
         try:
             self.points.extend(map(int, pins))
         except (ValueError, OverflowError):

@@ -1,24 +1,18 @@
 """Files that are read and written: what is packed is unpacked or told, and what is written is whole or not there."""
-import bz2
-import gzip
 import io
-import lzma
 import os
 import re
-import secrets
 import stat
-import zlib
 from types import TracebackType
 from typing import IO, Iterable, Iterator
 
 MOST_LETTERS = 300      # of a line that tells a fault
 LOOKED_AT = 4096        # bytes of a text by which it is known
-GZIP, XZ = b"\x1f\x8b", b"\xfd7zXZ\0"
-PACKED = {GZIP: "gzip", XZ: "xz", b"BZh": "bzip2", b"\x28\xb5\x2f\xfd": "zstd", b"PK\3\4": "zip",
+GZIP, XZ, BZIP = b"\x1f\x8b", b"\xfd7zXZ\0", b"BZh"
+PACKED = {GZIP: "gzip", XZ: "xz", BZIP: "bzip2", b"\x28\xb5\x2f\xfd": "zstd", b"PK\3\4": "zip",
           b"\x1f\x9d": "compress", b"\x04\x22\x4d\x18": "lz4"}
 UTF_16 = (b"\xff\xfe", b"\xfe\xff")
 MARK = b"\xef\xbb\xbf"  # a byte order mark of UTF-8
-CUT = (EOFError, zlib.error, lzma.LZMAError, gzip.BadGzipFile)
 # How texts of chips begin, behind blanks and comments.
 BEHIND_COMMENTS = re.compile(rb"(?:\s+|#[^\n]*\n|//[^\n]*\n|/\*.*?\*/)*", re.DOTALL)
 OF_A_CHIP = re.compile(rb"(?:VERSION\s+[0-9.]+\s*;|(?:NAMESCASESENSITIVE|BUSBITCHARS|DIVIDERCHAR|DESIGN|TECHNOLOGY|"
@@ -57,15 +51,21 @@ def text_of(path: str) -> str:
     """A whole text, unpacked where it is compressed by gzip or xz, and without a byte order mark."""
     with open(path, "rb") as file:
         data = file.read()
-    try:
-        if data.startswith(GZIP):
-            data = gzip.decompress(data)
-        elif data.startswith(XZ):
-            data = lzma.decompress(data)
-    except CUT:
-        raise Fault(f"{path}: what is compressed here is cut off or damaged") from None
+    if data.startswith((GZIP, XZ)):
+        data = unpacked(path, data)
     refuse_packed(path, data)
     return data.removeprefix(MARK).decode("utf-8", "surrogateescape")
+
+
+def unpacked(path: str, data: bytes) -> bytes:
+    """What gzip or xz has compressed."""
+    import gzip     # here, so that tools that unpack nothing start sooner
+    import lzma
+    import zlib
+    try:
+        return gzip.decompress(data) if data.startswith(GZIP) else lzma.decompress(data)
+    except (EOFError, zlib.error, lzma.LZMAError, gzip.BadGzipFile):
+        raise Fault(f"{path}: what is compressed here is cut off or damaged") from None
 
 
 def lines_of(path: str) -> Iterator[str]:
@@ -77,18 +77,26 @@ def begins_like_a_chip(path: str) -> bool:
     """Whether a file begins like LEF, DEF or liberty, packed or not."""
     with open(path, "rb") as file:
         begin = file.read(LOOKED_AT)
-    try:
-        if begin.startswith(GZIP):
-            begin = zlib.decompressobj(wbits=31).decompress(begin)
-        elif begin.startswith(XZ):
-            begin = lzma.LZMADecompressor().decompress(begin)
-        elif begin.startswith(b"BZh"):
-            begin = bz2.BZ2Decompressor().decompress(begin)
-    except (zlib.error, lzma.LZMAError, OSError):
-        return False
+    if begin.startswith((GZIP, XZ, BZIP)):
+        begin = first_unpacked(begin)
     begin = begin.removeprefix(MARK)
     behind = BEHIND_COMMENTS.match(begin)
     return behind is not None and OF_A_CHIP.match(begin, behind.end()) is not None
+
+
+def first_unpacked(begin: bytes) -> bytes:
+    """What a compressed file holds first, as far as it can be told."""
+    import bz2
+    import lzma
+    import zlib
+    try:
+        if begin.startswith(GZIP):
+            return zlib.decompressobj(wbits=31).decompress(begin)
+        if begin.startswith(XZ):
+            return lzma.LZMADecompressor().decompress(begin)
+        return bz2.BZ2Decompressor().decompress(begin)
+    except (zlib.error, lzma.LZMAError, OSError):
+        return b""
 
 
 class Outputs:
@@ -115,7 +123,7 @@ class Outputs:
             file: IO[bytes] = open(path, "wb")
         else:
             path = os.path.realpath(path)
-            beside = f"{path}.{secrets.token_hex(4)}.part"
+            beside = f"{path}.{os.urandom(4).hex()}.part"
             file = open(beside, "xb")
             self.renamed.append((beside, path))
             if mode is not None:

@@ -9,10 +9,10 @@ from groute.texts.tokens import Tokens, counted
 def records(design: Design, path: str) -> Iterator[tuple[int, list[bytes]]]:
     """Of each record of a solution's text whose net is routed: its net's id and its segments' tokens."""
     tokens = Tokens(path)
-    found = set()
-    while not tokens.is_ended():
+    widths, found = design.widths, set()
+    while tokens.at < len(tokens.tokens) or not tokens.is_ended():
         id_ = counted(tokens.take(2)[1])
-        if id_ is None or id_ not in design.widths:
+        if id_ is None or id_ not in widths:
             raise tokens.fault("the id of a net of the design is due")
         if id_ in found:
             raise tokens.fault("an earlier record has this id")
@@ -20,7 +20,7 @@ def records(design: Design, path: str) -> Iterator[tuple[int, list[bytes]]]:
         segments = tokens.until(b"!")
         if segments and not segments[0].startswith(b"("):
             del segments[0]     # a number that says nothing
-        if design.widths[id_] is not None:
+        if widths[id_] is not None:
             yield id_, segments
 
 

@@ -88,26 +88,29 @@ class Tokens:
 
     def take(self, count: int) -> list[bytes]:
         """The next so many tokens."""
-        first, end = self.at, self.at + count
-        while end > len(self.tokens):
+        first = self.at
+        end = self.at = first + count
+        if end <= len(self.tokens):
+            return self.tokens[first:end]
+        self.at = first
+        while self.at + count > len(self.tokens):
             if not self.fill():
                 raise self.ended()
-            first, end = self.at, self.at + count
-        self.at = end
-        return self.tokens[first:end]
+        self.at += count
+        return self.tokens[self.at - count:self.at]
 
     def until(self, last: bytes) -> list[bytes]:
         """The tokens before the next one that is `last`, which is taken with them."""
         while True:
+            first = self.at
             try:
-                end = self.tokens.index(last, self.at)
+                end = self.tokens.index(last, first)
             except ValueError:
                 if not self.fill():
                     raise self.ended() from None
                 continue
-            taken = self.tokens[self.at:end]
             self.at = end + 1
-            return taken
+            return self.tokens[first:end]
 
     def words(self, *words: bytes) -> None:
         """These words."""

@@ -305,12 +305,14 @@ function listen() {
   byId("farther").onclick = () => picture.zoom(1 / 1.5);
   byId("whole").onclick = () => go({ view: null }, true);
   byId("search").oninput = show;
-  const again = () => {
-    fromAddress();
-    show();
-  };
-  addEventListener("popstate", again);
-  addEventListener("hashchange", again);
+  addEventListener("popstate", showAddress);
+  addEventListener("hashchange", showAddress);
+}
+
+function showAddress() {
+  fromAddress();
+  show();
+  wallsTable?.reveal();
 }
 
 // A click on the map: on a region that isn't shown, goes there; else tells the place.
@@ -343,8 +345,7 @@ async function begin() {
   fillNets();
   picture = new Picture(byId("map"));
   listen();
-  fromAddress();
-  show();
+  showAddress();
 }
 
 begin().catch((fault) => {

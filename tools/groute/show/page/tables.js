@@ -63,6 +63,12 @@ class Table {
     this.render();
   }
 
+  // Scrolls to the marked row, if there is one.
+  reveal() {
+    const at = this.rows.findIndex((row) => this.isHere(row));
+    if (at >= 0) this.place.scrollTop = (at - 2) * ROW;
+  }
+
   render() {
     const from = Math.max(0, Math.floor(this.place.scrollTop / ROW) - 12);
     const to = Math.min(this.rows.length, from + Math.ceil(this.place.clientHeight / ROW) + 24);
