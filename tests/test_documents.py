@@ -9,7 +9,7 @@ import tempfile
 import unittest
 from typing import Iterator
 
-from dev import definitions
+from dev import definitions, theorem
 from testing import PICTURES, ROOT, bounds, program, text_of
 
 DOCUMENTS = ["README.md", *(f"docs/{name}" for name in sorted(os.listdir(f"{ROOT}/docs")) if name.endswith(".md"))]
@@ -63,6 +63,17 @@ class Documents(unittest.TestCase):
 
     def test_definitions(self) -> None:
         self.assertEqual(text_of("docs/DEFINITIONS.md"), definitions.document())
+
+    def test_theorem(self) -> None:
+        """What docs/PROVED.md copies from the code is what stands there, and nothing in the code is assumed."""
+        text = text_of("docs/PROVED.md")
+        self.assertEqual(len(theorem.COPY.findall(text)), 16)
+        self.assertEqual(text, theorem.document(text))
+        for path in glob.glob(f"{ROOT}/crates/*/s*/**/*.*t*", recursive=True) + glob.glob(
+                f"{ROOT}/crates/*/proofs/**/*.antt", recursive=True):
+            if path.endswith((".rt", ".antt")):
+                code = re.sub(r"(?m)(--|//).*$", "", text_of(os.path.relpath(path, ROOT)))
+                self.assertIsNone(re.search(r"\b(axiom|assume)\b|(^|\s)\?(\s|$)", code), path)
 
     def test_times(self) -> None:
         """README's times are rows of bench/RESULTS.md."""
