@@ -1,5 +1,5 @@
 -- The bounds of the design that was read, and the law of the command.
-use Rattle.std.proofs.Common.{◌≡◌, ℕ, Bool, List, Option, Some, None, Result, Ok, Err, IsTrue, refl, sym, ap, subst, ◌∙◌}
+use Rattle.std.proofs.Common.{◌≡◌, ℕ, Bool, List, Option, Some, None, Result, Ok, IsTrue, refl, sym, ap, subst, ◌∙◌}
 use Rattle.cut_bounds.specs.Bounds.{BoundsView, bounds_text}
 use Rattle.cut_bounds.specs.BoundsOf.{bounds_of}
 use Rattle.gr_base.specs.Designs.{DesignView}
@@ -16,7 +16,7 @@ use Rattle.command_form.specs.declared.stop.Stop.{Stop}
 use Rattle.command_form.proofs.EndLemmas.{IsLawfully}
 use Rattle.command_form.proofs.LeavingLemmas.{open-whole, written-one}
 use Rattle.word_reader.specs.Orders.{Order, Route, Evaluate, Buffer, Make, Trial, Panels, Bound}
-use Rattle.bound_top.specs.Bounding.{asked_by, bounding, IsBounding, IsBoundsText}
+use Rattle.bound_top.specs.Bounding.{asked_by, bounding, IsBoundsText}
 
 -- the text of bounds that were made
 pub bounds-said : (d : DesignView) (via_cost : ℕ) (bounds : BoundsView) (text : List ℕ) → bounds ≡ bounds_of d via_cost →

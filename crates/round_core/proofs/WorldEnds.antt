@@ -6,8 +6,6 @@ use Rattle.std.proofs.lemmas.List.{length-replicate}
 use Rattle.std.proofs.lemmas.Option.{none-some}
 use Rattle.gr_base.proofs.DesignLemmas.{routed-below}
 use Rattle.gr_base.specs.Designs.{is_routed}
-use Rattle.grid_demand.specs.Tables.{capacity_of}
-use Rattle.book_state.proofs.LegalHistories.{legal-nothing}
 use Rattle.book_state.specs.Cuts.{cut}
 use Rattle.run_histories.specs.Attempts.{Rests}
 use Rattle.run_histories.specs.RunHistories.{Setting, IsRunHistory}
@@ -17,7 +15,6 @@ use Rattle.round_core.specs.declared.steps.Phase.{Phase}
 use Rattle.round_core.specs.declared.steps.Phase.TheVariants.{Idle, Ended}
 use Rattle.run_histories.proofs.JoiningLaw.{none-apart}
 use Rattle.run_histories.proofs.RangeCounts.{times-kept}
-use Rattle.run_histories.specs.RunHistories.{KeepsRules}
 use Rattle.run_histories.proofs.KeptRules.{first-rules}
 
 -- the state at first

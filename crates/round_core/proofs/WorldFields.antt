@@ -5,7 +5,6 @@ use Rattle.std.specs.Vec.{with_item}
 use Rattle.std.specs.declared.vec.Vec.{Vec}
 use Rattle.std.proofs.lemmas.Bool.{both_ways}
 use Rattle.std.proofs.lemmas.List.{length_push}
-use Rattle.std.proofs.lemmas.List.Sums.{fold_push}
 use Rattle.std.proofs.lemmas.Option.{slice_get_read}
 use Rattle.gr_base.specs.declared.grid.Edge.{Edge}
 use Rattle.grid_demand.specs.Tables.{CapacityView, capacity_of}
@@ -19,7 +18,7 @@ use Rattle.book_state.specs.declared.entry.Claim.{Claim}
 use Rattle.book_state.specs.declared.entry.Entry.{Entry}
 use Rattle.book_state.specs.declared.entry.Reply.{Reply}
 use Rattle.book_state.specs.declared.entry.Reply.TheVariants.{Taken, Released, NotBooked}
-use Rattle.run_histories.specs.RunHistories.{Overflows, no_overflows, overflows_after, overflows_of, IsRunHistory}
+use Rattle.run_histories.specs.RunHistories.{Overflows, overflows_after, overflows_of, IsRunHistory}
 use Rattle.round_core.specs.WorldRules.{IsPhaseRight, IsWorld}
 use Rattle.round_core.specs.Worlds.{WorldView, phase_in, phase_at, phase_before_end, net_in, tries_in, phase_replied, IsStep, with_taken, entry_by, with_entry_by, is_allowed, happens}
 use Rattle.round_core.specs.WorldStore.{seen, Keeps}

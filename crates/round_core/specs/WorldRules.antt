@@ -1,17 +1,13 @@
 -- What every state of the machine keeps.
 use Rattle.std.specs.Prelude.{◌≡◌, ℕ, zero, suc, ◌+◌, ◌<◌, ◌≤◌, Bool, true, false, ◌==◌, List, length, drop, slice_get, Some, if◌then◌else◌, IsTrue}
 use Rattle.std.specs.List.{count_by}
-use Rattle.grid_demand.specs.Tables.{capacity_of}
-use Rattle.book_state.specs.Books.{IsLegal}
-use Rattle.book_state.specs.Cuts.{Cut, cut, AtMarks}
-use Rattle.book_state.specs.Entries.{AtEach, calls_of}
-use Rattle.book_state.specs.declared.entry.Call.TheVariants.{Claim as Claims}
-use Rattle.book_state.specs.declared.entry.Claim.{Claim}
+use Rattle.book_state.specs.Cuts.{Cut, cut}
+use Rattle.book_state.specs.Entries.{calls_of}
 use Rattle.book_state.specs.declared.entry.Entry.{Entry}
 use Rattle.run_histories.specs.Apart.{AreApartIn}
 use Rattle.run_histories.specs.Attempts.{Stage, Rests, Claiming, stage_of, attempts_at}
 use Rattle.run_histories.specs.Rounds.{slacks_of_turn}
-use Rattle.run_histories.specs.RunHistories.{Setting, IsNumbered, IsPlanned, is_due, AreWhole, AreOfDue, ends_with_mark, AreGranted, IsAsked, IsOver, KeepsRules}
+use Rattle.run_histories.specs.RunHistories.{Setting, is_due, ends_with_mark, IsAsked, IsOver, KeepsRules}
 use Rattle.round_core.specs.Worlds.{WorldView, phase_before_end, since_of}
 use Rattle.round_core.specs.declared.steps.Phase.{Phase}
 use Rattle.round_core.specs.declared.steps.Phase.TheVariants.{Idle, Holding, Trying, Ended}

@@ -1,9 +1,8 @@
 -- The pure machine of the rounds: which steps it allows, and what they do.
 use Rattle.std.specs.Prelude.{◌≡◌, ℕ, ◌+◌, ◌<◌, Bool, true, false, not, ◌&&◌, ◌==◌, nat_lt, nat_le, List, [], ◌∷◌, ◌++◌, length, take, replicate, slice_get, slice_set, Option, Some, None, is_none, if◌then◌else◌}
-use Rattle.std.specs.List.{filter, find, list_any, range_with_len}
+use Rattle.std.specs.List.{filter, find, list_any}
 use Rattle.cost_rules.specs.declared.sight.Going.{Going}
 use Rattle.cost_rules.specs.declared.sight.Going.TheVariants.{On, Stop}
-use Rattle.gr_base.specs.Designs.{DesignView, is_routed}
 use Rattle.grid_demand.specs.Tables.{capacity_of}
 use Rattle.book_state.specs.Books.{nets_of, reply_to, reply_to_claim, victims, IsClaim}
 use Rattle.book_state.specs.Views.{entry_of}
