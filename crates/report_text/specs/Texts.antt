@@ -1,6 +1,5 @@
 -- The texts that tell a verdict on routes.
 use Rattle.std.specs.Prelude.{ℕ, List, [], ◌++◌, length, Option, Some, None, slice_get, codes}
-use Rattle.std.specs.Fmt.{decimal}
 use Rattle.std.specs.List.{flat_map}
 use Rattle.gr_base.specs.declared.frame.Net.{Net}
 use Rattle.gr_text.specs.Lines.{number_line}

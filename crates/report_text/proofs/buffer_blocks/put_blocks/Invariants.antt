@@ -1,4 +1,4 @@
-use Rattle.std.proofs.Common.{◌≡◌, ◌++◌}
+use Rattle.std.proofs.Common.{◌≡◌, ◌++◌, length}
 use Rattle.beside_calls.specs.Blocks.{block_start}
 use Rattle.report_text.specs.BufferTexts.{net_lines}
 use Rattle.report_text.proofs.buffer_blocks.put_blocks.Given as goal
