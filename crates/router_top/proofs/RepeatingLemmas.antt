@@ -1,5 +1,5 @@
 -- Routing in batches is decided by what is asked for.
-use Rattle.std.proofs.Common.{◌≡◌, ℕ, ℤ, ◌-◌, Bool, true, false, nat_lt, inl, inr, List, [], ◌++◌, length, slice_get, take, Option, Some, None, IsSomeAnd, if◌then◌else◌, codes, refl, sym, ap, subst, ◌∙◌}
+use Rattle.std.proofs.Common.{◌≡◌, ℕ, ℤ, ◌-◌, Bool, true, false, nat_lt, inl, inr, List, [], ◌++◌, length, slice_get, take, Option, Some, None, IsSomeAnd, IsTrue, Result, Ok, if◌then◌else◌, codes, refl, sym, ap, subst, ◌∙◌}
 use Rattle.std.proofs.Math.Path.{fun_ext}
 use Rattle.std.proofs.lemmas.Bool.{cases_Bool}
 use Rattle.std.proofs.lemmas.Option.{same_Some}
@@ -32,7 +32,15 @@ use Rattle.text_commands.specs.Judging.{report_of}
 use Rattle.word_reader.specs.declared.order.Options.{Options}
 use Rattle.router_top.specs.Booking.{batching_of, booked_edges, IsHistoryBy}
 use Rattle.router_top.specs.Repeating.{AskForSameBatches, BatchesDecide}
-use Rattle.router_top.specs.Routing.{IsRoutingOf}
+use Rattle.router_top.specs.Routing.{IsRouting, IsRoutingOf}
+use Rattle.router_top.specs.declared.kept.Kept.{Kept}
+use Rattle.book_state.specs.Views.{BookView}
+use Rattle.gr_io.specs.Devices.{Reading, Gains}
+use Rattle.gr_io.specs.declared.shelf.Slot.TheVariants.{Design, Library}
+use Rattle.ispd_reader.specs.DesignText.{design_of}
+use Rattle.rc_library.specs.LibraryText.{library_of}
+use Rattle.run_histories.specs.declared.hands.HandLog.{HandLog}
+use Rattle.std.specs.Option.{option_map}
 use Rattle.router_top.proofs.DemandLemmas.{sum-kept}
 
 -- histories of the same batches are the same
@@ -143,10 +151,11 @@ module _ (d : DesignView) (lib : LibraryView) (trees others : List (Option TreeV
   buffers-same : AreBestPlans d lib trees plans → AreBestPlans d lib others more → buffers_text d lib trees plans ≡ buffers_text d lib others more
   buffers-same planned planned_too = texts-same (plan-same planned planned_too)
 
--- what is asked for decides what routing in batches writes
-pub batches-decide : BatchesDecide
-batches-decide d lib one other b c hands logs text report written told asked r s = (
-  same,
+-- for a design and a library, what is asked for decides the text and the report of routing in batches
+routings-same : (d : DesignView) (lib : LibraryView) (one other : Options) (b c : BookView) (hands logs : List HandLog)
+    (text report written told : List ℕ) → AskForSameBatches one other →
+    IsRoutingOf d lib one b hands text report → IsRoutingOf d lib other c logs written told → (text ≡ written) × (report ≡ told)
+routings-same d lib one other b c hands logs text report written told asked r s = (
   texts,
   r.reports
       ∙ ap (λ (first : List ℕ). first ++ buffers_text d lib r.trees r.plans) numbers
@@ -176,3 +185,53 @@ batches-decide d lib one other b c hands logs text report written told asked r s
 
     trees : (net : ℕ) → tree_at r.trees net ≡ tree_at s.trees net
     trees net = r.booked net ∙ ap (λ (h : List Entry). booked h net) parts ∙ sym (s.booked net)
+
+same-Ok : {A E : Type 0} (a b : A) → Some {A = Result A E} (Ok a) ≡ Some (Ok b) → a ≡ b
+same-Ok a b is = cc
+
+-- the same, for the design and the library that shelves hold
+routed-same : (design library : List ℕ) (one other : Options) (shelf again : Reading) (b c : BookView) (hands logs : List HandLog)
+    (text report written told : List ℕ) → AskForSameBatches one other → IsTrue shelf.tells → IsTrue again.tells →
+    shelf.held Design design ≡ again.held Design design → shelf.held Library library ≡ again.held Library library →
+    IsRouting shelf design library one b hands text report → IsRouting again design library other c logs written told →
+    (text ≡ written) × (report ≡ told)
+routed-same design library one other shelf again b c hands logs text report written told asked tells tells_again designs libraries r s =
+    routings-same s.design s.library one other b c hands logs text report written told asked
+    (subst (λ (l : LibraryView). IsRoutingOf s.design l one b hands text report) same_library
+    (subst (λ (d : DesignView). IsRoutingOf d r.library one b hands text report) same_design r.routed)) s.routed
+  where
+    same_design : r.design ≡ s.design
+    same_design = same-Ok r.design s.design (sym (r.said tells) ∙ ap (option_map design_of) designs ∙ s.said tells_again)
+
+    same_library : r.library ≡ s.library
+    same_library =
+        same-Ok r.library s.library
+        (sym (r.read tells) ∙ ap (option_map (library_of r.design)) libraries
+        ∙ ap (λ (d : DesignView). option_map (library_of d) (again.held Library library)) same_design ∙ s.read tells_again)
+
+by-kept : (design library : List ℕ) (one other : Options) (shelf again : Reading) (kept kept_again : Option Kept)
+    (text report written told : List ℕ) → AskForSameBatches one other → IsTrue shelf.tells → IsTrue again.tells →
+    shelf.held Design design ≡ again.held Design design → shelf.held Library library ≡ again.held Library library →
+    IsSomeAnd kept (λ k. IsRouting shelf design library one k.book.state k.hands.items text report) →
+    IsSomeAnd kept_again (λ k. IsRouting again design library other k.book.state k.hands.items written told) →
+    (text ≡ written) × (report ≡ told)
+by-kept design library one other shelf again None kept_again text report written told asked tells tells_again designs libraries r s = absurd r
+by-kept design library one other shelf again (Some k) None text report written told asked tells tells_again designs libraries r s = absurd s
+by-kept design library one other shelf again (Some k) (Some m) text report written told asked tells tells_again designs libraries r s =
+    routed-same design library one other shelf again k.book.state m.book.state k.hands.items m.hands.items text report written told asked
+    tells tells_again designs libraries r s
+
+pub batches-decide : BatchesDecide
+batches-decide design library one other shelf again out err out_again err_again kept kept_again asked tells tells_again designs libraries run run_again =
+    let done = run.whole refl in
+    let done_again = run_again.whole refl in
+    let same = by-kept design library one other shelf again kept kept_again done.text done.report done_again.text done_again.report asked
+    tells tells_again designs libraries done.says.1 done_again.says.1 in
+    record {
+      text = done.text;
+      report = done.report;
+      on_out = done.out_gains;
+      on_err = done.err_gains;
+      on_out_again = subst (Gains out_again) (sym same.0) done_again.out_gains;
+      on_err_again = subst (Gains err_again) (sym same.1) done_again.err_gains;
+    }

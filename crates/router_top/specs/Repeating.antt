@@ -1,11 +1,13 @@
 -- Routing in batches is decided by what is asked for.
-use Rattle.std.specs.Prelude.{◌≡◌, ℕ, List, Some}
-use Rattle.gr_base.specs.Designs.{DesignView}
-use Rattle.book_state.specs.Views.{BookView}
-use Rattle.rc_library.specs.Libraries.{LibraryView}
-use Rattle.run_histories.specs.declared.hands.HandLog.{HandLog}
-use Rattle.router_top.specs.Routing.{IsRoutingOf}
+use Rattle.std.specs.Prelude.{◌≡◌, ℕ, List, Option, Some, IsTrue}
+use Rattle.command_form.specs.Commands.{Asks}
+use Rattle.command_form.specs.Statuses.{IsByStatus}
+use Rattle.gr_io.specs.Devices.{Device, Reading, Gains}
+use Rattle.gr_io.specs.declared.shelf.Slot.TheVariants.{Design, Library}
+use Rattle.router_top.specs.Routing.{routing}
+use Rattle.router_top.specs.declared.kept.Kept.{Kept}
 use Rattle.word_reader.specs.declared.order.Options.{Options}
+use Rattle.word_reader.specs.declared.program.Program.TheVariants.{Groute}
 
 -- both ask for batches, and for the same ones, whatever the number of workers
 pub record AskForSameBatches (one other : Options) : Type 0 where
@@ -16,10 +18,23 @@ pub record AskForSameBatches (one other : Options) : Type 0 where
   pub rule : one.rule ≡ other.rule
   pub via_cost : one.via_cost ≡ other.via_cost
 
--- for a design and a library, what is asked for decides the history, the text and the report of routing in batches
+-- two runs gained one text on out and one report on err
+pub record GainAlike (out err out_again err_again : Device) : Type 0 where
+  pub text : List ℕ
+  pub report : List ℕ
+  pub on_out : Gains out text
+  pub on_err : Gains err report
+  pub on_out_again : Gains out_again text
+  pub on_err_again : Gains err_again report
+
+-- the texts of the design and the library, and what is asked for, decide what routing in batches writes: two runs over
+-- shelves that tell and hold the same texts gain the same, by any numbers of workers, where both end with 0
 abbrev pub BatchesDecide : Type 0
 BatchesDecide =
-    (d : DesignView) (lib : LibraryView) (one other : Options) (b c : BookView) (hands logs : List HandLog)
-    (text report written told : List ℕ) → AskForSameBatches one other →
-    IsRoutingOf d lib one b hands text report → IsRoutingOf d lib other c logs written told →
-    (b.history ≡ c.history) × (text ≡ written) × (report ≡ told)
+    (design library : List ℕ) (one other : Options) (shelf again : Reading) (out err out_again err_again : Device)
+    (kept kept_again : Option Kept) → AskForSameBatches one other →
+    IsTrue shelf.tells → IsTrue again.tells →
+    shelf.held Design design ≡ again.held Design design → shelf.held Library library ≡ again.held Library library →
+    IsByStatus Groute (Asks (routing design library one)) shelf out err kept 0 →
+    IsByStatus Groute (Asks (routing design library other)) again out_again err_again kept_again 0 →
+    GainAlike out err out_again err_again

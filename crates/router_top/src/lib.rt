@@ -3,6 +3,7 @@
 
 mod booking;
 mod kept;
+mod laws;
 mod means;
 mod routing;
 mod rules;
@@ -10,4 +11,5 @@ mod top;
 mod trying;
 
 pub use kept::Kept;
+pub use laws::batches_decide;
 pub use top::{Ended, run};

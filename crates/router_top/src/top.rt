@@ -5,7 +5,6 @@ ghost use Rattle.command_form.specs.Ends.{LeavesFor, Ends};
 ghost use Rattle.command_form.specs.Statuses.{is_apart, IsApart, IsByStatus};
 ghost use Rattle.router_top.specs.Handing.{handed_back};
 ghost use Rattle.router_top.specs.Orders.{asked_by};
-ghost use Rattle.router_top.specs.Repeating.{BatchesDecide};
 ghost use Rattle.word_reader.specs.Orders.{named, order_of, AsksInRange};
 ghost use Rattle.word_reader.specs.declared.program.Program.TheVariants.{Groute};
 
@@ -123,7 +122,6 @@ pub fn run<R: Threads + Wait + Sync, S: Shelf, O: Sink, E: Sink, G: Gate + Sync>
     ensures apart { IsTrue (is_apart (asked_by (order_of Groute (map string_bytes words.now))))
         → IsApart shelf.old shelf.new result.status }
     ensures hands { result.book ≡ None → result.hands.items ≡ [] }
-    ensures batches { BatchesDecide }
 {
     let means = Means {
         rt,

@@ -1,6 +1,8 @@
 -- Plans that stay the same while in their window only edges off them get dearer.
-use Rattle.std.proofs.Common.{◌≡◌, ℕ, ◌+◌, ◌*◌, ◌≤◌, Bool, true, false, ◌&&◌, min, List, Some, None, if◌then◌else◌, IsTrue, refl, sym, ap, subst, ◌∙◌, arith}
+use Rattle.std.proofs.Common.{◌≡◌, ℕ, ◌+◌, ◌-◌, ◌*◌, ◌≤◌, length, Bool, true, false, ◌&&◌, min, List, Some, None, if◌then◌else◌, IsTrue, refl, sym, ap, subst, ◌∙◌, arith}
+use Rattle.std.proofs.Math.Nat.{min-le_left}
 use Rattle.std.proofs.lemmas.Option.{same_Some}
+use Rattle.std.specs.List.{count_by, range_with_len}
 use Rattle.cost_rules.proofs.RiseLemmas.{cost-rises}
 use Rattle.cost_rules.specs.Formulas.{cost_at, reach, via_price}
 use Rattle.cost_rules.specs.declared.site.Formula.{Formula}
@@ -16,7 +18,7 @@ use Rattle.maze_route.specs.declared.window.Window.{Window}
 use Rattle.net_plan.proofs.DearerLemmas.{IsIn, AreDearerIn, grows-dearer}
 use Rattle.net_plan.specs.Mazes.{window_of, IsMaze}
 use Rattle.net_plan.specs.Prices.{site_of, price_of}
-use Rattle.book_state.specs.Books.{demand, marks, AreLoadsOf}
+use Rattle.book_state.specs.Books.{demand, marks, marks_over, AreLoadsOf}
 use Rattle.book_state.specs.Still.{StaysBest, IsWireIn, over_with}
 use Rattle.book_state.specs.declared.entry.Entry.{Entry}
 
@@ -94,7 +96,7 @@ prices-dearer c l m formula net w t first now of_first of_now still = record {
 }
   where
     few : (h : List Entry) (v : LoadsView) → AreLoadsOf c h v → (e : Edge) → IsTrue (has_edge c.shape e) → IsTrue (is_wire e) → marks_at v e ≤ most_marks
-    few h v of e edge wire = let is = of.marks e edge wire in omega (arith, is)
+    few h v of e edge wire = subst (λ (n : ℕ). n ≤ most_marks) (sym (of.marks e edge wire)) (min-le_left most_marks (count_by (marks_over c h e) (range_with_len 0 (length h))))
 
     marked : (e : Edge) → IsIn c.shape w e → IsTrue (is_wire e) → marks_at m e ≡ marks_at l e
     marked e is_in wire = of_now.marks e is_in.edge wire ∙ still.marks e is_in wire ∙ sym (of_first.marks e is_in.edge wire)

@@ -3,6 +3,7 @@
 
 mod error;
 mod form;
+mod laws;
 mod meaning;
 mod numbers;
 mod order;
@@ -13,6 +14,7 @@ mod values;
 
 pub use error::WordError;
 pub use form::{MOST_BATCH, MOST_VIA_COST};
+pub use laws::words_sort_by_rule;
 pub use order::{Options, Order, Stopping};
 pub use program::Program;
 pub use reader::read_words;

@@ -1,10 +1,9 @@
 //! The public call.
-ghost use Rattle.std.specs.Prelude.{◌≡◌, ℕ, List, map, string_bytes, IfOk, IfSome};
+ghost use Rattle.std.specs.Prelude.{◌≡◌, map, string_bytes, IfOk, IfSome};
 ghost use Rattle.std.specs.Option.{option_map};
 ghost use Rattle.word_reader.specs.Forms.{has};
 ghost use Rattle.word_reader.specs.Kept.{words_seen};
 ghost use Rattle.word_reader.specs.Orders.{named, agrees, fills, fits, go_together, has_all, suits, named_order, order_by, order_of, order_with, AsksInRange, Answers};
-ghost use Rattle.word_reader.specs.Sorting.{SortsByRule};
 
 use crate::error::WordError;
 use crate::form::{Command, EVERY_OPTION, OptionKind, command_of};
@@ -23,7 +22,6 @@ use crate::sorted::{Sorted, sort_words};
 pub fn read_words(program: Program, words: &[String]) -> Result<Order<'_>, WordError>
     ensures order { Answers (order_of program (map string_bytes words.now)) result }
     ensures range { IfOk result AsksInRange }
-    ensures rule { (behind : List (List ℕ)) → SortsByRule behind }
 {
     match order_of(program, words) {
         Some(order) => Ok(order),

@@ -2,7 +2,6 @@ use Rattle.std.proofs.Common.{ℕ, [], ◌∷◌, map, nat_eq, string_bytes, IsT
 use Rattle.std.specs.List.{list_any}
 use Rattle.command_form.proofs.EndLemmas.{apart-status, by-status, ends-with}
 use Rattle.router_top.proofs.CommandLaws.{asked-lawful}
-use Rattle.router_top.proofs.RepeatingLemmas.{batches-decide}
 use Rattle.router_top.proofs.top.run.Goals as goal
 use Rattle.word_reader.specs.Orders.{order_of}
 use Rattle.word_reader.specs.declared.program.Program.TheVariants.{Groute}
@@ -23,6 +22,3 @@ returns-clause-apart g c = λ apart. record {
       (apart-status Groute _ (asked-lawful (order_of Groute (map string_bytes c.args.words.now))) apart _ _ _ _ c.carry_out_words-left.result.end _ c.finish-status.result
       c.carry_out_words-left.ensures.leaves c.finish-status.ensures);
 }
-
-pub returns-clause-batches : goal.returns-clause-batches
-returns-clause-batches g c = batches-decide
