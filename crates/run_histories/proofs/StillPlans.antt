@@ -78,6 +78,11 @@ best-in c formula net w t before after still = record {
     both true b first second = second
     both false b first second = first
 
+-- marks are in their range
+marks-few : (c : CapacityView) (h : List Entry) (e : Edge) → marks c h e ≤ most_marks
+unfolding marks
+marks-few c h e = min-le_left most_marks (count_by (marks_over c h e) (range_with_len 0 (length h)))
+
 -- prices off a tree that stays the best only rise
 prices-dearer : (c : CapacityView) (l m : LoadsView) (formula : Formula) (net : ℕ) (w : Window) (t : TreeView) (first now : List Entry) →
     AreLoadsOf c first l → AreLoadsOf c now m → StaysBestIn c formula net w t first now → AreDearerIn c.shape w (holds t) (price_of c l formula net) (price_of c m formula net)
@@ -96,7 +101,7 @@ prices-dearer c l m formula net w t first now of_first of_now still = record {
 }
   where
     few : (h : List Entry) (v : LoadsView) → AreLoadsOf c h v → (e : Edge) → IsTrue (has_edge c.shape e) → IsTrue (is_wire e) → marks_at v e ≤ most_marks
-    few h v of e edge wire = subst (λ (n : ℕ). n ≤ most_marks) (sym (of.marks e edge wire)) (min-le_left most_marks (count_by (marks_over c h e) (range_with_len 0 (length h))))
+    few h v of e edge wire = subst (λ (n : ℕ). n ≤ most_marks) (sym (of.marks e edge wire)) (marks-few c h e)
 
     marked : (e : Edge) → IsIn c.shape w e → IsTrue (is_wire e) → marks_at m e ≡ marks_at l e
     marked e is_in wire = of_now.marks e is_in.edge wire ∙ still.marks e is_in wire ∙ sym (of_first.marks e is_in.edge wire)
