@@ -80,6 +80,7 @@ def guides(design: Tiled, solution: str, layers: Sequence[str], unjoined: list[i
             yield f"{xs[column]} {ys[row]} {xs[last_column + 1]} {ys[last_row + 1]} {layers[layer]}"
         yield ")"
     unjoined += unjoined_without(design, ids)
+    unjoined.sort(key=design.places.__getitem__)
 
 
 def parser() -> frame.Parser:

@@ -28,6 +28,7 @@ class Edges:
             if not has_joined(design.pin_cells(id_), runs):
                 self.unjoined.append(id_)
         self.unjoined += unjoined_without(design, ids)
+        self.unjoined.sort(key=design.places.__getitem__)
 
     def straight(self, ends: list[tuple[int, ...]]) -> list[range]:
         """The cells of segments, of which none goes two ways."""
