@@ -273,8 +273,13 @@ class BadInputs(InFolder):
             found = run("sh", "-c", f"{called} > /dev/full")
             self.assert_told(found, "No space left on device")
 
+    def heed_interrupts(self) -> None:
+        """Children heed them too, though this process may have been started in the background."""
+        self.addCleanup(signal.signal, signal.SIGINT, signal.signal(signal.SIGINT, signal.default_int_handler))
+
     def test_signals(self) -> None:
         """An interrupt ends a tool by the signal, without a word, and leaves no part of a file."""
+        self.heed_interrupts()
         pipe = os.path.join(self.folder.name, "pipe")
         os.mkfifo(pipe)
         for number in (signal.SIGINT, signal.SIGTERM):
@@ -291,6 +296,7 @@ class BadInputs(InFolder):
     @unittest.skipUnless(os.path.exists("/usr/bin/sleep"), "sleep is not there")
     def test_signals_of_children(self) -> None:
         """What flow.py runs ends with it."""
+        self.heed_interrupts()
         seen = os.path.join(self.folder.name, "seen")
         groute = self.put("groute", f"#!/bin/sh\n[ $# -gt 0 ] || exit 2\necho $$ > {seen}\nexec sleep 600\n")
         os.chmod(groute, 0o755)
