@@ -356,13 +356,14 @@ class Pictures(InFolder):
             solution = self.routed(path, int(text.split()[3]))
             design = Netlist(Tokens(path))
             edges = edges_plain.Edges(design, solution)
+            used = {(way, number): demand for way, number, _, demand in edges.used()}
             layers, ways = seed % design.layers, [(0, 1), (0,), (1,)][seed % 3]
             wanted: dict[tuple[int, int], tuple[float, int, int]] = {}
             for way in ways:
                 for column in range(design.columns - (way == 0)):
                     for row in range(design.rows - (way == 1)):
                         number = design.number(way, column, row, layers)
-                        capacity, demand = edges.capacity_of(way, number), edges.demand.get((way, number), 0)
+                        capacity, demand = edges.capacity_of(way, number), used.get((way, number), 0)
                         excess = max(0, demand - capacity)
                         found = (demand / capacity, excess, 0) if capacity else (-1.0, 0, excess)
                         for tile in ((row, column), (row + (way == 1), column + (way == 0))):

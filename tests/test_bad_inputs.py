@@ -5,6 +5,7 @@ import io
 import lzma
 import os
 import random
+import re
 import shlex
 import signal
 import subprocess
@@ -193,10 +194,19 @@ class BadInputs(InFolder):
         with open(SKY[3], encoding="utf-8") as file:
             text = file.read()
         wanted = tool("liberty.py", SKY[3])[1]
-        for old, new in (('"1ns"', '"ns"'), ('"1ns"', '"1.0e-9s"'), ("(1,pf)", "(1e3,ff)"), ("(1, pf)", "(1e3, ff)"),
-                         ("(1.0,pf)", "(1e-3,nf)")):
-            if old in text:
-                self.assertEqual(tool("liberty.py", self.put("lib", text.replace(old, new)))[:2], (0, wanted), new)
+        load = 'capacitive_load_unit(1.0000000000, "pf")'
+        for old, new in (('"1ns"', '"ns"'), ('"1ns"', '"1.0e-9s"'), ('"1ns"', '"1000ps"'),
+                         (load, "capacitive_load_unit (1e3,ff)"), (load, "capacitive_load_unit (1.0,pf)"),
+                         (load, "capacitive_load_unit (1e-3,nf)")):
+            self.assertIn(old, text)
+            self.assertEqual(tool("liberty.py", self.put("lib", text.replace(old, new)))[:2], (0, wanted), new)
+        # A thousandth of a load has the same delay by a thousand times the resistance.
+        found = tool("liberty.py", self.put("lib", text.replace(load, "capacitive_load_unit (1e-3,pf)")))
+        self.assertEqual(found[0], 0)
+        ohms = [[int(line.split()[3]) for line in out.splitlines() if re.fullmatch(r"\S+ \S+ \S+ [0-9]+ .*", line)]
+                for out in (wanted, found[1])]
+        self.assertEqual(len(ohms[0]), len(ohms[1]))
+        self.assertTrue(all(abs(1000 * one - other) <= 500 for one, other in zip(*ohms)))
         for new in ('""', '"1parsec"', '"0ns"', f'"{DIGITS}ns"'):
             path = self.put("lib", text.replace('"1ns"', new))
             self.assert_told(tool("liberty.py", path), f"{path}:", "time_unit")
@@ -263,8 +273,13 @@ class BadInputs(InFolder):
             found = run("sh", "-c", f"{called} > /dev/full")
             self.assert_told(found, "No space left on device")
 
+    def heed_interrupts(self) -> None:
+        """Children heed them too, though this process may have been started in the background."""
+        self.addCleanup(signal.signal, signal.SIGINT, signal.signal(signal.SIGINT, signal.default_int_handler))
+
     def test_signals(self) -> None:
         """An interrupt ends a tool by the signal, without a word, and leaves no part of a file."""
+        self.heed_interrupts()
         pipe = os.path.join(self.folder.name, "pipe")
         os.mkfifo(pipe)
         for number in (signal.SIGINT, signal.SIGTERM):
@@ -281,6 +296,7 @@ class BadInputs(InFolder):
     @unittest.skipUnless(os.path.exists("/usr/bin/sleep"), "sleep is not there")
     def test_signals_of_children(self) -> None:
         """What flow.py runs ends with it."""
+        self.heed_interrupts()
         seen = os.path.join(self.folder.name, "seen")
         groute = self.put("groute", f"#!/bin/sh\n[ $# -gt 0 ] || exit 2\necho $$ > {seen}\nexec sleep 600\n")
         os.chmod(groute, 0o755)

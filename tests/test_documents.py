@@ -9,7 +9,8 @@ import tempfile
 import unittest
 from typing import Iterator
 
-from dev import definitions, theorem
+from dev import definitions, man_page, theorem
+from groute import options
 from testing import PICTURES, ROOT, bounds, program, text_of
 
 DOCUMENTS = ["README.md", *(f"docs/{name}" for name in sorted(os.listdir(f"{ROOT}/docs")) if name.endswith(".md"))]
@@ -109,6 +110,15 @@ class Documents(unittest.TestCase):
                 if not path.startswith("examples/smtbmc") and not path.endswith("/NAME"):
                     with self.subTest(document=document, path=path):
                         self.assertTrue(os.path.exists(f"{ROOT}/{path}"))
+
+    def test_statuses(self) -> None:
+        """How tools end is told as their table has it, and on their man pages."""
+        table = "".join(f"| {status:d} | {comes} |\n" for status, comes in options.COMES.items())
+        self.assertIn(f"| status | comes |\n|---|---|\n{table}\n", text_of("docs/PLACEMENTS.md"))
+        self.assertEqual(list(options.COMES), list(options.Status))
+        page = "\n".join(man_page.page("where"))
+        for status, comes in options.COMES.items():
+            self.assertIn(f".TP\n{status:d}\n{man_page.roff(comes)}\n", page)
 
 
 class Manual(unittest.TestCase):

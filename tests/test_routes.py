@@ -4,10 +4,13 @@ import os
 import random
 import re
 import sys
+import time
+import unittest
 from typing import Any
 
 from testing import ROOT, InFolder, program, run, tool
 from groute.texts.designs import ends
+from groute.texts.solutions import has_joined
 from groute.texts.tokens import Tokens
 from groute.texts.names import names_beside
 from groute.texts.tiled import Tiled
@@ -154,3 +157,43 @@ class Back(InFolder):
             status, _, err = self.made(routes)
             self.assertEqual(status, 3)
             self.assertIn(says, err)
+
+
+class Joins(unittest.TestCase):
+    """Which cells runs join, beside a search from cell to cell."""
+
+    def test_random_runs(self) -> None:
+        rng = random.Random(1)
+        found = {True: 0, False: 0}
+        for count in range(300):
+            side = rng.randrange(1, 12)
+            runs = []
+            for _ in range(rng.randrange(12)):
+                start, length = rng.randrange(side * side), rng.randrange(1, 5)
+                runs.append(range(start, start + length) if rng.randrange(2) else
+                            range(start, start + side * length, side))
+            pins = {rng.choice([rng.randrange(side * side), *(cell for run in runs for cell in run)])
+                    for _ in range(rng.randrange(1, 4))}
+            joined = has_joined(pins, runs)
+            self.assertEqual(joined, pins <= self.reached(min(pins), runs), (count, pins, runs))
+            found[joined] += 1
+        self.assertGreater(min(found.values()), 50)
+
+    def reached(self, cell: int, runs: list[range]) -> set[int]:
+        """The cells that runs join with one, itself too."""
+        found, left = {cell}, [cell]
+        while left:
+            cell = left.pop()
+            new = {other for run in runs if cell in run for other in run} - found
+            found |= new
+            left += new
+        return found
+
+    def test_any_order(self) -> None:
+        """A long chain of runs costs the same in any order."""
+        chain = [range(at, at + 2) for at in range(200_000)]
+        random.Random(2).shuffle(chain)
+        begun = time.process_time()
+        self.assertTrue(has_joined({0, 200_000}, chain))
+        self.assertFalse(has_joined({0, 200_000}, [run for run in chain if 1000 not in run]))
+        self.assertLess(time.process_time() - begun, 20)

@@ -34,7 +34,8 @@ tar -C "$work" --sort=name --owner=0 --group=0 --numeric-owner --mtime="@$SOURCE
 root=$work/root
 doc=$root/usr/share/doc/groute
 tools/install.sh "$root/usr"
-mkdir -p "$root/DEBIAN" "$root/usr/share/lintian/overrides"
+mkdir -p "$root/DEBIAN" "$root/usr/share/lintian/overrides" "$root/usr/lib/python3/dist-packages"
+ln -s ../../../share/groute/groute "$root/usr/lib/python3/dist-packages/groute"     # for `import groute`
 install -m 644 packaging/lintian-overrides "$root/usr/share/lintian/overrides/groute"
 mv "$doc/CHANGELOG.md" "$doc/changelog"
 gzip -9n "$doc/changelog"

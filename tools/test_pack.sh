@@ -91,5 +91,10 @@ overflow 0" ]
 try archive
 try scratch/usr
 cd "$work"
+# The package is where Debian's python looks, and nothing else of ours is.
+[ "$(alone PYTHONPATH="$work/scratch/usr/lib/python3/dist-packages" python3 -B -c '
+import groute.texts.designs, groute.options
+print(groute.texts.designs.MOST_ROUTED)')" = 1000 ]
+[ "$(ls "$work/scratch/usr/lib/python3/dist-packages")" = groute ]
 alone "$work/scratch/usr/bin/groute" >/dev/null 2>&1 || [ $? -eq 2 ]
 echo "packed program: passed"

@@ -10,6 +10,7 @@ from typing import Iterator
 
 TOOLS = os.path.dirname(os.path.dirname(os.path.abspath(__file__)))
 sys.path.insert(0, TOOLS)
+from groute.options import COMES  # noqa: E402
 
 
 def roff(text: str) -> str:
@@ -35,6 +36,7 @@ def page(tool: str) -> Iterator[str]:
     yield f".SH SYNOPSIS\n.nf\n{roff(usage.removeprefix('usage: '))}\n.fi"
     yield f".SH DESCRIPTION\n{description(doc)}"
     yield f".SH OPTIONS\n.nf\n{roff(options.strip())}\n.fi"
+    yield ".SH EXIT STATUS\n" + "\n".join(f".TP\n{status:d}\n{roff(comes)}" for status, comes in COMES.items())
     yield ".SH SEE ALSO\n.BR groute (1)"
 
 

@@ -1,20 +1,20 @@
 """What all commands have in common: their words, statuses, and an end that says in a line why."""
 import argparse
 import importlib
-import importlib.util
 import io
 import os
 import signal
 import sys
 from contextlib import contextmanager
 from types import FrameType
-from typing import Any, Callable, Iterator, NoReturn, Sequence
+from typing import TYPE_CHECKING, Any, Callable, Iterator, NoReturn, Sequence
 
 from groute import start
 from groute.options import Status
-from groute.texts.designs import Netlist
 from groute.texts.files import MOST_LETTERS, Fault, one_line
-from groute.texts.solutions import unjoined_words
+
+if TYPE_CHECKING:
+    from groute.texts.designs import Netlist
 
 TOOLS = os.path.dirname(os.path.dirname(os.path.realpath(__file__)))    # the folder of the scripts
 ENDING = (signal.SIGINT, signal.SIGTERM, signal.SIGHUP)
@@ -75,10 +75,11 @@ def say(name: str, text: str) -> None:
         pass    # nobody reads it
 
 
-def tell_unjoined(name: str, design: Netlist, ids: Sequence[int]) -> int:
+def tell_unjoined(name: str, design: "Netlist", ids: Sequence[int]) -> int:
     """Names nets that aren't joined; the answer is the status of the tool."""
     if not ids:
         return Status.DONE
+    from groute.texts.solutions import unjoined_words
     names = ", ".join(design.names[id_] for id_ in ids[:SHOWN])
     say(name, f"{unjoined_words(len(ids))}: {names}{', ..' if len(ids) > SHOWN else ''}")
     return Status.UNJOINED
@@ -114,7 +115,8 @@ def ended(name: str, words: Sequence[str]) -> int:
     except OSError as fault:
         say(name, f"{fault.filename}: {fault.strerror}" if fault.filename else fault.strerror or str(fault))
     except ImportError as fault:
-        lacking = [module for module in start.PACKAGES if importlib.util.find_spec(module) is None]
+        from importlib.util import find_spec
+        lacking = [module for module in start.PACKAGES if find_spec(module) is None]
         if not lacking:
             say(name, told(fault))
         else:

@@ -15,6 +15,13 @@ class Status(enum.IntEnum):
     FAULT = 3
 
 
+# When a tool ends so.
+COMES = {
+    Status.DONE: "it is done; overflow is no fault",
+    Status.UNJOINED: "it is done, and routes leave nets unjoined: a line says how many, and which first",
+    Status.WORDS: "the words are none that it takes",
+    Status.FAULT: "a text has a fault, or a file can't be read or written: a line says why",
+}
 # The words of each command, and what it does.
 USAGE = {
     "route DESIGN LIBRARY ROUNDS [--workers N] [--via-cost V] [--batch B] [--rule first|steep|flat|near] [--stop still|N]":

@@ -13,72 +13,21 @@ from groute.placed.lef_text import Lef
 from groute.placed.statements import Notes
 from groute.texts.designs import Cell
 from groute.texts.files import Fault, Outputs
-from groute.texts.names import Names, names_beside
-from groute.texts.solutions import Joined, records, unjoined_without
+from groute.texts.names import names_beside
+from groute.texts.solutions import Ends, has_joined, records, runs_of, unjoined_without
 from groute.texts.tiled import Tiled
-from groute.texts.tokens import whole
 
 Line = tuple[int, int]      # the layer, and the row or column
 Run = tuple[int, int]       # the first and the last tile
 Box = tuple[Cell, Cell]     # the lower and the upper cell
-DIGITS = b"0123456789"
-FORM = b"(,,)-(,,)"
 
 
-class Tiles(dict[bytes, int]):
-    """The tile's number of a coordinate along one way, by its bytes; of a layer, its number from 0."""
-
-    def __init__(self, start: int, side: int, count: int, last: int) -> None:
-        dict.__init__(self)
-        self.start, self.side, self.count, self.last = start, side, count, last
-
-    def __missing__(self, text: bytes) -> int:
-        value = whole(text)
-        if value is None or not self.start <= value <= self.last:
-            raise Fault(f"{text.decode()} lies outside the chip")
-        return self.setdefault(text, min((value - self.start) // self.side, self.count - 1))
-
-
-class Routed(Tiled):
-    """A design with the tiles of the coordinates that its routes have."""
-
-    def __init__(self, path: str, names: Names | None) -> None:
-        Tiled.__init__(self, path, names)
-        right, top = self.left + self.columns * self.tile_width, self.low + self.rows * self.tile_height
-        self.column_of = Tiles(self.left, self.tile_width, self.columns, right)
-        self.row_of = Tiles(self.low, self.tile_height, self.rows, top)
-        self.layer_of = Tiles(1, 1, self.layers, self.layers)
-
-    def ends_of(self, segments: list[bytes]) -> list[tuple[int, ...]]:
-        """Column, row and layer of both ends of each segment."""
-        text = b"".join(segments)
-        signs = text.translate(None, DIGITS).replace(b"(-", b"(").replace(b",-", b",")
-        try:
-            if signs != FORM * len(segments):
-                raise ValueError(text)
-            numbers = text.replace(b")-(", b",").replace(b")(", b",")[1:-1].split(b",")
-            ways = (self.column_of, self.row_of, self.layer_of) * 2
-            return list(zip(*(map(way.__getitem__, numbers[at::6]) for at, way in enumerate(ways))))
-        except (Fault, ValueError):
-            for segment in segments:
-                self.run(segment)       # finds the one that is wrong
-            raise
-
-    def is_joined(self, id_: int, segments: list[bytes]) -> bool:
-        """Whether segments join a net's pins."""
-        joined = Joined(self)
-        for column, row, layer, column2, row2, layer2 in self.ends_of(segments) if segments else ():
-            one, other = (column, row, layer), (column2, row2, layer2)
-            joined.add(min(one, other), max(one, other))
-        return joined.has_joined(self.cell(*pin) for pin in self.pins(id_))
-
-
-def boxes(design: Routed, id_: int, segments: list[bytes]) -> list[Box]:
+def boxes(design: Tiled, id_: int, ends: list[tuple[int, ...]]) -> list[Box]:
     """The rectangles of a net in their order, each its lower and its upper cell."""
     rows: dict[Line, list[Run]] = {}
     columns: dict[Line, list[Run]] = {}
     spots = {design.cell(*pin) for pin in design.pins(id_)}
-    for column, row, layer, column2, row2, layer2 in design.ends_of(segments) if segments else ():
+    for column, row, layer, column2, row2, layer2 in ends:
         if (column != column2) + (row != row2) + (layer != layer2) > 1:
             raise Fault(f"a segment of the net {design.names[id_]} is not straight")
         if column != column2:
@@ -115,14 +64,15 @@ def joined(runs: list[Run]) -> list[Run]:
     return found
 
 
-def guides(design: Routed, solution: str, layers: Sequence[str], unjoined: list[int]) -> Iterator[str]:
+def guides(design: Tiled, solution: str, layers: Sequence[str], unjoined: list[int]) -> Iterator[str]:
     """The lines of the guides, net by net; nets that aren't joined are added to a list."""
     xs, ys = design.xs, design.ys
-    ids = []
+    ids, ends_of = [], Ends(design).of
     for id_, segments in records(design, solution):
         ids.append(id_)
-        found = boxes(design, id_, segments)
-        if not design.is_joined(id_, segments):
+        ends = ends_of(segments)
+        found = boxes(design, id_, ends)
+        if not has_joined(design.pin_cells(id_), runs_of(design, ends)):
             unjoined.append(id_)
         yield design.names[id_]
         yield "("
@@ -130,6 +80,7 @@ def guides(design: Routed, solution: str, layers: Sequence[str], unjoined: list[
             yield f"{xs[column]} {ys[row]} {xs[last_column + 1]} {ys[last_row + 1]} {layers[layer]}"
         yield ")"
     unjoined += unjoined_without(design, ids)
+    unjoined.sort(key=design.places.__getitem__)
 
 
 def parser() -> frame.Parser:
@@ -149,7 +100,7 @@ def main(words: Sequence[str]) -> int:
     names = names_beside(asked.design, asked.names)
     if names is None and asked.lef is None:
         raise Fault(f"{asked.design}.names isn't there, so that a LEF is wanted")
-    design = Routed(asked.design, names)
+    design = Tiled(asked.design, names)
     layers = names.layers if names else \
         [layer.name for layer in Lef([asked.lef], 1000, Notes("guides", False)).routing]
     if len(layers) != design.layers:

@@ -1,10 +1,10 @@
 """The demand of a solution's wire edges, in plain Python: for where numpy is not installed."""
 from itertools import repeat
-from typing import Iterable, Iterator
+from typing import Iterator
 
 from groute.texts.designs import EAST, NORTH, UP, Cell, Edge, Netlist
 from groute.texts.files import Fault
-from groute.texts.solutions import first_fault, is_joined, records, unjoined_without
+from groute.texts.solutions import Ends, first_fault, has_joined, records, runs_of, unjoined_without
 
 
 class Edges:
@@ -12,30 +12,53 @@ class Edges:
 
     def __init__(self, design: Netlist, solution: str) -> None:
         self.design = design
-        self.demand: dict[Edge, int] = {}   # where some net is
+        # Of wire edges where some net is, by way and by the lower cell, which goes by column, then row, then layer.
+        self.demand: tuple[dict[int, int], dict[int, int]] = {}, {}
         self.wires = self.vias = 0
         self.unjoined: list[int] = []
-        ids = []
+        self.needs: dict[int, list[int]] = {}       # by width: what is needed on each layer
+        ids, ends = [], Ends(design)
         for id_, segments in records(design, solution):
             ids.append(id_)
             try:
-                runs = [design.run(segment) for segment in segments]
+                runs = self.straight(ends.of(segments))
             except Fault as fault:
                 raise first_fault(design, solution) or fault from None
-            self.add(design.widths[id_] or 0, {edge for run in runs for edge in self.covered(*run)})
-            if not is_joined(design, id_, runs):
+            self.add(design.widths[id_] or 0, runs)
+            if not has_joined(design.pin_cells(id_), runs):
                 self.unjoined.append(id_)
         self.unjoined += unjoined_without(design, ids)
+        self.unjoined.sort(key=design.places.__getitem__)
 
-    def add(self, width: int, edges: Iterable[Edge]) -> None:
+    def straight(self, ends: list[tuple[int, ...]]) -> list[range]:
+        """The cells of segments, of which none goes two ways."""
+        for column, row, layer, column2, row2, layer2 in ends:
+            if (column != column2) + (row != row2) + (layer != layer2) > 1:
+                raise Fault("a segment of the solution is not straight")
+        return runs_of(self.design, ends)
+
+    def add(self, width: int, runs: list[range]) -> None:
         """The edges of one net."""
-        for way, number in edges:
-            if way == UP:
-                self.vias += 1
-                continue
-            self.wires += 1
-            layer = self.design.place(way, number)[2]
-            self.demand[way, number] = self.demand.get((way, number), 0) + self.design.need(layer, width)
+        design = self.design
+        plane = design.columns * design.rows
+        if width not in self.needs:
+            self.needs[width] = [design.need(layer, width) for layer in range(design.layers)]
+        needs, edges = self.needs[width], self.lower_cells(runs)
+        self.vias += len(edges[UP])
+        for way in (EAST, NORTH):
+            demand, mine = self.demand[way], edges[way]
+            self.wires += len(mine)
+            for cell in mine:
+                demand[cell] = demand.get(cell, 0) + needs[cell // plane]
+
+    def lower_cells(self, runs: list[range]) -> list[set[int]]:
+        """By way the lower cells of the edges that runs have."""
+        found: list[set[int]] = [set(), set(), set()]
+        ways = {1: EAST, self.design.columns: NORTH, self.design.columns * self.design.rows: UP}
+        for run in runs:
+            if len(run) > 1:
+                found[ways[run.step]].update(run[:-1])
+        return found
 
     def covered(self, low: Cell, high: Cell) -> Iterator[Edge]:
         """The unit edges between the ends of a run."""
@@ -46,8 +69,16 @@ class Edges:
     def used(self) -> Iterator[tuple[int, int, int, int]]:
         """Way, number, capacity and demand of each wire edge that is used."""
         for way in (EAST, NORTH):
-            for number in sorted(number for at, number in self.demand if at == way):
-                yield way, number, self.capacity_of(way, number), self.demand[way, number]
+            for number, demand in sorted((self.number(way, cell), demand) for cell, demand in self.demand[way].items()):
+                yield way, number, self.capacity_of(way, number), demand
+
+    def number(self, way: int, cell: int) -> int:
+        """Of the edge of this way with this lower cell."""
+        if way == EAST:
+            return cell
+        line, column = divmod(cell, self.design.columns)
+        layer, row = divmod(line, self.design.rows)
+        return self.design.number(way, column, row, layer)
 
     def capacity_of(self, way: int, number: int) -> int:
         """Of a wire edge."""

@@ -158,6 +158,19 @@ class Netlist(Design):
         return [(self.points[3 * at], self.points[3 * at + 1], self.points[3 * at + 2])
                 for at in range(self.first[place], self.first[place + 1])]
 
+    def pin_cells(self, id_: int) -> set[int]:
+        """The cells of the pins of a net, by column, then row, then layer."""
+        place = self.places[id_]
+        values = self.points[3 * self.first[place]:3 * self.first[place + 1]]
+        columns, rows, layers = self.columns, self.rows, self.layers
+        found = set()
+        for x, y, layer in zip(values[::3], values[1::3], values[2::3]):
+            column, row = (x - self.left) // self.tile_width, (y - self.low) // self.tile_height
+            if not (0 <= column < columns and 0 <= row < rows and 1 <= layer <= layers):
+                column, row, _ = self.cell(x, y, layer)     # on the last border, or outside
+            found.add(((layer - 1) * rows + row) * columns + column)
+        return found
+
     def check_pins(self) -> None:
         """Tells of the first pin that lies outside the chip, and where it stands."""
         Checked(Tokens(self.path))

@@ -1,9 +1,13 @@
 """Solutions: the routes of a design's nets, and the nets that they leave unjoined."""
 from typing import Iterable, Iterator
 
-from groute.texts.designs import Cell, Design, Netlist
+from groute.texts.designs import Design, Netlist
 from groute.texts.files import Fault
-from groute.texts.tokens import Tokens, counted
+from groute.texts.tokens import Tokens, counted, whole
+
+DIGITS = b"0123456789"
+FORM = b"(,,)-(,,)"
+PASSES = 8      # over a net's runs, before they are joined by another way
 
 
 def records(design: Design, path: str) -> Iterator[tuple[int, list[bytes]]]:
@@ -40,28 +44,90 @@ def first_fault(design: Design, path: str) -> Fault | None:
     return None
 
 
-class Joined:
-    """Which cells of a net its runs join, run after run. Cells are numbered by column, then row, then layer."""
+class Numbers(dict[bytes, int]):
+    """The number of the tile of a coordinate along one way, by its bytes; of a layer, its number from 0."""
+
+    def __init__(self, start: int, side: int, count: int, last: int) -> None:
+        dict.__init__(self)
+        self.start, self.side, self.count, self.last = start, side, count, last
+
+    def __missing__(self, text: bytes) -> int:
+        value = whole(text)
+        if value is None or not self.start <= value <= self.last:
+            raise Fault(f"{text.decode()} lies outside the chip")
+        return self.setdefault(text, min((value - self.start) // self.side, self.count - 1))
+
+
+class Ends:
+    """The cells of segments' ends, by the texts of the coordinates."""
 
     def __init__(self, design: Design) -> None:
-        self.steps = 1, design.columns, design.columns * design.rows
-        self.owner: dict[int, int] = {}     # by cell: the last run that has it
-        self.parent: list[int] = []         # by run: another of its group, or itself
+        self.design = design
+        right, top = design.left + design.columns * design.tile_width, design.low + design.rows * design.tile_height
+        self.ways = (Numbers(design.left, design.tile_width, design.columns, right),
+                     Numbers(design.low, design.tile_height, design.rows, top),
+                     Numbers(1, 1, design.layers, design.layers)) * 2
 
-    def number(self, cell: Cell) -> int:
-        """Of a cell."""
-        return cell[0] + cell[1] * self.steps[1] + cell[2] * self.steps[2]
+    def of(self, segments: list[bytes]) -> list[tuple[int, ...]]:
+        """Column, row and layer of both ends of each segment."""
+        if not segments:
+            return []
+        text = b"".join(segments)
+        signs = text.translate(None, DIGITS).replace(b"(-", b"(").replace(b",-", b",")
+        try:
+            if signs != FORM * len(segments):
+                raise ValueError(text)
+            numbers = text.replace(b")-(", b",").replace(b")(", b",")[1:-1].split(b",")
+            return list(zip(*(map(way.__getitem__, numbers[at::6]) for at, way in enumerate(self.ways))))
+        except (Fault, ValueError):
+            for segment in segments:
+                self.design.run(segment)    # finds the one that is wrong
+            raise
 
-    def add(self, low: Cell, high: Cell) -> None:
-        """A straight run."""
-        step = self.steps[0 if low[0] != high[0] else 1 if low[1] != high[1] else 2]
-        cells = range(self.number(low), self.number(high) + 1, step)
-        mine = len(self.parent)
-        self.parent.append(mine)
-        for other in set(map(self.owner.get, cells)):
-            if other is not None:
-                self.parent[self.group(other)] = mine
-        self.owner.update(dict.fromkeys(cells, mine))
+
+def runs_of(design: Design, ends: Iterable[tuple[int, ...]]) -> list[range]:
+    """The cells of straight segments, by column, then row, then layer."""
+    columns, plane = design.columns, design.columns * design.rows
+    found = []
+    for column, row, layer, column2, row2, layer2 in ends:
+        one, other = layer * plane + row * columns + column, layer2 * plane + row2 * columns + column2
+        step = 1 if column != column2 else columns if row != row2 else plane
+        found.append(range(one, other + 1, step) if one <= other else range(other, one + 1, step))
+    return found
+
+
+def has_joined(pins: set[int], runs: list[range]) -> bool:
+    """Whether all these cells are one, or some that runs join."""
+    if len(pins) < 2:
+        return True
+    reached = {next(iter(pins))}
+    for _ in range(PASSES):
+        left = []
+        for run in runs:
+            if reached.isdisjoint(run):
+                left.append(run)
+            else:
+                reached.update(run)
+        if reached >= pins:
+            return True
+        if len(left) == len(runs):
+            return False
+        runs = left
+    return Joined(runs, reached).has(pins)
+
+
+class Joined:
+    """Which cells runs join; some cells are joined already. Takes time by the number of cells, in any order of runs."""
+
+    def __init__(self, runs: Iterable[range], already: Iterable[int]) -> None:
+        self.owner = dict.fromkeys(already, 0)      # by cell: the last run that has it
+        self.parent = [0]                           # by run: another of its group, or itself
+        for mine, run in enumerate(runs, 1):
+            self.parent.append(mine)
+            for other in set(map(self.owner.get, run)):
+                if other is not None:
+                    self.parent[self.group(other)] = mine
+            self.owner.update(dict.fromkeys(run, mine))
 
     def group(self, run: int) -> int:
         """The last run of the group that a run is of."""
@@ -69,27 +135,17 @@ class Joined:
             self.parent[run] = run = self.parent[self.parent[run]]
         return run
 
-    def has_joined(self, pins: Iterable[Cell]) -> bool:
-        """Whether all pins lie in one cell, or in cells of one group."""
-        cells = {self.number(pin) for pin in pins}
+    def has(self, cells: Iterable[int]) -> bool:
+        """Whether all these cells are joined."""
         owners = [self.owner.get(cell) for cell in cells]
-        groups = {None if run is None else self.group(run) for run in owners}
-        return len(cells) < 2 or None not in groups and len(groups) == 1
-
-
-def is_joined(design: Netlist, id_: int, runs: Iterable[tuple[Cell, Cell]]) -> bool:
-    """Whether straight runs, each its lower and its upper cell, join a net's pins."""
-    joined = Joined(design)
-    for low, high in runs:
-        joined.add(low, high)
-    return joined.has_joined(design.cell(*pin) for pin in design.pins(id_))
+        return None not in owners and len({self.group(run) for run in owners if run is not None}) == 1
 
 
 def unjoined_without(design: Netlist, ids: Iterable[int]) -> list[int]:
     """The routed nets with pins in several cells that are none of these."""
     found = set(ids)
     return [id_ for id_ in design.ids if id_ not in found and design.widths[id_] is not None
-            and not is_joined(design, id_, [])]
+            and len(design.pin_cells(id_)) > 1]
 
 
 def unjoined_words(count: int) -> str:
