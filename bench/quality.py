@@ -2,8 +2,9 @@
 """How good routes are: bench/quality.py PROGRAM BOUNDS DESIGN LIBRARY [DESIGN LIBRARY ..]
 
 Routes each design by the rules `first`, `steep` and `near`, by one worker and with `--batch 64` by four, and prints a
-table: after how many rounds there is no overflow, or what eight rounds leave, wire edges over the sum of the nets' half
-perimeters, vias a pin; and what `grbound` proves. Designs that end in .xz are unpacked.
+table: the overflow after eight rounds, or after how many there is none, wire edges over the sum of the nets' half
+perimeters, vias a pin; and what `grbound` proves: the least overflow, and of one worker's wirelength how many per cent
+no routes along usable edges can do without. Designs that end in .xz are unpacked.
 """
 import argparse
 import lzma
@@ -15,7 +16,7 @@ import tempfile
 MOST_ROUNDS = 8
 MOST_PINS = 1000
 RULES = ["first", "steep", "near"]
-HEAD = """| design | overflow at least | rule | one worker: overflow, wire, vias | batches of 64, four workers |
+HEAD = """| design | proved | rule | one worker: overflow, wire, vias | batches of 64, four workers |
 |---|---|---|---|---|
 """
 
@@ -57,8 +58,8 @@ def totals(words: list[str]) -> dict[str, int]:
     return {name: int(number) for name, number in map(str.split, done.stderr.splitlines()[:5])}
 
 
-def told(program: str, design: Design, library: str, options: list[str]) -> str:
-    """The rounds that a design takes until there is no overflow, or what is left; its wires and vias then."""
+def told(program: str, design: Design, library: str, options: list[str]) -> tuple[str, int]:
+    """The overflow that is left, after how many rounds, and the wires and vias then; the wirelength."""
     def after(rounds: int) -> dict[str, int]:
         return totals([program, "route", design.path, library, str(rounds), *options])
 
@@ -66,7 +67,8 @@ def told(program: str, design: Design, library: str, options: list[str]) -> str:
     while found["overflow"] == 0 and rounds and (less := after(rounds - 1))["overflow"] == 0:
         found, rounds = less, rounds - 1
     wires = found["wirelength"] - found["vias"]
-    return f"{found['overflow']:,} after {rounds}; {wires / design.half:.3f}; {found['vias'] / design.pins:.2f}"
+    says = f"{found['overflow']:,} after {rounds}; {wires / design.half:.3f}; {found['vias'] / design.pins:.2f}"
+    return says, found["wirelength"]
 
 
 def main() -> int:
@@ -80,11 +82,13 @@ def main() -> int:
     with tempfile.TemporaryDirectory() as folder:
         for path, library in zip(asked.files[::2], asked.files[1::2]):
             design = Design(path, folder)
-            bound = subprocess.run([asked.bounds, design.path], check=True, capture_output=True, text=True).stdout.split()
+            done = subprocess.run([asked.bounds, design.path], check=True, capture_output=True, text=True)
+            overflow, _, along = (int(line.split()[-1]) for line in done.stdout.splitlines()[:3])
             for rule in RULES:
-                alone = told(asked.program, design, library, ["--rule", rule])
-                batched = told(asked.program, design, library, ["--rule", rule, "--batch", "64", "--workers", "4"])
-                print(f"| {design.name} | {int(bound[3]):,} | `{rule}` | {alone} | {batched} |", flush=True)
+                alone, length = told(asked.program, design, library, ["--rule", rule])
+                batched, _ = told(asked.program, design, library, ["--rule", rule, "--batch", "64", "--workers", "4"])
+                proved = f"{overflow:,}; {100 * along / length:.0f} %"
+                print(f"| {design.name} | {proved} | `{rule}` | {alone} | {batched} |", flush=True)
     return 0
 
 

@@ -1,5 +1,5 @@
 -- Routing in batches is decided by what is asked for.
-use Rattle.std.proofs.Common.{◌≡◌, ℕ, ℤ, ◌-◌, Bool, true, false, nat_lt, inl, inr, List, [], ◌++◌, length, slice_get, take, Option, Some, None, IsSomeAnd, IsTrue, Result, Ok, if◌then◌else◌, codes, refl, sym, ap, subst, ◌∙◌}
+use Rattle.std.proofs.Common.{◌≡◌, ℕ, ℤ, ◌-◌, Bool, true, false, nat_lt, inl, inr, List, [], ◌++◌, length, slice_get, take, Option, Some, None, IsSomeAnd, IsTrue, Result, Ok, Err, if◌then◌else◌, codes, refl, sym, ap, subst, ◌∙◌}
 use Rattle.std.proofs.Math.Path.{fun_ext}
 use Rattle.std.proofs.lemmas.Bool.{cases_Bool}
 use Rattle.std.proofs.lemmas.Option.{same_Some}
@@ -186,8 +186,10 @@ routings-same d lib one other b c hands logs text report written told asked r s 
     trees : (net : ℕ) → tree_at r.trees net ≡ tree_at s.trees net
     trees net = r.booked net ∙ ap (λ (h : List Entry). booked h net) parts ∙ sym (s.booked net)
 
-same-Ok : {A E : Type 0} (a b : A) → Some {A = Result A E} (Ok a) ≡ Some (Ok b) → a ≡ b
-same-Ok a b is = cc
+abbrev value-in : {A E : Type 0} → A → Option (Result A E) → A
+value-in a None = a
+value-in a (Some (Ok b)) = b
+value-in a (Some (Err e)) = a
 
 -- the same, for the design and the library that shelves hold
 routed-same : (design library : List ℕ) (one other : Options) (shelf again : Reading) (b c : BookView) (hands logs : List HandLog)
@@ -201,11 +203,11 @@ routed-same design library one other shelf again b c hands logs text report writ
     (subst (λ (d : DesignView). IsRoutingOf d r.library one b hands text report) same_design r.routed)) s.routed
   where
     same_design : r.design ≡ s.design
-    same_design = same-Ok r.design s.design (sym (r.said tells) ∙ ap (option_map design_of) designs ∙ s.said tells_again)
+    same_design = ap (value-in r.design) (sym (r.said tells) ∙ ap (option_map design_of) designs ∙ s.said tells_again)
 
     same_library : r.library ≡ s.library
     same_library =
-        same-Ok r.library s.library
+        ap (value-in r.library)
         (sym (r.read tells) ∙ ap (option_map (library_of r.design)) libraries
         ∙ ap (λ (d : DesignView). option_map (library_of d) (again.held Library library)) same_design ∙ s.read tells_again)
 
