@@ -27,8 +27,10 @@ _groute() {
     groute-guides) options="--help --names" ;;
     groute-hotspots) options="--help --worst --csv --openroad --klayout --nets --names" ;;
     groute-liberty) options="--help" ;;
+    groute-netlist) options="--help --lef --liberty --output" ;;
     groute-report) options="--help --before --bound --scale --output --names" ;;
     groute-slowest) options="--help --worst --scale --nets --names" ;;
+    groute-spef) options="--help --output --verilog --pins --scale" ;;
     groute-to-solution) options="--help --names" ;;
     groute-where) options="--help" ;;
     esac
@@ -50,4 +52,4 @@ _groute() {
         mapfile -t COMPREPLY < <(compgen -f -- "$word")
     fi
 }
-complete -o filenames -F _groute groute grbound groute-adjust groute-congestion groute-def-to-ispd groute-flow groute-guides groute-hotspots groute-liberty groute-report groute-slowest groute-to-solution groute-where
+complete -o filenames -F _groute groute grbound groute-adjust groute-congestion groute-def-to-ispd groute-flow groute-guides groute-hotspots groute-liberty groute-netlist groute-report groute-slowest groute-spef groute-to-solution groute-where

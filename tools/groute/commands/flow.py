@@ -3,7 +3,8 @@
 Makes the design and its library (def_to_ispd.py), routes it (groute), writes route guides (guides.py), where it is
 congested (hotspots.py) and a page to look at (report.py):
 
-  design.ispd, design.ispd.names, design.library    what groute reads, and what its numbers are called
+  design.ispd, design.library                       what groute reads
+  design.ispd.names, design.ispd.pins               what its numbers are called
   routes.solution, report.txt                       the routes; overflow, buffers and required times
   routes.guide                                      for a detailed router
   hotspots.txt, index.html                          where it is full; congestion.csv instead, without numpy
@@ -30,8 +31,8 @@ from groute.texts.reports import bounds_in
 # Passed on to def_to_ispd.py, and how many words stand behind each.
 PASSED = {"--tile": 2, "--layers": 1, "--adjust": 1, "--kinds": 1, "--driver": 1, "--sink": 1, "--kind": 4, "--via": 2,
           "--keep-supply": 0}
-WRITTEN = ("design.ispd", "design.ispd.names", "design.library", "routes.solution", "report.txt", "routes.guide",
-           "bounds.txt", "hotspots.txt", "index.html", "congestion.csv")
+WRITTEN = ("design.ispd", "design.ispd.names", "design.ispd.pins", "design.library", "routes.solution", "report.txt",
+           "routes.guide", "bounds.txt", "hotspots.txt", "index.html", "congestion.csv")
 MOST_ROUNDS, MOST_WORKERS, MOST_BATCH, MOST_STOP = 64, 16, 65536, (1 << 64) - 1
 OVERFULL_ROUNDS, OVERFULL_RULE = 16, "steep"    # where no routes are without overflow
 BATCH_ROUNDS = 8

@@ -213,6 +213,8 @@ class Cell:
         self.lines: dict[str, Line] = {}
         self.functions: dict[str, str] = {}
         self.clocks: dict[str, bool] = {}
+        self.is_pad = False
+        self.library = ""       # that it is of
 
     def input(self) -> float:
         """The load of the only input, of a buffer or an inverter."""
@@ -265,6 +267,8 @@ class Liberty:
                         ) from None
         for group in library.all("cell"):
             cell = Cell(" ".join(group.arguments))
+            cell.library = " ".join(library.arguments)
+            cell.is_pad = group.attributes.get("pad_cell") == ["true"]
             try:
                 for pin in pins_of(group):
                     read_pin(cell, pin, templates, scales)
@@ -280,8 +284,8 @@ class Liberty:
         return self.cells[name]
 
     def buffers(self) -> list[str]:
-        """The names of the cells that are buffers."""
-        return [cell.name for cell in self.cells.values() if cell.sense() == "kind"]
+        """The names of the cells that are buffers and no pads."""
+        return [cell.name for cell in self.cells.values() if cell.sense() == "kind" and not cell.is_pad]
 
 
 def unit(words: Sequence[str], names: Mapping[str, float]) -> float:
