@@ -26,6 +26,7 @@ _groute() {
     groute-flow) options="--help --lef --liberty --rounds --workers --rule --stop --batch --scale --program --output --tile --layers --adjust --kinds --driver --sink --kind --via --keep-supply" ;;
     groute-guides) options="--help --names" ;;
     groute-hotspots) options="--help --worst --csv --openroad --klayout --nets --names" ;;
+    groute-insert) options="--help --output --lef --liberty --slack --below --keep --verilog --eco --pins --names" ;;
     groute-liberty) options="--help" ;;
     groute-netlist) options="--help --lef --liberty --output" ;;
     groute-report) options="--help --before --bound --scale --output --names" ;;
@@ -52,4 +53,4 @@ _groute() {
         mapfile -t COMPREPLY < <(compgen -f -- "$word")
     fi
 }
-complete -o filenames -F _groute groute grbound groute-adjust groute-congestion groute-def-to-ispd groute-flow groute-guides groute-hotspots groute-liberty groute-netlist groute-report groute-slowest groute-spef groute-to-solution groute-where
+complete -o filenames -F _groute groute grbound groute-adjust groute-congestion groute-def-to-ispd groute-flow groute-guides groute-hotspots groute-insert groute-liberty groute-netlist groute-report groute-slowest groute-spef groute-to-solution groute-where

@@ -157,13 +157,12 @@ class OnChip(InFolder):
 
 def equivalent(folder: str, liberty: str, one: str, other: str, top: str) -> str:
     """What yosys says of two netlists: nothing where it proves them equivalent."""
-    script = "".join(f"read_liberty -ignore_miss_func {liberty}\nread_verilog {path}\nhierarchy -top {top}\n"
-                     f"flatten\nrename {top} {name}\ndesign -stash {name}\ndesign -reset\n"
-                     for path, name in ((one, "gold"), (other, "gate")))
-    script += "".join(f"design -copy-from {name} -as {name} {name}\n" for name in ("gold", "gate"))
-    script += "equiv_make gold gate equiv\nhierarchy -top equiv\nequiv_simple\nequiv_status -assert\n"
-    path = os.path.join(folder, "equivalent.ys")
-    with open(path, "w", encoding="utf-8") as file:
-        file.write(script)
-    status, out, err = run("yosys", "-q", "-s", path)
+    for path, name in ((one, "gold"), (other, "gate")):
+        # Each by itself, so that a flip-flop has one name in both.
+        done = run("yosys", "-q", "-p", f"read_liberty -ignore_miss_func {liberty}; read_verilog {path}; hierarchy "
+                   f"-top {top}; flatten; rename {top} {name}; select {name}; write_rtlil -selected {folder}/{name}.il")
+        if done[0] != 0:
+            return done[2]
+    status, out, err = run("yosys", "-q", "-p", f"read_rtlil {folder}/gold.il; read_rtlil {folder}/gate.il; equiv_make "
+                           "-inames gold gate equiv; hierarchy -top equiv; equiv_simple -short; equiv_status -assert")
     return "" if status == 0 else err or out

@@ -71,6 +71,13 @@ class Verilog:
                 raise Fault(f"{path}: the module {self.name} holds itself")
         del self.words
 
+    def taken(self) -> set[str]:
+        """All names of nets, ports and instances."""
+        found = {*self.declared, *self.header, *self.instances}
+        signals = [signal for instance in self.instances.values() for _, signal in pin_signals(instance)]
+        signals += [signal for pair in self.assigns for signal in pair]
+        return found | {signal.base for signal in signals if isinstance(signal, Name)}
+
     def fault(self, what: str) -> Fault:
         """Of the word that was taken last."""
         place = self.words[min(self.at, len(self.words)) - 1].place.first if self.words else 0
