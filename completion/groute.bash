@@ -30,7 +30,8 @@ _groute() {
     groute-liberty) options="--help" ;;
     groute-netlist) options="--help --lef --liberty --output" ;;
     groute-report) options="--help --before --bound --scale --output --names" ;;
-    groute-slowest) options="--help --worst --scale --nets --names" ;;
+    groute-required) options="--help --liberty --period --clock --sdc --output --library --pins --names --scale" ;;
+    groute-slowest) options="--help --slack --worst --scale --nets --names" ;;
     groute-spef) options="--help --output --verilog --pins --scale" ;;
     groute-to-solution) options="--help --names" ;;
     groute-where) options="--help" ;;
@@ -53,4 +54,4 @@ _groute() {
         mapfile -t COMPREPLY < <(compgen -f -- "$word")
     fi
 }
-complete -o filenames -F _groute groute grbound groute-adjust groute-congestion groute-def-to-ispd groute-flow groute-guides groute-hotspots groute-insert groute-liberty groute-netlist groute-report groute-slowest groute-spef groute-to-solution groute-where
+complete -o filenames -F _groute groute grbound groute-adjust groute-congestion groute-def-to-ispd groute-flow groute-guides groute-hotspots groute-insert groute-liberty groute-netlist groute-report groute-required groute-slowest groute-spef groute-to-solution groute-where

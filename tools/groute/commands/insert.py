@@ -16,7 +16,7 @@ it has to be what was given.
 """
 from argparse import ArgumentTypeError, Namespace
 from fractions import Fraction
-from typing import Mapping, Sequence
+from typing import Sequence
 
 from groute import frame
 from groute.placed import def_edits
@@ -27,7 +27,7 @@ from groute.placed.liberty import Liberty
 from groute.placed.statements import Notes, number
 from groute.texts.files import OWN, Fault, Outputs, text_of
 from groute.texts.names import names_beside
-from groute.texts.pins import Pin, pins_beside
+from groute.texts.pins import pins_beside
 from groute.texts.slacks import read_slacks
 from groute.texts.tiled import Tiled
 from groute.timing import taken_out
@@ -35,6 +35,7 @@ from groute.timing.edits import Named, script, verilog
 from groute.timing.insertion import Insertion, Kind, Kinds, connections, left_words
 from groute.timing.naming import plain
 from groute.timing.sites import Sites
+from groute.timing.slacks import clocks_before
 from groute.timing.spef import Names
 from groute.timing.verilog import Verilog
 
@@ -69,22 +70,6 @@ def parser() -> frame.Parser:
     return words
 
 
-def clocks_before(clocks: set[int], nets: Mapping[int, Sequence[Pin]], liberty: Liberty, placed: Def) -> set[int]:
-    """Nets of clocks, and those that drive them through buffers and inverters."""
-    inputs: dict[str, int] = {}
-    for id_, pins in nets.items():
-        inputs.update((pin.component, id_) for pin in pins[1:] if not pin.is_port())
-    found, left = set(clocks), list(clocks)
-    while left:
-        driver = nets[left.pop()][0]
-        cell = None if driver.is_port() else liberty.cells.get(placed.components[driver.component].macro)
-        before = inputs.get(driver.component) if cell is not None and cell.sense() is not None else None
-        if before is not None and before not in found:
-            found.add(before)
-            left.append(before)
-    return found
-
-
 class Work:
     """All that is read, and what comes of it."""
 
@@ -108,7 +93,8 @@ class Work:
     def without(self) -> set[int]:
         """The nets that stay as they are."""
         asked, ids = self.asked, {name: id_ for id_, name in self.design.names.items()}
-        found = clocks_before(self.clocks, self.pins.nets, self.liberty, self.placed)
+        found = clocks_before(self.clocks, self.pins.nets, self.liberty,
+                              lambda component: self.placed.components[component].macro)
         if asked.slack:
             slacks, below = read_slacks(asked.slack), asked.below or 0
             found |= slacks.clocks | {id_ for id_ in self.design.ids if slacks.times.get(id_, below) >= below}

@@ -1,7 +1,7 @@
 """DEF texts with other components and nets: what doesn't change stays as it is, letter by letter."""
 import re
 from dataclasses import dataclass, field
-from typing import Iterator, NamedTuple, Sequence
+from typing import NamedTuple, Sequence
 
 from groute.placed.def_text import WIRED
 from groute.placed.statements import split_at
@@ -28,36 +28,34 @@ class Section:
 
 def sections(text: str, path: str) -> dict[str, Section]:
     """The sections of components and of nets."""
+    words: list[str] = []
+    firsts: list[int] = []
+    for match in WORD.finditer(text):
+        if (word := match[0])[0] != "#":
+            words.append(word)
+            firsts.append(match.start())
     found: dict[str, Section] = {}
-    words = ((match.group(), match.start()) for match in WORD.finditer(text) if match.group()[0] != "#")
     section: Section | None = None
-    for word, at in words:
-        if word == "END":
+    at = 0
+    try:
+        while at < len(words):
+            word = words[at]
+            if word == "END":
+                if section is not None:
+                    section.end, section = firsts[at], None
+                at += 2
+                continue
+            end = words.index("ENDEXT" if word == "BEGINEXT" else ";", at)
             if section is not None:
-                section.end, section = at, None
-            next(words, None)
-        elif word == "BEGINEXT":
-            next((None for word, _ in words if word == "ENDEXT"), None)
-        elif section is not None:
-            item = list(statement(words))
-            if word != "-" or len(item) < 2:
-                raise Fault(f"{path}: an item of COMPONENTS or NETS has not the form that is read here: {word}")
-            section.items[item[0][0]] = Item(at, item[-1][1] + 1, [word for word, _ in item[:-1]])
-        else:
-            behind = list(statement(words))
-            if word in SECTIONS and behind:
-                section = found[word] = Section((behind[0][1], behind[0][1] + len(behind[0][0])))
-    if set(found) != set(SECTIONS) or section is not None:
+                section.items[words[at + 1]] = Item(firsts[at], firsts[end] + 1, words[at + 1:end])
+            elif word in SECTIONS:
+                section = found[word] = Section((firsts[at + 1], firsts[at + 1] + len(words[at + 1])))
+            at = end + 1
+    except (ValueError, IndexError):
+        pass        # which is told below
+    if set(found) != set(SECTIONS) or section is not None or at < len(words):
         raise Fault(f"{path}: COMPONENTS and NETS are due, each with its END")
     return found
-
-
-def statement(words: Iterator[tuple[str, int]]) -> Iterator[tuple[str, int]]:
-    """The words to the next `;`, which comes with them."""
-    for word, at in words:
-        yield word, at
-        if word == ";":
-            return
 
 
 def connections_of(item: Item) -> list[tuple[str, str]]:

@@ -6,8 +6,9 @@ from typing import Iterator, NamedTuple, Sequence
 from groute.texts.files import Fault, text_of
 from groute.timing.naming import Name
 
-TOKEN = re.compile(r"(?P<skip>\s+|//[^\n]*|/\*.*?\*/|\(\*.*?\*\)|`[^\n]*)|(?P<word>\\\S+|[A-Za-z_][\w$]*|"
-                   r"[0-9]*\s*'[sS]?[bBoOdDhH]\s*[0-9a-fA-FxXzZ_?]+|[0-9]+|[()\[\]{},;:=.#])", re.DOTALL)
+# A word with the blanks and comments before it, or what stands behind the last word.
+TOKEN = re.compile(r"(?:\s+|//[^\n]*|/\*.*?\*/|\(\*.*?\*\)|`[^\n]*)*(\\\S+|[A-Za-z_][\w$]*|"
+                   r"[0-9]*\s*'[sS]?[bBoOdDhH]\s*[0-9a-fA-FxXzZ_?]+|[0-9]+|[()\[\]{},;:=.#]|\Z)", re.DOTALL)
 DIRECTIONS = ("input", "output", "inout")
 NETS = ("wire", "tri", "wand", "wor", "supply0", "supply1")
 CONSTANT = re.compile(r"1'[sS]?[bBoOdDhH]([01])")
@@ -42,18 +43,12 @@ class Instance:
     pins: dict[str, Connection] = field(default_factory=dict)
 
 
-class Word(NamedTuple):
-    """A word of the text, and where it stands."""
-    text: str
-    place: Place
-
-
 class Verilog:
     """A flat module: its ports with directions, its buses with their bits, its instances, and what `assign` joins."""
 
     def __init__(self, path: str) -> None:
         self.path, self.text = path, text_of(path)
-        self.words = words_of(path, self.text)
+        self.words, self.firsts = words_of(path, self.text)
         self.at = 0
         self.name = ""
         self.header: list[str] = []                     # the names of the ports, in the module's order
@@ -69,7 +64,7 @@ class Verilog:
         for instance in self.instances.values():
             if instance.cell == self.name:
                 raise Fault(f"{path}: the module {self.name} holds itself")
-        del self.words
+        self.words, self.firsts = [], []
 
     def taken(self) -> set[str]:
         """All names of nets, ports and instances."""
@@ -80,22 +75,26 @@ class Verilog:
 
     def fault(self, what: str) -> Fault:
         """Of the word that was taken last."""
-        place = self.words[min(self.at, len(self.words)) - 1].place.first if self.words else 0
+        place = self.firsts[min(self.at, len(self.words)) - 1] if self.words else 0
         return Fault(f"{self.path}:{1 + self.text.count(chr(10), 0, place)}: {what}")
 
     def take(self, *wanted: str) -> str:
         """The next word, which is one of these where some are named."""
         if self.at == len(self.words):
             raise self.fault("the text ends within a module")
+        word = self.words[self.at]
         self.at += 1
-        word = self.words[self.at - 1].text
         if wanted and word not in wanted:
             raise self.fault(f"{' or '.join(wanted)} is due, and here is {word}")
         return word
 
     def peek(self) -> str:
         """The next word, which isn't taken."""
-        return self.words[self.at].text if self.at < len(self.words) else ""
+        return self.words[self.at] if self.at < len(self.words) else ""
+
+    def end_before(self) -> int:
+        """Where the word ends that was taken last."""
+        return self.firsts[self.at - 1] + len(self.words[self.at - 1])
 
     def identifier(self) -> str:
         """The next word as a name."""
@@ -111,7 +110,7 @@ class Verilog:
         if self.take("(", ";") == "(":
             self.read_header()
             self.take(";")
-        self.body = self.words[self.at - 1].place.end
+        self.body = self.end_before()
         while (word := self.take()) != "endmodule":
             if word in DIRECTIONS or word in NETS:
                 self.read_declaration(word)
@@ -121,7 +120,7 @@ class Verilog:
                 raise self.fault(f"{word} isn't read: a netlist has instances of cells, and assign")
             elif word != ";":
                 self.read_instances(word.removeprefix("\\"))
-        self.end = self.words[self.at - 1].place.first
+        self.end = self.firsts[self.at - 1]
 
     def read_header(self) -> None:
         """The ports behind the module's name, with or without directions."""
@@ -216,7 +215,7 @@ class Verilog:
             instance = self.instances[name] = Instance(cell)
             self.take("(")
             while self.take(")", ",", ".") != ")":
-                if self.words[self.at - 1].text == ".":
+                if self.words[self.at - 1] == ".":
                     pin = self.identifier()
                     instance.pins[pin] = self.connection()
             mark = self.take(",", ";")
@@ -224,9 +223,9 @@ class Verilog:
     def connection(self) -> Connection:
         """`(SIGNAL)` behind a pin."""
         self.take("(")
-        first = self.words[self.at].place.first if self.at < len(self.words) else 0
+        first = self.firsts[self.at] if self.at < len(self.words) else 0
         signals: list[Signal] = [None] if self.peek() == ")" else self.expression()
-        end = self.words[self.at - 1].place.end if self.words[self.at - 1].text != "(" else first
+        end = first if self.words[self.at - 1] == "(" else self.end_before()
         self.take(")")
         return Connection(signals, Place(first, end))
 
@@ -266,18 +265,23 @@ class Verilog:
         return [Name(name, bit) for bit in range(first, last + step, step)]
 
 
-def words_of(path: str, text: str) -> list[Word]:
-    """The words of a text."""
-    found, at = [], 0
+def words_of(path: str, text: str) -> tuple[list[str], list[int]]:
+    """The words of a text, and where each begins."""
+    words: list[str] = []
+    firsts: list[int] = []
+    at = 0
     for match in TOKEN.finditer(text):
         if match.start() != at:
             break
         at = match.end()
-        if match.lastgroup == "word":
-            found.append(Word(match.group(), Place(match.start(), at)))
+        words.append(match[1])
+        firsts.append(match.start(1))
     if at < len(text):
-        raise Fault(f"{path}:{1 + text.count(chr(10), 0, at)}: a letter has no meaning in a netlist: {text[at]}")
-    return found
+        letter = re.sub(r"\s+", "", text[at:])[:1]
+        raise Fault(f"{path}:{1 + text.count(chr(10), 0, at)}: a letter has no meaning in a netlist: {letter}")
+    while words and not words[-1]:
+        del words[-1], firsts[-1]
+    return words, firsts
 
 
 def written(signal: Signal) -> str:
