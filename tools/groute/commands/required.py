@@ -4,14 +4,16 @@ It runs `sta` over the netlist, the cells, the parasitics that spef.py wrote of 
 nanoseconds or the constraints of --sdc. By --period all ports have delays of 0; the clock begins at --clock, else at
 the ports that drive clocks through buffers and inverters, by the names text, and without any it is virtual.
 
-TABLE has each net's least slack over its sinks, the nets that nothing constrains, and those of clocks. In the library
-of --library each sink has the time at which groute's required time, on these routes without buffers, is the slack: the
-sink's slack plus groute's own delay to it. What nothing constrains gets the greatest time that a library takes.
+It prints the worst slack, the total negative slack and the worst hold slack, and how many nets are over liberty's
+max_transition and max_capacitance (which sta doesn't check). TABLE has each net's least slack over its sinks, the nets
+that nothing constrains, and those of clocks. In the library of --library each sink has the time at which groute's
+required time, on these routes without buffers, is the slack: the sink's slack plus groute's own delay to it. What
+nothing constrains gets the greatest time that a library takes.
 
 An error or a warning of sta is a fault here, but for what it warns of liberty files.
 """
 import argparse
-from typing import Sequence
+from typing import Callable, Sequence
 
 from groute import frame
 from groute.placed.liberty import Liberty
@@ -24,8 +26,9 @@ from groute.texts.solutions import records
 from groute.texts.tokens import Tokens
 from groute.timing import sta
 from groute.timing.delays import MOST_TIME, Model
-from groute.timing.naming import Name
-from groute.timing.slacks import (PINS, Timed, by_period, clock_port, clocks_before, pins_of, sinks_of, table)
+from groute.timing.naming import Name, own
+from groute.timing.slacks import (CHIP, NANOSECOND, PINS, Timed, by_period, clock_port, clocks_before, figures,
+                                  limits_of, pins_of, sinks_of, table)
 from groute.timing.spef import Names
 from groute.timing.trees import Tree
 from groute.timing.verilog import Verilog
@@ -56,10 +59,17 @@ def parser() -> frame.Parser:
     words.add_argument("--sdc", metavar="FILE", help="constraints, in the place of a clock")
     words.add_argument("-o", "--output", metavar="TABLE", required=True, help="the table of slacks that is written")
     words.add_argument("--library", dest="written", metavar="FILE", help="the library that is written")
+    words.add_argument("--figures", metavar="FILE", help="figures of the chip, and its worst paths, are written")
     words.add_argument("--pins", metavar="FILE", help="the text beside the design; else DESIGN.pins")
     words.add_argument("--names", metavar="FILE", help="the other text beside it; else DESIGN.names")
     frame.add_scale(words)
     return words
+
+
+def cells_of(netlist: Verilog) -> Callable[[str], str]:
+    """The function from components to their cells."""
+    cells = {name: instance.cell for name, instance in netlist.instances.items()}
+    return lambda component: cells.get(own(component), "")
 
 
 def constraints(asked: argparse.Namespace, design: Netlist, pins: Pins, names: Names, netlist: Verilog) -> list[str]:
@@ -70,9 +80,7 @@ def constraints(asked: argparse.Namespace, design: Netlist, pins: Pins, names: N
     if asked.clock:
         ports = [clock_port(names, asked.clock)]
     elif (beside := names_beside(asked.design, asked.names)) is not None:
-        clocks = clocks_before(beside.clocks(), pins.nets, Liberty(asked.liberty),
-                               lambda component: netlist.instances[component].cell
-                               if component in netlist.instances else "")
+        clocks = clocks_before(beside.clocks(), pins.nets, Liberty(asked.liberty), cells_of(netlist))
         ports = [names.ports[pins.nets[id_][0].name] for id_ in design.ids
                  if id_ in clocks and pins.nets[id_][0].is_port()]
     return list(by_period(asked.period, ports))
@@ -106,18 +114,23 @@ def main(words: Sequence[str]) -> None:
         names = Names(design, pins, netlist)
         lines = sta.reading(asked.liberty, asked.netlist, netlist.name, asked.spef)
         lines += [*constraints(asked, design, pins, names, netlist), *PINS.splitlines(),
-                  'puts "groute: [worst_slack] [worst_slack -min] [total_negative_slack] end"']
-        *answer, last = sta.answer(lines, asked.liberty)
-        sinks = dict(sinks_of({id_: pins.nets[id_] for id_ in design.ids}, names, pins_of(answer)))
+                  *CHIP.splitlines()]
+        answer = sta.answer(lines, asked.liberty)
+        nets = {id_: pins.nets[id_] for id_ in design.ids}
+        sinks = dict(sinks_of(nets, names, pins_of(answer)))
         found = table(sinks)
+        limits = limits_of(nets, Liberty(asked.liberty), cells_of(netlist))
+        chip = figures(answer, nets, names, limits)
         if not found.times:
             raise Fault("no path is constrained")
         outputs.lines(asked.output, found.lines())
+        if asked.figures:
+            outputs.lines(asked.figures, chip.lines())
         if asked.written:
             model = Model(asked.library)
             outputs.lines(asked.written, model.lines(times(model, design, asked.solution, sinks, asked.scale)))
-    worst, hold, total = last.split()[:3]
     late = sum(time < 0 and id_ not in found.clocks for id_, time in found.times.items())
-    print(f"worst slack, ns {float(worst):.4f}\ntotal negative slack, ns {float(total):.4f}\n"
-          f"worst hold slack, ns {float(hold):.4f}\nnets late {late}\nnets free {len(found.free)}\n"
+    print(f"worst slack, ns {chip.worst / NANOSECOND:.4f}\ntotal negative slack, ns {chip.total / NANOSECOND:.4f}\n"
+          f"worst hold slack, ns {chip.hold / NANOSECOND:.4f}\nnets over max_transition {chip.transition}\n"
+          f"nets over max_capacitance {chip.capacitance}\nnets late {late}\nnets free {len(found.free)}\n"
           f"nets of clocks {len(found.clocks)}")

@@ -212,6 +212,7 @@ class Cell:
         self.loads: dict[str, float] = {}
         self.lines: dict[str, Line] = {}
         self.functions: dict[str, str] = {}
+        self.limits: dict[str, float] = {}      # max_capacitance of outputs
         self.clocks: dict[str, bool] = {}
         self.is_pad = False
         self.library = ""       # that it is of
@@ -323,5 +324,8 @@ def read_pin(cell: Cell, pin: Group, templates: Mapping[str, Group], scales: tup
               if table.arguments[:1] != ["scalar"] and LOAD in variables(templates[table.arguments[0]])]
     if direction != "input" and tables:
         cell.lines.update({name: Line(tables) for name in pin.arguments})
+    most = pin.number("max_capacitance")
+    if direction != "input" and most is not None:
+        cell.limits.update({name: most * scales[1] for name in pin.arguments})
     if "function" in pin.attributes:
         cell.functions.update({name: " ".join(pin.attributes["function"]) for name in pin.arguments})
