@@ -1,18 +1,31 @@
 """Tests of flow.py --sta: runs until timing no longer improves."""
+import base64
+import json
 import os
+import re
 import shlex
+import struct
 import tempfile
 import unittest
+import zlib
+from typing import Any
 
 from chips import STA, OnChip, placed
 from groute.texts.figures import Figures
 from groute.timing import closing
-from testing import PICTURES, program, tool
+from testing import PICTURES, found, program, tool
 
 CELLS = {"a": ("BUF", 0, 0), "b": ("BUF", 236, 0), "c": ("DFF", 5, 1)}
 PORTS = {"in": ("INPUT", 0, 1), "ck": ("INPUT", 1, 1), "out": (None, 47, 1)}
 NETS = {"in": ["in", "a/A"], "ck": ["ck", "c/CLK"],
         "long": ["a/Y", "b/A"], "back": ["b/Y", "c/D"], "out": ["c/Q", "out"]}
+
+
+def head_of(page: str) -> dict[str, Any]:
+    """What a page says besides its arrays."""
+    data = zlib.decompress(base64.b64decode(found('<template id="data">(.*)</template>', page).group(1)))
+    head: dict[str, Any] = json.loads(data[4:4 + struct.unpack("<I", data[:4])[0]])
+    return head
 
 
 class Runs(unittest.TestCase):
@@ -84,7 +97,9 @@ class Flow(OnChip):
         self.assertIn("long_buf1", self.text("out/timed/placed.def"))
         self.assertIn("design.ispd.pins", os.listdir(self.path("out/timed")))
         if PICTURES:
-            self.assertIn("timing", self.text("out/index.html").lower())
+            head = head_of(self.text("out/index.html"))
+            self.assertEqual(head["timing"][5], ["buffers", "0", re.findall(r"(?m)^buffers +0 +(\d)$", text)[0]])
+            self.assertEqual((head["bySlack"], len(head["paths"][0][1])), (True, 5))
         netlist = self.put("a.v", self.text("out/netlist.v").replace("long", "far"))
         status, other, err = self.made("--period", "3.5", "--verilog", netlist)
         self.assertEqual((status, other), (0, out), err)

@@ -37,6 +37,7 @@ from groute import frame, start
 from groute.options import Status, values
 from groute.show import tables
 from groute.texts.designs import Netlist
+from groute.texts.figures import NANOSECOND, Figures, rows
 from groute.texts.files import Fault, Outputs
 from groute.texts.reports import bounds_in
 from groute.texts.tokens import Tokens
@@ -169,18 +170,19 @@ def timed(groute: str, asked: Namespace, least: int, paths: dict[str, str]) -> s
     first = closing.Run(asked.output, asked.placed, netlist)
     best = closing.closed(first, steps)
     with Outputs() as outputs:
-        outputs.lines(paths["timing.txt"], timing_lines(first, best))
+        outputs.lines(paths["timing.txt"], timing_lines(first.figures, best))
     paths.update({name: os.path.join(best.folder, name) for name in OF_RUN})
-    return f"; {closing.verdict(first, best)}"
+    paths["before"], paths["after"], paths["slacks.txt"] = first.path("figures"), *best.paths("figures", "slacks")
+    return f"; {closing.verdict(first.figures, best.figures)}"
 
 
-def timing_lines(first: closing.Run, best: closing.Run) -> Iterator[str]:
+def timing_lines(before: Figures, best: closing.Run) -> Iterator[str]:
     """Figures before and after, and the worst paths' nets, as a text."""
-    yield from tables.lines(["", "before", "after"], list(closing.rows(first, best)))
+    yield from tables.lines(["", "before", "after"], list(rows(before, best.figures)))
     names = Netlist(Tokens(best.path("design"))).names
-    for slack, ids in best.figures.paths if best.figures else ():
+    for slack, ids in best.figures.paths:
         yield ""
-        yield f"path of slack {slack / closing.NANOSECOND:.3f} ns: {', '.join(names[id_] for id_ in ids)}"
+        yield f"path of slack {slack / NANOSECOND:.3f} ns: {', '.join(names[id_] for id_ in ids)}"
 
 
 def bound(program: str, paths: dict[str, str]) -> int:
@@ -226,6 +228,8 @@ def judged(asked: Namespace, has_bounds: bool, paths: dict[str, str]) -> tuple[i
     with Outputs() as outputs:
         outputs.text(paths["hotspots.txt"]).write(tool("hotspots.py", *routes)[1])
     words = ["--bound", paths["bounds.txt"]] if has_bounds else []
+    if asked.sta:
+        words += ["--slack", paths["slacks.txt"], "--timing", paths["before"], paths["after"]]
     status, verdict = tool("report.py", *routes, paths["design.library"], paths["report.txt"], *words,
                            "--scale", str(asked.scale), "-o", paths["index.html"])
     return status, verdict.strip()

@@ -6,6 +6,8 @@
     hold TIME               the worst hold slack
     transition N            nets with a pin over liberty's max_transition
     capacitance N           nets over liberty's max_capacitance
+    buffers N               cells that were put in
+    area N                  of these, in square nanometres
     path TIME N ID ..       for each of the worst paths its slack, and its nets in their order
     end
 """
@@ -15,7 +17,8 @@ from typing import Iterator
 from groute.texts.files import Fault
 from groute.texts.tokens import Tokens
 
-WORDS = ("worst", "total", "hold", "transition", "capacitance")
+WORDS = ("worst", "total", "hold", "transition", "capacitance", "buffers", "area")
+NANOSECOND, MICRON = 10 ** 6, 10 ** 6   # femtoseconds; square nanometres a square micron
 
 
 @dataclass
@@ -26,6 +29,8 @@ class Figures:
     hold: int
     transition: int
     capacitance: int
+    buffers: int = 0
+    area: int = 0
     paths: list[tuple[int, list[int]]] = field(default_factory=list)
 
     def lines(self) -> Iterator[str]:
@@ -34,6 +39,17 @@ class Figures:
         yield from (f"{word} {getattr(self, word)}" for word in WORDS)
         yield from (" ".join(map(str, ["path", slack, len(ids), *ids])) for slack, ids in self.paths)
         yield "end"
+
+
+def rows(before: Figures, after: Figures) -> Iterator[tuple[str, str, str]]:
+    """What is told of a chip before and after, and how it is called."""
+    for says, name in (("worst slack, ns", "worst"), ("total negative slack, ns", "total"),
+                       ("worst hold slack, ns", "hold")):
+        yield says, f"{getattr(before, name) / NANOSECOND:.3f}", f"{getattr(after, name) / NANOSECOND:.3f}"
+    for says, name in (("nets over max_transition", "transition"), ("nets over max_capacitance", "capacitance"),
+                       ("buffers", "buffers")):
+        yield says, str(getattr(before, name)), str(getattr(after, name))
+    yield "area of buffers, square microns", f"{before.area / MICRON:.10g}", f"{after.area / MICRON:.10g}"
 
 
 def read_figures(path: str) -> Figures:
@@ -53,4 +69,4 @@ def read_figures(path: str) -> Figures:
                 raise tokens.fault("a figure, path or end is due")
     if len(found) < len(WORDS):
         raise Fault(f"{path}: {', '.join(WORDS)} are due")
-    return Figures(**found, paths=paths)
+    return Figures(paths=paths, **found)

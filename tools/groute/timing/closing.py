@@ -1,14 +1,14 @@
 """Runs of a flow until timing no longer improves: slacks in, buffers back into the placement, routes of what comes."""
 import os
 import shutil
-from dataclasses import dataclass
-from typing import Callable, Iterator, Sequence
+from dataclasses import dataclass, field
+from typing import Callable, Sequence
 
-from groute.texts.figures import Figures, read_figures
+from groute.texts.figures import MICRON, Figures, read_figures, rows
+from groute.texts.files import Outputs
 
 RUNS = 3
 BEST = "timed"          # the folder of the run that is kept
-NANOSECOND = 10 ** 6    # femtoseconds
 # What a run's folder has.
 FILES = {"design": "design.ispd", "library": "design.library", "solution": "routes.solution", "report": "report.txt",
          "spef": "routes.spef", "slacks": "slacks.txt", "figures": "figures.txt", "timed": "timing.library",
@@ -23,7 +23,7 @@ class Run:
     netlist: str
     buffers: int = 0
     area: float = 0.0
-    figures: Figures | None = None
+    figures: Figures = field(default_factory=lambda: Figures(0, 0, 0, 0, 0))
 
     def path(self, name: str) -> str:
         """Of a file of FILES."""
@@ -60,6 +60,9 @@ class Steps:
                   run.path("slacks"), "--library", run.path("timed"), "--figures", run.path("figures"), *scale,
                   *self.cells(with_lef=False), *self.constraints)
         run.figures = read_figures(run.path("figures"))
+        run.figures.buffers, run.figures.area = run.buffers, round(run.area * MICRON)
+        with Outputs() as outputs:
+            outputs.lines(run.path("figures"), run.figures.lines())
 
     def next(self, run: Run, folder: str) -> Run | None:
         """The run behind one: with buffers in its late nets; None where there are none."""
@@ -80,7 +83,7 @@ class Steps:
 
 def total(run: Run) -> int:
     """The total negative slack."""
-    return run.figures.total if run.figures is not None else 0
+    return run.figures.total
 
 
 def closed(first: Run, steps: Steps) -> Run:
@@ -107,22 +110,8 @@ def closed(first: Run, steps: Steps) -> Run:
     return best
 
 
-def rows(before: Run, after: Run) -> Iterator[tuple[str, str, str]]:
-    """What is told of a chip before and after, and how it is called."""
-    one, other = before.figures, after.figures
-    assert one is not None and other is not None
-    for says, name in (("worst slack, ns", "worst"), ("total negative slack, ns", "total"),
-                       ("worst hold slack, ns", "hold")):
-        yield says, f"{getattr(one, name) / NANOSECOND:.3f}", f"{getattr(other, name) / NANOSECOND:.3f}"
-    for says, name in (("nets over max_transition", "transition"), ("nets over max_capacitance", "capacitance")):
-        yield says, str(getattr(one, name)), str(getattr(other, name))
-    yield "buffers", "0", str(after.buffers)
-    yield "area of buffers, square microns", "0", f"{after.area:.10g}"
-
-
-def verdict(before: Run, after: Run) -> str:
+def verdict(before: Figures, after: Figures) -> str:
     """The whole in words."""
-    shown = {says: (one, other) for says, one, other in rows(before, after)}
-    words = [f"{says.removesuffix(', ns')} {one} to {other} ns" for says, (one, other) in shown.items()
+    words = [f"{says.removesuffix(', ns')} {one} to {other} ns" for says, one, other in rows(before, after)
              if says.endswith(", ns")]
     return f"{', '.join(words)}; {after.buffers} buffer{'s' * (after.buffers != 1)}"

@@ -104,7 +104,7 @@ def figures(lines: Sequence[str], pins: Mapping[int, Sequence[Pin]], names: Name
         elif word == "chip":
             chip = [float(value) for value in words]
     worst, total, hold = (round(value * NANOSECOND) if abs(value) < NEVER else 0 for value in chip)
-    return Figures(worst, total, hold, len(slow), len(over), sorted(paths)[:WORST])
+    return Figures(worst, total, hold, len(slow), len(over), paths=sorted(paths)[:WORST])
 
 
 def limits_of(pins: Mapping[int, Sequence[Pin]], liberty: Liberty, kind: Callable[[str], str]) -> dict[int, float]:
