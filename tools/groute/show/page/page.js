@@ -100,7 +100,7 @@ function show() {
 function netWords(net) {
   const words = [`net ${data.names[net]}`, `pins ${number(data.pins[net])}`, `tiles of wire ${number(data.wires[net])}`,
     `vias ${number(data.vias[net])}`];
-  if (data.hasTimes) words.push(`${data.bySlack ? "slack" : "required"} ${timeOf(net)} ps`, `buffers ${kindWords(net)}`);
+  if (data.hasTimes) words.push(`${data.bySlack ? "slack" : "required"} ${timeWords(net)}`, `buffers ${kindWords(net)}`);
   return words.join(", ");
 }
 
@@ -114,6 +114,7 @@ function kindWords(net) {
   return counts.size ? [...counts].map(([kind, count]) => `${count} ${kind}`).join(" and ") : "0";
 }
 
+const timeWords = (net) => Number.isNaN(data.required[net]) ? timeOf(net) : `${timeOf(net)} ps`;
 const timeOf = (net) => Number.isNaN(data.required[net]) ? (data.bySlack ? "free" : "-") : fixed(data.required[net], 1);
 
 /* Words for a place: even numbers are tiles, odd ones the edges between them. */
