@@ -23,14 +23,14 @@ _groute() {
     groute-adjust) options="--help --layer --region --direction --output --names" ;;
     groute-congestion) options="--help --output --layer --edges --direction --region --worst --net --buffers --bound --tracks --names" ;;
     groute-def-to-ispd) options="--help --lef --tile --layers --adjust --via --driver --sink --liberty --kinds --kind --scale --keep-supply" ;;
-    groute-flow) options="--help --lef --liberty --rounds --workers --rule --stop --batch --scale --program --output --tile --layers --adjust --kinds --driver --sink --kind --via --keep-supply" ;;
+    groute-flow) options="--help --lef --liberty --rounds --workers --rule --stop --batch --scale --sta --period --clock --sdc --verilog --program --output --tile --layers --adjust --kinds --driver --sink --kind --via --keep-supply" ;;
     groute-guides) options="--help --names" ;;
     groute-hotspots) options="--help --worst --csv --openroad --klayout --nets --names" ;;
     groute-insert) options="--help --output --lef --liberty --slack --below --keep --verilog --eco --pins --names" ;;
     groute-liberty) options="--help" ;;
     groute-netlist) options="--help --lef --liberty --output" ;;
-    groute-report) options="--help --before --bound --scale --output --names" ;;
-    groute-required) options="--help --liberty --period --clock --sdc --output --library --pins --names --scale" ;;
+    groute-report) options="--help --before --bound --slack --timing --scale --output --names" ;;
+    groute-required) options="--help --liberty --period --clock --sdc --output --library --figures --pins --names --scale" ;;
     groute-slowest) options="--help --slack --worst --scale --nets --names" ;;
     groute-spef) options="--help --output --verilog --pins --scale" ;;
     groute-to-solution) options="--help --names" ;;

@@ -5,7 +5,8 @@ import re
 import unittest
 from unittest import mock
 
-from chips import STA, OnChip, placed
+from chips import LOAD, STA, OnChip, liberty, placed
+from groute.texts.figures import read_figures
 from groute.texts.slacks import read_slacks
 from groute.timing import sta
 from test_insertion import CELLS, NETS, PORTS
@@ -88,6 +89,25 @@ class Slacks(OnChip):
         status, _, err = self.required("--period", "1.5")
         self.assertEqual(status, 3)
         self.assertIn("net three not found", err)
+
+    def test_limits(self) -> None:
+        """Nets over max_capacitance, by their wires and pins, and over max_transition."""
+        self.design(placed(8, 4, CELLS, PORTS, NETS))
+        text = self.spef()
+        farads = {net: float(wires) + LOAD * inputs.count(" I\n") for net, wires, inputs in
+                  re.findall(r"(?s)\*D_NET (\S+) (\S+)\n\*CONN\n(.*?)\*CAP", text) if "O\n" in inputs}
+        most = sorted(farads.values())[len(farads) // 2]
+        found = []
+        for limit in (most - 1, most + 1):
+            self.put("cells.lib", liberty().replace("max_capacitance : 0.5", f"max_capacitance : {limit / 1000}"))
+            status, out, err = self.required("--period", "1.5", "--figures", self.path("a.figures"))
+            self.assertEqual(status, 0, err)
+            found.append(read_figures(self.path("a.figures")).capacitance)
+            self.assertEqual(found[-1], sum(load > limit for load in farads.values()))
+        self.assertGreater(found[0], found[1])
+        self.put("cells.lib", liberty().replace("max_capacitance : 0.5", "max_transition : 0.25"))
+        self.required("--period", "1.5", "--figures", self.path("a.figures"))
+        self.assertGreater(read_figures(self.path("a.figures")).transition, 0)
 
     def test_virtual_clock(self) -> None:
         """Without registers a virtual clock constrains the ports."""

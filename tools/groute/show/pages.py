@@ -108,6 +108,10 @@ class Routes:
             return {id_: time / PICOSECOND for id_, time in self.slacks.times.items() if id_ in self.design.places}
         return {id_: time / self.half for id_, time in self.required.items()}
 
+    def clocks(self) -> set[int]:
+        """The nets that are known to be clocks'."""
+        return self.terms.clocks() | (self.slacks.clocks if self.slacks is not None else set())
+
     def on_paths(self) -> list[int]:
         """The nets of the worst paths of the routes."""
         return [id_ for _, ids in (self.timing[1].paths if self.timing else ()) for id_ in ids]
@@ -138,7 +142,7 @@ def head(routes: Routes, ids: list[int], asked: Namespace) -> dict[str, Any]:
         "table": [vars(line) | {"use": line.use()} for line in routes.loads.table(terms.layers)],
         "ways": [WAYS[EAST], WAYS[NORTH]], "grades": GRADES,
         "unjoined": [place[id_] for id_ in routes.edges.unjoined if id_ in place],
-        "clocks": [place[id_] for id_ in sorted(routes.terms.clocks()) if id_ in place],
+        "clocks": [place[id_] for id_ in sorted(routes.clocks()) if id_ in place],
         "bySlack": routes.slacks is not None, "timing": list(rows(*routes.timing)) if routes.timing else [],
         "paths": [[slack / PICOSECOND, [place[id_] for id_ in some if id_ in place]]
                   for slack, some in (routes.timing[1].paths if routes.timing else ())],

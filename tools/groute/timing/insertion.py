@@ -124,6 +124,7 @@ class Insertion:
         """Gives new cells and nets names that weren't taken; yields each part that has a new cell."""
         for change in self.changes:
             base = ODD.sub("_", self.design.names[change.id])
+            base = f"_{base}" if base[0].isdigit() else base
             number = 0
             for part in change.parts:
                 if part.kind is not None:

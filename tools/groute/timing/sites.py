@@ -120,9 +120,10 @@ class Sites:
         middle, else one over other cells."""
         x1, y1, x2, y2 = box
         lines = self.lines[bisect_left(self.middles, y1):bisect_left(self.middles, y2)]
-        lines = [line for line in lines if line.x < x2 and line.right > x1 and line.height == macro.height] or \
-            [min((line for line in self.lines if line.height == macro.height), key=lambda line: distance(line, box),
-                 default=self.lines[0])]
+        lines = [line for line in lines if line.x < x2 and line.right > x1 and line.height == macro.height]
+        if not lines:
+            like = [line for line in self.lines if line.height == macro.height]
+            lines = [min(like or self.lines, key=lambda line: distance(line, box))]
         middle = (x1 + x2) // 2
         found: list[tuple[int, int, Line, int]] = []
         for at, line in enumerate(sorted(lines, key=lambda line: abs(line.middle() - (y1 + y2) // 2))):
