@@ -215,19 +215,23 @@ class TakenOut(unittest.TestCase):
 class Grom(OnChip):
     """A processor of 2,000 nets."""
 
-    def setUp(self) -> None:
-        OnChip.setUp(self)
+    def test_grom(self) -> None:
         self.lef, self.lib = f"{OSU}.lef", f"{OSU}.lib"
         with lzma.open(f"{ROOT}/examples/grom_osu035.def.xz", "rt") as file:
             self.design(file.read(), "--kinds", "BUFX2,BUFX4,INVX2,INVX4")
         paths = [self.path(f"a.{kind}") for kind in ("def", "ispd", "solution", "report")]
         out = self.done("insert.py", *paths, "-o", self.path("b.def"), "--lef", self.lef, "--liberty", self.lib,
                         "--verilog", self.path("a.v"), self.path("b.v"), "--eco", self.path("b.tcl"))
-        self.buffers = int(out.split()[1])
-        self.assertGreater(self.buffers, 40)
+        self.assertGreater(int(out.split()[1]), 40)
+        for is_there, name, check in ((YOSYS, "yosys", self.check_equivalent), (STA, "sta", self.check_slack),
+                                      (bool(shutil.which("klayout")), "klayout", self.check_cells)):
+            with self.subTest(by=name):
+                if not is_there:
+                    self.skipTest(f"{name} is not there")
+                check()
 
-    @unittest.skipUnless(YOSYS, "yosys is not there")
-    def test_equivalent(self) -> None:
+    def check_equivalent(self) -> None:
+        """By yosys, which refuses an inverter too many."""
         words = self.folder.name, self.lib, self.path("a.v")
         self.assertEqual(equivalent(*words, self.path("b.v"), "grom_cpu"), "")
         text, count = re.subn(r"BUFX[24] (\w+_buf\d+) ", r"INVX1 \1 ", self.text("b.v"), 1)
@@ -235,8 +239,7 @@ class Grom(OnChip):
         self.put("c.v", text)
         self.assertIn("unproven", equivalent(*words, self.path("c.v"), "grom_cpu"))
 
-    @unittest.skipUnless(STA, "sta is not there")
-    def test_one_slack(self) -> None:
+    def check_slack(self) -> None:
         """The script and the netlist give one slack, by the parasitics of what came of it."""
         paths = [self.path(f"b.{kind}") for kind in ("ispd", "library", "solution", "spef")]
         self.done("def_to_ispd.py", self.path("b.def"), self.lef, *paths[:2], "--scale", "100", "--liberty", self.lib)
@@ -252,8 +255,8 @@ class Grom(OnChip):
         self.assertEqual(two, three)
         self.assertGreater(float(two[0]) - float(one[0]), 1)
 
-    @unittest.skipUnless(shutil.which("klayout"), "klayout is not there")
-    def test_klayout_reads_it(self) -> None:
+    def check_cells(self) -> None:
+        """KLayout finds those of the text."""
         status, out, err = run("klayout", "-b", "-r", f"{HERE}/klayout_cells.py", "-rd", f"placed={self.path('b.def')}",
                                "-rd", f"lef={self.lef}")
         self.assertEqual((status, err), (0, ""))
