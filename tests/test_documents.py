@@ -3,6 +3,7 @@ import glob
 import os
 import re
 import shlex
+import shutil
 import subprocess
 import sys
 import tempfile
@@ -38,6 +39,8 @@ class Samples(unittest.TestCase):
                     with self.subTest(document=document, command=command):
                         if "./grbound" in command and not bounds():
                             self.skipTest("grbound is not named")
+                        if "--sta" in command and not shutil.which("sta"):
+                            self.skipTest("sta is not there")
                         if WANTS_NUMPY.search(command) and not PICTURES:
                             self.skipTest("numpy and matplotlib are not there")
                         done = subprocess.run(["sh", "-c", command], cwd=folder, check=False, text=True, env=path,

@@ -7,7 +7,8 @@ from groute.commands import flow
 from testing import BOUNDS, PICTURES, ROOT, InFolder, program, run, tool
 
 SKY = [f"{ROOT}/examples/sky/{name}" for name in ("adder.def", "tech.lef", "cells.lef", "cells.lib")]
-FILES = ["design.ispd", "design.ispd.names", "design.library", "report.txt", "routes.guide", "routes.solution"]
+FILES = ["design.ispd", "design.ispd.names", "design.ispd.pins", "design.library", "report.txt", "routes.guide",
+         "routes.solution"]
 
 
 class Flow(InFolder):

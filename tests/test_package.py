@@ -13,11 +13,11 @@ from groute.commands import where
 from testing import ROOT, TOOLS, InFolder, run
 
 PACKAGE = os.path.join(TOOLS, "groute")
-PARTS = ["texts", "placed", "loads", "show", "commands"]    # each imports those before it
+PARTS = ["texts", "placed", "timing", "loads", "show", "commands"]    # each imports those before it
 WITH_NUMPY = {"loads", "show"}
 CHECKED = ["tools/groute", "tools/dev", "tools/test.py", *(
     f"tests/{name}" for name in sorted(os.listdir(f"{ROOT}/tests")) if name.endswith(".py")
-    and name not in ("klayout_shapes.py", "test_launcher.py"))]     # one runs in klayout
+    and name not in ("klayout_cells.py", "klayout_shapes.py", "test_launcher.py"))]   # two run in klayout
 FAKE = "import sys\nsys.version_info = ({})\nsys.executable = {!r}\n"
 
 

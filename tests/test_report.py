@@ -154,6 +154,24 @@ class Page(InFolder):
         pixels = (image.imread(path)[top:top + high, left:left + wide, :3] * 255).round().astype(int)
         return None if before is None else int((pixels != before).any(axis=2).sum()), pixels
 
+    def test_timing(self) -> None:
+        """Slacks rank nets; a timer's figures and its worst paths' nets are listed, and a click goes to a net."""
+        slacks = self.put("slacks", "slacks 1\nslack 5 -2500\nslack 7 100\nfree 9\nend\n")
+        text = "figures 1 worst -2500 total {} hold 1 transition 0 capacitance 2 buffers {} area 0 {} end"
+        figures = [self.put("before", text.format(-5000000, 0, "")),
+                   self.put("after", text.format(-2500000, 3, "path -2500 2 7 9"))]
+        address, _ = self.grom("--slack", slacks, "--timing", *figures)
+        with browser.Browser() as page:
+            self.opened(page, address)
+            self.assertEqual(page.text("#timing tbody tr:nth-child(2)"), "total negative slack, ns-5.000-2.500")
+            self.assertEqual(page.text("#nets tbody tr:nth-child(1) td:nth-child(2)"), "-2.5")
+            for row, says in ((1, "slack 0.1 ps"), (2, "slack free, ")):
+                button = f"#paths tbody tr:nth-child({row}) button"
+                name = page.text(button)
+                page.click(*page.middle(button))
+                self.assertEqual(page.value("new URLSearchParams(location.hash.slice(1)).get('net')"), name)
+                self.assertIn(says, page.text("#shown"))
+
     def test_a_real_chip(self) -> None:
         """A click on a region and on a net; Escape goes back; the address shows the same again."""
         address, report = self.grom()

@@ -61,6 +61,7 @@ Maintainer: $maintainer
 Installed-Size: $(du -sk "$root/usr" | cut -f 1)
 Depends: $needs, python3
 Recommends: python3-matplotlib, python3-numpy
+Suggests: opensta
 Description: proved global router for chip designs
  Routes designs in the form of the ISPD 2008 global routing contest by
  negotiated congestion, judges routes, and places buffers on them. Each of

@@ -34,8 +34,8 @@ USAGE = {
 }
 BOUNDS = "DESIGN [--via-cost V]"     # the words of grbound
 # The tools that are commands of their own, installed as groute-NAME.
-TOOLS = ("adjust", "congestion", "def_to_ispd", "flow", "guides", "hotspots", "liberty", "report", "slowest",
-         "to_solution", "where")
+TOOLS = ("adjust", "congestion", "def_to_ispd", "flow", "guides", "hotspots", "insert", "liberty", "netlist",
+         "report", "required", "slowest", "spef", "to_solution", "where")
 TEXTS = ("DESIGN", "LIBRARY", "SOLUTION")   # words that are files
 FAULTS: dict[str, list[str]] = {
     "design": [

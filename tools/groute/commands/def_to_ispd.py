@@ -15,16 +15,16 @@ A pin lies in the middle of its first rectangle; a net's first pin, its driver, 
 of the chip, else the first that is named. Nets without pins are left out, and so are supplies: nets of USE POWER or
 GROUND in NETS, SPECIALNETS or PINS, and those that SPECIALNETS holds without a USE, as qflow writes them; each is told,
 and --keep-supply keeps them. DESIGN.names has the names of the layers, the units, and which nets are clocks: those of
-USE CLOCK, and those with a sink that LEF or liberty calls a clock's. Other tools read it. Texts of chips may be
-compressed by gzip or xz.
+USE CLOCK, and those with a sink that LEF or liberty calls a clock's. DESIGN.pins has which pins of the chip those of
+the design are. Other tools read both. Texts of chips may be compressed by gzip or xz.
 
 The library has the wires' resistance and capacitance for a step from tile to tile, and of all vias the greatest
 resistance, by the LEF. The LEF says nothing of drivers, sinks and buffers: they are given here, in ohms, femtofarads
 and femtoseconds, or read from --liberty, by the linear model of tools/liberty.py. Then the library has a line for each
-net's driver and for each sink whose cell is known, --kinds are cells that buffer or invert (else all that buffer), and
---driver is the cell for all others: its resistance for drivers, its input's load for sinks. A library's numbers are
-whole, and those of short wires round badly: --scale N makes resistances and capacitances N times as great, and delays,
-with the required times that groute tells, N * N times.
+net's driver and for each sink whose cell is known, --kinds are cells that buffer or invert (else all that buffer, but
+no pads), and --driver is the cell for all others: its resistance for drivers, its input's load for sinks. A library's
+numbers are whole, and those of short wires round badly: --scale N makes resistances and capacitances N times as great,
+and delays, with the required times that groute tells, N * N times.
 """
 import os
 from argparse import ArgumentTypeError, Namespace
@@ -34,7 +34,7 @@ from typing import Sequence
 from groute import frame
 from groute.placed.chip import Chip
 from groute.placed.def_text import Def
-from groute.placed.design_text import design_text, names_of
+from groute.placed.design_text import design_text, names_of, pins_text
 from groute.placed.lef_text import Lef
 from groute.placed.liberty import Liberty
 from groute.placed.library_text import library_text
@@ -105,5 +105,6 @@ def main(words: Sequence[str]) -> None:
         outputs.lines(asked.design, design_text(chip))
         if not os.path.exists(asked.design) or os.path.isfile(asked.design):    # and no pipe or terminal
             outputs.lines(f"{asked.design}.names", names_of(chip, liberty).lines())
+            outputs.lines(f"{asked.design}.pins", pins_text(chip))
         if asked.library:
             outputs.lines(asked.library, library_text(chip, liberty, asked))

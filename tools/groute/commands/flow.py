@@ -3,10 +3,21 @@
 Makes the design and its library (def_to_ispd.py), routes it (groute), writes route guides (guides.py), where it is
 congested (hotspots.py) and a page to look at (report.py):
 
-  design.ispd, design.ispd.names, design.library    what groute reads, and what its numbers are called
+  design.ispd, design.library                       what groute reads
+  design.ispd.names, design.ispd.pins               what its numbers are called
   routes.solution, report.txt                       the routes; overflow, buffers and required times
   routes.guide                                      for a detailed router
   hotspots.txt, index.html                          where it is full; congestion.csv instead, without numpy
+
+With --sta it goes on by OpenSTA's slacks, at a clock of --period nanoseconds or by --sdc (required.py says how):
+buffers of late nets go into the placement (insert.py), which is routed and timed again, at most three times, while the
+total negative slack improves. The best is kept, or none; page and guides are of it, and the verdict has slacks before
+and after:
+
+  netlist.v, routes.spef, slacks.txt, figures.txt   of the placement as it was; --verilog gives another netlist
+  timing.library, buffers.txt                       the library by its slacks, and the buffers that groute finds by it
+  timing.txt                                        figures before and after, and the worst paths' nets
+  timed/                                            the same of the placement with buffers: placed.def, netlist.v ..
 
 It stops at the first step that fails, with that tool's message and status; what an earlier run wrote is gone then. Else
 the status is 1 where routes leave nets unjoined, and 0.
@@ -20,18 +31,26 @@ import shutil
 import subprocess
 import sys
 from argparse import Namespace
-from typing import Any, Sequence
+from typing import Any, Iterator, Sequence
 
 from groute import frame, start
 from groute.options import Status, values
+from groute.show import tables
+from groute.texts.designs import Netlist
+from groute.texts.figures import NANOSECOND, Figures, rows
 from groute.texts.files import Fault, Outputs
 from groute.texts.reports import bounds_in
+from groute.texts.tokens import Tokens
+from groute.timing import closing
 
 # Passed on to def_to_ispd.py, and how many words stand behind each.
 PASSED = {"--tile": 2, "--layers": 1, "--adjust": 1, "--kinds": 1, "--driver": 1, "--sink": 1, "--kind": 4, "--via": 2,
           "--keep-supply": 0}
-WRITTEN = ("design.ispd", "design.ispd.names", "design.library", "routes.solution", "report.txt", "routes.guide",
-           "bounds.txt", "hotspots.txt", "index.html", "congestion.csv")
+WRITTEN = ("design.ispd", "design.ispd.names", "design.ispd.pins", "design.library", "routes.solution", "report.txt",
+           "routes.guide", "bounds.txt", "hotspots.txt", "index.html", "congestion.csv", "netlist.v", "routes.spef",
+           "slacks.txt", "figures.txt", "timing.library", "buffers.txt", "timing.txt")
+OF_RUN = ("design.ispd", "design.library", "routes.solution", "report.txt")     # of each placement that is routed
+FOLDERS = (closing.BEST, *(f"run{number}" for number in range(1, closing.RUNS + 1)))
 MOST_ROUNDS, MOST_WORKERS, MOST_BATCH, MOST_STOP = 64, 16, 65536, (1 << 64) - 1
 OVERFULL_ROUNDS, OVERFULL_RULE = 16, "steep"    # where no routes are without overflow
 BATCH_ROUNDS = 8
@@ -89,7 +108,7 @@ def called(program: str) -> bool:
 
 def prepare(asked: Namespace, paths: dict[str, str]) -> None:
     """Checks the inputs, and removes what an earlier run wrote."""
-    inputs = [asked.placed, *asked.lef, *asked.liberty]
+    inputs = [asked.placed, *asked.lef, *asked.liberty, *filter(None, [asked.verilog, asked.sdc])]
     for path in inputs:
         with open(path, "rb"):
             pass
@@ -100,6 +119,8 @@ def prepare(asked: Namespace, paths: dict[str, str]) -> None:
     for path in paths.values():
         if os.path.isfile(path):
             os.unlink(path)
+    for name in FOLDERS:
+        shutil.rmtree(os.path.join(asked.output, name), ignore_errors=True)
 
 
 def steps(asked: Namespace) -> tuple[int, str]:
@@ -107,15 +128,61 @@ def steps(asked: Namespace) -> tuple[int, str]:
     paths = {name: os.path.join(asked.output, name) for name in WRITTEN}
     groute, bounds = programs(asked)
     prepare(asked, paths)
-    words = [asked.placed, asked.lef[0], paths["design.ispd"], paths["design.library"], "--scale", str(asked.scale)]
+    make_design(asked, asked.placed, paths)
+    least = bound(bounds, paths) if bounds else 0
+    route(groute, asked, least, paths)
+    timing = timed(groute, asked, least, paths) if asked.sta else ""
+    if bounds and timing:
+        bound(bounds, paths)    # of the placement that the page shows
+    tool("guides.py", paths["design.ispd"], paths["routes.solution"], paths["routes.guide"])
+    status, verdict = judged(asked, bounds is not None, paths)
+    return status, f"{os.path.basename(asked.placed).split('.')[0]}: {verdict}{timing}"
+
+
+def make_design(asked: Namespace, placed: str, paths: dict[str, str]) -> None:
+    """Writes design and library of a placement."""
+    words = [placed, asked.lef[0], paths["design.ispd"], paths["design.library"], "--scale", str(asked.scale)]
     words += [word for lef in asked.lef[1:] for word in ("--lef", lef)]
     words += [word for liberty in asked.liberty for word in ("--liberty", liberty)] + asked.passed
     tool("def_to_ispd.py", *words)
-    least = bound(bounds, paths) if bounds else 0
-    route(groute, asked, least, paths)
-    tool("guides.py", paths["design.ispd"], paths["routes.solution"], paths["routes.guide"])
-    status, verdict = judged(asked, bounds is not None, paths)
-    return status, f"{os.path.basename(asked.placed).split('.')[0]}: {verdict}"
+
+
+def timed(groute: str, asked: Namespace, least: int, paths: dict[str, str]) -> str:
+    """Puts buffers in by OpenSTA's slacks. The answer is for the verdict; the paths are those of what came of it."""
+    def again(run: closing.Run) -> None:
+        mine = {**paths, **{name: os.path.join(run.folder, name) for name in OF_RUN}}
+        make_design(asked, run.placed, mine)
+        route(groute, asked, least, mine)
+
+    def buffer(run: closing.Run) -> None:
+        with Outputs() as outputs:
+            step("groute", [groute, "buffer", *run.paths("design", "timed", "solution")],
+                 stdout=outputs.binary(run.path("buffers")))
+
+    netlist = asked.verilog or paths["netlist.v"]
+    cells = [word for path in asked.lef for word in ("--lef", path)]
+    if not asked.verilog:
+        tool("netlist.py", asked.placed, *cells, "-o", netlist)
+    given = {"--period": asked.period, "--clock": asked.clock, "--sdc": asked.sdc}
+    constraints = [word for pair in given.items() if pair[1] for word in pair]
+    steps = closing.Steps(lambda *words: tool(*words)[1], again, buffer, asked.lef, asked.liberty, constraints,
+                          asked.scale)
+    first = closing.Run(asked.output, asked.placed, netlist)
+    best = closing.closed(first, steps)
+    with Outputs() as outputs:
+        outputs.lines(paths["timing.txt"], timing_lines(first.figures, best))
+    paths.update({name: os.path.join(best.folder, name) for name in OF_RUN})
+    paths["before"], paths["after"], paths["slacks.txt"] = first.path("figures"), *best.paths("figures", "slacks")
+    return f"; {closing.verdict(first.figures, best.figures)}"
+
+
+def timing_lines(before: Figures, best: closing.Run) -> Iterator[str]:
+    """Figures before and after, and the worst paths' nets, as a text."""
+    yield from tables.lines(["", "before", "after"], list(rows(before, best.figures)))
+    names = Netlist(Tokens(best.path("design"))).names
+    for slack, ids in best.figures.paths:
+        yield ""
+        yield f"path of slack {slack / NANOSECOND:.3f} ns: {', '.join(names[id_] for id_ in ids)}"
 
 
 def bound(program: str, paths: dict[str, str]) -> int:
@@ -161,9 +228,22 @@ def judged(asked: Namespace, has_bounds: bool, paths: dict[str, str]) -> tuple[i
     with Outputs() as outputs:
         outputs.text(paths["hotspots.txt"]).write(tool("hotspots.py", *routes)[1])
     words = ["--bound", paths["bounds.txt"]] if has_bounds else []
+    if asked.sta:
+        words += ["--slack", paths["slacks.txt"], "--timing", paths["before"], paths["after"]]
     status, verdict = tool("report.py", *routes, paths["design.library"], paths["report.txt"], *words,
                            "--scale", str(asked.scale), "-o", paths["index.html"])
     return status, verdict.strip()
+
+
+def check_timing(reader: frame.Parser, asked: Namespace) -> None:
+    """That the words of --sta stand with it, and are enough."""
+    others = [asked.period, asked.clock, asked.sdc, asked.verilog]
+    if not asked.sta and any(others):
+        reader.error("--period, --clock, --sdc and --verilog want --sta")
+    if asked.sta and ((asked.period is None) == (asked.sdc is None) or asked.sdc and asked.clock):
+        reader.error("--sta wants either --period, with or without --clock, or --sdc")
+    if asked.sta and not asked.liberty:
+        reader.error("--sta wants --liberty")
 
 
 def stop(word: str) -> str:
@@ -186,6 +266,11 @@ def parser() -> frame.Parser:
     words.add_argument("--batch", type=frame.number(1, MOST_BATCH), metavar="B", help="as of groute route")
     words.add_argument("--scale", type=frame.number(1), default=100, metavar="N",
                        help="of the library's numbers; else 100")
+    words.add_argument("--sta", action="store_true", help="goes on by OpenSTA's slacks")
+    words.add_argument("--period", metavar="NS", help="of the clock, in nanoseconds")
+    words.add_argument("--clock", metavar="PORT", help="where it begins")
+    words.add_argument("--sdc", metavar="FILE", help="constraints, in the place of a clock")
+    words.add_argument("--verilog", metavar="NETLIST", help="a flat netlist of the placement, in the place of its own")
     words.add_argument("--program", metavar="PATH", help="groute, where it is not beside the tools or on PATH")
     words.add_argument("-o", "--output", required=True, metavar="DIR", help="the folder that is written")
     for word, count in PASSED.items():
@@ -203,6 +288,7 @@ def asked_of(words: Sequence[str]) -> Namespace:
     asked = reader.parse_args(words)
     if asked.batch is not None and asked.stop is not None:
         reader.error("--batch and --stop exclude each other")
+    check_timing(reader, asked)
     asked.passed = [part for word in PASSED for given in getattr(asked, word[2:].replace("-", "_"))
                     for part in (word, *given)]
     return asked

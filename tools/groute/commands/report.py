@@ -3,9 +3,10 @@
 Its first screen has the verdict in a line, ACE, the table by layer, a map to zoom and pan, and the worst regions with
 their nets; a net is drawn with its pins, layers and buffers. LIBRARY and REPORT add required times and buffers; reports
 of earlier rounds, from round 0 on, add the overflow by round, and a text of grbound the overflow that any routes have,
-and the fullest walls. What is shown stands in the address, so that a link shows it again. Of designs with more than
-100,000 nets, or where the page would pass 20 MB, it holds only the nets of the worst regions and the slowest ones, and
-says so.
+and the fullest walls. --slack ranks nets by a timer's slack, where nets that nothing constrains are free, and --timing
+adds its figures before and after buffers, and the nets of the worst paths. What is shown stands in the address, so that
+a link shows it again. Of designs with more than 100,000 nets, or where the page would pass 20 MB, it holds only the
+nets of the worst regions and the slowest ones, and says so.
 
 Times are in picoseconds. Of a library that def_to_ispd.py made with --scale N say --scale N here too.
 """
@@ -26,6 +27,8 @@ def parser() -> frame.Parser:
                        help="what `route` wrote on standard error, or `buffer` on output")
     words.add_argument("--before", nargs="+", default=[], metavar="REPORT", help="reports of earlier rounds, from 0 on")
     words.add_argument("--bound", metavar="BOUNDS", help="what grbound wrote of the design")
+    words.add_argument("--slack", metavar="TABLE", help="ranks nets by slacks that required.py wrote")
+    words.add_argument("--timing", nargs=2, metavar=("BEFORE", "AFTER"), help="figures that required.py wrote")
     frame.add_scale(words)
     words.add_argument("-o", "--output", metavar="FILE", required=True, help="the page, .html")
     frame.add_names(words)
@@ -38,6 +41,8 @@ def asked_of(words: Sequence[str]) -> Namespace:
     asked = reader.parse_args(words)
     if asked.library and not asked.report:
         reader.error("LIBRARY and REPORT come together")
+    if asked.slack and not asked.report:
+        reader.error("--slack wants LIBRARY and REPORT")
     return asked
 
 
@@ -47,7 +52,8 @@ def main(words: Sequence[str]) -> int:
     from groute.show import pages
     routes = pages.Routes(asked)
     text = pages.text_of(routes, asked)
-    inputs = [asked.design, asked.solution, asked.library, asked.report, asked.bound, asked.names, *asked.before]
+    inputs = [asked.design, asked.solution, asked.library, asked.report, asked.bound, asked.names, asked.slack,
+              *(asked.timing or ()), *asked.before]
     with Outputs(filter(None, inputs)) as outputs:
         outputs.text(asked.output).write(text)
     print(routes.verdict(asked.before))

@@ -6,6 +6,9 @@ tile, vias, buffers by kind, and the box of its pins. Below stands how many nets
 library has a time other than 0, the worst and the total negative slack come first: of nets, each by itself, and not of
 paths through several.
 
+With --slack, a table of required.py, nets are ranked by the timer's slack, which stands first; nets that nothing
+constrains are `free` and come last.
+
 Times are in picoseconds. Of a library that def_to_ispd.py made with --scale N say --scale N here too.
 """
 import sys
@@ -20,9 +23,10 @@ from groute.texts.files import Fault
 from groute.texts.libraries import Library
 from groute.texts.names import Terms, chosen, names_beside
 from groute.texts.reports import buffered, check_report
+from groute.texts.slacks import Slacks, read_slacks
 from groute.texts.tokens import Tokens
 
-HALVES = 2000       # half femtoseconds a picosecond
+HALVES, FEMTOSECONDS = 2000, 1000   # half femtoseconds, and femtoseconds, a picosecond
 BARS, WIDE = 10, 50     # of the histogram, how many, and how long the longest is
 
 
@@ -46,6 +50,7 @@ def parser() -> frame.Parser:
     words.add_argument("library", metavar="LIBRARY", help="the library of the report")
     words.add_argument("solution", metavar="SOLUTION", help="the routes of the report")
     words.add_argument("report", metavar="REPORT", help="what `route` wrote on standard error, or `buffer` on output")
+    words.add_argument("--slack", metavar="TABLE", help="slacks of nets, as required.py writes them")
     words.add_argument("--worst", type=frame.number(0), default=10, metavar="N", help="as many nets at most; else 10")
     frame.add_scale(words)
     frame.add_nets(words)
@@ -79,9 +84,13 @@ def picoseconds(time: float, half: int) -> str:
     return f"{time / half:,.1f}"
 
 
-def histogram(nets: Sequence[Timed], half: int) -> Iterator[str]:
-    """The lines of a table: how many nets have which required time."""
-    times = [net.required / half for net in nets]
+def slack_words(slacks: Slacks, id_: int) -> str:
+    """A net's slack as a text."""
+    return picoseconds(slacks.times[id_], FEMTOSECONDS) if id_ in slacks.times else "free"
+
+
+def histogram(times: Sequence[float]) -> Iterator[str]:
+    """The lines of a table: how many nets have which time, in picoseconds."""
     low, high = min(times), max(times)
     step = (high - low) / BARS or 1.0
     counts = [0] * BARS
@@ -94,21 +103,27 @@ def histogram(nets: Sequence[Timed], half: int) -> Iterator[str]:
 
 
 def printed(asked: Namespace, nets: Sequence[Timed], design: Netlist, library: Library,
-            sizes: Mapping[int, tuple[int, int]], terms: Terms) -> Iterator[str]:
+            sizes: Mapping[int, tuple[int, int]], terms: Terms, slacks: Slacks | None) -> Iterator[str]:
     """The lines of the answer; sizes has steps of wire and vias by net."""
     half = HALVES * asked.scale ** 2
-    if library.has_times():
+    if slacks is not None:
+        yield from (f"nets are ranked by the slack of {asked.slack}", "")
+    elif library.has_times():
         yield from (slack(nets, half), "")
     rows: list[list[str | int]] = []
     for net in nets[:asked.worst]:
         found = delay(net, design, library)
-        rows.append([design.names[net.id], picoseconds(net.required, half),
+        said = [] if slacks is None else [slack_words(slacks, net.id)]
+        rows.append([design.names[net.id], *said, picoseconds(net.required, half),
                      "-" if found is None else picoseconds(found, half), len(design.pins(net.id)),
                      *sizes.get(net.id, (0, 0)), terms.words(*box(design, net.id)), net.kinds()])
-    yield from tables.lines(["net", "required, ps", "delay, ps", "pins", "wire, tiles", "vias",
+    first = ["net"] if slacks is None else ["net", "slack, ps"]
+    yield from tables.lines([*first, "required, ps", "delay, ps", "pins", "wire, tiles", "vias",
                              f"box, {terms.unit}", "buffers"], rows)
     yield ""
-    yield from histogram(nets, half)
+    times = [net.required / half for net in nets] if slacks is None else \
+        [slacks.times[net.id] / FEMTOSECONDS for net in nets if net.id in slacks.times]
+    yield from histogram(times) if times else ()
 
 
 def main(words: Sequence[str]) -> int:
@@ -118,12 +133,17 @@ def main(words: Sequence[str]) -> int:
     terms = Terms(design, names_beside(asked.design, asked.names))
     library = Library(Tokens(asked.library))
     timed = {net[0]: Timed(*net) for net in buffered(design, asked.report)}
-    nets = sorted((timed[id_] for id_ in chosen(timed, terms, asked.nets)), key=lambda net: net.required)
+    slacks = read_slacks(asked.slack) if asked.slack else None
+    nets = sorted((timed[id_] for id_ in chosen(timed, terms, asked.nets, slacks.clocks if slacks else ())),
+                  key=lambda net: net.required)
+    if slacks is not None:
+        known = slacks.times
+        nets.sort(key=lambda net: known.get(net.id, float("inf")))
     if not nets:
         raise Fault(f"{asked.report}: no net is told of" + (f" that is among the {asked.nets}" if asked.nets else ""))
     from groute.loads.edges_numpy import Edges
     edges = Edges(design, asked.solution)
     check_report(asked.report, design.routed, edges.overflow(), edges.vias)
     sizes = dict(zip(edges.ids, zip(*(some.tolist() for some in edges.sizes()))))
-    sys.stdout.writelines(f"{line}\n" for line in printed(asked, nets, design, library, sizes, terms))
+    sys.stdout.writelines(f"{line}\n" for line in printed(asked, nets, design, library, sizes, terms, slacks))
     return frame.tell_unjoined("slowest", design, edges.unjoined)

@@ -2,13 +2,12 @@
 from bisect import bisect_left, bisect_right
 from decimal import Decimal
 from fractions import Fraction
-from functools import cached_property
 from math import ceil
 from typing import Iterator, Sequence
 
-from groute.placed.def_text import Component, Def, Net, Run
-from groute.placed.def_text import Pin as ChipPin
-from groute.placed.lef_text import Layer, Lef, Macro, Pin
+from groute.placed.connected import Connected
+from groute.placed.def_text import Def, Net, Run
+from groute.placed.lef_text import Layer, Lef
 from groute.placed.statements import Shape, moved, nearest, turned
 from groute.texts.files import Fault
 
@@ -19,9 +18,6 @@ MOST_LAYERS = 16
 MOST_WIDTH = 1000
 MOST_PLACES = 1 << 29   # where tracks cross tiles, each a byte
 MOST_TILE = MOST_CAPACITY = 1000000
-MOST_NETS, MOST_PINS = 4194304, 16777216
-SUPPLIES = ("POWER", "GROUND")      # what nets are used for that have no routes
-SHOWN = 5                           # supplies that are named
 
 
 class Grid:
@@ -69,8 +65,8 @@ def regular(runs: Sequence[Run], low: int, high: int) -> tuple[int, int, int] | 
 def side_of_tile(placed: Def, lef: Lef) -> int:
     """Of a DEF that says nothing of tiles: a row of cells where it has no rows either, as qflow writes it; else 15
     pitches of the third routing layer."""
-    heights = [height for kind, height in lef.sites.values() if kind == "CORE"]
-    if heights and not placed.has_rows:
+    heights = [height for kind, _, height in lef.sites.values() if kind == "CORE"]
+    if heights and not placed.rows:
         return nearest(min(heights) * placed.units)
     if not lef.routing:
         raise Fault("the LEF has no routing layer")
@@ -81,12 +77,12 @@ def side_of_tile(placed: Def, lef: Lef) -> int:
     return nearest(PITCHES * pitch * placed.units)
 
 
-class Chip:
+class Chip(Connected):
     """A placed design, the routing layers of its grid, and what takes room on them."""
 
     def __init__(self, placed: Def, lef: Lef, tile: Sequence[int] | None = None, layers: str | None = None,
                  adjust: Sequence[tuple[str, Fraction]] = (), keeps_supplies: bool = False) -> None:
-        self.placed, self.lef, self.keeps_supplies = placed, lef, keeps_supplies
+        Connected.__init__(self, placed, lef, keeps_supplies)
         self.grid = Grid(placed, lef, tile)
         self.layers = layers_of(lef, layers)
         self.level = {layer.name: at for at, layer in enumerate(self.layers)}
@@ -125,49 +121,6 @@ class Chip:
         if name not in self.lef.vias:
             raise Fault(f"{place}: neither VIAS nor the LEF has the via {name}")
         return self.lef.vias[name].shapes
-
-    def macro(self, component: Component) -> Macro:
-        """The cell that a component is of."""
-        if component.macro not in self.lef.macros:
-            raise Fault(f"{component.place}: the LEF has no cell {component.macro}")
-        return self.lef.macros[component.macro]
-
-    def pin(self, net: Net, component: str, name: str) -> tuple[Pin | ChipPin, Component | None]:
-        """A net's pin, and the component that it is of, None of the chip's pins."""
-        if component == "PIN":
-            if name not in self.placed.pins:
-                raise Fault(f"{net.place}: PINS has no {name}")
-            return self.placed.pins[name], None
-        if component not in self.placed.components:
-            raise Fault(f"{net.place}: COMPONENTS has no {component}")
-        cell = self.placed.components[component]
-        pin = self.pin_of(self.macro(cell), name)
-        if pin is None:
-            raise Fault(f"{net.place}: there is no pin {name} of component {component}")
-        if cell.orientation is None:
-            raise Fault(f"{net.place}: the net {net.name} needs the component {component}, which isn't placed")
-        return pin, cell
-
-    def pin_of(self, macro: Macro, name: str) -> Pin | None:
-        """A cell's pin, by the name that the DEF has; the two texts may write bits of buses in two ways."""
-        ways = dict(zip(self.placed.bus_bits, self.lef.bus_bits))
-        plain = name.replace("\\", "")
-        return macro.pins.get(name) or macro.pins.get(plain) or \
-            macro.pins.get("".join(ways.get(letter, letter) for letter in plain))
-
-    def ordered(self, net: Net) -> list[tuple[str, str]]:
-        """A net's connections, its driver first: the output of a component, else a pin of the chip that is no output,
-        else the first."""
-        ranks = [self.rank(net, *connection) for connection in net.connections]
-        driver = ranks.index(min(ranks))
-        return [net.connections[driver], *net.connections[:driver], *net.connections[driver + 1:]]
-
-    def rank(self, net: Net, component: str, name: str) -> int:
-        """By which the driver is chosen: the least is it."""
-        pin, cell = self.pin(net, component, name)
-        if cell is None:
-            return 2 if pin.direction == "OUTPUT" else 1
-        return 0 if pin.direction == "OUTPUT" else 2
 
     def points(self, net: Net) -> Iterator[tuple[int, int, int]]:
         """x, y and layer of a net's pins, the driver first; pins below the grid's layers are lifted to the first."""
@@ -256,59 +209,6 @@ class Chip:
         """Where the grid begins along a way, and how far it goes."""
         start = (self.grid.left, self.grid.low)[way]
         return start, self.grid.end(way) - start
-
-    @cached_property
-    def nets(self) -> list[Net]:
-        """The nets that have pins and are no supplies, in their order."""
-        found = [net for net in self.placed.nets.values() if net.connections]
-        if not found:
-            raise Fault(f"{self.placed.path}: no net of NETS has a pin")
-        supplies = [] if self.keeps_supplies else [net for net in found if self.supplies(net)]
-        for net in supplies[:SHOWN]:
-            says = f"the net {net.name} is a supply and left out; it ties off {self.tied(net):,} inputs of cells"
-            self.lef.notes.tell(net.place, f"{says} (--keep-supply keeps it)")
-        if len(supplies) > SHOWN:
-            self.lef.notes.tell(self.placed.path, f"{len(supplies) - SHOWN:,} more nets are supplies and left out")
-        names = {net.name for net in supplies}
-        found = [net for net in found if net.name not in names]
-        if not found:
-            raise Fault(f"{self.placed.path}: all nets of NETS that have a pin are supplies: --keep-supply keeps them")
-        if len(found) > MOST_NETS or sum(len(net.connections) for net in found) > MOST_PINS:
-            raise Fault(f"{self.placed.path}: more than groute's {MOST_NETS:,} nets, or {MOST_PINS:,} pins")
-        return found
-
-    @cached_property
-    def pin_uses(self) -> dict[str, set[str]]:
-        """What the chip's pins say that their nets are used for."""
-        found: dict[str, set[str]] = {}
-        for pin in self.placed.pins.values():
-            if pin.net is not None and pin.use is not None:
-                found.setdefault(pin.net, set()).add(pin.use)
-        return found
-
-    def uses(self, net: Net) -> set[str]:
-        """What a net is used for, by NETS, SPECIALNETS and PINS."""
-        said = {net.use, self.placed.special_uses.get(net.name), *self.pin_uses.get(net.name, ())}
-        return {use for use in said if use is not None}
-
-    def supplies(self, net: Net) -> bool:
-        """Whether a net is a supply: by what it is used for, or as qflow writes it, in SPECIALNETS without a word."""
-        uses = self.uses(net)
-        special = self.placed.special_uses
-        is_silent = net.use is None and "CLOCK" not in uses and special.get(net.name, "") is None
-        return is_silent or bool(uses & set(SUPPLIES))
-
-    def tied(self, net: Net) -> int:
-        """How many inputs of cells a net drives."""
-        pins = [self.pin(net, *connection) for connection in net.connections]
-        return sum(cell is not None and pin.direction == "INPUT" for pin, cell in pins)
-
-    def is_clock(self, net: Net) -> bool:
-        """Whether a net is a clock's, by what it is used for or by a sink in the LEF."""
-        if "CLOCK" in self.uses(net):
-            return True
-        pins = [self.pin(net, *connection) for connection in net.connections]
-        return any(cell is not None and pin.use == "CLOCK" and pin.direction != "OUTPUT" for pin, cell in pins)
 
     def via_resistance(self) -> Decimal:
         """The greatest of a via, or of a cut, between two layers of the grid; 0 where none is said."""

@@ -11,7 +11,7 @@ Run = tuple[int, int, int]                  # first, count and step
 Placement = tuple[int, int, str]            # x, y and orientation
 WirePoint = tuple[int, int, int | None]     # x, y, and how far the wire goes on behind
 
-SILENT = {"VERSION", "NAMESCASESENSITIVE", "DIVIDERCHAR", "DESIGN", "TECHNOLOGY", "HISTORY",
+SILENT = {"VERSION", "NAMESCASESENSITIVE", "DIVIDERCHAR", "TECHNOLOGY", "HISTORY",
           "COMPONENTMASKSHIFT", "ARRAY", "FLOORPLAN"}
 # These sections say nothing to a global router.
 SECTIONS = {"PROPERTYDEFINITIONS", "STYLES", "REGIONS", "GROUPS", "SCANCHAINS", "PINPROPERTIES", "SLOTS", "FILLS"}
@@ -59,16 +59,28 @@ class Component:
     orientation: str | None = None
 
 
+@dataclass
+class Row:
+    """A row of sites: where its first lies, how cells lie in it, and how many sites there are how far apart."""
+    site: str
+    x: int
+    y: int
+    orientation: str
+    count: int
+    step: int
+
+
 class Def:
     """A placed design: its area, tracks, components, pins, nets, and what else takes room for wires."""
 
     def __init__(self, path: str, notes: Notes) -> None:
         self.path, self.notes = path, notes
+        self.name = "design"
         self.area = (0, 0, 0, 0)    # x1, y1, x2, y2
         self.units = 0              # to the micrometre
         self.tracks: dict[tuple[str, str], list[Run]] = {}  # by layer, and X (the places of vertical tracks) or Y
         self.gcells: dict[str, list[Run]] = {"X": [], "Y": []}  # lines
-        self.has_rows = False
+        self.rows: list[Row] = []
         self.bus_bits = "[]"        # the letters around the number of a bus's bit
         self.components: dict[str, Component] = {}
         self.pins: dict[str, Pin] = {}
@@ -110,7 +122,9 @@ class Def:
         """One statement that isn't a section."""
         values = words.until(";")
         if word == "ROW":
-            self.has_rows = True
+            self.rows.append(row_of(values))
+        elif word == "DESIGN":
+            self.name = values[0]
         elif word == "BUSBITCHARS":
             self.bus_bits = values[0].strip('"')
         elif word == "UNITS":
@@ -325,6 +339,16 @@ def run_of(values: list[str]) -> Run:
     if (do, word) != ("DO", "STEP") or not 0 < whole(count) <= 1 << 20 or whole(step) < 1:
         raise ValueError(values)
     return whole(first), whole(count), whole(step)
+
+
+def row_of(values: list[str]) -> Row:
+    """`NAME SITE x y ORIENTATION [DO count BY rows STEP x y]`; of a column of sites, or one of several rows, none."""
+    _, site, x, y, orientation, *steps = values
+    if orientation not in ORIENTATIONS:
+        raise ValueError(values)
+    count = whole(steps[1]) if steps[:1] == ["DO"] and whole(steps[3]) == 1 else 1
+    step = whole(steps[5]) if steps[4:5] == ["STEP"] else 0
+    return Row(site, whole(x), whole(y), orientation, count, step)
 
 
 def placement(values: list[str]) -> Placement:

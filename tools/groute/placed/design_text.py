@@ -5,6 +5,7 @@ from groute.placed.chip import Chip
 from groute.placed.lef_text import Layer
 from groute.placed.liberty import Liberty
 from groute.texts.files import Fault
+from groute.texts import pins
 from groute.texts.names import CLOCK, USE, Names
 
 
@@ -49,6 +50,14 @@ def names_of(chip: Chip, liberty: Liberty | None) -> Names:
               if chip.is_clock(net) or liberty is not None and has_clocked_sink(chip, id_, liberty)}
     return Names(chip.placed.units, (grid.left, grid.low), grid.tile, [layer.name for layer in chip.layers],
                  chip.placed.area, chip.lower, clocks)
+
+
+def pins_text(chip: Chip) -> Iterator[str]:
+    """The lines of the text that says which pins of the chip those of the design are."""
+    nets = ((id_, [(component, name if component == pins.CHIP else chip.cell_pin(name),
+                    chip.direction(net, component, name)) for component, name in chip.ordered(net)])
+            for id_, net in enumerate(chip.nets))
+    return pins.lines(chip.placed.name, nets)
 
 
 def has_clocked_sink(chip: Chip, id_: int, liberty: Liberty) -> bool:

@@ -11,6 +11,7 @@ from groute.placed.statements import (MOST_REPEATS, Notes, Shape, Words, generat
 from groute.texts.files import Fault
 
 Rule = dict[str, tuple[Decimal, Decimal | None]]    # by layer width and spacing, in micrometres
+Site = tuple[str, Decimal, Decimal]                 # class, width and height, in micrometres
 
 # Statements of the library that say nothing to a router.
 SILENT = {"VERSION", "NAMESCASESENSITIVE", "DIVIDERCHAR", "USEMINSPACING", "CLEARANCEMEASURE",
@@ -28,6 +29,7 @@ LAYER_RULES = {"OFFSET", "MASK", "DIAGPITCH", "DIAGWIDTH", "DIAGSPACING", "DIAGM
 CURRENT = {"ACCURRENTDENSITY", "DCCURRENTDENSITY"}
 MACRO_SILENT = {"CLASS", "FOREIGN", "SYMMETRY", "EEQ", "LEQ", "SOURCE", "CLOCKTYPE", "POWER", "FIXEDMASK", "GENERATOR",
                 "GENERATE"}
+SUPPLIES = ("POWER", "GROUND")      # what pins and nets are used for that have no routes
 PIN_SILENT = {"SHAPE", "TAPERRULE", "NETEXPR", "SUPPLYSENSITIVITY", "GROUNDSENSITIVITY", "MUSTJOIN", "LEQ",
               "CAPACITANCE", "RESISTANCE"}
 
@@ -84,6 +86,10 @@ class Macro:
     obstructions: list[Shape] = field(default_factory=list)
     turned: dict[str, list[Shape]] = field(default_factory=dict, compare=False)
 
+    def is_filler(self) -> bool:
+        """Whether it has no pins but those of supplies."""
+        return all(pin.use in SUPPLIES for pin in self.pins.values())
+
     def in_place(self, shape: Shape, orientation: str) -> Shape:
         """A shape, where the turned cell's lower left corner is (0, 0)."""
         return turned(shape, orientation, self.width, self.height)
@@ -111,7 +117,7 @@ class Lef:
         self.macros: dict[str, Macro] = {}
         self.vias: dict[str, Via] = {}
         self.rules: dict[str, Rule] = {}
-        self.sites: dict[str, tuple[str, Decimal]] = {}     # class and height
+        self.sites: dict[str, Site] = {}
         self.bus_bits = "[]"    # the letters around the number of a bus's bit
         for path in paths:
             self.read_text(Words(path, notes))
@@ -318,10 +324,10 @@ def statements(words: Words, name: str) -> Iterator[tuple[str, list[str]]]:
     due(words, name)
 
 
-def read_site(words: Words, name: str) -> tuple[str, Decimal]:
-    """Class and height of a site."""
+def read_site(words: Words, name: str) -> Site:
+    """Class, width and height of a site, in micrometres."""
     says = dict((word, values) for word, values in site_statements(words, name))
-    return says["CLASS"][0], positive(says["SIZE"][2])
+    return says["CLASS"][0], positive(says["SIZE"][0]), positive(says["SIZE"][2])
 
 
 def site_statements(words: Words, name: str) -> Iterator[tuple[str, list[str]]]:

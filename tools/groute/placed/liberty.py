@@ -212,7 +212,10 @@ class Cell:
         self.loads: dict[str, float] = {}
         self.lines: dict[str, Line] = {}
         self.functions: dict[str, str] = {}
+        self.limits: dict[str, float] = {}      # max_capacitance of outputs
         self.clocks: dict[str, bool] = {}
+        self.is_pad = False
+        self.library = ""       # that it is of
 
     def input(self) -> float:
         """The load of the only input, of a buffer or an inverter."""
@@ -265,6 +268,8 @@ class Liberty:
                         ) from None
         for group in library.all("cell"):
             cell = Cell(" ".join(group.arguments))
+            cell.library = " ".join(library.arguments)
+            cell.is_pad = group.attributes.get("pad_cell") == ["true"]
             try:
                 for pin in pins_of(group):
                     read_pin(cell, pin, templates, scales)
@@ -280,8 +285,8 @@ class Liberty:
         return self.cells[name]
 
     def buffers(self) -> list[str]:
-        """The names of the cells that are buffers."""
-        return [cell.name for cell in self.cells.values() if cell.sense() == "kind"]
+        """The names of the cells that are buffers and no pads."""
+        return [cell.name for cell in self.cells.values() if cell.sense() == "kind" and not cell.is_pad]
 
 
 def unit(words: Sequence[str], names: Mapping[str, float]) -> float:
@@ -319,5 +324,8 @@ def read_pin(cell: Cell, pin: Group, templates: Mapping[str, Group], scales: tup
               if table.arguments[:1] != ["scalar"] and LOAD in variables(templates[table.arguments[0]])]
     if direction != "input" and tables:
         cell.lines.update({name: Line(tables) for name in pin.arguments})
+    most = pin.number("max_capacitance")
+    if direction != "input" and most is not None:
+        cell.limits.update({name: most * scales[1] for name in pin.arguments})
     if "function" in pin.attributes:
         cell.functions.update({name: " ".join(pin.attributes["function"]) for name in pin.arguments})

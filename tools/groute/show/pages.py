@@ -15,9 +15,11 @@ from groute.loads.edges_numpy import Array, Edges, points
 from groute.loads.regions import GRADES, SHARES, WAYS, Loads
 from groute.texts.designs import EAST, NORTH, Netlist
 from groute.texts.libraries import Library
+from groute.texts.figures import read_figures, rows
 from groute.texts.files import Fault
 from groute.texts.names import Terms, names_beside
 from groute.texts.reports import bounds_in, buffered, check_report, overflow_of
+from groute.texts.slacks import read_slacks
 from groute.texts.solutions import unjoined_words
 from groute.texts.tokens import Tokens
 
@@ -26,7 +28,7 @@ SCRIPTS = ("tables.js", "map.js", "page.js")    # the last one begins
 MOST_NETS = 100_000     # of which all are on the page
 MOST_BYTES = 20_000_000
 REGIONS, SLOWEST = 10, 1000     # how many are always there
-HALVES = 2000           # half femtoseconds a picosecond
+HALVES, PICOSECOND = 2000, 1000     # half femtoseconds, and femtoseconds, a picosecond
 PAD = 8                 # bytes to which arrays are aligned
 LEVEL = 4               # of zlib; more takes longer and saves little
 
@@ -71,6 +73,8 @@ class Routes:
         self.has_times = False
         self.required: dict[int, int] = {}
         self.buffers: dict[int, list[bytes]] = {}
+        self.slacks = read_slacks(asked.slack) if asked.slack else None
+        self.timing = [read_figures(path) for path in asked.timing or ()]
         if asked.report:
             library = Library(Tokens(asked.library))
             self.kinds, self.has_times = library.kinds, library.has_times()
@@ -98,11 +102,26 @@ class Routes:
             words += f"; worst net {worst:,.0f} ps" if self.has_times else f"; worst net delay {-worst:,.0f} ps"
         return words
 
+    def times(self) -> dict[int, float]:
+        """The picoseconds by which nets are ranked: their slack, where a table has it, else their required time."""
+        if self.slacks is not None:
+            return {id_: time / PICOSECOND for id_, time in self.slacks.times.items() if id_ in self.design.places}
+        return {id_: time / self.half for id_, time in self.required.items()}
+
+    def clocks(self) -> set[int]:
+        """The nets that are known to be clocks'."""
+        return self.terms.clocks() | (self.slacks.clocks if self.slacks is not None else set())
+
+    def on_paths(self) -> list[int]:
+        """The nets of the worst paths of the routes."""
+        return [id_ for _, ids in (self.timing[1].paths if self.timing else ()) for id_ in ids]
+
     def nets(self, all_: bool) -> list[int]:
         """The ids of the nets that the page has."""
         if all_:
             return self.design.ids
-        slowest = sorted(self.required, key=lambda id_: self.required[id_])[:SLOWEST]
+        times = self.times()
+        slowest = sorted(times, key=lambda id_: times[id_])[:SLOWEST] + self.on_paths()
         some = {id_ for region in self.regions for id_, _ in region.nets} | {*slowest, *self.edges.unjoined[:SLOWEST]}
         return [id_ for id_ in self.design.ids if id_ in some]
 
@@ -123,7 +142,10 @@ def head(routes: Routes, ids: list[int], asked: Namespace) -> dict[str, Any]:
         "table": [vars(line) | {"use": line.use()} for line in routes.loads.table(terms.layers)],
         "ways": [WAYS[EAST], WAYS[NORTH]], "grades": GRADES,
         "unjoined": [place[id_] for id_ in routes.edges.unjoined if id_ in place],
-        "clocks": [place[id_] for id_ in sorted(routes.terms.clocks()) if id_ in place],
+        "clocks": [place[id_] for id_ in sorted(routes.clocks()) if id_ in place],
+        "bySlack": routes.slacks is not None, "timing": list(rows(*routes.timing)) if routes.timing else [],
+        "paths": [[slack / PICOSECOND, [place[id_] for id_ in some if id_ in place]]
+                  for slack, some in (routes.timing[1].paths if routes.timing else ())],
         "least": routes.least, "walls": [vars(wall) for wall in routes.walls],
         "regions": [{"low": region.low, "high": region.high, "overflow": region.overflow, "over": region.over,
                      "closed": region.closed, "nets": [place[id_] for id_, _ in region.nets],
@@ -167,7 +189,8 @@ def add_nets(packed: Packed, routes: Routes, ids: list[int]) -> None:
         found[mine[:-1][mine[:-1] >= 0]] = some[mine[:-1] >= 0]
         packed.add(name, found)
     if routes.required:
-        packed.add("required", numpy.array([routes.required.get(id_, numpy.nan) / routes.half for id_ in ids]))
+        times = routes.times()
+        packed.add("required", numpy.array([times.get(id_, numpy.nan) for id_ in ids]))
         add_buffers(packed, routes, ids)
 
 

@@ -12,6 +12,7 @@ GZIP, XZ, BZIP = b"\x1f\x8b", b"\xfd7zXZ\0", b"BZh"
 PACKED = {GZIP: "gzip", XZ: "xz", BZIP: "bzip2", b"\x28\xb5\x2f\xfd": "zstd", b"PK\3\4": "zip",
           b"\x1f\x9d": "compress", b"\x04\x22\x4d\x18": "lz4"}
 UTF_16 = (b"\xff\xfe", b"\xfe\xff")
+OWN = b"# written by groute"    # how a text of a chip begins that the tools wrote
 MARK = b"\xef\xbb\xbf"  # a byte order mark of UTF-8
 # How texts of chips begin, behind blanks and comments.
 BEHIND_COMMENTS = re.compile(rb"(?:\s+|#[^\n]*\n|//[^\n]*\n|/\*.*?\*/)*", re.DOTALL)
@@ -74,12 +75,14 @@ def lines_of(path: str) -> Iterator[str]:
 
 
 def begins_like_a_chip(path: str) -> bool:
-    """Whether a file begins like LEF, DEF or liberty, packed or not."""
+    """Whether a file begins like LEF, DEF or liberty, packed or not, and wasn't written by the tools."""
     with open(path, "rb") as file:
         begin = file.read(LOOKED_AT)
     if begin.startswith((GZIP, XZ, BZIP)):
         begin = first_unpacked(begin)
     begin = begin.removeprefix(MARK)
+    if begin.startswith(OWN):
+        return False
     behind = BEHIND_COMMENTS.match(begin)
     return behind is not None and OF_A_CHIP.match(begin, behind.end()) is not None
 

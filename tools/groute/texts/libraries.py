@@ -3,7 +3,8 @@ from groute.texts.tokens import Tokens
 
 
 class Library:
-    """What is known of a library: its kinds of buffers, and the times at which sinks want their signals.
+    """What is known of a library: resistance and capacitance of wires by layer and of vias, its kinds of buffers, and
+    the times at which sinks want their signals.
 
     `time` is that of all sinks, `times` has by net's id those of single sinks by their number; all in femtoseconds.
     """
@@ -13,13 +14,21 @@ class Library:
     def __init__(self, tokens: Tokens) -> None:
         tokens.words(b"library")
         tokens.number()
+        self.wires: dict[int, tuple[int, int]] = {}
+        self.via = 0, 0
         self.kinds: list[str] = []
         self.time = 0
         self.times: dict[int, dict[int, int]] = {}
         while (word := tokens.take(1)[0]) != b"end":
             if word not in self.SIZES:
                 raise tokens.fault("an item of a library is due")
-            if word in (b"kind", b"inverter"):
+            if word == b"wire":
+                layer, resistance, capacitance = tokens.numbers(3)
+                self.wires[layer] = resistance, capacitance
+            elif word == b"via":
+                resistance, capacitance = tokens.numbers(2)
+                self.via = resistance, capacitance
+            elif word in (b"kind", b"inverter"):
                 self.kinds.append(tokens.take(4)[0].decode(errors="surrogateescape"))
             elif word == b"sink":
                 self.time = tokens.numbers(2)[1]

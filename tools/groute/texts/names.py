@@ -182,7 +182,7 @@ def shortest(value: Fraction) -> str:
     return f"{float(value):.4f}".rstrip("0")
 
 
-def chosen(ids: Iterable[int], terms: Terms, nets: str | None) -> list[int]:
-    """Of nets those that are asked for: `clocks`, `signals`, or all."""
-    clocks = terms.clocks() if nets else set()
+def chosen(ids: Iterable[int], terms: Terms, nets: str | None, more: Iterable[int] = ()) -> list[int]:
+    """Of nets those that are asked for: `clocks`, `signals`, or all; more nets may be known to be clocks'."""
+    clocks = terms.clocks() | set(more) if nets else set()
     return [id_ for id_ in ids if nets is None or (id_ in clocks) == (nets == "clocks")]

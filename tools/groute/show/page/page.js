@@ -100,7 +100,7 @@ function show() {
 function netWords(net) {
   const words = [`net ${data.names[net]}`, `pins ${number(data.pins[net])}`, `tiles of wire ${number(data.wires[net])}`,
     `vias ${number(data.vias[net])}`];
-  if (data.hasTimes) words.push(`required ${timeOf(net)} ps`, `buffers ${kindWords(net)}`);
+  if (data.hasTimes) words.push(`${data.bySlack ? "slack" : "required"} ${timeWords(net)}`, `buffers ${kindWords(net)}`);
   return words.join(", ");
 }
 
@@ -114,7 +114,8 @@ function kindWords(net) {
   return counts.size ? [...counts].map(([kind, count]) => `${count} ${kind}`).join(" and ") : "0";
 }
 
-const timeOf = (net) => Number.isNaN(data.required[net]) ? "-" : fixed(data.required[net], 1);
+const timeWords = (net) => Number.isNaN(data.required[net]) ? timeOf(net) : `${timeOf(net)} ps`;
+const timeOf = (net) => Number.isNaN(data.required[net]) ? (data.bySlack ? "free" : "-") : fixed(data.required[net], 1);
 
 /* Words for a place: even numbers are tiles, odd ones the edges between them. */
 
@@ -340,6 +341,7 @@ async function begin() {
   ["all", ...data.layers].forEach((name, at) => byId("layer").append(new Option(name, at)));
   fillLayers();
   fillRegions();
+  if (data.timing.length) fillTiming();
   if (data.least !== null) fillWalls();
   fillClosed();
   fillNets();

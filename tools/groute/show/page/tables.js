@@ -204,10 +204,24 @@ function usesOf() {
   return found;
 }
 
+// What a timer says before and after buffers, and the nets of the worst paths after.
+function fillTiming() {
+  const of = (at) => (row) => data.timing[row][at];
+  byId("timing").hidden = byId("paths").hidden = false;
+  new Table(byId("timing"), "Timing", [{ head: "", value: of(0) }, { head: "before", value: of(1), text: of(1),
+    isNumber: true }, { head: "after", value: of(2), text: of(2), isNumber: true }], [...data.timing.keys()],
+  () => {}).order();
+  const nets = data.paths.flatMap(([slack, some], at) => some.map((net) => ({ net, slack, path: at + 1 })));
+  const columns = [{ head: "net", value: (row) => data.names[nets[row].net] },
+    { head: "path", value: (row) => nets[row].path, isNumber: true },
+    { head: "slack, ps", value: (row) => nets[row].slack, text: (row) => fixed(nets[row].slack, 1), isNumber: true }];
+  new Table(byId("paths"), "Worst paths", columns, [...nets.keys()], (row) => toNet(nets[row].net)).order();
+}
+
 function fillNets() {
   const of = (key) => (row) => data[key][row];
   const columns = [{ head: "net", value: (row) => data.names[row] }];
-  if (data.hasTimes) columns.push({ head: "required, ps", value: of("required"), text: timeOf, isNumber: true });
+  if (data.hasTimes) columns.push({ head: data.bySlack ? "slack, ps" : "required, ps", value: of("required"), text: timeOf, isNumber: true });
   columns.push({ head: "pins", value: of("pins"), isNumber: true },
     { head: "wire, tiles", value: of("wires"), isNumber: true }, { head: "vias", value: of("vias"), isNumber: true });
   if (data.hasTimes) columns.push({ head: "buffers", value: of("buffers"), isNumber: true });

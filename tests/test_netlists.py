@@ -1,0 +1,220 @@
+"""Tests of netlist.py and spef.py: worked out by hand, and by OpenSTA where it is there."""
+import lzma
+import os
+import random
+import re
+import unittest
+
+from chips import STA, YOSYS, OnChip, equivalent, placed
+from groute.timing import sta
+from groute.timing.naming import Name, doubled, own
+from groute.timing.verilog import Verilog
+from groute.texts.files import Fault
+from groute.texts.pins import Pins
+from testing import ROOT, program, run, tool
+
+OSU = "/usr/share/qflow/tech/osu035/osu035_stdcells"
+OSU_THERE = os.path.exists(f"{OSU}.lib")
+# Four tiles by two; the step on m1 has 100 ohms and 10 fF, that on m2 50 and 20, a via 4 and none.
+CELLS = {"one": ("BUF", 0, 0), "two": ("INV", 15, 0), "three": ("DFF", 5, 1), "f": ("FILL", 19, 0)}
+PORTS = {"in": (None, 0, 1), "clk": ("INPUT", 1, 1), "q[0]": (None, 3, 1), "q[1]": (None, 2, 0),
+         "also": ("OUTPUT", 2, 1)}
+NETS = {"in": ["in", "one/A"], "clk": ["clk", "three/CLK"], "a$b": ["one/Y", "two/A", "three/D"],
+        "q[0]": ["two/Y", "q[0]"], "x": ["three/Q", "q[1]", "also"]}
+NETLIST = """module top (in, clk, q, also);
+  input in;
+  input clk;
+  output [1:0] q;
+  output also;
+  wire a$b;
+  BUF one (.A(in), .Y(a$b));
+  INV two (.A(a$b), .Y(q[0]));
+  DFF three (.CLK(clk), .D(a$b), .Q(q[1]));
+  assign also = q[1];
+endmodule
+"""
+SOLUTION = """in 0 (500,1500,2)-(500,500,2) (500,500,1)-(500,500,2) !
+clk 1 (1500,1500,1)-(1500,1500,2) !
+a$b 2 (500,500,1)-(3500,500,1) (1500,500,1)-(1500,500,2) (1500,500,2)-(1500,1500,2) (1500,1500,1)-(1500,1500,2) !
+q[0] 3 (3500,500,1)-(3500,500,2) (3500,500,2)-(3500,1500,2) !
+"""
+# From (0, 0) along the row to (1, 0), where a via begins, and on to (3, 0); through the second layer to (1, 1).
+BRANCH = """*D_NET a\\$b 50
+*CONN
+*I one:Y O
+*I two:A I
+*I three:D I
+*CAP
+1 one:Y 5
+2 a\\$b:2 10
+3 a\\$b:3 10
+4 a\\$b:4 10
+5 two:A 5
+6 a\\$b:6 10
+*RES
+1 one:Y a\\$b:2 100
+2 a\\$b:2 a\\$b:3 100
+3 a\\$b:2 a\\$b:4 4
+4 a\\$b:3 two:A 100
+5 a\\$b:4 a\\$b:6 50
+6 a\\$b:6 three:D 4
+*END
+
+"""
+
+
+class ByHand(OnChip):
+    """A small chip."""
+
+    def setUp(self) -> None:
+        OnChip.setUp(self)
+        self.design(placed(4, 2, CELLS, PORTS, NETS))
+
+    def test_netlist(self) -> None:
+        self.assertEqual(self.text("a.v"), NETLIST)
+        found = Pins(self.path("a.ispd.pins"))
+        self.assertEqual((found.name, found.nets[4]), ("top", [("three", "Q", "output"), ("PIN", "q[1]", "output"),
+                                                               ("PIN", "also", "output")]))
+        self.assertEqual(found.nets[0], [("PIN", "in", "input"), ("one", "A", "input")])
+
+    def test_spef(self) -> None:
+        self.put("a.solution", SOLUTION)
+        paths = [self.path(f"a.{kind}") for kind in ("ispd", "library", "solution", "spef")]
+        words = (*paths[:3], "-o", paths[3], "--scale", "100")
+        self.assertEqual(tool("spef.py", *words), (1, "", "spef: 1 net unjoined: x\n"))
+        nets = [f"*D_NET{net}" for net in self.text("a.spef").split("*D_NET")[1:]]
+        self.assertEqual([re.sub(r"^\*D_NET (\S+) (\S+)\n(?s:.*)$", r"\1 \2", net) for net in nets],
+                         ["in 20", "clk 0", "a\\$b 50", "q[0] 20"])
+        self.assertEqual(nets[2], BRANCH)
+        self.assertIn("*P q[0] O\n", nets[3])
+        for old, new, says in ((" !\nclk", " (500,500,2)-(1500,500,2) (1500,500,2)-(1500,1500,2) (1500,1500,2)-"
+                                "(500,1500,1) !\nclk", "is not straight"),
+                               (" !\nclk", " (500,500,1)-(1500,500,1) (1500,500,1)-(1500,500,2) (1500,500,2)-"
+                                "(1500,1500,2) (1500,1500,1)-(1500,1500,2) (1500,1500,1)-(500,1500,1) "
+                                "(500,1500,1)-(500,1500,2) !\nclk", "the routes of the net in have a loop")):
+            self.put("a.solution", SOLUTION.replace(old, new, 1))
+            status, _, err = tool("spef.py", *words)
+            self.assertEqual(status, 3)
+            self.assertIn(says, err)
+
+    def test_names_of_a_netlist(self) -> None:
+        other = NETLIST.replace("a$b", "\\a/b ").replace("input in;\n  input clk", "input in, clk")
+        other = other.replace("  BUF", "  // cells\n  (* keep *) BUF").replace("assign also = q[1];", "assign also=u;")
+        other = other.replace(".Q(q[1])", ".Q(u)").replace("wire", "wire u = q[1];\n  wire")
+        self.put("b.v", other)
+        self.assertIn("*D_NET a\\/b ", self.spef("--verilog", self.path("b.v")))
+        for old, new, says in ((".A(in)", ".A(clk)", "it isn't of this placement: the net in has the pin A of one"),
+                               ("(in, ", "(", None), ("input in, clk", "input clk", "it has no port in"),
+                               ("endmodule", "endmodule module b (); endmodule", "is to be flat"),
+                               ("BUF one", "BUF #(1) one", "parameters"), (".A(in)", "in", "is due"),
+                               ("endmodule", "", "the text ends within a module")):
+            self.put("b.v", other.replace(old, new, 1))
+            paths = [self.path(name) for name in ("a.ispd", "a.library", "a.solution", "b.spef", "b.v")]
+            status, _, err = tool("spef.py", *paths[:3], "-o", paths[3], "--verilog", paths[4])
+            self.assertEqual(status, 0 if says is None else 3, new)
+            self.assertIn(says or "", err)
+
+    @unittest.skipUnless(STA, "sta is not there")
+    def test_a_wrong_name(self) -> None:
+        text = self.spef()
+        lines = sta.reading([self.lib], self.path("a.v"), "top", self.path("a.spef"))
+        self.assertEqual(sta.answer([*lines, 'puts "groute: 7"']), ["7"])
+        for old, new in (("*D_NET in ", "*D_NET im "), ("one:A", "won:A"), ("*RES", "*RAS")):
+            self.put("a.spef", text.replace(old, new, 1))
+            self.assertRaises(Fault, sta.answer, lines)
+        self.put("a.spef", text)
+        self.assertRaises(Fault, sta.answer, [*lines, "proc a {} {"])      # without an end
+        self.assertRaises(Fault, sta.answer, [*lines, "get_such a"])
+
+
+class Odd(OnChip):
+    """Names with odd letters."""
+
+    def chip(self, count: int) -> str:
+        """A chain of buffers and inverters whose names, and whose nets' names, are odd."""
+        rng = random.Random(73)
+        letters = "abXY019_$/.:[]<>{}()|!%&'*+,-=?@^~`\"#"
+        names: dict[str, None] = dict.fromkeys(["module", "wire", "a[0]", "a[1]", "12", "1", "\\[", "x\\/y", "\\\\"])
+        while len(names) < 2 * count:
+            word = "".join(rng.choice(letters) for _ in range(rng.randrange(1, 9)))
+            if word[0] not in '#"+-;*()/' and not word.startswith("PIN"):
+                names.setdefault("".join("\\" + letter if rng.random() < 0.1 else letter for letter in word))
+        words = list(names)
+        by_plain: dict[str, str] = {}
+        for name in words:
+            by_plain.setdefault(own(name), name)
+        words = list(by_plain.values())
+        cells = {name: (("BUF", "INV")[at % 2], at % 20 * 5, at // 20) for at, name in enumerate(words[::2])}
+        instances = list(cells)
+        nets = {"first": ["first", f"{instances[0]}/A"]}
+        for at, name in enumerate(words[1::2][:len(instances) - 1]):
+            nets[name] = [f"{instances[at]}/Y", f"{instances[at + 1]}/A"]
+        nets["b[1]"] = [f"{instances[-1]}/Y", "b[1]"]
+        rows = -(-len(cells) // 20)
+        return placed(20, rows, cells, {"first": (None, 0, 0), "b[1]": (None, 19, rows - 1)}, nets)
+
+    @unittest.skipUnless(STA, "sta is not there")
+    def test_names_survive(self) -> None:
+        self.design(self.chip(500))
+        self.spef()
+        lines = sta.reading([self.lib], self.path("a.v"), "top", self.path("a.spef"))
+        lines += ["foreach one [get_cells *] { puts \"groute: [get_full_name $one]\" }",
+                  "foreach one [get_nets *] { puts \"groute: [get_full_name $one]\" }"]
+        wanted = []
+        netlist = Verilog(self.path("a.v"))
+        for name, instance in netlist.instances.items():
+            signals = instance.pins["A"].signals
+            wanted += [doubled(name), *(signal.timer() for signal in signals if isinstance(signal, Name))]
+        wanted.append("b[1]")
+        self.assertGreater(len(wanted), 950)
+        self.assertEqual(sorted(sta.answer(lines)), sorted(wanted))
+        text = self.text("a.spef")
+        self.put("a.v", self.text("a.v").replace("module top", "module other"))
+        self.assertEqual(self.spef("--verilog", self.path("a.v")), text.replace('"top"', '"other"'))
+
+    @unittest.skipUnless(YOSYS, "yosys is not there")
+    def test_yosys_reads_them(self) -> None:
+        self.design(self.chip(100))
+        self.assertEqual(equivalent(self.folder.name, self.lib, self.path("a.v"), self.path("a.v"), "top"), "")
+
+
+class Grom(OnChip):
+    """A processor of 2,000 nets."""
+
+    @unittest.skipUnless(STA and OSU_THERE, "sta and qflow-tech-osu035 are not there")
+    def test_delays(self) -> None:
+        """With drivers of 0 ohms groute's delay of each net is the greatest that OpenSTA finds, to 1 %."""
+        with lzma.open(f"{ROOT}/examples/grom_osu035.def.xz", "rt") as file:
+            placed_text = file.read()
+        self.lef, self.lib = f"{OSU}.lef", f"{OSU}.lib"
+        self.design(placed_text, "--kinds", "BUFX2")
+        library = re.sub(r"(?m)^(drive \d+|driver) \d+$", r"\1 0", self.text("a.library"))
+        self.put("a.library", re.sub(r"(?m)^kind .*\n", "", library))
+        status, out, err = run(program(), "buffer", *(self.path(f"a.{name}")
+                                                      for name in ("ispd", "library", "solution")))
+        self.assertEqual(status, 0, err)
+        delays = {name: -int(time) / 2e7 for name, time in re.findall(r"^net (\S+) \d+ required (-?\d+)", out, re.M)}
+        self.spef()
+        found = self.elmore()
+        self.assertEqual(len(delays), 1999)
+        worst = 0.0
+        for id_, pins in Pins(self.path("a.ispd.pins")).nets.items():
+            name = self.names[id_]
+            if len(pins) > 1 and all(pin.component != "PIN" for pin in pins):
+                real = max(found[pins[0][:2], pin[:2]] for pin in pins[1:])
+                worst = max(worst, abs(delays[name] - real) / max(real, 0.01))
+        self.assertLess(worst, 0.01)
+
+    def elmore(self) -> dict[tuple[tuple[str, str], tuple[str, str]], float]:
+        """OpenSTA's delay of each net from its driver to each sink, in picoseconds."""
+        lines = sta.reading([self.lib], self.path("a.v"), "grom_cpu", self.path("a.spef"))
+        lines += ["set all [::sta::vertex_iterator]", "while {[$all has_next]} {", "  set one [[$all next] pin]",
+                  "  set pins([get_full_name $one]) $one", "}", "$all finish"]
+        self.names = re.findall(r"(?m)^(\S+) \d+ \d+ 1$", self.text("a.ispd"))
+        pairs = []
+        for pins in Pins(self.path("a.ispd.pins")).nets.values():
+            pairs += [(pins[0][:2], pin[:2]) for pin in pins[1:] if "PIN" not in (pins[0][0], pin[0])]
+        for one, other in pairs:
+            words = f"$pins({'/'.join(one)}) $pins({'/'.join(other)})"
+            lines.append(f'puts "groute: [::sta::find_elmore {words} rise max] [::sta::find_elmore {words} fall max]"')
+        return dict(zip(pairs, (max(map(float, line.split())) * 1e12 for line in sta.answer(lines))))

@@ -1,0 +1,147 @@
+"""Tests of required.py, where OpenSTA is there: slacks of nets, and libraries whose required times they are."""
+import lzma
+import os
+import re
+import unittest
+from unittest import mock
+
+from chips import LOAD, STA, OnChip, liberty, placed
+from groute.texts.figures import read_figures
+from groute.texts.slacks import read_slacks
+from groute.timing import sta
+from test_insertion import CELLS, NETS, PORTS
+from testing import PICTURES, ROOT, program, run, tool
+
+OSU = "/usr/share/qflow/tech/osu035/osu035_stdcells"
+
+
+class WithoutSta(OnChip):
+    """What is told where sta isn't there, and of words."""
+
+    def test_words(self) -> None:
+        for words in (("--period", "0"), ("--period", "1", "--sdc", "a"), (), ("--sdc", "a", "--clock", "b")):
+            status, _, err = tool("required.py", *"abcde", "--liberty", "f", "-o", "g", *words)
+            self.assertEqual(status, 2)
+            self.assertIn("error: ", err)
+
+    def test_no_sta(self) -> None:
+        with mock.patch.dict(os.environ, {"PATH": self.folder.name}):
+            self.assertRaisesRegex(Exception, "apt-get install opensta", sta.answer, [])
+
+
+@unittest.skipUnless(STA, "sta is not there")
+class Slacks(OnChip):
+    """A small chip, and a processor."""
+
+    def required(self, *words: str) -> tuple[int, str, str]:
+        """What the tool did."""
+        paths = [self.path(f"a.{kind}") for kind in ("ispd", "library", "solution", "v", "spef")]
+        return tool("required.py", *paths, "--liberty", self.lib, "-o", self.path("a.slacks"), "--library",
+                    self.path("b.library"), "--scale", "100", *words)
+
+    def times(self) -> dict[int, float]:
+        """groute's required times by the new library without kinds, in picoseconds."""
+        self.put("c.library", re.sub(r"(?m)^(kind|inverter) .*\n", "", self.text("b.library")))
+        paths = [self.path(name) for name in ("a.ispd", "c.library", "a.solution")]
+        status, out, err = run(program(), "buffer", *paths)
+        self.assertEqual(status, 0, err)
+        return {int(id_): int(time) / 2e7 for id_, time in re.findall(r"(?m)^net \S+ (\d+) required (-?\d+)", out)}
+
+    def check(self, free: set[int], clocks: set[int]) -> None:
+        """Each required time is the slack of the table, to 1 ps."""
+        slacks, times = read_slacks(self.path("a.slacks")), self.times()
+        self.assertEqual((slacks.free, slacks.clocks), (free, clocks))
+        self.assertEqual(set(slacks.times), set(times) - free)
+        for id_, time in slacks.times.items():
+            self.assertAlmostEqual(times[id_], time / 1000, delta=1)
+        for id_ in free:
+            self.assertTrue(times[id_] > 1e7 or times[id_] == 0)    # with sinks, and without
+
+    def test_small(self) -> None:
+        cells = {**CELLS, "o": ("BUF", 30, 0)}
+        self.design(placed(8, 4, cells, PORTS, {**NETS, "loose": ["o/Y"]}))
+        self.spef()
+        status, out, err = self.required("--period", "1.5")
+        self.assertEqual((status, err), (0, ""))
+        said = dict(line.rsplit(" ", 1) for line in out.splitlines())
+        ids = {name: at for at, name in enumerate([*NETS, "loose"])}
+        self.check({ids["back"], ids["loose"]}, {ids["ck"]})
+        # From the port through three cells to the flip-flop, by hand: 200, 60 and 200 ps, their resistances of 1,000,
+        # 2,000 and 1,000 ohms times some 100 fF of wires and pins, and 100 ps of setup.
+        slacks = read_slacks(self.path("a.slacks"))
+        self.assertEqual(len({slacks.times[ids[name]] // 1000 for name in ("in", "two", "branch", "series")}), 1)
+        self.assertTrue(300 < slacks.times[ids["in"]] / 1000 < 1500 - 200 - 60 - 200 - 100)
+        self.assertAlmostEqual(float(said["worst slack, ns"]), min(slacks.times.values()) / 1e6, delta=0.001)
+        self.put("sdc", "create_clock -name groute_clock -period 1.5 [get_ports ck]\n"
+                        "set_input_delay 0 -clock groute_clock [get_ports in]\n"
+                        "set_output_delay 0 -clock groute_clock [get_ports out]\n")
+        table = self.text("a.slacks")
+        for words in (("--sdc", self.path("sdc")), ("--period", "1.5", "--clock", "ck")):
+            self.assertEqual(self.required(*words)[:2], (0, out))
+            self.assertEqual(self.text("a.slacks"), table)
+        self.put("sdc", "create_clock -name c -period 1 [get_ports none]\n")
+        for words, says in ((("--sdc", self.path("sdc")), "sta: Warning: "), (("--period", "1", "--clock", "no"),
+                                                                              "there is no port no")):
+            status, _, err = self.required(*words)
+            self.assertEqual(status, 3)
+            self.assertIn(says, err)
+        self.put("a.spef", self.text("a.spef").replace("*D_NET two ", "*D_NET three "))
+        status, _, err = self.required("--period", "1.5")
+        self.assertEqual(status, 3)
+        self.assertIn("net three not found", err)
+
+    def test_limits(self) -> None:
+        """Nets over max_capacitance, by their wires and pins, and over max_transition."""
+        self.design(placed(8, 4, CELLS, PORTS, NETS))
+        text = self.spef()
+        farads = {net: float(wires) + LOAD * inputs.count(" I\n") for net, wires, inputs in
+                  re.findall(r"(?s)\*D_NET (\S+) (\S+)\n\*CONN\n(.*?)\*CAP", text) if "O\n" in inputs}
+        most = sorted(farads.values())[len(farads) // 2]
+        found = []
+        for limit in (most - 1, most + 1):
+            self.put("cells.lib", liberty().replace("max_capacitance : 0.5", f"max_capacitance : {limit / 1000}"))
+            status, out, err = self.required("--period", "1.5", "--figures", self.path("a.figures"))
+            self.assertEqual(status, 0, err)
+            found.append(read_figures(self.path("a.figures")).capacitance)
+            self.assertEqual(found[-1], sum(load > limit for load in farads.values()))
+        self.assertGreater(found[0], found[1])
+        self.put("cells.lib", liberty().replace("max_capacitance : 0.5", "max_transition : 0.25"))
+        self.required("--period", "1.5", "--figures", self.path("a.figures"))
+        self.assertGreater(read_figures(self.path("a.figures")).transition, 0)
+
+    def test_virtual_clock(self) -> None:
+        """Without registers a virtual clock constrains the ports."""
+        nets = {"in": ["in", "a/A"], "two": ["a/Y", "b/A"], "out": ["b/Y", "out"]}
+        ports = {name: PORTS[name] for name in ("in", "out")}
+        self.design(placed(8, 4, {name: CELLS[name] for name in "ab"}, ports, nets))
+        self.spef()
+        status, out, err = self.required("--period", "2")
+        self.assertEqual((status, err), (0, ""))
+        self.check(set(), set())
+
+    @unittest.skipUnless(PICTURES, "numpy and matplotlib are not there")
+    def test_ranking(self) -> None:
+        self.design(placed(8, 4, CELLS, PORTS, NETS))
+        self.spef()
+        self.required("--period", "1.5")
+        paths = [self.path(f"a.{kind}") for kind in ("ispd", "library", "solution", "report")]
+        status, out, err = tool("slowest.py", *paths, "--scale", "100", "--slack", self.path("a.slacks"), "--nets",
+                                "signals")
+        self.assertEqual(status, 0, err)
+        lines = out.splitlines()
+        self.assertEqual(lines[0], f"nets are ranked by the slack of {self.path('a.slacks')}")
+        self.assertRegex(lines[2], "^net +slack, ps +required, ps ")
+        rows = [line.split()[:2] for line in lines[3:11]]
+        self.assertEqual(rows[-1], ["back", "free"])
+        self.assertEqual([row[1] for row in rows[:-1]], sorted((row[1] for row in rows[:-1]), key=float))
+
+    @unittest.skipUnless(os.path.exists(f"{OSU}.lib"), "qflow-tech-osu035 is not there")
+    def test_grom(self) -> None:
+        self.lef, self.lib = f"{OSU}.lef", f"{OSU}.lib"
+        with lzma.open(f"{ROOT}/examples/grom_osu035.def.xz", "rt") as file:
+            self.design(file.read())
+        self.spef()
+        status, out, err = self.required("--period", "5")
+        self.assertEqual((status, err), (0, ""))
+        self.check({1998}, set(range(13)))
+        self.assertRegex(out, r"(?m)^nets late [1-9]")

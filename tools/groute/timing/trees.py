@@ -1,0 +1,65 @@
+"""The routes of a net as a tree from its driver."""
+from typing import Iterator, Sequence
+
+from groute.texts.designs import EAST, NORTH, UP, Cell, Netlist
+from groute.texts.files import Fault
+
+
+class Tree:
+    """The cells of a net's routes by number, the driver's first and each behind its parent: of each, the place of its
+    parent and the layer of the wire to it from 1, 0 of a via. `pins` has the place of each pin's cell, or None where
+    no route leads there."""
+
+    def __init__(self, design: Netlist, id_: int, segments: Sequence[bytes]) -> None:
+        self.steps = 1, design.columns, design.columns * design.rows
+        near: dict[int, list[int]] = {}
+        for low, high in map(design.run, segments):
+            self.add(near, low, high)
+        cells = [self.number(design.cell(*pin)) for pin in design.pins(id_)]
+        self.cells, self.parents, self.layers = [cells[0]], [-1], [0]
+        self.walk(near)
+        self.place = dict(zip(self.cells, range(len(self.cells))))
+        if len(self.place) < len(self.cells):
+            raise Fault(f"the routes of the net {design.names[id_]} have a loop")
+        self.pins = [self.place.get(cell) for cell in cells]
+
+    def number(self, cell: Cell) -> int:
+        """Of a cell."""
+        return cell[0] + cell[1] * self.steps[NORTH] + cell[2] * self.steps[UP]
+
+    def add(self, near: dict[int, list[int]], low: Cell, high: Cell) -> None:
+        """A straight run: which cells lie beside which."""
+        step = self.steps[EAST if low[0] != high[0] else NORTH if low[1] != high[1] else UP]
+        first, last = self.number(low), self.number(high)
+        for cell in range(first, last, step):
+            near.setdefault(cell, []).append(cell + step)
+            near.setdefault(cell + step, []).append(cell)
+
+    def walk(self, near: dict[int, list[int]]) -> None:
+        """From the driver's cell on; where two ways lead to a cell, it comes twice, and the walk ends there."""
+        cells, parents, layers = self.cells, self.parents, self.layers
+        level = self.steps[UP]
+        before = {cells[0]: -1}
+        for at, cell in enumerate(cells):
+            for other in near.get(cell, ()):
+                if other == before[cell] or before.get(other) == cell:
+                    continue        # where it came from, or a step that segments cover twice
+                cells.append(other)
+                if other in before:
+                    return
+                before[other] = cell
+                parents.append(at)
+                layers.append(0 if abs(other - cell) == level else cell // level + 1)
+
+    def unjoined(self) -> bool:
+        """Whether no route leads to a pin."""
+        return None in self.pins
+
+    def cell(self, at: int) -> Cell:
+        """Column, row and layer of a cell at a place."""
+        layer, rest = divmod(self.cells[at], self.steps[UP])
+        return rest % self.steps[NORTH], rest // self.steps[NORTH], layer
+
+    def backwards(self) -> Iterator[int]:
+        """All places but the first, each before its parent."""
+        return iter(range(len(self.cells) - 1, 0, -1))
