@@ -24,7 +24,8 @@ COMES = {
 }
 # The words of each command, and what it does.
 USAGE = {
-    "route DESIGN LIBRARY ROUNDS [--workers N] [--via-cost V] [--batch B] [--rule first|steep|flat|near] [--stop still|N]":
+    "route DESIGN LIBRARY ROUNDS [--workers N] [--via-cost V] [--batch B] [--rule first|steep|flat|near] "
+    "[--stop still|N]":
         "routes a design",
     "evaluate DESIGN SOLUTION [--via-cost V]": "judges the routes of any router",
     "buffer DESIGN LIBRARY SOLUTION": "places buffers on the routes of any router",
