@@ -53,11 +53,13 @@ class Flow(InFolder):
     def test_options(self) -> None:
         """What routes are asked for, by the words and by what grbound proves."""
         for words, least, wanted in (
-                ("", 0, "64 --workers 1 --stop 0"), ("", 3, "16 --workers 1 --rule steep"),
+                ("", 0, "64 --workers 1 --rule near --stop 0"), ("", 3, "16 --workers 1 --rule near"),
                 ("--rule flat", 0, "64 --workers 1 --rule flat --stop 0"),
-                ("--rule flat", 3, "16 --workers 1 --rule flat"), ("--stop still", 0, "64 --workers 1 --stop still"),
-                ("--stop 5", 3, "16 --workers 1 --rule steep --stop 5"), ("--batch 9", 0, "8 --workers 1 --batch 9"),
-                ("--batch 9", 3, "8 --workers 1 --batch 9"), ("--rounds 8", 3, "8 --workers 1"),
+                ("--rule flat", 3, "16 --workers 1 --rule flat"),
+                ("--stop still", 0, "64 --workers 1 --rule near --stop still"),
+                ("--stop 5", 3, "16 --workers 1 --rule near --stop 5"),
+                ("--batch 9", 0, "8 --workers 1 --rule near --batch 9"),
+                ("--batch 9", 3, "8 --workers 1 --rule near --batch 9"), ("--rounds 8", 3, "8 --workers 1 --rule near"),
                 ("--rounds 0 --workers 4 --rule steep --batch 64", 0, "0 --workers 4 --rule steep --batch 64")):
             asked = flow.asked_of(["a.def", "--lef", "a.lef", "-o", "out", *words.split()])
             self.assertEqual(" ".join(flow.order(asked, least)), wanted, words)
@@ -75,8 +77,8 @@ class Flow(InFolder):
         self.script("grbound", f"[ $# -gt 0 ] || exit 2\ncat <<E\n{BOUNDS}E")
         given = ("--layers", "met1-met5", "--program", groute)
         for words, wanted in ((("--rule", "flat", "--stop", "3"), "16 --workers 1 --rule flat --stop 3"),
-                              (("--rounds", "3", "--batch", "7"), "3 --workers 1 --batch 7"),
-                              ((), "16 --workers 1 --rule steep")):
+                              (("--rounds", "3", "--batch", "7"), "3 --workers 1 --rule near --batch 7"),
+                              ((), "16 --workers 1 --rule near")):
             status, _, err, _ = self.made(SKY[0], *given, *words)
             with open(noted, encoding="utf-8") as file:
                 line = file.readlines()[-1].split(" ", 3)

@@ -22,8 +22,8 @@ and after:
 It stops at the first step that fails, with that tool's message and status; what an earlier run wrote is gone then. Else
 the status is 1 where routes leave nets unjoined, and 0.
 
-Without --rounds there are up to 64, which end once the overflow is 0, but 16 by --rule steep where grbound proves that
-there is overflow in any routes; with --batch, which takes no --stop, 8.
+Routes are made by --rule near, if no other is given. Without --rounds there are up to 64 rounds, which end once the
+overflow is 0, but 16 where grbound proves that there is overflow in any routes; with --batch, which takes no --stop, 8.
 """
 import importlib.util
 import os
@@ -52,7 +52,8 @@ WRITTEN = ("design.ispd", "design.ispd.names", "design.ispd.pins", "design.libra
 OF_RUN = ("design.ispd", "design.library", "routes.solution", "report.txt")     # of each placement that is routed
 FOLDERS = (closing.BEST, *(f"run{number}" for number in range(1, closing.RUNS + 1)))
 MOST_ROUNDS, MOST_WORKERS, MOST_BATCH, MOST_STOP = 64, 16, 65536, (1 << 64) - 1
-OVERFULL_ROUNDS, OVERFULL_RULE = 16, "steep"    # where no routes are without overflow
+RULE = "near"           # the one that leaves least overflow
+OVERFULL_ROUNDS = 16    # where no routes are without overflow
 BATCH_ROUNDS = 8
 USAGE = b"groute: usage\n", b"grbound: usage\n"
 
@@ -194,11 +195,11 @@ def bound(program: str, paths: dict[str, str]) -> int:
 
 def order(asked: Namespace, least: int) -> list[str]:
     """The rounds and options of `route`."""
-    rounds, rule, stop = asked.rounds, asked.rule, asked.stop
+    rounds, rule, stop = asked.rounds, asked.rule or RULE, asked.stop
     if rounds is None and asked.batch is not None:
         rounds = BATCH_ROUNDS
     elif rounds is None and least > 0:
-        rounds, rule = OVERFULL_ROUNDS, rule or OVERFULL_RULE
+        rounds = OVERFULL_ROUNDS
     elif rounds is None:
         rounds, stop = MOST_ROUNDS, stop or "0"
     given = {"--workers": asked.workers, "--rule": rule, "--stop": stop, "--batch": asked.batch}
@@ -261,7 +262,7 @@ def parser() -> frame.Parser:
                        help="of rip-up and reroute at most; else as above")
     words.add_argument("--workers", type=frame.number(1, MOST_WORKERS), default=1, metavar="N",
                        help="threads that route; else 1")
-    words.add_argument("--rule", choices=values("--rule"), help="as of groute route")
+    words.add_argument("--rule", choices=values("--rule"), help="as of groute route; else near")
     words.add_argument("--stop", type=stop, metavar="still|N", help="as of groute route")
     words.add_argument("--batch", type=frame.number(1, MOST_BATCH), metavar="B", help="as of groute route")
     words.add_argument("--scale", type=frame.number(1), default=100, metavar="N",
