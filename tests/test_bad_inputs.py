@@ -72,6 +72,17 @@ def runs_on(process: int) -> bool:
     return True
 
 
+def interrupted(child: "subprocess.Popen[bytes]", number: int) -> tuple[bytes, bytes]:
+    """What a process writes until it ends by a signal, which comes again where it came just before a read."""
+    for _ in range(15):
+        child.send_signal(number)
+        try:
+            return child.communicate(timeout=2)
+        except subprocess.TimeoutExpired:
+            continue
+    return child.communicate(timeout=1)
+
+
 class BadInputs(InFolder):
     """Inputs that are drawn, and those that were once found."""
 
@@ -302,9 +313,8 @@ class BadInputs(InFolder):
                           ["where.py", pipe, "1"], ["adjust.py", pipe, "-o", f"{self.folder.name}/a"]):
                 child = subprocess.Popen([sys.executable, os.path.join(TOOLS, words[0]), *words[1:]],
                                          stdout=subprocess.PIPE, stderr=subprocess.PIPE)
-                with open(pipe, "wb"):      # waits until the tool reads
-                    child.send_signal(number)
-                    out, err = child.communicate(timeout=30)
+                with open(pipe, "wb"):      # waits until the tool opens it
+                    out, err = interrupted(child, number)
                 self.assertEqual((child.returncode, out, err), (-number, b"", b""), words)
         self.assertEqual(os.listdir(self.folder.name), ["pipe"])
 
