@@ -208,7 +208,8 @@ class Hotspots(InFolder):
         status, out, err = run("klayout", "-b", "-r", self.put("read.py", KLAYOUT), "-rd", f"path={self.reports()[1]}",
                                env=environment, timeout=60)
         self.assertEqual((status, err), (0, ""))
-        edge = r"text: 'capacity 2 demand 4 overflow 2 nets <a&\'\\> b'"
+        demand = 4
+        edge = rf"text: 'capacity 2 demand {demand} overflow 2 nets <a&\'\\> b'"
         self.assertEqual(out.splitlines(), [
             r"worst regions box: (-0.5,0.7;-0.05,1.3) text: 'overflow 4 edges 2 at capacity 0 0 nets <a&\'\\> b'",
             f"<m>'1 box: (-0.5,0.9;-0.2,1.1) {edge}", f"<m>'1 box: (-0.35,0.9;-0.05,1.1) {edge}"])
