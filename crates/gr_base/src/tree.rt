@@ -178,6 +178,16 @@ impl RouteTree {
         grow(&mut self.nodes, parent, walk)
     }
 
+    /// Gives back the memory that the list of nodes holds beyond its length, where no copy shares it.
+    pub fn trim(&mut self)
+        ensures same { self.new ≡ self.old }
+        ensures tree { IsTree self.new }
+    {
+        if let Some(own) = Arc::get_mut(&mut self.nodes) {
+            own.shrink_to_fit();
+        }
+    }
+
     /// Another tree with the same nodes, which both share until one of them grows. The only error is
     /// want of memory.
     pub fn copy(&self, alloc: Global) -> Result<RouteTree, AllocError>
