@@ -9,8 +9,8 @@ ghost use Rattle.maze_route.specs.Steps.{size_of, local_of};
 ghost use Rattle.maze_route.specs.Windows.{LieIn};
 
 use crate::front::Labels;
-use crate::lists::refill;
 use crate::pane::{Pane, Reached};
+use gr_base::refill;
 use std::alloc::AllocError;
 
 /// Puts the numbers in the window of some cells in the place of what a list held.

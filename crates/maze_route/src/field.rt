@@ -7,12 +7,11 @@ ghost use Rattle.maze_route.specs.Runs.{price_at};
 ghost use Rattle.maze_route.specs.Steps.{size_of, cell_in};
 ghost use Rattle.maze_route.specs.Windows.{IsWindow};
 
-use crate::lists::refill;
 use crate::pane::Pane;
 use crate::runs::{NO_PRICE, RunCosts};
 use crate::window::Window;
 use cost_rules::Costs;
-use gr_base::{Edge, Shape, Way};
+use gr_base::{Edge, Shape, Way, refill};
 use std::alloc::{AllocError, Global};
 
 /// The cells of a window and the prices of its wire edges, by the numbers in the window of their low

@@ -2,8 +2,8 @@
 ghost use Rattle.std.specs.Prelude.{◌≡◌, ℕ, [], ◌<◌, None, OnOk, length, if◌then◌else◌, slice_set};
 ghost use Rattle.maze_route.specs.Labels.{unreached, label_at, is_lower};
 
-use crate::lists::refill;
 use crate::queue::BucketQueue;
+use gr_base::refill;
 use std::alloc::{AllocError, Global};
 
 /// What stands for no label.

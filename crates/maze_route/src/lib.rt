@@ -10,7 +10,6 @@ mod field;
 mod first;
 mod front;
 mod heads;
-mod lists;
 mod numbers;
 mod pane;
 mod places;

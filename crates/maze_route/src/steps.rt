@@ -2,7 +2,7 @@
 ghost use Rattle.std.specs.Prelude.{◌≡◌, ◌^◌, ◌<◌, ◌≤◌, length, IsTrue, IfSome};
 ghost use Rattle.std.specs.Option.{option_map};
 ghost use Rattle.cost_rules.specs.Formulas.{most_cost};
-ghost use Rattle.gr_base.specs.Grid.{IsInside, beyond, has_room};
+ghost use Rattle.gr_base.specs.Grid.{IsInside, beyond};
 ghost use Rattle.gr_base.specs.Limits.{most_cells};
 ghost use Rattle.maze_route.specs.Fields.{IsPriced};
 ghost use Rattle.maze_route.specs.Steps.{IsSpot, has_room_behind, before, ahead_of, behind_of, beside, size_of, Covers, least_to, step_of, step_to};
@@ -11,19 +11,7 @@ use crate::field::Field;
 use crate::pane::{Aim, Neighbour, Spot};
 use crate::side::Side;
 use cost_rules::Costs;
-use gr_base::{Cell, Edge, Shape, Way};
-
-/// Whether the shape has a cell next to this one along the way.
-fn has_ahead(shape: Shape, place: Cell, way: Way) -> bool
-    requires { IsInside shape place }
-    ensures { result ≡ has_room shape place way }
-{
-    match way {
-        Way::East => place.x + 1 < shape.columns,
-        Way::North => place.y + 1 < shape.rows,
-        Way::Up => place.layer + 1 < shape.layers,
-    }
-}
+use gr_base::{Cell, Edge, Way};
 
 /// Whether there is a cell next to this one against the way.
 fn has_behind(place: Cell, way: Way) -> bool
@@ -103,7 +91,7 @@ fn ahead<C: Costs>(costs: &C, field: &Field, spot: Spot, way: Way) -> Option<Nei
     ensures cell { IfSome result (λ n. n.cell < size_of field.now.pane) }
     ensures inside { IfSome result (λ n. IsInside field.now.pane.shape n.place) }
 {
-    if !has_ahead(field.pane.shape, spot.place, way) {
+    if !field.pane.shape.has_room(spot.place, way) {
         return None;
     }
     let low = spot.cell;
