@@ -3,7 +3,7 @@
 
 Each design (made ones where none is named) is routed by 1, 2, 4, 8 and 16 workers, each N times (20 where nothing is
 said), by each rule and with each end of the rounds in turn: none, `still`, and as enough the overflow at the middle
-mark of the run before. The program round_histories tells the history of its book. Each history is gone through entry
+mark of the run before. The program router_rows tells the history of its book. Each history is gone through entry
 by entry with a book and plans that were written apart from the proved code:
 
 - each reply is what a book of one caller answers at that point;
@@ -37,7 +37,7 @@ from solution import solution_text
 from workers import ROUTER, WORKERS, library, run
 
 HERE = os.path.dirname(os.path.abspath(__file__))
-PROGRAM = os.path.join(HERE, "..", "crates", "round_histories", "out", "round_histories")
+PROGRAM = os.path.join(HERE, "..", "crates", "router_rows", "out", "router_rows")
 # The words of made designs, and the rounds of each: the first has room, the second is crowded.
 MADE = (("7 24 24 6 1200", 3), ("11 12 12 4 700", 4))
 MARGIN = 4
@@ -306,11 +306,22 @@ class Batches(Rounds):
         self.plan(at, entry)
 
 
+# The most bytes that a run may write.
+ROOM = 1 << 30
+
+
+def held(name, path):
+    """Lines that give the program the text of a file under a name."""
+    with open(path, "rb") as file:
+        return b"text %s\n" % name.encode() + b"".join(b"| " + line + b"\n" for line in file.read().splitlines())
+
+
 def told(program, design, paths, asked):
     """The routes, the history's lines and the length of the chosen part of a run."""
-    line = " ".join(["run route", design, paths, *asked.words()]) + "\n"
-    done = subprocess.run([program], input=line.encode(), capture_output=True, check=True, timeout=TIMEOUT)
-    lines = done.stdout.split(b"\n")
+    line = " ".join(["entries route design library", *asked.words()])
+    asked_for = held("design", design) + held("library", paths) + f"set room {ROOM}\n{line}\n".encode()
+    done = subprocess.run([program], input=asked_for, capture_output=True, check=True, timeout=TIMEOUT)
+    lines = done.stdout.split(b"\n")[1:]
     check(lines[-1] == b"" and lines[-2].startswith(b"chosen "), "a run has no history")
     first = max(at for at, text in enumerate(lines) if text.startswith(b"status "))
     check(lines[first] == b"status 0", "status")

@@ -1,16 +1,17 @@
-//! What is told of the history of a run.
+//! What is told of the history of a run, entry by entry.
+use crate::bench::Left;
 use book_state::{BookState, Call, Claim, PlanKind, Reply};
 use gr_base::{RouteTree, Way};
 use gr_text::Text;
-use router_top::Ended;
 use std::alloc::AllocError;
 
-/// How a run ended, and the history of its book.
-pub(crate) fn put_end(told: &mut Text, ended: &Ended) -> Result<(), AllocError> {
+/// What out gained, as it stands, how the run ended, and the history of its book.
+pub(crate) fn put_entries(told: &mut Text, left: &Left) -> Result<(), AllocError> {
+    told.put(left.out.bytes())?;
     told.put(b"status ")?;
-    told.put_number(ended.status)?;
+    told.put_number(left.ended.status)?;
     told.put(b"\n")?;
-    if let Some(book) = &ended.book {
+    if let Some(book) = &left.ended.book {
         put_book(told, book.state())?;
     }
     Ok(())
