@@ -77,7 +77,7 @@ nodes-on on signal [] u are is = refl
 nodes-on on signal (sink ∷ rest) u are is =
     let chosen : Sink → Bool = λ s. on s.node in
     let skip : at_node u sink ≡ false → list_all (suits (signal u)) (filter (at_node u) rest) ≡ true →
-        list_all (suits (signal u)) (filter (at_node u) (sink ∷ rest)) ≡ true =
+    list_all (suits (signal u)) (filter (at_node u) (sink ∷ rest)) ≡ true =
     λ other later. ap (list_all (suits (signal u))) (filter-no (at_node u) sink rest other) ∙ later in
     elim (cases_Bool (on sink.node)) [
       | inl yes ↦

@@ -133,6 +133,7 @@ count-more s inverted = record {
     by : (b : Bool) (one : List Candidate) → length one ≡ 1 → length (if b then one else []) - 1 ≡ 0
     by true one is = omega (arith, is)
     by false one is = refl
+
     ap-less : {xs ys : List Candidate} {m : ℕ} → xs ≡ ys → length ys - 1 ≤ m → length xs - 1 ≤ m
     ap-less {xs} {ys} {m} same less = subst (λ (zs : List Candidate). length zs - 1 ≤ m) (sym same) less
 

@@ -122,7 +122,16 @@ fn planned(
     let kind = kind_of(world.round().min(MOST_ROUNDS));
     let loads = world.book().loads_at(table.capacity, front)?;
     let (design, rule) = (table.design, table.rule);
-    let tree = plan_of(alloc, planner, design, table.capacity, &loads, net, kind, rule)?;
+    let tree = plan_of(
+        alloc,
+        planner,
+        design,
+        table.capacity,
+        &loads,
+        net,
+        kind,
+        rule,
+    )?;
     Ok(Claim {
         net,
         tree,
@@ -133,7 +142,12 @@ fn planned(
 }
 
 /// Takes a step, and tells whether it was allowed, and where it leaves its worker.
-fn put_step(told: &mut Text, world: &mut World<'_>, worker: u32, step: Step) -> Result<(), AllocError>
+fn put_step(
+    told: &mut Text,
+    world: &mut World<'_>,
+    worker: u32,
+    step: Step,
+) -> Result<(), AllocError>
     requires step { IsStep world.old step }
     requires worker { worker < world.old.setting.workers }
     ensures setting { OnOk result (world.new.setting ≡ world.old.setting) }

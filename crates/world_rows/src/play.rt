@@ -17,10 +17,16 @@ use std::str::SplitWhitespace;
 
 /// The most workers and rounds of a play.
 const MOST_WORKERS: u32 = 16;
+
 const MOST_ROUNDS: u32 = 64;
 
 /// Plays at the design of a text, by the words behind `play`.
-pub(crate) fn tell(alloc: Global, text: &str, words: &str, told: &mut Text) -> Result<(), AllocError> {
+pub(crate) fn tell(
+    alloc: Global,
+    text: &str,
+    words: &str,
+    told: &mut Text,
+) -> Result<(), AllocError> {
     let mut shelf = reached(alloc, text)?;
     let Ok(design) = read_design(alloc, &mut shelf) else {
         return told.put(b"no design\n");
@@ -54,8 +60,16 @@ fn play(
     let mut planner = Planner::new(alloc)?;
     let mut rest = words;
     while let Some(word) = rest.next() {
-        let worker = if word == "mark" { 0 } else { number(rest.next()) };
-        let net = if word == "take" { number(rest.next()) } else { 0 };
+        let worker = if word == "mark" {
+            0
+        } else {
+            number(rest.next())
+        };
+        let net = if word == "take" {
+            number(rest.next())
+        } else {
+            0
+        };
         step(alloc, table, world, &mut planner, word, worker, net, told)?;
     }
     put_end(told, world)
