@@ -80,8 +80,8 @@ nodes-on on signal (sink ∷ rest) u are is =
     list_all (suits (signal u)) (filter (at_node u) (sink ∷ rest)) ≡ true =
     λ other later. ap (list_all (suits (signal u))) (filter-no (at_node u) sink rest other) ∙ later in
     elim (cases_Bool (on sink.node)) [
-      | inl yes ↦
-          let all : AreServed signal (sink ∷ filter chosen rest) = subst (AreServed signal) (filter-yes chosen sink rest yes) are in
+      | inl there ↦
+          let all : AreServed signal (sink ∷ filter chosen rest) = subst (AreServed signal) (filter-yes chosen sink rest there) are in
           let later = nodes-on on signal rest u (All-tail (λ (s : Sink). signal s.node ≡ s.flipped) sink (filter chosen rest) all) is in
           elim (cases_Bool (at_node u sink)) [
             | inl here ↦

@@ -1,5 +1,5 @@
 -- The candidates for each signal at each node are complete and real, and few.
-use Rattle.std.proofs.Common.{◌≡◌, ◌≢◌, ℕ, zero, suc, ◌+◌, ◌-◌, ◌*◌, ◌<◌, ◌≤◌, inl, inr, Bool, true, false, ◌==◌, List, [], ◌++◌, length, map, flat_map, filter_map, slice_index_or, Contains, Option, None, if◌then◌else◌, refl, sym, ap, subst, ◌∙◌, arith}
+use Rattle.std.proofs.Common.{◌≡◌, ◌≢◌, ℕ, zero, suc, ◌+◌, ◌-◌, ◌*◌, ◌<◌, ◌≤◌, inl, inr, Bool, true, false, ◌==◌, List, [], ◌∷◌, ◌++◌, length, map, flat_map, filter_map, slice_index_or, Contains, Option, None, if◌then◌else◌, refl, sym, ap, subst, ◌∙◌, arith}
 use Rattle.std.specs.List.{range_with_len}
 use Rattle.std.proofs.lemmas.Bool.{eqb-true, eq-eqb}
 use Rattle.std.proofs.lemmas.List.{length-append, length-map}
@@ -108,7 +108,7 @@ hanging-few s node all inverted =
 joined-none : (right : List Candidate) → length (all_joined [] right) ≡ 0
 joined-none right = refl
 
-more : Bool → Sites → ℕ → ℕ → ℕ
+abbrev more : Bool → Sites → ℕ → ℕ → ℕ
 more inverted s n v = length (both_of_last n s v inverted) - 1
 
 more-joined : (kinds : ℕ) (own before hung : List Candidate) → AreRising own → AreRising hung → length hung ≤ length before + kinds →
