@@ -6,7 +6,7 @@ use Rattle.std.proofs.lemmas.Bool.{cases_lt, both_ways}
 use Rattle.std.proofs.lemmas.Bool.Decides.{nat_tests}
 use Rattle.std.proofs.lemmas.List.{at_drop_more, drop_all, take_all, nil_from_length, length-map}
 use Rattle.std.proofs.lemmas.List.FromFn.{length-range_with_len}
-use Rattle.gr_base.specs.Designs.{DesignView, is_routed}
+use Rattle.gr_base.specs.Designs.{DesignView}
 use Rattle.gr_base.specs.Limits.{most_nets}
 use Rattle.gr_base.specs.Trees.{TreeView}
 use Rattle.gr_base.specs.declared.frame.Net.{Net}
@@ -20,14 +20,14 @@ use Rattle.book_state.specs.declared.entry.PlanKind.{PlanKind}
 use Rattle.book_state.specs.declared.entry.Reply.{Reply}
 use Rattle.run_histories.specs.Attempts.{kind_of}
 use Rattle.run_histories.specs.Rounds.{claim_of, IsPlanFor}
-use Rattle.batch_rounds.specs.BatchedHistories.{Batching, capacity_in, claimant, after_call, after_claim, is_refused, IsClaimOver, at_any_demand, first_slack, IsClaimedAlone, IsTurn, AreTurns, IsBatch, AreBatches, IsRound, goes_on}
+use Rattle.batch_rounds.specs.BatchedHistories.{Batching, capacity_in, claims_given, claimant, after_call, after_claim, is_refused, IsClaimOver, at_any_demand, first_slack, IsClaimedAlone, IsTurn, AreTurns, IsBatch, AreBatches, IsRound, goes_on}
 use Rattle.batch_rounds.specs.BatchedHistories.IsClaimedAlone.{Fits, Is_forced}
 use Rattle.batch_rounds.specs.BatchedHistories.IsTurn.{Is_first, Goes_on}
 use Rattle.batch_rounds.specs.BatchedHistories.AreTurns.{No_turns, Next_turn}
 use Rattle.batch_rounds.specs.BatchedHistories.AreBatches.{Next_batch}
 use Rattle.batch_rounds.specs.BatchedHistories.AreRounds.{Last_round, Next_round}
 use Rattle.batch_rounds.specs.Rounds.{HasRun}
-use Rattle.run_histories.specs.RunHistories.{routed_nets}
+use Rattle.run_histories.specs.GivenRoutes.{is_open, open_nets}
 
 -- a claim that was added, with its reply, after a history
 pub record IsAdded (t : Batching) (h : List Entry) (claim : Claim) (reply : Reply) (new : List Entry) : Type 0 where
@@ -130,7 +130,7 @@ module _ (t : Batching) (round : ℕ) (start : List Entry) (nets : List ℕ) whe
       later = ap (drop t.batch) parts ∙ cut-later t.batch batch left (long ∙ ap (λ (xs : List ℕ). min t.batch (length xs)) parts)
 
 -- rounds
-pub run-first : (t : Batching) (h : List Entry) → IsRound t 0 [] h → HasRun t 0 h
+pub run-first : (t : Batching) (h : List Entry) → IsRound t 0 (claims_given t) h → HasRun t 0 h
 run-first t h one = record {
   more = λ on after rest. Next_round one on rest;
   over = λ off. Last_round one off;
@@ -159,10 +159,10 @@ few-victims d h nets are most =
     let widths = length-map d.nets (λ (net : Net). net.width) in
     omega (arith, all, few, long, widths, most)
 
-pub few-routed : (d : DesignView) (nets : List ℕ) → nets ≡ routed_nets d → length d.nets ≤ most_nets → length nets ≤ most_nets
-few-routed d nets are most =
+pub few-open : (d : DesignView) (given : List (Option TreeView)) (nets : List ℕ) → nets ≡ open_nets d given → length d.nets ≤ most_nets → length nets ≤ most_nets
+few-open d given nets are most =
     let all = ap (λ (xs : List ℕ). length xs) are in
-    let few = few-kept (is_routed d) (range_with_len 0 (length d.nets)) in
+    let few = few-kept (is_open d given) (range_with_len 0 (length d.nets)) in
     let long = length-range_with_len 0 (length d.nets) in
     omega (arith, all, few, long, most)
 

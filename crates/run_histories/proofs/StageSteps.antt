@@ -87,6 +87,9 @@ pub kind-plain : (r : ℕ) → is_given_kind (kind_of r) ≡ false
 kind-plain zero = refl
 kind-plain (suc r) = refl
 
+pub kind-made : (r : ℕ) (kind : PlanKind) → kind ≡ kind_of r → kind ≡ Given → ⊥
+kind-made r kind is given = both_ways (is_given_kind kind) (ap is_given_kind is ∙ kind-plain r) (ap is_given_kind given)
+
 -- kinds and slacks that pass the tests
 pub kind-same : (a b : PlanKind) → is_kind a b ≡ true → a ≡ b
 kind-same Pattern Pattern is = refl
