@@ -3,7 +3,7 @@ use Rattle.std.proofs.Common.{◌≡◌, ℕ, suc, zero, ◌+◌, ◌<◌, ◌�
 use Rattle.std.specs.List.{fold, range_with_len}
 use Rattle.std.proofs.lemmas.Bool.{cases_Bool, cases_lt, cases_eq, both_ways, and_parts}
 use Rattle.std.proofs.lemmas.List.{append-nil}
-use Rattle.std.proofs.lemmas.List.Elements.{All-nil, All-push, All-weaker}
+use Rattle.std.proofs.lemmas.List.Elements.{All-nil, All-push, All-append}
 use Rattle.std.proofs.lemmas.List.Sums.{fold_push}
 use Rattle.std.proofs.lemmas.Option.{same_Some, slice_get_within, slice_get-get_or}
 use Rattle.gr_base.proofs.DesignLemmas.{routed-below}
@@ -28,7 +28,7 @@ use Rattle.book_state.specs.declared.entry.Reply.TheVariants.{Claimed}
 use Rattle.run_histories.specs.GivenRoutes.{given_to, is_open, with_given, given_among, given_claims}
 use Rattle.run_histories.specs.Rounds.{first_worker, claim_of}
 use Rattle.run_histories.specs.RunHistories.{Setting, Overflows, no_overflows, overflows_after, overflows_of, claims_given, is_due, BeginsGiven}
-use Rattle.run_histories.proofs.CutSteps.{cut-given, marked_last, unmarked, given-unmarked}
+use Rattle.run_histories.proofs.CutSteps.{cut-given, marked_last}
 
 -- the claim of a given tree behind a history
 abbrev pub given_claim : ℕ → ℕ → TreeView → Claim
@@ -81,19 +81,16 @@ module _ (d : DesignView) (given : List (Option TreeView)) where
       ((n : ℕ) (tree : TreeView) → given_to d given n ≡ Some tree → Q n (among n) → Q (n + 1) (among n ++ given_entry (among n) n tree ∷ [])) →
       (n : ℕ) → Q n (among n)
   each-given Q none open_net kept zero = subst (Q 0) (sym among-none) none
-  each-given Q none open_net kept (suc n) = by (given_to d given n) refl
+  each-given Q none open_net kept (suc n) = by (given_to d given n) refl (each-given Q none open_net kept n)
     where
       more : n + 1 ≡ suc n
       more = omega arith
 
-      before : Q n (among n)
-      before = each-given Q none open_net kept n
-
-      by : (o : Option TreeView) → given_to d given n ≡ o → Q (suc n) (among (suc n))
-      by None is =
+      by : (o : Option TreeView) → given_to d given n ≡ o → Q n (among n) → Q (suc n) (among (suc n))
+      by None is before =
           subst (λ (k : ℕ). Q k (among k)) more
           (subst (Q (n + 1)) (sym (among-more n ∙ ap (λ (o : Option TreeView). with_given (among n) n o) is)) (open_net n is before))
-      by (Some tree) is =
+      by (Some tree) is before =
           subst (λ (k : ℕ). Q k (among k)) more
           (subst (Q (n + 1)) (sym (among-more n ∙ ap (λ (o : Option TreeView). with_given (among n) n o) is)) (kept n tree is before))
 
@@ -154,6 +151,10 @@ module _ (d : DesignView) (given : List (Option TreeView)) where
       by false = refl
 
   -- round 0 begins with an empty segment
+  cut-none : cut [] ≡ uncut
+  unfolding cut
+  cut-none = refl
+
   pub among-cut : (n : ℕ) → cut (among n) ≡ record { round = 0; before = among n; segment = [] }
   among-cut n =
       each-given (λ k h. cut h ≡ record { round = 0; before = h; segment = [] }) cut-none (λ k is same. same)
@@ -162,11 +163,6 @@ module _ (d : DesignView) (given : List (Option TreeView)) where
           cut-given (among k) e refl
           ∙ ap (λ (s : Cut). record { round = s.round; before = s.before ++ s.segment ++ e ∷ []; segment = [] }) same
           ∙ ap (λ (l : List Entry). record { round = 0; before = l ++ e ∷ []; segment = [] }) (append-nil (among k))) n
-    where
-      cut-none : cut [] ≡ uncut
-      unfolding cut
-      cut-none = refl
-
   -- no overflow is told so far, and no mark is the last entry
   pub among-overflows : (n : ℕ) → overflows_of (among n) ≡ no_overflows
   among-overflows n =
