@@ -25,9 +25,10 @@ pub(crate) fn claim_given(
     ensures claims { OnOk result (book.new.history ≡ claims_given (batching_of asked.now)) }
 {
     for net in 0..asked.design.nets() {
-        if let Some(tree) = asked.given.get(net) {
-            claim_tree(alloc, asked, net, tree, book)?;
-        }
+        let Some(tree) = asked.given.get(net) else {
+            continue;
+        };
+        claim_tree(alloc, asked, net, tree, book)?;
     }
     Ok(())
 }
@@ -47,11 +48,13 @@ fn claim_tree(
     ensures after { OnOk result
         (book.new.history ≡ given_among asked.now.design.now asked.now.given.now (net + 1)) }
 {
+    let tree = tree.copy(alloc)?;
+    let front = book.history().len();
     let claim = Claim {
         net,
-        tree: tree.copy(alloc)?,
+        tree,
         slack: None,
-        front: book.history().len(),
+        front,
         kind: PlanKind::Given,
     };
     add_claim(book, claim)?;

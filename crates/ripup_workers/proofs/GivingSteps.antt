@@ -1,9 +1,10 @@
 -- The first worker's claims of given trees, one after another.
-use Rattle.std.proofs.Common.{◌≡◌, ℕ, suc, zero, ◌+◌, ◌<◌, ◌≤◌, Bool, ◌==◌, List, [], ◌∷◌, ◌++◌, filter, length, All, Option, Some, None, slice_get, if◌then◌else◌, IsTrue, refl, sym, ap, subst, ◌∙◌, arith}
+use Rattle.std.proofs.Common.{◌≡◌, ℕ, suc, zero, ◌+◌, ◌<◌, ◌≤◌, Bool, true, false, ◌==◌, List, [], ◌∷◌, ◌++◌, filter, length, All, Option, Some, None, slice_get, if◌then◌else◌, IsTrue, refl, sym, ap, subst, ◌∙◌, arith}
 use Rattle.std.proofs.lemmas.List.{append-nil, length_push}
 use Rattle.std.proofs.lemmas.List.Elements.{filter_passes}
 use Rattle.std.proofs.lemmas.Option.{none-some}
-use Rattle.gr_base.specs.Designs.{is_routed}
+use Rattle.gr_base.proofs.DesignLemmas.{routed-net}
+use Rattle.gr_base.specs.Designs.{DesignView, is_routed}
 use Rattle.gr_base.specs.Trees.{TreeView, tree_at}
 use Rattle.grid_demand.specs.Tables.{CapacityView, capacity_of}
 use Rattle.book_state.proofs.LegalHistories.{legal-nothing}
@@ -141,3 +142,14 @@ given-answered t c n tree reply p q same given two is route answered =
 -- a net to which a tree is given is routed
 pub given-is : (t : Setting) (n : ℕ) (tree : TreeView) → tree_at t.given n ≡ Some tree → IsTrue (is_routed t.design n) → given_to t.design t.given n ≡ Some tree
 given-is t n tree there routed = ap (λ (b : Bool). if b then tree_at t.given n else None) routed ∙ there
+
+pub none-given : (t : Setting) (n : ℕ) → tree_at t.given n ≡ None → given_to t.design t.given n ≡ None
+none-given t n none = by (is_routed t.design n)
+  where
+    by : (b : Bool) → (if b then tree_at t.given n else None) ≡ None
+    by true = none
+    by false = refl
+
+-- and the tree lies in the design's grid
+pub given-shape : (d : DesignView) (n : ℕ) (tree : TreeView) → IsGivenRoute d n tree → tree.shape ≡ d.frame.shape
+given-shape d n tree route = let one = routed-net d n route.routed in (route.routes one.net one.there).shape

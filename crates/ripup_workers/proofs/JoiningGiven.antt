@@ -3,11 +3,12 @@ use Rattle.std.proofs.Common.{◌≡◌, ℕ, suc, zero, ◌+◌, ◌<◌, ◌�
 use Rattle.std.specs.List.{range_with_len}
 use Rattle.std.proofs.lemmas.Bool.{both_ways, and_parts}
 use Rattle.std.proofs.lemmas.Bool.Decides.{nat_tests}
+use Rattle.std.proofs.lemmas.List.Elements.{All-weaker, filter_passes}
 use Rattle.std.proofs.lemmas.Option.{none-some, same_Some, slice_get_within}
 use mathlib.Core.List.{IsPrefix}
 use Rattle.gr_base.proofs.DesignLemmas.{routed-below}
-use Rattle.gr_base.specs.Designs.{is_routed}
-use Rattle.gr_base.specs.Trees.{tree_at}
+use Rattle.gr_base.specs.Designs.{DesignView, is_routed}
+use Rattle.gr_base.specs.Trees.{TreeView}
 use Rattle.grid_demand.specs.Tables.{CapacityView, capacity_of}
 use Rattle.book_front.proofs.Prefixes.{prefix-none, prefix-then, prefix-length}
 use Rattle.book_state.specs.Books.{IsLegal}
@@ -283,3 +284,9 @@ module _ (t : Setting) (coordinator after : PassView) (workers old new : List Pa
 
   pub given-begun : AreBefore t 0 (open_nets t.design t.given) None after new
   given-begun = record { h = seen; at = stands-at; next = next-so }
+
+-- the open nets are routed
+pub open-routed : (d : DesignView) (given : List (Option TreeView)) → All (λ (net : ℕ). IsTrue (is_routed d net)) (open_nets d given)
+open-routed d given =
+    All-weaker (λ (net : ℕ). IsTrue (is_open d given net)) (λ (net : ℕ). IsTrue (is_routed d net)) (λ net is. (and_parts (is_routed d net) _ is).0) (open_nets d given)
+    (filter_passes (is_open d given) (range_with_len 0 (length d.nets)))

@@ -53,9 +53,10 @@ fn claim_given<N: BookName, R: Wait>(
 {
     let mut visit = Visit::new(book);
     for net in 0..asked.design.nets() {
-        if let Some(tree) = asked.given.get(net) {
-            claim_tree(rt, alloc, asked, net, tree, &mut visit, worker)?;
-        }
+        let Some(tree) = asked.given.get(net) else {
+            continue;
+        };
+        claim_tree(rt, alloc, asked, net, tree, &mut visit, worker)?;
     }
     Ok(())
 }
