@@ -76,9 +76,9 @@ alone-fits t round net h new claim reply is added fits = subst (IsClaimedAlone t
 
 pub alone-forced : (t : Batching) (round net : ℕ) (h new after : List Entry) (claim forced : Claim) (reply last : Reply) → IsClaimOver t round net (Some 0) h claim →
     IsAdded t h claim reply new → is_full_reply reply ≡ true → forced ≡ at_any_demand new claim → IsAdded t new forced last after → IsClaimedAlone t round net h after
-alone-forced t round net h new after claim forced reply last is added full forced_is then =
+alone-forced t round net h new after claim forced reply last is added full forced_is said =
     let again : after ≡ after_claim t (after_claim t h claim) (at_any_demand (after_claim t h claim) claim) =
-    then.after ∙ ap (λ (c : Claim). after_claim t new c) forced_is ∙ ap (λ (x : List Entry). after_claim t x (at_any_demand x claim)) added.after in
+    said.after ∙ ap (λ (c : Claim). after_claim t new c) forced_is ∙ ap (λ (x : List Entry). after_claim t x (at_any_demand x claim)) added.after in
     subst (IsClaimedAlone t round net h) (sym again) (Is_forced claim is (added.refused ∙ full))
 
 -- turns, one after another: what goes on from here goes on from the first

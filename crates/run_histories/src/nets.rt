@@ -1,5 +1,5 @@
 //! The nets of round 0.
-ghost use Rattle.std.specs.Prelude.{◌≡◌, ◌≤◌, length, IfOk};
+ghost use Rattle.std.specs.Prelude.{◌≡◌, ◌<◌, ◌≤◌, length, IfOk};
 ghost use Rattle.gr_base.specs.Limits.{most_nets};
 ghost use Rattle.run_histories.specs.GivenRoutes.{is_open, open_nets as nets_open};
 ghost use Rattle.run_histories.specs.RunHistories.{routed_nets as nets_routed};
@@ -37,6 +37,7 @@ pub fn open_nets(alloc: Global, design: &Design, given: &Routes) -> Result<Vec<u
 
 /// Whether a net is routed and no tree is given to it.
 fn is_open(design: &Design, given: &Routes, net: u32) -> bool
+    requires { net < length design.now.nets }
     ensures { result ≡ is_open design.now given.now net }
 {
     design.routed(net) && given.get(net).is_none()
