@@ -8,7 +8,6 @@ ghost use Rattle.ripup_workers.specs.Rounding.{setting_of, HaveAttempted};
 ghost use Rattle.ripup_workers.specs.Crews.{IsWorked, HasAttemptedOver};
 
 use crate::asked::Asked;
-use crate::gate::Gate;
 use crate::ground::Ground;
 use crate::members::{members_of, parted};
 use crate::team::Member;
@@ -16,6 +15,7 @@ use crate::work::work;
 use crate::worker::Worker;
 use beside_calls::for_each_beside;
 use net_plan::Planner;
+use run_histories::Gate;
 use std::alloc::{AllocError, Global};
 use std::sync::Wait;
 use std::thread::Threads;

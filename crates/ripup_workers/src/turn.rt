@@ -15,7 +15,6 @@ ghost use Rattle.ripup_workers.specs.Working.{HasLed, HasAttempted};
 
 use crate::asked::Asked;
 use crate::foresight::Foreseen;
-use crate::gate::{Gate, Stop};
 use crate::ground::Ground;
 use crate::ready::ready_memory;
 use crate::wish::Wish;
@@ -23,7 +22,7 @@ use crate::worker::Worker;
 use book_state::{Reply, Sought};
 use gr_base::RouteTree;
 use net_plan::Planner;
-use run_histories::kind_of;
+use run_histories::{Gate, Stop, kind_of};
 use std::alloc::AllocError;
 use std::sync::Wait;
 use std::thread::Threads;
@@ -50,6 +49,8 @@ impl<N: BookName, R: Threads + Wait + Sync, G: Gate> Ground<'_, N, R, G> {
         ensures { (t : Setting) → IsOver asked.now.design.now asked.now.rule.now.formula t →
             OnOk result (HasAttempted t round (net ∷ []) worker.old.pass worker.new.pass) }
     {
+        let number = worker.pass.number();
+        self.gate.pass(self.rt, number, Stop::Turn { net, round });
         let within = net < asked.design.nets();
         prove!(within);
         let wish = Wish {

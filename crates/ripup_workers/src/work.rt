@@ -8,10 +8,10 @@ ghost use Rattle.work_share.specs.Views.{IsHandOf};
 ghost use Rattle.ripup_workers.specs.Turning.{IsOver, HasWorked};
 
 use crate::asked::Asked;
-use crate::gate::Gate;
 use crate::ground::Ground;
 use crate::worker::Worker;
 use net_plan::Planner;
+use run_histories::Gate;
 use std::alloc::AllocError;
 use std::sync::Wait;
 use std::thread::Threads;
