@@ -13,12 +13,16 @@ use crate::sorted::Sorted;
 
 /// The value of an option.
 #[derive(Clone, Copy)]
-pub(crate) enum Value {
+pub(crate) enum Value<'w> {
     /// The option isn't given, and has no default.
     Absent,
     /// The word at this place of those that the option takes.
     Choice(usize),
     Count(u64),
+    /// A name.
+    Named(&'w str),
+    /// The option is given, and takes no value.
+    Present,
 }
 
 /// The number that an option has as its value.
@@ -28,20 +32,20 @@ pub(crate) fn number_of(option: OptionKind, sorted: &Sorted) -> Option<u64>
 {
     match value_of(option, sorted)? {
         Value::Count(number) => Some(number),
-        Value::Absent | Value::Choice(_) => None,
+        Value::Absent | Value::Choice(_) | Value::Named(_) | Value::Present => None,
     }
 }
 
 /// The value of an option, if it is one that the option takes: what stands with it, else its
 /// default.
-pub(crate) fn value_of(option: OptionKind, sorted: &Sorted) -> Option<Value>
+pub(crate) fn value_of<'w>(option: OptionKind, sorted: &Sorted<'w>) -> Option<Value<'w>>
     ensures value { option_map value_seen result ≡ value_of option (words_seen sorted.now) }
     ensures range { IfSome result (λ value. IsTaken (option_row option).takes (value_seen value)) }
 {
     value_by(option.row(), sorted.given(option))
 }
 
-fn value_by(row: OptionRow, given: Option<&str>) -> Option<Value>
+fn value_by(row: OptionRow, given: Option<&str>) -> Option<Value<'_>>
     ensures value { option_map value_seen result ≡ value_by (option_seen row) (values_seen given.entry) }
     ensures range { IfSome result (λ value. IsTaken (option_seen row).takes (value_seen value)) }
 {
@@ -52,7 +56,7 @@ fn value_by(row: OptionRow, given: Option<&str>) -> Option<Value>
 }
 
 /// The value that a word is, if it is one that is taken.
-fn value_in(takes: Takes, word: &str) -> Option<Value>
+fn value_in(takes: Takes, word: &str) -> Option<Value<'_>>
     ensures value { option_map value_seen result ≡ value_in (takes_seen takes) word.now }
     ensures range { IfSome result (λ value. IsTaken (takes_seen takes) (value_seen value)) }
 {
@@ -63,6 +67,8 @@ fn value_in(takes: Takes, word: &str) -> Option<Value>
             Some(place) => Some(Value::Choice(place)),
             None => number_in(least, most, word).map(Value::Count),
         },
+        Takes::Name => Some(Value::Named(word)),
+        Takes::Nothing => Some(Value::Present),
     }
 }
 
