@@ -43,9 +43,10 @@ fn cut_to_marked(
         if !wanted[node as usize] {
             continue;
         }
+        let number = cut.len();
         let parent = tree.parent(node);
-        numbers[node as usize] = cut.len();
         cut.hang(numbers[parent as usize], &[tree.cell(node), tree.cell(parent)])?;
+        numbers[node as usize] = number;
     }
     cut.trim();
     Ok(cut)

@@ -48,9 +48,10 @@ fn keep_nets(
         if !design.routed(net) {
             continue;
         }
-        if let Some(tree) = kept_tree(alloc, design, solution, net, keeper)? {
-            kept.set(net, tree);
-        }
+        let Some(tree) = kept_tree(alloc, design, solution, net, keeper)? else {
+            continue;
+        };
+        kept.set(net, tree);
     }
     Ok(())
 }

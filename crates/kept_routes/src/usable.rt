@@ -12,7 +12,7 @@ pub(crate) fn has_usable_wires(capacity: &Capacity, tree: &RouteTree) -> bool
     requires { tree.now.shape ≡ capacity.now.shape }
     ensures { (d : DesignView) → capacity.now ≡ capacity_of d → IsTrue result ↔ HasUsableWires d tree.now }
 {
-    for node in 1..tree.len() {
+    for node in 0..tree.len() {
         if let Some(edge) = tree.wire_to_parent(node) {
             if !capacity.usable(edge) {
                 return false;

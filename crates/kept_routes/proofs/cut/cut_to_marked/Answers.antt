@@ -44,7 +44,7 @@ loop-node-preserved c =
     (get_or_default c.args.wanted.now at false _ (omega (arith, c.requires.long, c.loop-node-test.true, c.len-node-end.ensures.len)) ∙ c.if-not-wanted-node.false)
     c.parent-parent.ensures.parent (c.parent-parent.ensures.earlier c.loop-node.auto.node) c.cell-in-loop-node.ensures.cell c.cell-in-loop-node-2.ensures.cell
     c.loop-node.invariant in
-    subst (λ (n : ℕ). IsCutBefore c.args.tree.now c.args.wanted.now (at + 1) (set numbers at n) c.hang.new.self) (sym c.len-in-loop-node.ensures.len)
+    subst (λ (n : ℕ). IsCutBefore c.args.tree.now c.args.wanted.now (at + 1) (set numbers at n) c.hang.new.self) (sym c.len-number.ensures.len)
     (subst (λ (t : TreeView). IsCutBefore c.args.tree.now c.args.wanted.now (at + 1) (set numbers at (length now.nodes)) t) (sym c.in_ok-hang.ensures.ok) next)
 
 pub returns : goal.returns
