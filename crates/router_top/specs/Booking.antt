@@ -105,6 +105,10 @@ pub record AreBookedRoutes (d : DesignView) (given : List (Option TreeView)) (op
   pub rounds : AreRoundsOf d given options r.rounds
   pub booked : (net : ℕ) → tree_at r.routes net ≡ booked (take r.rounds.chosen r.rounds.book.state.history) net
 
+-- likewise, whatever trees the rounds begin from
+abbrev pub HaveBookedRoutes : DesignView → Options → BookedRoutes → Type 0
+HaveBookedRoutes d options r = (given : List (Option TreeView)) × AreBookedRoutes d given options r
+
 -- the verdict on a design's trees
 abbrev pub IsVerdictOn : DesignView → Options → List (Option TreeView) → Verdict → Type 0
 IsVerdictOn d options trees v = IsVerdict d options.via_cost (route_edges trees) v
