@@ -1,11 +1,11 @@
 -- Rounds that are counted entry by entry.
-use Rattle.std.proofs.Common.{◌≡◌, ℕ, zero, suc, ◌+◌, ◌<◌, ◌≤◌, ◌^◌, Bool, true, false, cond, List, [], ◌∷◌, ◌++◌, length, take, slice_get, count_by, Option, Some, None, if◌then◌else◌, refl, sym, ap, subst, ◌∙◌, append-nil, arith}
+use Rattle.std.proofs.Common.{◌≡◌, ℕ, ◌+◌, ◌<◌, ◌≤◌, ◌^◌, Bool, true, false, cond, List, [], ◌∷◌, ◌++◌, length, take, get_or, slice_get, count_by, Option, Some, None, if◌then◌else◌, refl, sym, ap, subst, ◌∙◌, append-nil, arith}
 use Rattle.std.specs.List.{flat_map, fold}
 use Rattle.std.specs.Option.{option_map, option_to_list}
-use Rattle.std.proofs.lemmas.List.{append_assoc, length-append}
+use Rattle.std.proofs.lemmas.List.{append_assoc, length-append, take_more}
 use Rattle.std.proofs.lemmas.Grind.{flat_map-append}
 use Rattle.std.proofs.lemmas.List.Sums.{fold_push, sum_by_push}
-use Rattle.std.proofs.lemmas.Option.{none-some, same_Some}
+use Rattle.std.proofs.lemmas.Option.{same_Some, slice_get-get_or, slice_get_within}
 use Rattle.book_state.specs.Entries.{is_full_reply, is_mark}
 use Rattle.book_state.specs.Marks.{overflow_in}
 use Rattle.book_state.specs.declared.entry.Entry.{Entry}
@@ -18,13 +18,10 @@ use Rattle.round_trace.specs.declared.done.RoundDone.{RoundDone}
 
 -- the first entries and the next one
 pub take-push : (h : List Entry) (n : ℕ) (e : Entry) → slice_get h n ≡ Some e → take (n + 1) h ≡ take n h ++ e ∷ []
-take-push [] n e there = absurd (none-some e there)
-take-push (x ∷ xs) zero e there = ap (λ (y : Entry). y ∷ take 0 xs) (same_Some x e there) ∙ ap (λ (ys : List Entry). e ∷ ys) (nothing xs)
-  where
-    nothing : (ys : List Entry) → take 0 ys ≡ []
-    nothing [] = refl
-    nothing (y ∷ ys) = refl
-take-push (x ∷ xs) (suc n) e there = ap (λ (ys : List Entry). x ∷ ys) (take-push xs n e there)
+take-push h n e there =
+    let below = slice_get_within h n e there in
+    take_more h n e below
+    ∙ ap (λ (x : Entry). take n h ++ x ∷ []) (same_Some (get_or h n e) e (sym (slice_get-get_or h n e below) ∙ there))
 
 count-push : (p : Entry → Bool) (xs : List Entry) (e : Entry) → count_by p (xs ++ e ∷ []) ≡ count_by p xs + cond (p e) 1 0
 count-push p xs e = sum_by_push (λ (x : Entry). cond (p x) 1 0) xs e

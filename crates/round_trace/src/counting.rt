@@ -1,5 +1,5 @@
 //! The rounds of a history, counted entry by entry.
-ghost use Rattle.std.specs.Prelude.{◌≡◌, ◌++◌, ◌∷◌, [], List, false, OnOk, IsTrue};
+ghost use Rattle.std.specs.Prelude.{◌≡◌, ◌++◌, ◌∷◌, [], List, false, cond, OnOk, IsTrue};
 ghost use Rattle.book_state.specs.Entries.{is_mark};
 ghost use Rattle.book_state.specs.declared.entry.Entry.{Entry as AnEntry};
 ghost use Rattle.round_trace.specs.Counts.{ended_lines, IsCountOf, HasRoom};
@@ -64,8 +64,8 @@ impl Count {
         ensures { (before : List AnEntry) → (e : AnEntry) → is_mark e ≡ false → e.reply ≡ reply →
             IsCountOf before self.old → IsCountOf (before ++ e ∷ []) self.new }
     {
-        self.nets += u64::from(is_claimed(reply));
-        self.full += u64::from(reply.is_full());
+        self.nets += one_if(is_claimed(reply));
+        self.full += one_if(reply.is_full());
     }
 }
 
@@ -104,4 +104,11 @@ fn is_mark(entry: &Entry) -> bool
     ensures { result ≡ is_mark entry.now }
 {
     matches!(entry.call, Call::Mark)
+}
+
+/// 1 where it is so, else 0.
+fn one_if(so: bool) -> u64
+    ensures { result ≡ cond so 1 0 }
+{
+    if so { 1 } else { 0 }
 }
