@@ -27,17 +27,17 @@ pub(crate) fn cut_to_pins(
 }
 
 /// The tree of the first node and of the wanted ones. The only error is want of memory.
-fn cut_to_marked(
-    alloc: Global,
-    tree: &RouteTree,
-    wanted: &[bool],
-) -> Result<RouteTree, AllocError>
+fn cut_to_marked(alloc: Global, tree: &RouteTree, wanted: &[bool]) -> Result<RouteTree, AllocError>
     requires long { length wanted.now ≡ length tree.now.nodes }
     requires closed { AreClosed tree.now wanted.now }
     ensures { IfOk result (IsCutTo tree.now wanted.now) }
 {
-    let mut cut =
-        RouteTree::start_with_room(alloc, tree.shape(), tree.cell(0), tree.len() as usize)?;
+    let mut cut = RouteTree::start_with_room(
+        alloc,
+        tree.shape(),
+        tree.cell(0),
+        tree.len() as usize,
+    )?;
     let mut numbers = vec![in alloc; 0; tree.len() as usize]?;
     for node in 1..tree.len() {
         if !wanted[node as usize] {
@@ -45,7 +45,10 @@ fn cut_to_marked(
         }
         let number = cut.len();
         let parent = tree.parent(node);
-        cut.hang(numbers[parent as usize], &[tree.cell(node), tree.cell(parent)])?;
+        cut.hang(
+            numbers[parent as usize],
+            &[tree.cell(node), tree.cell(parent)],
+        )?;
         numbers[node as usize] = number;
     }
     cut.trim();

@@ -14,12 +14,11 @@ usable-requires c =
     (wire-inside c.args.tree.now c.loop-node.node c.in-Some.edge c.wire_to_parent.ensures.tree (sym c.wire_to_parent.ensures.edge ∙ c.in-Some.is))
 
 pub returns-then-not-usable : goal.returns-then-not-usable
-returns-then-not-usable c = λ d is.
-    (
-      λ never. absurd (false≢true never),
-      λ all. absurd (usable-not d c.args.tree.now c.loop-node.node c.in-Some.edge (sym c.wire_to_parent.ensures.edge ∙ c.in-Some.is)
+returns-then-not-usable c = λ d is. (
+  λ never. absurd (false≢true never),
+  λ all. absurd (usable-not d c.args.tree.now c.loop-node.node c.in-Some.edge (sym c.wire_to_parent.ensures.edge ∙ c.in-Some.is)
       (sym (c.usable.ensures.design d is) ∙ c.if-not-usable.true) all),
-    )
+)
 
 pub returns : goal.returns
 returns c = λ d is.

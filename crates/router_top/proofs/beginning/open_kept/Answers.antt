@@ -11,8 +11,7 @@ pub returns : goal.returns
 returns g c =
     let d = c.args.design.now in
     let s = c.in_ok-solution.solution in
-    let held = g.S.Shelf.held c.args.shelf.now Solution c.args.name.now in
-    (
+    let held = g.S.Shelf.held c.args.shelf.now Solution c.args.name.now in (
       c.in_ok-solution.ensures.opens.0,
       c.in_ok-solution.ensures.opens.1,
       record {

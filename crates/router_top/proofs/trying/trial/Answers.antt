@@ -26,7 +26,7 @@ returns g c =
     let h = take r.rounds.chosen r.rounds.book.state.history in
     let history : c.history.result.now ≡ r.rounds.book.state.history =
     c.history.ensures.history ∙ ap (λ (b : BookView). b.history) c.state.ensures in
-    leaves-alone (trying c.args.made c.args.options) _ (Some (record { book = r.rounds.book; hands = r.rounds.hands })) 
+    leaves-alone (trying c.args.made c.args.options) _ (Some (record { book = r.rounds.book; hands = r.rounds.hands }))
     (report_of v ++ rounds_told c.args.options.trace c.history.result.now)
     c.write_report-end.result
     (λ shelf. (
