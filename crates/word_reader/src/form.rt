@@ -1,6 +1,6 @@
 //! The tables of commands and options.
 ghost use Rattle.std.specs.Prelude.{◌≡◌, ◌<◌};
-ghost use Rattle.word_reader.specs.Forms.{command_of, command_row, every_option, has, option_of, option_row, place};
+ghost use Rattle.word_reader.specs.Forms.{command_of, command_row, every_option, has, option_of, option_row, place, takes_value};
 ghost use Rattle.word_reader.specs.Kept.{command_seen, option_count, option_seen};
 
 use gr_base::MOST_WORKERS;
@@ -42,6 +42,8 @@ pub(crate) enum OptionKind {
     Batch,
     Rule,
     Stop,
+    From,
+    Trace,
 }
 
 /// What words an option takes.
@@ -72,6 +74,10 @@ pub(crate) enum Takes {
         least: u64,
         most: u64,
     },
+    /// Any word, which is a name.
+    Name,
+    /// None: the option is given, or it isn't.
+    Nothing,
 }
 
 /// The most positionals that a command has.
@@ -88,12 +94,14 @@ const EVERY_COMMAND: [Command; 6] = [
 ];
 
 /// The options, each once, in the order in which they are declared.
-pub(crate) const EVERY_OPTION: [OptionKind; 5] = [
+pub(crate) const EVERY_OPTION: [OptionKind; 7] = [
     OptionKind::Workers,
     OptionKind::ViaCost,
     OptionKind::Batch,
     OptionKind::Rule,
     OptionKind::Stop,
+    OptionKind::From,
+    OptionKind::Trace,
 ];
 
 /// How many options there are.
@@ -134,6 +142,8 @@ impl Command {
                     OptionKind::Batch,
                     OptionKind::Rule,
                     OptionKind::Stop,
+                    OptionKind::From,
+                    OptionKind::Trace,
                 ],
             },
             Command::Evaluate => CommandRow {
@@ -154,7 +164,7 @@ impl Command {
             Command::Trial => CommandRow {
                 word: "trial",
                 positionals: 6,
-                options: &[OptionKind::Workers, OptionKind::Rule],
+                options: &[OptionKind::Workers, OptionKind::Rule, OptionKind::Trace],
             },
             Command::Panels => CommandRow {
                 word: "panels",
@@ -226,7 +236,26 @@ impl OptionKind {
                 default: None,
                 excludes: None,
             },
+            OptionKind::From => OptionRow {
+                word: "--from",
+                takes: Takes::Name,
+                default: None,
+                excludes: None,
+            },
+            OptionKind::Trace => OptionRow {
+                word: "--trace",
+                takes: Takes::Nothing,
+                default: None,
+                excludes: None,
+            },
         }
+    }
+
+    /// Whether the option takes a value.
+    pub(crate) fn takes_value(self) -> bool
+        ensures { result ≡ takes_value (option_row self).takes }
+    {
+        !matches!(self.row().takes, Takes::Nothing)
     }
 
     /// The place of the option among all.

@@ -4,7 +4,7 @@ use Rattle.std.proofs.lemmas.Iterator.Search.{position_from_yields_List}
 use Rattle.std.specs.Borrow.{Bor}
 use Rattle.std.specs.Str.{bytes_eq}
 use Rattle.word_reader.proofs.TableLemmas.{position-map}
-use Rattle.word_reader.proofs.values.choice_in.Goals as goal
+use Rattle.word_reader.proofs.values.place_in.Goals as goal
 
 pub returns : goal.returns
 returns c =
