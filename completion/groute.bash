@@ -8,18 +8,19 @@ _groute() {
         before=${COMP_WORDS[COMP_CWORD - 2]}
     fi
     if [ "$command" = groute ] && [ "$COMP_CWORD" -eq 1 ]; then
-        COMPREPLY=($(compgen -W "route evaluate buffer make trial panels" -- "$word"))
+        [[ $word == -* ]] && values="--help --version" || values="route evaluate buffer make trial panels"
+        COMPREPLY=($(compgen -W "$values" -- "$word"))
         return
     fi
     [ "$command" != groute ] || command="groute ${COMP_WORDS[1]}"
     case $command in
-    'groute route') options="--workers --via-cost --batch --rule --stop" ;;
-    'groute evaluate') options="--via-cost" ;;
-    'groute buffer') options="" ;;
-    'groute make') options="" ;;
-    'groute trial') options="--workers --rule" ;;
-    'groute panels') options="" ;;
-    grbound) options="--via-cost" ;;
+    'groute route') options="--workers --via-cost --batch --rule --stop --help" ;;
+    'groute evaluate') options="--via-cost --help" ;;
+    'groute buffer') options="--help" ;;
+    'groute make') options="--help" ;;
+    'groute trial') options="--workers --rule --help" ;;
+    'groute panels') options="--help" ;;
+    grbound) options="--via-cost --help --version" ;;
     groute-adjust) options="--help --layer --region --direction --output --names" ;;
     groute-congestion) options="--help --output --layer --edges --direction --region --worst --net --buffers --bound --tracks --names" ;;
     groute-def-to-ispd) options="--help --lef --tile --layers --adjust --via --driver --sink --liberty --kinds --kind --scale --keep-supply" ;;
