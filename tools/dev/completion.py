@@ -72,8 +72,9 @@ def commands(program: str = "groute") -> Iterator[Called]:
     """The commands of a program."""
     for row in rows(program):
         options = [(word, value, chosen(value)) for word, value in row.options]
-        alone = ["--help"] if row.word else ["--help", "--version"]
-        yield Called(row.name(), row.positionals, [*options, *((word, "", []) for word in alone)])
+        for word in ("--help",) if row.word else ("--help", "--version"):
+            options.append((word, "", []))
+        yield Called(row.name(), row.positionals, options)
 
 
 def programs() -> Iterator[Called]:

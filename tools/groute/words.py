@@ -73,19 +73,19 @@ def command_of(program: str, words: Sequence[str]) -> tuple[Row | None, str | No
 def sort(program: str, words: Sequence[str]) -> Sorted:
     """The words of a program, without its name."""
     found = Sorted()
-    for word in words:
+    for one in words:
         try:
-            os.fsencode(word).decode()
+            os.fsencode(one).decode()
         except UnicodeDecodeError:
-            found.fault(f"{word} is not UTF-8")
+            found.fault(f"{one} is not UTF-8")
     found.row, says = command_of(program, words)
     if says:
         found.fault(says)
     if found.row is None:
         return found
-    rest = iter(words[1:] if found.row.word else words)
+    rest: Iterator[str | None] = iter(words[1:] if found.row.word else words)
     is_option = True
-    for word in rest:
+    while (word := next(rest, None)) is not None:
         name, held, value = word.partition("=")
         if is_option and word == "--":
             is_option = False
