@@ -364,7 +364,7 @@ class Pictures(InFolder):
                 for column in range(design.columns - (way == 0)):
                     for row in range(design.rows - (way == 1)):
                         number = design.number(way, column, row, layers)
-                        capacity, demand = edges.capacity_of(way, number), used.get((way, number), 0)
+                        capacity, demand = edges_plain.capacity_of(edges.design, way, number), used.get((way, number), 0)
                         excess = max(0, demand - capacity)
                         found = (demand / capacity, excess, 0) if capacity else (-1.0, 0, excess)
                         for tile in ((row, column), (row + (way == 1), column + (way == 0))):

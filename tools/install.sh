@@ -35,7 +35,7 @@ proved_with() {
 }
 
 # Tools that are commands of their own; others are what these are made of.
-tools="adjust congestion def_to_ispd flow guides hotspots insert liberty netlist report required slowest spef to_solution where"
+tools="adjust carry congestion def_to_ispd differ flow guides hotspots insert liberty netlist report required slowest spef to_solution where"
 
 put_tools() {
     mkdir -p "$share/groute" "$share/man/man1"

@@ -134,7 +134,7 @@ def arguments(called: Called, first: int) -> str:
 
 # Words for files, beside those of groute's commands.
 FILES = ("FILE", "DEF", "LEF", "PLACED.def", "ROUTES", "GUIDES", "LIBERTY", "REPORT", "BOUNDS", "PANELS", "TEXT",
-         "PATH", "DIR")
+         "PATH", "DIR", "OLD_DESIGN", "NEW_DESIGN", "BEFORE", "AFTER")
 
 
 def main(words: Sequence[str]) -> int:

@@ -62,8 +62,8 @@ EXCLUDES = [("--batch", "--stop")]      # options of which only one may be given
 MOST_CELLS = 8_388_608                  # of a made design, X * Y * L
 READ_ON = "docs/FORMATS.md"             # where texts, ranges and faults stand, beside the man page
 # The tools that are commands of their own, installed as groute-NAME.
-TOOLS = ("adjust", "congestion", "def_to_ispd", "flow", "guides", "hotspots", "insert", "liberty", "netlist",
-         "report", "required", "slowest", "spef", "to_solution", "where")
+TOOLS = ("adjust", "carry", "congestion", "def_to_ispd", "differ", "flow", "guides", "hotspots", "insert", "liberty",
+         "netlist", "report", "required", "slowest", "spef", "to_solution", "where")
 TEXTS = ("DESIGN", "LIBRARY", "SOLUTION")   # words that are files
 FAULTS: dict[str, list[str]] = {
     "design": [

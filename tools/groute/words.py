@@ -83,7 +83,7 @@ def sort(program: str, words: Sequence[str]) -> Sorted:
         found.fault(says)
     if found.row is None:
         return found
-    rest: Iterator[str | None] = iter(words[1:] if found.row.word else words)
+    rest = iter(words[1:] if found.row.word else words)
     is_option = True
     while (word := next(rest, None)) is not None:
         name, held, value = word.partition("=")
@@ -95,9 +95,14 @@ def sort(program: str, words: Sequence[str]) -> Sorted:
             own = [option for option, _ in found.row.options]
             found.fault(f"{word}: {found.row.name()} has no such option{nearest(name, own)}")
         else:
-            add_option(found, name, value if held else next(rest, None))
+            add_option(found, name, value if held else following(rest))
     check_whole(found)
     return found
+
+
+def following(words: Iterator[str]) -> str | None:
+    """The next word, if there is one."""
+    return next(words, None)
 
 
 def add_positional(found: Sorted, word: str) -> None:
