@@ -89,7 +89,8 @@ class Changes(InFolder):
             paths.append((self.put(f"routes{rounds}", out[1]), dict(line.split() for line in out[2].splitlines()[:5])))
         found = json.loads(tool("differ.py", file.name, paths[0][0], paths[1][0], "--json")[1])
         for side, (_, report) in zip(("before", "after"), paths):
-            for word, key in {"wirelength": "wirelength_edges", "vias": "via_edges", "overflow": "overflow_units"}.items():
+            for word, key in (("wirelength", "wirelength_edges"), ("vias", "via_edges"),
+                              ("overflow", "overflow_units")):
                 self.assertEqual(found["all"][side][key], int(report[word]))
         self.assertEqual(sum(group["nets"] for group in found["groups"].values()), 1999)
         again = json.loads(tool("differ.py", file.name, paths[0][0], paths[0][0], "--json")[1])
