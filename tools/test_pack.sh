@@ -68,10 +68,10 @@ overflow 0" ]
     alone groute-where examples/small.ispd 2 >/dev/null
     grep -q '^kit rattle-kit' PROVED_WITH
     grep -q "^groute .* $(sha256sum <"$work/$1/lib/groute/groute" | cut -d ' ' -f 1)\$" PROVED_WITH
-    grep -q "^grbound .* $(sha256sum <"$work/$1/bin/grbound" | cut -d ' ' -f 1)\$" PROVED_WITH
+    grep -q "^grbound .* $(sha256sum <"$work/$1/lib/groute/grbound" | cut -d ' ' -f 1)\$" PROVED_WITH
     if "$here/tools/release.sh" --current 2>/dev/null && [ ! -e "$here/crates/groute/out/groute" ]; then
         cmp "$work/$1/lib/groute/groute" "$here/release/groute"
-        cmp "$work/$1/bin/grbound" "$here/release/grbound"
+        cmp "$work/$1/lib/groute/grbound" "$here/release/grbound"
     fi
     # README's chip
     xz -dc examples/grom_osu035.ispd.xz >"$work/grom.ispd"

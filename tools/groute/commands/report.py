@@ -10,10 +10,12 @@ nets of the worst regions and the slowest ones, and says so.
 
 Times are in picoseconds. Of a library that def_to_ispd.py made with --scale N say --scale N here too.
 """
+import sys
 from argparse import Namespace
 from typing import Sequence
 
 from groute import frame
+from groute.texts import objects
 from groute.texts.files import Outputs
 
 
@@ -30,6 +32,7 @@ def parser() -> frame.Parser:
     words.add_argument("--slack", metavar="TABLE", help="ranks nets by slacks that required.py wrote")
     words.add_argument("--timing", nargs=2, metavar=("BEFORE", "AFTER"), help="figures that required.py wrote")
     frame.add_scale(words)
+    frame.add_json(words)
     words.add_argument("-o", "--output", metavar="FILE", required=True, help="the page, .html")
     frame.add_names(words)
     return words
@@ -56,5 +59,6 @@ def main(words: Sequence[str]) -> int:
               *(asked.timing or ()), *asked.before]
     with Outputs(filter(None, inputs)) as outputs:
         outputs.text(asked.output).write(text)
-    print(routes.verdict(asked.before))
+    sys.stdout.write(objects.text_of("report", routes.answer(asked.before)) if asked.json
+                     else f"{routes.verdict(asked.before)}\n")
     return frame.tell_unjoined("report", routes.design, routes.edges.unjoined)

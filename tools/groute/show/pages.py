@@ -10,7 +10,7 @@ from typing import Any, Sequence
 
 import numpy
 
-from groute.loads.edges import totals
+from groute.loads.edges import totals, totals_object
 from groute.loads.edges_numpy import Array, Edges, points
 from groute.loads.regions import GRADES, SHARES, WAYS, Loads
 from groute.texts.designs import EAST, NORTH, Netlist
@@ -82,18 +82,32 @@ class Routes:
             for id_, required, buffers in buffered(self.design, asked.report):
                 self.required[id_], self.buffers[id_] = required, buffers
 
+    def by_round(self, before: Sequence[str]) -> list[int]:
+        """The overflow of earlier rounds, by their reports, and of these routes."""
+        found = [overflow for overflow in map(overflow_of, before) if overflow is not None]
+        if len(found) < len(before):
+            raise Fault("a text of buffers tells no overflow: reports of `groute route` are due before")
+        return [*found, self.edges.overflow()[0]]
+
+    def answer(self, before: Sequence[str]) -> dict[str, Any]:
+        """The verdict as an object."""
+        uses = self.loads.uses
+        worst = min(self.required.values()) / self.half if self.required else None
+        return {"verdict": self.verdict(before), "totals": totals_object(self.edges),
+                "overflow_by_round_units": self.by_round(before),
+                "least_overflow_units": self.least,
+                "fullest_tile_percent": 100 * float(uses[0]) if len(uses) else None,
+                "worst_net_required_ps": worst if self.has_times else None,
+                "worst_net_delay_ps": None if worst is None or self.has_times else -worst}
+
     def verdict(self, before: Sequence[str]) -> str:
         """The whole in a line."""
-        overflow = self.edges.overflow()[0]
-        words = f"overflow {overflow:,}"
+        words = f"overflow {self.edges.overflow()[0]:,}"
         if self.edges.unjoined:
             words = f"{unjoined_words(len(self.edges.unjoined))}; {words}"
         if before:
-            by_round = [*map(overflow_of, before), overflow]
-            if None in by_round:
-                raise Fault("a text of buffers tells no overflow: reports of `groute route` are due before")
             words += (f" after {len(before)} round{'s' * (len(before) > 1)} "
-                      f"({', '.join(f'{value:,}' for value in by_round)})")
+                      f"({', '.join(f'{value:,}' for value in self.by_round(before))})")
         uses = self.loads.uses
         if len(uses):
             words += f"; fullest tile {100 * uses[0]:,.0f} %"
