@@ -1,5 +1,5 @@
 -- Which sinks below a node get what they want from a signal there, by the paths to them and from the leaves.
-use Rattle.std.proofs.Common.{◌≡◌, ◌≢◌, ℕ, zero, suc, ◌+◌, ◌-◌, ◌<◌, ◌≤◌, inl, inr, Bool, true, false, ◌&&◌, not, ◌==◌, List, [], ◌∷◌, cond, take, filter, All, Option, refl, sym, ap, subst, ◌∙◌, if◌then◌else◌, arith}
+use Rattle.std.proofs.Common.{◌≡◌, ℕ, zero, suc, ◌+◌, ◌<◌, ◌≤◌, inl, inr, Bool, true, false, ◌&&◌, not, ◌==◌, List, [], ◌∷◌, cond, take, filter, All, Option, refl, sym, ap, subst, ◌∙◌, arith}
 use Rattle.std.specs.List.{count_by, list_all, prefix_len, before_first}
 use Rattle.std.proofs.lemmas.Bool.{cases_Bool, cases_eq, and_parts, eq-eqb, eqb-true, ne_eqb, false≢true}
 use Rattle.std.proofs.lemmas.List.Elements.{All-cons, All-head, All-tail}
@@ -7,12 +7,12 @@ use Rattle.gr_base.proofs.General.{filter-yes, filter-no}
 use Rattle.rc_library.specs.Libraries.{LibraryView}
 use Rattle.elmore_delay.specs.BelowNodes.{is_within, lies_below, sinks_within}
 use Rattle.elmore_delay.specs.RcTrees.{Sink, RcTree, IsRcTree, path_to, above}
-use Rattle.elmore_delay.proofs.BelowLemmas.{below-parent, below-through, within-more, within-itself, within-below, not-within}
+use Rattle.elmore_delay.proofs.BelowLemmas.{below-parent, below-through, within-more, within-itself, not-within}
 use Rattle.elmore_delay.proofs.Paths.{above-more}
 use Rattle.buffer_plan.proofs.HungLemmas.{Held}
 use Rattle.polar_lists.specs.Polarity.{is_inverter, is_odd}
-use Rattle.polar_lists.specs.Signals.{below_it, suits, suits_all}
-use Rattle.polar_lists.specs.SignalsBelow.{inverters_from, signal_from}
+use Rattle.polar_lists.specs.Signals.{below_it, suits}
+use Rattle.polar_lists.specs.SignalsBelow.{signal_from}
 use Rattle.polar_lists.proofs.ServedSinks.{served_of_last, served-hung, served-other, odd-more, right, suited, at_node, suited-rest, AreServed, both-true}
 
 -- what comes before the first node that passes, without and with the node at the head

@@ -1,26 +1,25 @@
 -- The candidates for each signal at each node are complete and real, and few.
-use Rattle.std.proofs.Common.{◌≡◌, ◌≢◌, ℕ, zero, suc, ◌+◌, ◌-◌, ◌*◌, ◌<◌, ◌≤◌, inl, inr, Bool, true, false, ◌==◌, List, [], ◌∷◌, ◌++◌, length, map, flat_map, filter_map, slice_index_or, Contains, Option, None, if◌then◌else◌, refl, sym, ap, subst, ◌∙◌, arith}
+use Rattle.std.proofs.Common.{◌≡◌, ℕ, suc, ◌+◌, ◌-◌, ◌*◌, ◌<◌, ◌≤◌, Bool, true, false, ◌==◌, List, [], ◌∷◌, ◌++◌, length, map, slice_index_or, Contains, None, if◌then◌else◌, refl, sym, ap, subst, ◌∙◌, arith}
 use Rattle.std.specs.List.{range_with_len}
 use Rattle.std.proofs.lemmas.Bool.{eqb-true, eq-eqb}
 use Rattle.std.proofs.lemmas.List.{length-append, length-map}
 use Rattle.std.proofs.lemmas.List.FromFn.{length-range_with_len}
 use Rattle.std.proofs.lemmas.List.Elements.{All-contains_itself}
-use Rattle.elmore_delay.specs.BelowNodes.{lies_below, nodes_below}
+use Rattle.elmore_delay.specs.BelowNodes.{nodes_below}
 use Rattle.elmore_delay.specs.FromLeaves.{sinks_seen}
 use Rattle.elmore_delay.specs.Loadings.{LoadingView, IsLoading, rc_of}
 use Rattle.elmore_delay.specs.Placements.{placed_at, buffers_of}
 use Rattle.elmore_delay.specs.declared.seen.Seen.{Seen}
 use Rattle.elmore_delay.proofs.RcLemmas.{rc-tree}
 use Rattle.elmore_delay.proofs.SeenFromLeaves.{seen-last}
-use Rattle.rc_library.specs.Libraries.{LibraryView}
-use Rattle.ginneken_lists.specs.Candidates.{Candidate, Nothing, serves, leaf, along_edge, joined_with, all_joined}
+use Rattle.ginneken_lists.specs.Candidates.{Candidate, serves, leaf, along_edge, all_joined}
 use Rattle.ginneken_lists.specs.Thinning.{AreRising}
 use Rattle.ginneken_lists.proofs.FewKept.{length-thinned, length-joined}
 use Rattle.buffer_plan.specs.CandidatesBelow.{seen_with}
 use Rattle.buffer_plan.specs.Picked.{Sites, sites_of, placement_of}
 use Rattle.buffer_plan.proofs.BestLemmas.{held-may}
 use Rattle.buffer_plan.proofs.FewCandidates.{IsCount, few-counted, length-filter_map}
-use Rattle.buffer_plan.proofs.HungLemmas.{if-same, if-other}
+use Rattle.buffer_plan.proofs.HungLemmas.{if-same}
 use Rattle.buffer_plan.proofs.NodeLists.{any-has, named-below, named-real}
 use Rattle.polar_lists.specs.Signals.{BySignal, suits_all, made_by, offers_by, with_both_offers, both_above, both_hanging, both_of_last}
 use Rattle.polar_lists.specs.SignalsBelow.{AreCompleteFor, IsRealFor, AreRealFor, both_at}
