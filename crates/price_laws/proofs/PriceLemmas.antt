@@ -140,6 +140,15 @@ module _ (d : DesignView) (p : Prices) where
           let times = sum-times most over wires in
           omega (arith, each, split, times)
 
+-- what all nets' sets cost is at most wirelength at the scale, overflow times the greatest weight, and what is held
+pub costs-law : (d : DesignView) (p : Prices) (allowed : Edges) (most : ℕ) → AreWeightsUpTo most p → (sets : ℕ → Edges) → AreWithin d allowed sets →
+    sum_routed d (λ net. sum_of d.frame.shape (sets net) (price d p net)) ≤
+    (p.scale * wirelength d p.via_cost sets + most * total_over d sets) + held_price d p allowed
+costs-law d p allowed most low sets within =
+    let costs = all-cost d p sets in
+    let weights = weighs d p sets allowed most low within in
+    omega (arith, costs, weights)
+
 pub price-law : PriceLaw
 price-law d p allowed bounds most bounded low sets join within =
     let nets : List ℕ = filter (is_routed d) (range_with_len 0 (length d.nets)) in
@@ -149,6 +158,5 @@ price-law d p allowed bounds most bounded low sets join within =
     (all-passing (λ net. bounds net ≤ cost net) (is_routed d)
     (λ net routed. bounded net routed (sets net) (record { inside = join.inside net routed; within = within net routed; joined = join.joined net routed }))
     (range_with_len 0 (length d.nets))) in
-    let costs = all-cost d p sets in
-    let weights = weighs d p sets allowed most low within in
-    omega (arith, each, costs, weights)
+    let costs = costs-law d p allowed most low sets within in
+    omega (arith, each, costs)
