@@ -182,13 +182,3 @@ stops-last t done h past = by (nat_lt done t.rounds) (grind (arith, nat_tests))
     by : (a : Bool) → a ≡ false → (a && nat_lt 0 (length (victims (capacity_in t) h))) ≡ false
     by true is = absurd (both_ways true is refl)
     by false is = refl
-
-pub stops-empty : (t : Batching) (done count : ℕ) (h : List Entry) (nets : List ℕ) → nets ≡ victims (capacity_in t) h → count ≡ length nets → true ≡ (count == 0) → goes_on t done h ≡ false
-stops-empty t done count h nets are long none =
-    let empty : count ≡ 0 = grind (arith, nat_tests) in
-    let no : nat_lt 0 (length nets) ≡ false = (let zero_long : length nets ≡ 0 = omega (arith, empty, long) in grind (arith, nat_tests)) in
-    by (nat_lt done t.rounds) (ap (λ (xs : List ℕ). nat_lt 0 (length xs)) (sym are) ∙ no)
-  where
-    by : (a : Bool) → nat_lt 0 (length (victims (capacity_in t) h)) ≡ false → (a && nat_lt 0 (length (victims (capacity_in t) h))) ≡ false
-    by true is = is
-    by false is = refl

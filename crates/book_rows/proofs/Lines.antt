@@ -1,11 +1,11 @@
 -- Rows of tiles, trees along them, and the nets of their designs.
-use Rattle.std.proofs.Common.{◌≡◌, ℕ, ◌+◌, ◌*◌, ◌<◌, ◌≤◌, true, false, ◌||◌, ◌==◌, nat_lt, [], ◌∷◌, length, None, IsTrue, refl, sym, ap, subst, ◌∙◌, arith, length-append}
+use Rattle.std.proofs.Common.{◌≡◌, ℕ, ◌+◌, ◌*◌, ◌<◌, ◌≤◌, true, false, ◌==◌, nat_lt, [], ◌∷◌, length, None, IsTrue, refl, sym, ap, subst, ◌∙◌, arith, length-append}
 use Rattle.std.proofs.lemmas.Bool.Decides.{nat_tests}
 use Rattle.std.proofs.lemmas.List.{length-map}
 use Rattle.std.proofs.lemmas.List.Sums.{sum_by-append}
 use Rattle.gr_base.specs.Designs.{DesignView, with_net, net_with_id}
 use Rattle.gr_base.specs.Grid.{cells_of, number_of, IsInside, place_at, gap, AreNeighbours, beyond, has_edge}
-use Rattle.gr_base.specs.Trees.{TreeView, holds, is_among, IsWalkTo, AddsCells}
+use Rattle.gr_base.specs.Trees.{TreeView, IsWalkTo}
 use Rattle.gr_base.specs.declared.frame.Net.{Net}
 use Rattle.gr_base.specs.declared.grid.Cell.{Cell}
 use Rattle.gr_base.specs.declared.grid.Shape.{Shape}
@@ -59,16 +59,6 @@ walks-back g t n before rows layers next below along =
       record { inside = in_tree.0; outside = along.cells n ∙ out; once = rw other refl; neighbours = in_tree.1 },
       along.cells before ∙ there,
     )
-
--- the tree then has one cell more
-pub along-next : (g : Shape) (t u : TreeView) (n before : ℕ) → before + 1 ≡ n → IsAlong g n t → u.shape ≡ t.shape → AddsCells t (n ∷ before ∷ []) u → IsAlong g (n + 1) u
-along-next g t u n before next along same adds =
-    record { shape = same ∙ along.shape; cells = λ cell. adds cell ∙ by_cell cell }
-  where
-    by_cell : (cell : ℕ) → (holds t cell || is_among (n ∷ before ∷ []) cell) ≡ nat_lt cell (n + 1)
-    by_cell cell =
-        let old = along.cells cell in
-        rw old (grind (arith, nat_tests))
 
 -- a design with the next net
 pub nets-next : (tiles id : ℕ) (net : Net) (d : DesignView) → net.id ≡ id → length net.pins ≡ 2 → HasNets tiles id d → HasNets tiles (id + 1) (with_net net d)

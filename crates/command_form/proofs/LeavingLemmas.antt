@@ -111,10 +111,6 @@ leaves-alone command out kept text (Err WriteFailed) says is = λ shelf reads er
 leaves-alone command out kept text (Err NoMemory) says is = λ shelf reads err untouched.
     (inr (record { outcome = Whole; text = text; report = []; part = nothing-part out text is; says = says shelf }), untouched)
 
--- where memory was wanting before anything was made
-pub wants-alone : {K : Type 0} (command : Command K) (out : Device) → IsUntouched out → LeavesAlone command out None (Err NoMemory)
-wants-alone command out untouched = λ shelf reads err silent. (inl (untouched, refl), silent)
-
 -- memory was wanting before anything was written
 pub wants-memory : {K : Type 0} (command : Command K) (shelf : Reading) (out err : Device) (kept : Option K) (end : Result Outcome Stop) →
     end ≡ Err NoMemory → kept ≡ None → IsUntouched out → IsUntouched err → Leaves command shelf out err kept end

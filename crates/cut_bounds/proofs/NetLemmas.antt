@@ -1,26 +1,18 @@
 -- Routed nets in flat lists, and the least that they need.
-use Rattle.std.proofs.Common.{◌≡◌, ℕ, suc, zero, ◌+◌, ◌<◌, ◌≤◌, min, true, false, List, [], ◌∷◌, ◌++◌, map, filter, fold, take, drop, length, get_or, slice_get, Option, Some, refl, sym, ap, subst, ◌∙◌, arith}
+use Rattle.std.proofs.Common.{◌≡◌, ℕ, suc, zero, ◌+◌, ◌<◌, ◌≤◌, true, false, List, [], ◌∷◌, ◌++◌, map, filter, take, drop, length, get_or, slice_get, Option, Some, refl, sym, ap, subst, ◌∙◌, arith}
 use Rattle.std.specs.List.{range_with_len}
 use Rattle.std.proofs.lemmas.List.{map-append, length-append, length-map, take_all, take-append-le, drop-append-le, nil_from_length, length-drop, drop_more}
-use Rattle.std.proofs.lemmas.List.Sums.{fold-append, sum_by-cons, sum_by_push}
+use Rattle.std.proofs.lemmas.List.Sums.{sum_by-cons, sum_by_push}
 use Rattle.gr_base.specs.Capacities.{width_in}
 use Rattle.gr_base.specs.Designs.{DesignView, is_routed, layers_of, pins_at, pins_in}
-use Rattle.gr_base.specs.declared.frame.Layer.{Layer}
 use Rattle.gr_base.specs.declared.frame.Net.{Net}
 use Rattle.grid_demand.proofs.RangeFilters.{filter-fails, filter-passes}
-use Rattle.wall_laws.specs.Walls.{least_need, least_on, taken_on}
+use Rattle.wall_laws.specs.Walls.{least_need, least_on}
 use Rattle.cut_bounds.specs.declared.net_tiles.NetNeed.{NetNeed}
 use Rattle.cut_bounds.specs.declared.axis.Tile.{Tile}
 use Rattle.cut_bounds.specs.NetTiles.{Placed, placed_by, placed_net, pins_counted, tile_in}
 
 -- ---- the least need over layers
-
-pub least-push : (width : ℕ) (layers : List Layer) (layer : Layer) → 0 < length layers →
-    least_on width (layers ++ layer ∷ []) ≡ min (least_on width layers) (taken_on width layer)
-least-push width [] layer some = absurd (omega (arith, some))
-least-push width (first ∷ layers) layer some =
-    ap (λ (ns : List ℕ). fold min (taken_on width first) ns) (map-append (taken_on width) layers (layer ∷ []))
-    ∙ fold-append min (taken_on width first) (map (taken_on width) layers) (taken_on width layer ∷ [])
 
 -- ---- nets in flat lists
 

@@ -166,17 +166,6 @@ length-taken zero regions within = refl
 length-taken (suc count) [] within = absurd (omega (arith, within))
 length-taken (suc count) (r ∷ regions) within = ap suc (length-taken count regions (omega (arith, within)))
 
--- the first ones have one more
-pub first-have : (each more : ℕ) (regions : List (Vec ℕ Global)) → AreCutOf each more regions → more ≤ length regions → All (λ r. each < length r.items) (take more regions)
-first-have each more regions cut few region d within =
-    let taken = length-taken more regions few in
-    let below : region < more = omega (arith, within, taken) in
-    let size = cut.sizes region d (omega (arith, below, few)) in
-    let test : nat_lt region more ≡ true = grind (arith, nat_tests) in
-    let is : size_of each more region ≡ each + 1 = ap (λ (b : Bool). each + (if b then 1 else 0)) test in
-    let same = ap (λ (r : Vec ℕ Global). length r.items) (get-taken more region regions d below) in
-    omega (arith, size, is, same)
-
 -- the last row: then each hand is dealt its region
 pub dealt-last : (each more : ℕ) (regions : List (Vec ℕ Global)) (order new : List ℕ) → AreDealt each regions order → AreCutOf each more regions →
     more ≤ length regions → new ≡ order ++ nets_at each (take more regions) →

@@ -1,5 +1,6 @@
 pub mod RangeLemmas
 pub mod PriceLemmas
+pub mod HalvingLemmas
 pub mod WayLemmas
 pub mod FlatPriceLemmas
 pub mod OrderLemmas

@@ -35,11 +35,6 @@ find-yes p n a passes = rw passes refl
 find-no : (p : ℕ → Bool) (n a : ℕ) → p a ≡ false → find p (range_with_len a (suc n)) ≡ find p (range_with_len (a + 1) n)
 find-no p n a fails = rw fails refl
 
-pub found-here : (p : ℕ → Bool) (end a : ℕ) → a < end → p a ≡ true → find p (range_with_len a (end - a)) ≡ Some a
-found-here p end a below passes =
-    let count : end - a ≡ suc (end - (a + 1)) = omega arith in
-    ap (λ (n : ℕ). find p (range_with_len a n)) count ∙ find-yes p (end - (a + 1)) a passes
-
 pub found-later : (p : ℕ → Bool) (end a : ℕ) → a < end → p a ≡ false → find p (range_with_len (a + 1) (end - (a + 1))) ≡ find p (range_with_len a (end - a))
 found-later p end a below fails =
     let count : end - a ≡ suc (end - (a + 1)) = omega arith in

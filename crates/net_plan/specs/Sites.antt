@@ -1,5 +1,5 @@
 -- Sites of a net, in numbers that take less room, and when they cost no more than empty edges.
-use Rattle.std.specs.Prelude.{ℕ, ◌*◌, max}
+use Rattle.std.specs.Prelude.{ℕ, ◌*◌, ◌/◌, ◌^◌, max}
 use Rattle.cost_rules.specs.declared.site.Formula.{Formula}
 use Rattle.cost_rules.specs.declared.site.Formula.TheVariants.{First, Steep, Flat, Near}
 use Rattle.cost_rules.specs.declared.site.Site.{Site}
@@ -14,3 +14,7 @@ calm_room First need = 0
 calm_room Steep need = 0
 calm_room Flat need = 0
 calm_room Near need = 3 * max 1 need
+
+-- a number halved for each net of some need that a room holds
+abbrev pub halved : (number room need : ℕ) → ℕ
+halved number room need = number / 2 ^ (room / need)

@@ -11,6 +11,7 @@ mod order;
 mod pattern;
 mod pin_tiles;
 mod planner;
+mod scarcity;
 mod site_run;
 mod window;
 

@@ -79,6 +79,7 @@ fn grow<C: RunCosts>(
         tree.attach(walk.as_slice())?;
         goals = others(alloc, &goals, walk.as_slice())?;
     }
+    tree.trim();
     Ok(tree)
 }
 

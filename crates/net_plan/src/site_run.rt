@@ -12,7 +12,8 @@ ghost use Rattle.net_plan.specs.Prices.{price_of, ways_of};
 ghost use Rattle.net_plan.specs.Sites.{whole_site};
 
 use crate::net_costs::NetCosts;
-use cost_rules::{Formula, MOST_COST, Site, flat_cost, near_cost, steep_cost};
+use crate::scarcity::scarcity;
+use cost_rules::{Formula, MOST_COST, Site, flat_cost, steep_cost};
 use gr_base::Edge;
 
 /// The sites of a net at wire edges that lie side by side on a layer. The net takes the same of each.
@@ -118,17 +119,18 @@ fn first_price(site: SmallSite) -> u32
     most.min(1 + u32::from(site.marks) + 8 * counted)
 }
 
-/// What a site costs by the near formula. Most edges hold many nets more, and then no more than an empty
-/// one unless many rounds left marks there.
+/// What a site costs by the near formula, in numbers of which processors take several at a time.
 #[inline(always)]
 fn near_price(site: SmallSite) -> u32
     requires capacity { site.capacity ≤ most_capacity }
     requires need { site.need ≤ 2 * most_width }
     ensures { result ≡ cost_at Near (whole_site site) }
 {
+    let most = MOST_COST as u32;
     let taken = u32::from(site.demand) + site.need;
-    if site.marks < 127 && taken + 9 * site.need.max(1) <= site.capacity {
-        return 1;
-    }
-    near_cost(site.whole()) as u32
+    let room = site.capacity.saturating_sub(taken);
+    let scarce = scarcity(site.marks, room, site.need.max(1));
+    // As much overflow has the greatest cost.
+    let counted = taken.saturating_sub(site.capacity).min(most / 8);
+    most.min(1 + scarce + 8 * counted)
 }

@@ -1,15 +1,12 @@
 -- Chains with one more run.
-use Rattle.std.proofs.Common.{◌≡◌, ◌≢◌, ℕ, zero, suc, ◌+◌, ◌<◌, ◌≤◌, inl, inr, Bool, true, false, ◌==◌, cond, List, map, [], ◌∷◌, ◌++◌, length, get_or, set, take, All, Option, Some, None, slice_get, IfSome, IsSomeAnd, refl, sym, ap, subst, ◌∙◌, append_assoc, append-nil, arith}
+use Rattle.std.proofs.Common.{◌≡◌, ◌≢◌, ℕ, zero, suc, ◌+◌, ◌<◌, ◌≤◌, inl, inr, ◌==◌, List, map, [], ◌∷◌, ◌++◌, length, get_or, set, take, All, Option, Some, None, slice_get, IsSomeAnd, refl, sym, ap, subst, ◌∙◌, append_assoc, append-nil, arith}
 use Rattle.std.proofs.lemmas.Bool.{cases_Bool}
 use Rattle.std.proofs.lemmas.Bool.Decides.{nat_tests}
-use Rattle.std.proofs.lemmas.List.{length-append, get_or-set_same, get_or-set_other, get_or_default, length-set, take_more}
+use Rattle.std.proofs.lemmas.List.{get_or-set_same, get_or-set_other, get_or_default, length-set, take_more}
 use Rattle.std.proofs.lemmas.List.Sums.{fold-append}
-use Rattle.std.proofs.lemmas.List.Elements.{All-push, All-set, All-weaker}
-use Rattle.std.proofs.lemmas.Option.{none-some, slice_get_within}
-use Rattle.gr_base.proofs.DesignLemmas.{get-push}
+use Rattle.std.proofs.lemmas.List.Elements.{All-set, All-weaker}
+use Rattle.std.proofs.lemmas.Option.{none-some}
 use Rattle.gr_base.proofs.General.{and-some, some-and}
-use Rattle.gr_base.specs.Grid.{cells_of}
-use Rattle.gr_base.specs.declared.grid.Shape.{Shape}
 use Rattle.solution_text.specs.declared.run.Run.{Run}
 use Rattle.track_panels.specs.declared.piece.Piece.{Piece}
 use Rattle.panel_text.specs.declared.starts.Start.{Start}
@@ -98,14 +95,6 @@ runs-more net runs at d chains inside =
     ∙ fold-append (λ (so_far : ℕ → List (ℕ × ℕ)) (run : Run). with_run net run so_far) chains (take at runs) (get_or runs at d ∷ [])
 
 -- ---- each run leads back
-
-pub back-more : (runs : List Start) (more : Start) → ((number : ℕ) → (run : Start) → slice_get runs number ≡ Some run → IsBelow number run.next) →
-    IsBelow (length runs) more.next → (number : ℕ) → (run : Start) → slice_get (runs ++ more ∷ []) number ≡ Some run → IsBelow number run.next
-back-more runs more before last number run is =
-    elim (get-push runs more run number is) [
-      | inl old ↦ before number run old
-      | inr new ↦ subst (λ (n : ℕ). IsBelow n run.next) (sym new.0) (subst (λ (r : Start). IsBelow (length runs) r.next) new.1 last)
-    ]
 
 pub firsts-more : (firsts : List (Option ℕ)) (count cell : ℕ) → All (IsBelow count) firsts → All (IsBelow (count + 1)) (set firsts cell (Some count))
 firsts-more firsts count cell all =

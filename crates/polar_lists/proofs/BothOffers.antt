@@ -15,7 +15,7 @@ use Rattle.ginneken_lists.specs.Thinning.{AreRising}
 use Rattle.ginneken_lists.specs.Trails.{Keeps}
 use Rattle.ginneken_lists.specs.declared.pair.Pair.{Pair}
 use Rattle.ginneken_lists.proofs.ThinnedAgain.{thinned-stays}
-use Rattle.ginneken_lists.proofs.TrailLemmas.{Keeps-itself, Keeps-through}
+use Rattle.ginneken_lists.proofs.TrailLemmas.{Keeps-through}
 use Rattle.buffer_plan.proofs.Gathering.{candidates-kept}
 use Rattle.polar_lists.specs.Polarity.{is_inverter}
 use Rattle.polar_lists.specs.Signals.{BySignal, below_it, made_by, offers_by, with_both_offers}
@@ -57,13 +57,6 @@ pub record AreMade (lib : LibraryView) (own other : List Pair) (found : List (Op
       offer_at trail node found k ≡ made_of lib node (candidates trail own) (candidates trail other) k
   pub long : length found ≡ number
   pub marks : (most : ℕ) → All (λ (pair : Pair). pair.mark ≤ most) own → All (λ (pair : Pair). pair.mark ≤ most) other → AreOffersMarked most found
-
-pub made-none : (lib : LibraryView) (own other : List Pair) (found : List (Option Pair)) → found ≡ [] → AreMade lib own other found 0
-made-none lib own other found none = record {
-  made = λ trail node k below. absurd (omega arith);
-  long = ap (λ (xs : List (Option Pair)). length xs) none;
-  marks = λ most one two k d inside. let long = ap (λ (xs : List (Option Pair)). length xs) none in absurd (omega arith);
-}
 
 pub made-more : (lib : LibraryView) (own other below : List Pair) (found new : List (Option Pair)) (number : ℕ) (kind : Kind) (offer : Option Pair) →
     AreMade lib own other found number → new ≡ found ++ offer ∷ [] → kind_of lib number ≡ Some kind →
@@ -139,9 +132,6 @@ pub record AreAdded (node : ℕ) (offers : List (Option Pair)) (trail : List Cho
   pub kept : Keeps trail now
   pub marks : AreMarked now pairs
   pub short : length pairs ≤ length old + number
-
-pub added-none : (node : ℕ) (offers : List (Option Pair)) (trail : List Chosen) (old : List Pair) → AreMarked trail old → AreAdded node offers trail old trail old 0
-added-none node offers trail old marks = record { added = refl; kept = Keeps-itself trail; marks = marks; short = omega arith }
 
 pub added-more : (node : ℕ) (offers : List (Option Pair)) (trail : List Chosen) (old : List Pair) (now next : List Chosen) (pairs new : List Pair) (number : ℕ) →
     AreAdded node offers trail old now pairs number → AreOffersMarked (length trail) offers → number < length offers →

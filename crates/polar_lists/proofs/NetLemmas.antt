@@ -1,8 +1,8 @@
 -- The plans of routed nets, net by net.
-use Rattle.std.proofs.Common.{◌≡◌, ℕ, ◌+◌, ◌<◌, inl, inr, List, [], ◌∷◌, ◌++◌, append_assoc, append-nil, length, get_or, map, slice_set, All, Option, None, Result, Ok, Err, IfOk, sym, ap, subst, ◌∙◌, arith}
+use Rattle.std.proofs.Common.{◌≡◌, ℕ, ◌+◌, ◌<◌, inl, inr, List, length, get_or, map, slice_set, All, Option, None, Result, Ok, Err, IfOk, sym, ap, subst, ◌∙◌, arith}
 use Rattle.std.specs.Result.{IsErr}
 use Rattle.std.proofs.lemmas.Bool.{cases_eq, cases_lt, true≢false}
-use Rattle.std.proofs.lemmas.List.{length-map, map-append, length-set, get_or-map, get_or-set_same, get_or-set_other}
+use Rattle.std.proofs.lemmas.List.{length-map, length-set, get_or-map, get_or-set_same, get_or-set_other}
 use Rattle.gr_base.specs.Designs.{DesignView}
 use Rattle.gr_base.specs.Trees.{TreeView}
 use Rattle.rc_library.specs.Libraries.{LibraryView}
@@ -68,21 +68,3 @@ pub plans-result : {E F : Type 0} (d : DesignView) (lib : LibraryView) (trees : 
     IfOk result (λ plans. planned ≡ map (λ (plan : Option Plan). Ok plan) plans) → IfOk result (ArePolarPlans d lib trees)
 plans-result d lib trees planned (Ok plans) long are is = plans-all d lib trees planned plans long are is
 plans-result d lib trees planned (Err e) long are is = tt
-
--- the plans that were gathered so far, before those that are left
-pub gathered-more : {A E : Type 0} (all rest now : List (Result A E)) (plans new : List A) (plan : Result A E) (made : A) →
-    map (λ (x : A). Ok x) plans ++ rest ≡ all → rest ≡ plan ∷ now → plan ≡ Ok made → new ≡ plans ++ made ∷ [] → map (λ (x : A). Ok x) new ++ now ≡ all
-gathered-more {A} {E} all rest now plans new plan made before next is pushed =
-    let ok : A → Result A E = λ x. Ok x in
-    ap (λ (xs : List A). map ok xs ++ now) pushed
-    ∙ ap (λ (rs : List (Result A E)). rs ++ now) (map-append ok plans (made ∷ []))
-    ∙ append_assoc (map ok plans) (Ok made ∷ []) now
-    ∙ ap (λ (r : Result A E). map ok plans ++ r ∷ now) (sym is)
-    ∙ ap (λ (rs : List (Result A E)). map ok plans ++ rs) (sym next)
-    ∙ before
-
-pub gathered-ends : {A E : Type 0} (all rest : List (Result A E)) (plans : List A) → map (λ (x : A). Ok x) plans ++ rest ≡ all → rest ≡ [] →
-    all ≡ map (λ (x : A). Ok x) plans
-gathered-ends {A} {E} all rest plans before none =
-    let ok : A → Result A E = λ x. Ok x in
-    sym before ∙ ap (λ (rs : List (Result A E)). map ok plans ++ rs) none ∙ append-nil (map ok plans)

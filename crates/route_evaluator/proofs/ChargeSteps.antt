@@ -1,5 +1,5 @@
 -- The demand for wire edges, edge after edge of a net.
-use Rattle.std.proofs.Common.{◌≡◌, ℕ, ◌+◌, ◌*◌, ◌<◌, ◌≤◌, ◌==◌, inl, inr, Bool, true, false, cond, List, [], length, get_or, take, if◌then◌else◌, IsTrue, refl, sym, ap, subst, ◌∙◌, arith}
+use Rattle.std.proofs.Common.{◌≡◌, ℕ, ◌+◌, ◌*◌, ◌<◌, ◌≤◌, ◌==◌, inl, inr, Bool, true, false, cond, List, length, get_or, take, if◌then◌else◌, IsTrue, refl, sym, ap, subst, ◌∙◌, arith}
 use Rattle.std.proofs.lemmas.Bool.{cases_Bool, eq-eqb, both_ways}
 use Rattle.std.proofs.lemmas.List.{take_more}
 use Rattle.std.proofs.lemmas.List.Sums.{sum_by_push, sum_by-take-le}
@@ -19,9 +19,6 @@ use Rattle.route_evaluator.proofs.CountLemmas.{times, times-has}
 abbrev pub HasGained : CapacityView → ℕ → List ℕ → LoadsView → LoadsView → Type 0
 HasGained c net numbers old new =
     (e : Edge) → IsTrue (has_edge old.shape e) → IsTrue (is_wire e) → demand_at new e ≡ demand_at old e + need_at c net e * times numbers (edge_number e)
-
-pub gained-none : (c : CapacityView) (net : ℕ) (old : LoadsView) → HasGained c net [] old old
-gained-none c net old e edge wire = omega arith
 
 times-next : (numbers : List ℕ) (i n : ℕ) → i < length numbers → times (take (i + 1) numbers) n ≡ times (take i numbers) n + cond (n == get_or numbers i 0) 1 0
 times-next numbers i n within =

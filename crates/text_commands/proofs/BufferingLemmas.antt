@@ -1,5 +1,5 @@
 -- A buffering, and what the files of it say.
-use Rattle.std.proofs.Common.{◌≡◌, ℕ, ◌+◌, ◌<◌, ◌≤◌, ◌⊎◌, inl, inr, false, List, length, slice_set, get_or, Option, Some, None, Result, Ok, Err, IsTrue, refl, sym, ap, subst, ◌∙◌, arith}
+use Rattle.std.proofs.Common.{◌≡◌, ℕ, ◌+◌, ◌<◌, ◌≤◌, ◌⊎◌, inl, inr, List, length, slice_set, get_or, Option, Some, None, Result, Ok, Err, IsTrue, refl, sym, ap, subst, ◌∙◌, arith}
 use Rattle.std.proofs.Math.Path.{fun_ext}
 use Rattle.std.proofs.lemmas.Bool.{cases_eq}
 use Rattle.std.specs.Option.{IsSomeAnd, option_and_then, option_map}
@@ -132,20 +132,6 @@ pub record AreTreesBelow (most : ℕ) (d : DesignView) (sets : ℕ → Edges) (t
 
 get-tree : (trees : List (Option TreeView)) (net : ℕ) → net < length trees → tree_at trees net ≡ get_or trees net None
 get-tree trees net below = ap (option_and_then (λ (tree : Option TreeView). tree)) (slice_get-get_or trees net None below)
-
--- one more net, which isn't routed
-pub below-unrouted : (d : DesignView) (sets : ℕ → Edges) (trees : List (Option TreeView)) (net : ℕ) → is_routed d net ≡ false →
-    AreTreesBelow net d sets trees → AreTreesBelow (net + 1) d sets trees
-below-unrouted d sets trees net unrouted are = record {
-  trees_are = λ other below routed. are.trees_are other (earlier other below routed) routed;
-  have = λ other below routed. are.have other (earlier other below routed) routed;
-}
-  where
-    earlier : (other : ℕ) → other < net + 1 → IsTrue (is_routed d other) → other < net
-    earlier other below routed = elim (cases_eq other net) [
-      | inl is ↦ absurd (let no : is_routed d net ≡ false = unrouted in cc)
-      | inr apart ↦ omega (arith, below, apart)
-    ]
 
 -- one more net, with its tree
 pub below-next : (d : DesignView) (sets : ℕ → Edges) (trees : List (Option TreeView)) (net : ℕ) (t : TreeView) → net < length trees →

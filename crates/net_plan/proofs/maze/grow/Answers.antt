@@ -1,7 +1,9 @@
-use Rattle.std.proofs.Common.{sym, subst, ◌∙◌}
+use Rattle.std.proofs.Common.{◌≡◌, All, IsTrue, slice_get, sym, subst, ◌∙◌}
+use Rattle.gr_base.specs.Trees.{cell_at, holds}
 use Rattle.gr_base.specs.declared.grid.Shape.{Shape}
 use Rattle.maze_route.proofs.KeptLemmas.{serves-grown}
 use Rattle.maze_route.specs.Windows.{IsWindow, IsPassable, LieIn}
+use Rattle.net_plan.specs.Mazes.{driver_tree, GrowsTo}
 use Rattle.net_plan.proofs.GrowthLemmas.{adds-keeps, growing-first, growing-goals, growing-turn, growing-done, growing-pins, growing-driver, no-goals}
 use Rattle.net_plan.proofs.maze.grow.Goals as goal
 
@@ -45,14 +47,17 @@ loop-alloc-preserved g c =
 
 pub returns-clause-grown : goal.returns-clause-grown
 returns-clause-grown g c =
-    growing-done c.args.shape c.args.window (g.C.Costs.price c.args.costs.now) c.args.pins.now c.loop-alloc.tree c.loop-alloc.goals.items c.loop-alloc.invariant.growing
-    (no-goals c.loop-alloc.goals.items _ c.loop-alloc.goals.ok.0 (sym c.is_empty.ensures ∙ c.loop-alloc-test.false))
+    subst (GrowsTo c.args.window (g.C.Costs.price c.args.costs.now) c.args.pins.now (driver_tree c.args.shape c.args.pins.now)) (sym c.trim.ensures.same)
+    (growing-done c.args.shape c.args.window (g.C.Costs.price c.args.costs.now) c.args.pins.now c.loop-alloc.tree c.loop-alloc.goals.items c.loop-alloc.invariant.growing
+    (no-goals c.loop-alloc.goals.items _ c.loop-alloc.goals.ok.0 (sym c.is_empty.ensures ∙ c.loop-alloc-test.false)))
 
 pub returns-clause-driver : goal.returns-clause-driver
 returns-clause-driver g c =
-    growing-driver c.args.shape c.args.window (g.C.Costs.price c.args.costs.now) c.args.pins.now c.loop-alloc.tree c.loop-alloc.goals.items c.requires.some c.loop-alloc.invariant.growing
+    subst (λ t. cell_at t.nodes 0 ≡ slice_get c.args.pins.now 0) (sym c.trim.ensures.same)
+    (growing-driver c.args.shape c.args.window (g.C.Costs.price c.args.costs.now) c.args.pins.now c.loop-alloc.tree c.loop-alloc.goals.items c.requires.some c.loop-alloc.invariant.growing)
 
 pub returns-clause-pins : goal.returns-clause-pins
 returns-clause-pins g c =
-    growing-pins c.args.shape c.args.window (g.C.Costs.price c.args.costs.now) c.args.pins.now c.loop-alloc.tree c.loop-alloc.goals.items c.loop-alloc.invariant.growing
-    (no-goals c.loop-alloc.goals.items _ c.loop-alloc.goals.ok.0 (sym c.is_empty.ensures ∙ c.loop-alloc-test.false))
+    subst (λ t. All (λ pin. IsTrue (holds t pin)) c.args.pins.now) (sym c.trim.ensures.same)
+    (growing-pins c.args.shape c.args.window (g.C.Costs.price c.args.costs.now) c.args.pins.now c.loop-alloc.tree c.loop-alloc.goals.items c.loop-alloc.invariant.growing
+    (no-goals c.loop-alloc.goals.items _ c.loop-alloc.goals.ok.0 (sym c.is_empty.ensures ∙ c.loop-alloc-test.false)))
