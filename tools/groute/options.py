@@ -33,7 +33,7 @@ USAGE = {
     "trial SEED X Y L NETS ROUNDS [--workers N] [--rule first|steep|flat|near]": "makes a design and routes it",
     "panels DESIGN SOLUTION": "gives straight runs the fewest tracks",
 }
-BOUNDS = "DESIGN [--via-cost V]"     # the words of grbound
+BOUNDS = "DESIGN [--steps K] [--via-cost V]"     # the words of grbound
 # The tools that are commands of their own, installed as groute-NAME.
 TOOLS = ("adjust", "congestion", "def_to_ispd", "flow", "guides", "hotspots", "insert", "liberty", "netlist",
          "report", "required", "slowest", "spef", "to_solution", "where")
