@@ -19,7 +19,7 @@ _groute() {
     'groute make') options="" ;;
     'groute trial') options="--workers --rule" ;;
     'groute panels') options="" ;;
-    grbound) options="--via-cost" ;;
+    grbound) options="--steps --via-cost" ;;
     groute-adjust) options="--help --layer --region --direction --output --names" ;;
     groute-congestion) options="--help --output --layer --edges --direction --region --worst --net --buffers --bound --tracks --names" ;;
     groute-def-to-ispd) options="--help --lef --tile --layers --adjust --via --driver --sink --liberty --kinds --kind --scale --keep-supply" ;;
