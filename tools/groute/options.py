@@ -34,11 +34,12 @@ USAGE = {
     "panels DESIGN SOLUTION": "gives straight runs the fewest tracks",
 }
 # The same of grbound, which has one command without a word.
-BOUNDS = {"DESIGN [--via-cost V]": "says what overflow and wirelength no routes of a design can be below"}
+BOUNDS = {"DESIGN [--steps K] [--via-cost V]": "says what overflow and wirelength no routes of a design can be below"}
 # The ranges of numbers, by the word or the option that takes them.
 RANGES = {
     "ROUNDS": (0, 64), "SEED": (0, (1 << 64) - 1), "X": (2, 2048), "Y": (2, 2048), "L": (2, 16), "NETS": (0, 1_000_000),
     "--workers": (1, 16), "--via-cost": (0, 1000), "--batch": (1, 65536), "--stop": (0, (1 << 64) - 1),
+    "--steps": (0, 10_000),
 }
 # What words and options are.
 MEANS = {
@@ -55,9 +56,10 @@ MEANS = {
     "--via-cost": "as how many wire edges a via counts in wirelength",
     "--batch": "nets are planned B at a time, so that threads change no byte",
     "--rule": "how costs of edges rise with demand",
+    "--steps": "how many steps of prices look for better bounds",
     "--stop": "rounds end once one doesn't lower the overflow (still), or once it is at most N",
 }
-ELSE = {"--workers": "1", "--via-cost": "1", "--rule": "first"}     # what is taken where none is given
+ELSE = {"--workers": "1", "--via-cost": "1", "--rule": "first", "--steps": "0"}     # what is taken where none is given
 EXCLUDES = [("--batch", "--stop")]      # options of which only one may be given
 MOST_CELLS = 8_388_608                  # of a made design, X * Y * L
 READ_ON = "docs/FORMATS.md"             # where texts, ranges and faults stand, beside the man page

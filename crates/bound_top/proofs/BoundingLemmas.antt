@@ -16,28 +16,31 @@ use Rattle.command_form.specs.declared.stop.Stop.{Stop}
 use Rattle.command_form.proofs.EndLemmas.{IsLawfully}
 use Rattle.command_form.proofs.LeavingLemmas.{open-whole, written-one}
 use Rattle.word_reader.specs.Orders.{Order, Route, Evaluate, Buffer, Make, Trial, Panels, Bound}
-use Rattle.bound_top.specs.Bounding.{asked_by, bounding, IsBoundsText}
+use Rattle.bound_top.specs.Bounding.{asked_by, bounding, ArePriceLines, IsBoundsText}
 
 -- the text of bounds that were made
-pub bounds-said : (d : DesignView) (via_cost : ℕ) (bounds : BoundsView) (text : List ℕ) → bounds ≡ bounds_of d via_cost →
-    AreBounds d via_cost bounds.overflow bounds.wirelength bounds.usable_wirelength → text ≡ bounds_text bounds → IsBoundsText d via_cost Whole text
-bounds-said d via_cost bounds text is holds says = record {
+pub bounds-said : (d : DesignView) (via_cost steps : ℕ) (bounds : BoundsView) (lines text : List ℕ) → bounds ≡ bounds_of d via_cost →
+    AreBounds d via_cost bounds.overflow bounds.wirelength bounds.usable_wirelength → ArePriceLines d via_cost bounds steps lines →
+    text ≡ bounds_text bounds lines → IsBoundsText d via_cost steps Whole text
+bounds-said d via_cost steps bounds lines text is holds prices says = record {
   whole = refl;
-  says = says ∙ ap bounds_text is;
+  lines = lines;
+  says = says ∙ ap (λ (b : BoundsView). bounds_text b lines) is;
   holds = subst (λ (b : BoundsView). AreBounds d via_cost b.overflow b.wirelength b.usable_wirelength) is holds;
+  prices = subst (λ (b : BoundsView). ArePriceLines d via_cost b steps lines) is prices;
 }
 
 -- the bounds of what was read, as they were written, are what the command leaves
-pub bounded : (shelf : Reading) (design_name : List ℕ) (via_cost : ℕ) (d : DesignView) (out : Device) (end : Result Outcome Stop) →
+pub bounded : (shelf : Reading) (design_name : List ℕ) (via_cost steps : ℕ) (d : DesignView) (out : Device) (end : Result Outcome Stop) →
     (IsTrue shelf.tells → design_said shelf.held design_name ≡ Some (Ok d)) → shelf.faults_after ≡ shelf.faults →
-    WritesOne (IsBoundsText d via_cost) (λ stop. ⊥) out end → LeavesOut (bounding design_name via_cost) shelf out None end
-bounded shelf design_name via_cost d out end said reads is =
-    written-one (bounding design_name via_cost) shelf out reads (IsBoundsText d via_cost)
+    WritesOne (IsBoundsText d via_cost steps) (λ stop. ⊥) out end → LeavesOut (bounding design_name via_cost steps) shelf out None end
+bounded shelf design_name via_cost steps d out end said reads is =
+    written-one (bounding design_name via_cost steps) shelf out reads (IsBoundsText d via_cost steps)
     (λ outcome text bounds. (refl, refl, record { design = d; said = said; bounds = bounds })) (λ stop. ⊥) (λ stop no. absurd no) (λ stop no. absurd no) end is
 
 -- the law of the command
-bounding-lawful : (design : List ℕ) (via_cost : ℕ) → IsLawful (bounding design via_cost)
-bounding-lawful design via_cost = record {
+bounding-lawful : (design : List ℕ) (via_cost steps : ℕ) → IsLawful (bounding design via_cost steps)
+bounding-lawful design via_cost steps = record {
   refuses = λ shelf stop refused. absurd refused;
   accepts = λ shelf kept outcome text report says tells.
       ap (λ (o : Option (Result DesignView (DesignFault × ℕ))). checked o design_fault (λ d. Some (Ok tt))) (says.2.said tells);
@@ -56,13 +59,13 @@ asked-lawful (Some (Buffer design library solution)) = tt
 asked-lawful (Some (Make made)) = tt
 asked-lawful (Some (Trial made options)) = tt
 asked-lawful (Some (Panels design solution)) = tt
-asked-lawful (Some (Bound design via_cost)) = bounding-lawful design via_cost
+asked-lawful (Some (Bound design via_cost steps)) = bounding-lawful design via_cost steps
 
 -- what the command of an order leaves, by the words that gave it
-pub bound-leaves : (order : Option Order) (design : List ℕ) (via_cost : ℕ) (shelf : Reading) (out : Device) (end : Result Outcome Stop) →
-    order ≡ Some (Bound design via_cost) → LeavesOut (bounding design via_cost) shelf out None end →
+pub bound-leaves : (order : Option Order) (design : List ℕ) (via_cost steps : ℕ) (shelf : Reading) (out : Device) (end : Result Outcome Stop) →
+    order ≡ Some (Bound design via_cost steps) → LeavesOut (bounding design via_cost steps) shelf out None end →
     (err : Device) → IsUntouched err → LeavesFor (asked_by order) shelf out err None end
-bound-leaves order design via_cost shelf out end is leaves err untouched =
+bound-leaves order design via_cost steps shelf out end is leaves err untouched =
     subst (λ (o : Option Order). LeavesFor (asked_by o) shelf out err None end) (sym is) (leaves err untouched)
 
 -- a sink that isn't given

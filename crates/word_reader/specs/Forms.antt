@@ -7,11 +7,15 @@ use Rattle.word_reader.specs.Numbers.{most_number}
 use Rattle.word_reader.specs.declared.form.Command.{Command}
 use Rattle.word_reader.specs.declared.form.Command.TheVariants.{Route, Evaluate, Buffer, Make, Trial, Panels, Bound}
 use Rattle.word_reader.specs.declared.form.OptionKind.{OptionKind}
-use Rattle.word_reader.specs.declared.form.OptionKind.TheVariants.{Workers, ViaCost, Batch, Rule, Stop, From, Trace}
+use Rattle.word_reader.specs.declared.form.OptionKind.TheVariants.{Workers, ViaCost, Batch, Rule, Stop, From, Trace, Steps}
 
--- the most wire edges as which a via edge may count in a report, and the most nets of a batch
+-- the most wire edges as which a via edge may count in a report, the most steps by which a bound may be raised,
+-- and the most nets of a batch
 abbrev pub most_via_cost : ℕ
 most_via_cost = 1000
+
+abbrev pub most_steps : ℕ
+most_steps = 10000
 
 abbrev pub most_batch : ℕ
 most_batch = 65536
@@ -79,10 +83,16 @@ option_row Stop = record {
 }
 option_row From = record { word = codes "--from"; takes = Name; default = None; excludes = None }
 option_row Trace = record { word = codes "--trace"; takes = Nothing; default = None; excludes = None }
+option_row Steps = record {
+  word = codes "--steps";
+  takes = Number 0 most_steps;
+  default = Some (codes "0");
+  excludes = None;
+}
 
 -- the options, each once
 abbrev pub every_option : List OptionKind
-every_option = Workers ∷ ViaCost ∷ Batch ∷ Rule ∷ Stop ∷ From ∷ Trace ∷ []
+every_option = Workers ∷ ViaCost ∷ Batch ∷ Rule ∷ Stop ∷ From ∷ Trace ∷ Steps ∷ []
 
 -- the place of an option among them
 abbrev pub place : OptionKind → ℕ
@@ -93,6 +103,7 @@ place Rule = 3
 place Stop = 4
 place From = 5
 place Trace = 6
+place Steps = 7
 
 -- two options are one
 abbrev pub is_option : OptionKind → OptionKind → Bool
@@ -120,7 +131,7 @@ command_row Buffer = record { word = codes "buffer"; positionals = 3; options = 
 command_row Make = record { word = codes "make"; positionals = 5; options = [] }
 command_row Trial = record { word = codes "trial"; positionals = 6; options = Workers ∷ Rule ∷ Trace ∷ [] }
 command_row Panels = record { word = codes "panels"; positionals = 2; options = [] }
-command_row Bound = record { word = []; positionals = 1; options = ViaCost ∷ [] }
+command_row Bound = record { word = []; positionals = 1; options = ViaCost ∷ Steps ∷ [] }
 
 -- the commands that words name, each once
 abbrev pub every_command : List Command

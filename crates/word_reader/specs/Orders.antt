@@ -10,7 +10,7 @@ use Rattle.design_maker.specs.declared.made.Made.{Made}
 use Rattle.design_maker.specs.Ranges.{most_made_nets, most_side}
 use Rattle.gr_base.specs.Limits.{most_layers, most_rounds, most_workers}
 use Rattle.gr_text.specs.Numbers.{natural_in}
-use Rattle.word_reader.specs.Forms.{command_of, command_row, has, every_option, option_row, most_batch, most_via_cost}
+use Rattle.word_reader.specs.Forms.{command_of, command_row, has, every_option, option_row, most_batch, most_steps, most_via_cost}
 use Rattle.word_reader.specs.Numbers.{most_digits, most_number}
 use Rattle.word_reader.specs.Sorting.{Sorted, sorted}
 use Rattle.word_reader.specs.Values.{Value, Absent, Choice, Count, Named, Present, number_of, value_of}
@@ -19,7 +19,7 @@ use Rattle.word_reader.specs.declared.error.WordError.TheVariants.{Usage}
 use Rattle.word_reader.specs.declared.form.Command.{Command}
 use Rattle.word_reader.specs.declared.form.Command.TheVariants.{Route as Routes, Evaluate as Evaluates, Buffer as Buffers, Make as Makes, Trial as Tries, Panels as Tracks, Bound as Bounds}
 use Rattle.word_reader.specs.declared.form.OptionKind.{OptionKind}
-use Rattle.word_reader.specs.declared.form.OptionKind.TheVariants.{Workers, ViaCost, Batch, Rule, Stop, From, Trace}
+use Rattle.word_reader.specs.declared.form.OptionKind.TheVariants.{Workers, ViaCost, Batch, Rule, Stop, From, Trace, Steps}
 use Rattle.word_reader.specs.declared.order.Options.{Options}
 use Rattle.word_reader.specs.declared.order.Order.{Order as Given}
 use Rattle.word_reader.specs.declared.order.Stopping.{Stopping}
@@ -36,7 +36,7 @@ pub data Order : Type 0 where
   Make : Made → Order
   Trial : Made → Options → Order
   Panels : (design solution : List ℕ) → Order
-  Bound : (design : List ℕ) → (via_cost : ℕ) → Order
+  Bound : (design : List ℕ) → (via_cost steps : ℕ) → Order
 
 infixl 10 ◌>>=◌
 abbrev ◌>>=◌ : {A B : Type 0} → Option A → (A → Option B) → Option B
@@ -185,6 +185,13 @@ trial_of sorted = do
   options ← options_of sorted 5
   Some (Trial made options)
 
+-- what is bounded, and by how many steps
+unfoldable pub bound_of : Sorted → Option Order
+bound_of sorted = do
+  via_cost ← number_of ViaCost sorted
+  steps ← number_of Steps sorted
+  Some (Bound (positional sorted 0) via_cost steps)
+
 -- what each command asks for: `route DESIGN LIBRARY ROUNDS`, `evaluate DESIGN SOLUTION`,
 -- `buffer DESIGN LIBRARY SOLUTION`, `make SEED X Y L NETS`, `trial SEED X Y L NETS ROUNDS`, `panels DESIGN SOLUTION`,
 -- and grbound's one, `DESIGN`
@@ -196,7 +203,7 @@ order_as Buffers sorted = Some (Buffer (positional sorted 0) (positional sorted 
 order_as Makes sorted = option_map Make (made_of sorted)
 order_as Tries sorted = trial_of sorted
 order_as Tracks sorted = Some (Panels (positional sorted 0) (positional sorted 1))
-order_as Bounds sorted = option_map (Bound (positional sorted 0)) (number_of ViaCost sorted)
+order_as Bounds sorted = bound_of sorted
 
 -- the order of a command by the words behind its own
 abbrev pub order_by : Command → Sorted → Option Order
@@ -227,7 +234,7 @@ named (Given.Buffer design library solution) = Buffer design.now library.now sol
 named (Given.Make made) = Make made
 named (Given.Trial made options) = Trial made options
 named (Given.Panels design solution) = Panels design.now solution.now
-named (Given.Bound design via_cost) = Bound design.now via_cost
+named (Given.Bound design via_cost steps) = Bound design.now via_cost steps
 
 -- the order of the words, or that they give none
 abbrev pub Answers : Option Order → Result Given WordError → Type 0
@@ -250,4 +257,4 @@ AsksInRange (Given.Buffer design library solution) = Unit {0}
 AsksInRange (Given.Make made) = IsMade made
 AsksInRange (Given.Trial made options) = IsMade made × AreInRange options
 AsksInRange (Given.Panels design solution) = Unit {0}
-AsksInRange (Given.Bound design via_cost) = via_cost ≤ most_via_cost
+AsksInRange (Given.Bound design via_cost steps) = (via_cost ≤ most_via_cost) × (steps ≤ most_steps)

@@ -8,6 +8,9 @@ use gr_base::MOST_WORKERS;
 /// The most wire edges as which a via edge may count in a report.
 pub const MOST_VIA_COST: u32 = 1_000;
 
+/// The most steps by which a bound may be raised.
+pub const MOST_STEPS: u32 = 10_000;
+
 /// The most nets that a batch may have.
 pub const MOST_BATCH: u32 = 65_536;
 
@@ -44,6 +47,7 @@ pub(crate) enum OptionKind {
     Stop,
     From,
     Trace,
+    Steps,
 }
 
 /// What words an option takes.
@@ -94,7 +98,7 @@ const EVERY_COMMAND: [Command; 6] = [
 ];
 
 /// The options, each once, in the order in which they are declared.
-pub(crate) const EVERY_OPTION: [OptionKind; 7] = [
+pub(crate) const EVERY_OPTION: [OptionKind; 8] = [
     OptionKind::Workers,
     OptionKind::ViaCost,
     OptionKind::Batch,
@@ -102,6 +106,7 @@ pub(crate) const EVERY_OPTION: [OptionKind; 7] = [
     OptionKind::Stop,
     OptionKind::From,
     OptionKind::Trace,
+    OptionKind::Steps,
 ];
 
 /// How many options there are.
@@ -174,7 +179,7 @@ impl Command {
             Command::Bound => CommandRow {
                 word: "",
                 positionals: 1,
-                options: &[OptionKind::ViaCost],
+                options: &[OptionKind::ViaCost, OptionKind::Steps],
             },
         }
     }
@@ -233,6 +238,15 @@ impl OptionKind {
                     least: 0,
                     most: u64::MAX,
                 },
+            OptionKind::Steps => OptionRow {
+                word: "--steps",
+                takes: Takes::Number {
+                    least: 0,
+                    most: MOST_STEPS as u64,
+                },
+                default: Some("0"),
+                excludes: None,
+            },
                 default: None,
                 excludes: None,
             },

@@ -92,11 +92,14 @@ pub enum Order<'w> {
         design: &'w str,
         solution: &'w str,
     },
-    /// grbound's `DESIGN [--via-cost V]` tells what no solution of the design can be better in.
+    /// grbound's `DESIGN [--steps K] [--via-cost V]` tells what no solution of the design can be better
+    /// in.
     Bound {
         design: &'w str,
         /// As for `evaluate`.
         via_cost: u32,
+        /// By how many steps each bound is raised, from 0 to 10,000; 0 where `--steps` isn't given.
+        steps: u32,
     },
 }
 
@@ -250,15 +253,18 @@ fn panels<'w>(sorted: &Sorted<'w>) -> Order<'w>
     }
 }
 
+#[tactic(auto, unfolding(crate::specs::Orders::bound_of))]
 fn bound<'w>(sorted: &Sorted<'w>) -> Option<Order<'w>>
     requires { 1 ≤ length (words_seen sorted.now).positionals }
     ensures order { option_map named result ≡ order_as Bounds (words_seen sorted.now) }
     ensures range { IfSome result AsksInRange }
 {
     let via_cost = number_of(OptionKind::ViaCost, sorted)?;
+    let steps = number_of(OptionKind::Steps, sorted)?;
     Some(Order::Bound {
         design: sorted.positional(0),
         via_cost: via_cost as u32,
+        steps: steps as u32,
     })
 }
 
