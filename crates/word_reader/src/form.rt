@@ -238,15 +238,6 @@ impl OptionKind {
                     least: 0,
                     most: u64::MAX,
                 },
-            OptionKind::Steps => OptionRow {
-                word: "--steps",
-                takes: Takes::Number {
-                    least: 0,
-                    most: MOST_STEPS as u64,
-                },
-                default: Some("0"),
-                excludes: None,
-            },
                 default: None,
                 excludes: None,
             },
@@ -260,6 +251,15 @@ impl OptionKind {
                 word: "--trace",
                 takes: Takes::Nothing,
                 default: None,
+                excludes: None,
+            },
+            OptionKind::Steps => OptionRow {
+                word: "--steps",
+                takes: Takes::Number {
+                    least: 0,
+                    most: MOST_STEPS as u64,
+                },
+                default: Some("0"),
                 excludes: None,
             },
         }
