@@ -174,13 +174,7 @@ fn run_round<N: BookName + Send + Sync, R: Threads + Wait + Sync, G: Gate + Sync
 }
 
 /// How many nets the round after this one has, where so many could be due.
-fn due_after(
-    asked: &Asked,
-    round: u32,
-    overflow: u128,
-    before: Option<u128>,
-    nets: usize,
-) -> u64
+fn due_after(asked: &Asked, round: u32, overflow: u128, before: Option<u128>, nets: usize) -> u64
     ensures { result ≡ due_after (setting_of asked.now) round overflow before nets }
 {
     if round == asked.rounds || is_stopped(asked, overflow, before) {
@@ -190,7 +184,13 @@ fn due_after(
 }
 
 /// Lets the gate know that a round has ended with a mark.
-fn tell_mark<R: Threads + Wait + Sync, G: Gate>(rt: &R, gate: &G, round: u32, overflow: u128, due: u64) {
+fn tell_mark<R: Threads + Wait + Sync, G: Gate>(
+    rt: &R,
+    gate: &G,
+    round: u32,
+    overflow: u128,
+    due: u64,
+) {
     gate.pass(
         rt,
         MARKER,

@@ -105,8 +105,8 @@ module _ (d : DesignView) (given : List (Option TreeView)) where
       each-given (λ k h. (net : ℕ) → k ≤ net → booked h net ≡ None) (λ net from. booked-none net)
       (λ k is free net from. free net (omega (arith, from)))
       (λ k tree is free net from.
-          booked-claim_other (among k) (given_entry (among k) k tree) (given_claim (length (among k)) k tree) net refl refl (λ same. absurd (omega (arith, same, from)))
-          ∙ free net (omega (arith, from))) n
+      booked-claim_other (among k) (given_entry (among k) k tree) (given_claim (length (among k)) k tree) net refl refl (λ same. absurd (omega (arith, same, from)))
+      ∙ free net (omega (arith, from))) n
 
   pub among-booked : (n net : ℕ) → net < n → booked (among n) net ≡ given_to d given net
   among-booked n =
@@ -117,14 +117,14 @@ module _ (d : DesignView) (given : List (Option TreeView)) where
         | inr apart ↦ old net (omega (arith, below, apart))
       ])
       (λ k tree is old net below.
-          let e = given_entry (among k) k tree in
-          let claim = given_claim (length (among k)) k tree in
-          elim (cases_eq net k) [
-            | inl same ↦
-                ap (λ (m : ℕ). booked (among k ++ e ∷ []) m) same ∙ booked-claim (among k) e claim refl refl ∙ sym is
-                ∙ ap (λ (m : ℕ). given_to d given m) (sym same)
-            | inr apart ↦ booked-claim_other (among k) e claim net refl refl apart ∙ old net (omega (arith, below, apart))
-          ]) n
+      let e = given_entry (among k) k tree in
+      let claim = given_claim (length (among k)) k tree in
+      elim (cases_eq net k) [
+        | inl same ↦
+            ap (λ (m : ℕ). booked (among k ++ e ∷ []) m) same ∙ booked-claim (among k) e claim refl refl ∙ sym is
+            ∙ ap (λ (m : ℕ). given_to d given m) (sym same)
+        | inr apart ↦ booked-claim_other (among k) e claim net refl refl apart ∙ old net (omega (arith, below, apart))
+      ]) n
 
   unrouted : (net : ℕ) → is_routed d net ≡ false → given_to d given net ≡ None
   unrouted net off = ap (λ (b : Bool). if b then tree_at given net else None) off
@@ -159,10 +159,11 @@ module _ (d : DesignView) (given : List (Option TreeView)) where
   among-cut n =
       each-given (λ k h. cut h ≡ record { round = 0; before = h; segment = [] }) cut-none (λ k is same. same)
       (λ k tree is same.
-          let e = given_entry (among k) k tree in
-          cut-given (among k) e refl
-          ∙ ap (λ (s : Cut). record { round = s.round; before = s.before ++ s.segment ++ e ∷ []; segment = [] }) same
-          ∙ ap (λ (l : List Entry). record { round = 0; before = l ++ e ∷ []; segment = [] }) (append-nil (among k))) n
+      let e = given_entry (among k) k tree in
+      cut-given (among k) e refl
+      ∙ ap (λ (s : Cut). record { round = s.round; before = s.before ++ s.segment ++ e ∷ []; segment = [] }) same
+      ∙ ap (λ (l : List Entry). record { round = 0; before = l ++ e ∷ []; segment = [] }) (append-nil (among k))) n
+
   -- no overflow is told so far, and no mark is the last entry
   pub among-overflows : (n : ℕ) → overflows_of (among n) ≡ no_overflows
   among-overflows n =

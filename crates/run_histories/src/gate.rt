@@ -6,11 +6,18 @@ use std::thread::Threads;
 #[derive(Clone, Copy, Debug, PartialEq, Eq)]
 pub enum Stop {
     /// A worker begins with a net in a round.
-    Turn { net: u32, round: u32 },
+    Turn {
+        net: u32,
+        round: u32,
+    },
     /// It is about to search for the net's plan.
-    Search { net: u32 },
+    Search {
+        net: u32,
+    },
     /// It is about to claim the net.
-    Claim { net: u32 },
+    Claim {
+        net: u32,
+    },
     /// A round has ended with a mark, which was answered with this overflow, and so many nets are due in
     /// the next one: 0 where the rounds are over.
     Marked {
