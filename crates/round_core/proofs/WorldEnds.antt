@@ -63,7 +63,7 @@ first-running t plain = record {
   nets = λ net.
       let kept = times-kept (is_routed t.design) (length t.design.nets) net (routed-below t.design net) in
       let held = first-held t.workers net in
-      let due = ap (λ (b : Bool). if b then 1 else 0) (first-due t net) in
+      let due = ap {B = ℕ} (λ (b : Bool). if b then 1 else 0) (first-due t net) in
       omega (arith, kept, held, due);
   last = λ worker place own there number. absurd (none-some own there);
   exact = λ worker some. let none = first-since t.workers worker in absurd (omega (arith, some, none));

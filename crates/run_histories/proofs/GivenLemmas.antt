@@ -1,5 +1,5 @@
 -- What the claims of given trees leave, and histories that begin with them.
-use Rattle.std.proofs.Common.{◌≡◌, ℕ, suc, zero, ◌+◌, ◌<◌, ◌≤◌, inl, inr, Bool, true, false, ◌==◌, ◌&&◌, nat_lt, List, [], ◌∷◌, ◌++◌, length, get_or, take, All, Option, Some, None, is_some, is_none, slice_get, if◌then◌else◌, IsTrue, refl, sym, ap, subst, ◌∙◌, arith, append_assoc}
+use Rattle.std.proofs.Common.{◌≡◌, ℕ, suc, zero, ◌+◌, ◌<◌, ◌≤◌, inl, inr, Bool, true, false, ◌==◌, ◌&&◌, nat_lt, List, [], ◌∷◌, ◌++◌, length, filter, get_or, take, All, Option, Some, None, is_some, is_none, slice_get, if◌then◌else◌, IsTrue, refl, sym, ap, subst, ◌∙◌, arith, append_assoc}
 use Rattle.std.specs.List.{fold, range_with_len}
 use Rattle.std.proofs.lemmas.Bool.{cases_Bool, cases_lt, cases_eq, both_ways, and_parts}
 use Rattle.std.proofs.lemmas.List.{append-nil}
@@ -25,9 +25,9 @@ use Rattle.book_state.specs.declared.entry.PlanKind.{PlanKind}
 use Rattle.book_state.specs.declared.entry.PlanKind.TheVariants.{Given}
 use Rattle.book_state.specs.declared.entry.Reply.{Reply}
 use Rattle.book_state.specs.declared.entry.Reply.TheVariants.{Claimed}
-use Rattle.run_histories.specs.GivenRoutes.{given_to, is_open, with_given, given_among, given_claims}
+use Rattle.run_histories.specs.GivenRoutes.{given_to, is_open, with_given, given_among, given_claims, open_nets}
 use Rattle.run_histories.specs.Rounds.{first_worker, claim_of}
-use Rattle.run_histories.specs.RunHistories.{Setting, Overflows, no_overflows, overflows_after, overflows_of, claims_given, is_due, BeginsGiven}
+use Rattle.run_histories.specs.RunHistories.{Setting, Overflows, no_overflows, overflows_after, overflows_of, claims_given, is_due, BeginsGiven, routed_nets}
 use Rattle.run_histories.proofs.CutSteps.{cut-given, marked_last}
 
 -- the claim of a given tree behind a history
@@ -182,6 +182,14 @@ among-nothing d n = each-given d [] (λ k h. h ≡ []) refl (λ k is same. same)
     never : (k : ℕ) (tree : TreeView) (b : Bool) → (if b then tree_at [] k else None) ≡ Some tree → ⊥
     never k tree true is = cc
     never k tree false is = cc
+
+-- and all routed nets are open
+pub open-nothing : (d : DesignView) → open_nets d [] ≡ routed_nets d
+open-nothing d = ap (λ (p : ℕ → Bool). filter p (range_with_len 0 (length d.nets))) (λ i net. by (is_routed d net) i)
+  where
+    by : (b : Bool) → (b && true) ≡ b
+    by true = refl
+    by false = refl
 
 -- histories that begin with the claims of given trees go on
 pub begins-more : (t : Setting) (h es : List Entry) → BeginsGiven t h → All (λ (e : Entry). is_given e ≡ false) es → BeginsGiven t (h ++ es)

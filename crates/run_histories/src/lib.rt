@@ -10,6 +10,6 @@ mod plans;
 
 pub use gate::{Gate, OpenGate, Stop};
 pub use hands::{HandLog, MARKER, Places, hands_of};
-pub use laws::attempts_are_turns;
+pub use laws::{attempts_are_turns, nothing_given_opens_all};
 pub use nets::{open_nets, routed_nets};
 pub use plans::{kind_of, plan_of};

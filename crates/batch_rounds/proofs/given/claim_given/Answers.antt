@@ -21,7 +21,7 @@ loop-net-preserved-in_default c =
     }
 
 pub claim_tree-requires-clause-given : goal.claim_tree-requires-clause-given
-claim_tree-requires-clause-given c κs within = sym c.get.ensures ∙ ap option_copied c.in-Some.is
+claim_tree-requires-clause-given c = sym c.get.ensures ∙ ap option_copied c.in-Some.is
 
 pub returns-clause-claims : goal.returns-clause-claims
 returns-clause-claims c =

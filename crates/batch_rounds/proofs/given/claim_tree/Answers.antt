@@ -3,7 +3,7 @@ use Rattle.batch_rounds.proofs.RoundSteps.{given-claimed, given-in_range}
 use Rattle.batch_rounds.proofs.given.claim_tree.Goals as goal
 
 pub add_claim-requires : goal.add_claim-requires
-add_claim-requires c κs within =
+add_claim-requires c =
     let route = c.args.asked.now.fits.each c.args.net c.args.tree.now c.requires.given in
     given-in_range c.args.asked.now.design.now c.args.book.now.capacity c.args.net c.args.tree.now c.in_ok-tree.tree c.len-front.result c.args.book.now.history c.requires.capacity route c.in_ok-tree.ensures.same
     (c.len-front.ensures.len ∙ ap length c.history.ensures.history)

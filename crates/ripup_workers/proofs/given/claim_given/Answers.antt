@@ -14,7 +14,7 @@ loop-net-preserved-in_default g c =
     given-passed t c.loop-net.net c.loop-net.worker.pass (none-given t c.loop-net.net (sym c.get.ensures ∙ ap option_copied c.in_default.is)) c.loop-net.invariant
 
 pub claim_tree-requires-clause-given : goal.claim_tree-requires-clause-given
-claim_tree-requires-clause-given g c κs within = sym c.get.ensures ∙ ap option_copied c.in-Some.is
+claim_tree-requires-clause-given g c = sym c.get.ensures ∙ ap option_copied c.in-Some.is
 
 pub returns : goal.returns
 returns g c =
