@@ -53,7 +53,7 @@ bounding-lawful design via_cost steps = record {
 
 pub asked-lawful : (order : Option Order) → IsLawfully (asked_by order)
 asked-lawful None = tt
-asked-lawful (Some (Route design library options)) = tt
+asked-lawful (Some (Route design library from options)) = tt
 asked-lawful (Some (Evaluate design solution via_cost)) = tt
 asked-lawful (Some (Buffer design library solution)) = tt
 asked-lawful (Some (Make made)) = tt

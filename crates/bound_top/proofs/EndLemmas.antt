@@ -63,7 +63,7 @@ module _ (program : Program) (shelf : Reading) (out err told_err : Device) where
   pub no-part : (order : Option Order) (end : Result Outcome Stop) (status : ℕ) → LeavesFor (asked_by order) shelf out err None end →
       IsUnwritten out end → Finishes program told_err end status → LeavesNoPart out status
   no-part None end status leaves unwritten is = by-usage end status leaves.0 leaves.1 is
-  no-part (Some (Route design library options)) end status leaves unwritten is = by-usage end status leaves.0 leaves.1 is
+  no-part (Some (Route design library from options)) end status leaves unwritten is = by-usage end status leaves.0 leaves.1 is
   no-part (Some (Evaluate design solution via_cost)) end status leaves unwritten is = by-usage end status leaves.0 leaves.1 is
   no-part (Some (Buffer design library solution)) end status leaves unwritten is = by-usage end status leaves.0 leaves.1 is
   no-part (Some (Make made)) end status leaves unwritten is = by-usage end status leaves.0 leaves.1 is

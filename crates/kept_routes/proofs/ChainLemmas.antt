@@ -1,16 +1,16 @@
 -- The path from a tree's first node to another passes the edges of all nodes above that one.
-use Rattle.std.proofs.Common.{◌≡◌, ℕ, suc, zero, ◌+◌, ◌<◌, ◌≤◌, ◌||◌, ◌==◌, inl, inr, Bool, true, false, List, [], ◌∷◌, ◌++◌, length, Option, Some, None, slice_get, refl, sym, ap, subst, ◌∙◌, append-nil, arith}
-use Rattle.std.specs.List.{cons_option, filter_map, list_any}
+use Rattle.std.proofs.Common.{◌≡◌, ℕ, suc, zero, ◌<◌, ◌≤◌, ◌||◌, ◌==◌, inl, inr, Bool, true, false, List, [], ◌∷◌, ◌++◌, Option, Some, None, slice_get, refl, sym, ap, subst, ◌∙◌, append-nil, arith}
+use Rattle.std.specs.List.{cons_option, filter_map}
 use Rattle.std.specs.Option.{option_and_then, option_map, option_to_list}
 use Rattle.std.proofs.Math.Bool.{or-false}
-use Rattle.std.proofs.lemmas.Bool.{cases_Bool, or_cases, or_left, or_right, eqb-true, eq-eqb, false≢true, false_from_ne_true}
+use Rattle.std.proofs.lemmas.Bool.{or_cases, or_left, or_right, eqb-true, false≢true, false_from_ne_true}
 use Rattle.std.proofs.lemmas.List.{append_assoc}
 use Rattle.std.proofs.lemmas.List.Folds.{list_any-append}
 use Rattle.std.proofs.lemmas.Option.{none-some, same_Some}
 use Rattle.gr_base.specs.EdgeSets.{Edges, is_edge, set_of}
-use Rattle.gr_base.specs.Grid.{Joins, edge_of}
+use Rattle.gr_base.specs.Grid.{edge_of}
 use Rattle.gr_base.specs.ParentEdges.{parent_edge}
-use Rattle.gr_base.specs.Trees.{TreeView, IsTree, cell_at, edge_to_parent, edges_of, is_among, node_with, parent_at, walk_edges}
+use Rattle.gr_base.specs.Trees.{TreeView, IsTree, cell_at, edge_to_parent, edges_of, is_among, parent_at, walk_edges}
 use Rattle.gr_base.specs.declared.grid.Edge.{Edge}
 use Rattle.gr_base.specs.declared.grid.Shape.{Shape}
 use Rattle.gr_base.specs.declared.tree.Node.{Node}
@@ -19,7 +19,7 @@ use Rattle.gr_base.proofs.TreeDistinct.{is_edge-same, joins-of}
 use Rattle.gr_base.proofs.TreeEdges.{edge-at, edge_of-swap, is_edge-refl}
 use Rattle.gr_base.proofs.TreeGrowth.{parent-held}
 use Rattle.gr_base.proofs.TreeLemmas.{cell-inside, cell-only, node_from_cell, parent-earlier}
-use Rattle.gr_base.proofs.ParentEdgeLemmas.{IsHeld, parent-some}
+use Rattle.gr_base.proofs.ParentEdgeLemmas.{parent-some}
 use Rattle.gr_base.proofs.General.{is-some}
 use Rattle.route_evaluator.specs.NetTrees.{IsPath, StepsTo}
 use Rattle.route_evaluator.proofs.FloodLemmas.{joins-edge_of}

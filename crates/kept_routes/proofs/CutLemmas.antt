@@ -1,25 +1,24 @@
 -- A tree is cut to its first node and the marked ones.
-use Rattle.std.proofs.Common.{◌≡◌, ◌⊎◌, ℕ, ◌+◌, ◌<◌, ◌≤◌, ◌||◌, ◌==◌, inl, inr, Bool, true, false, List, [], ◌∷◌, ◌++◌, length, get_or, set, replicate, Option, Some, None, is_some, unwrap_or, Result, Ok, Err, IfOk, if◌then◌else◌, IsTrue, refl, sym, ap, subst, ◌∙◌, arith}
+use Rattle.std.proofs.Common.{◌≡◌, ◌⊎◌, ℕ, ◌+◌, ◌<◌, ◌≤◌, ◌||◌, ◌==◌, inl, inr, Bool, true, false, List, [], ◌∷◌, ◌++◌, length, get_or, set, replicate, Option, Some, None, is_some, Result, Ok, Err, IfOk, if◌then◌else◌, IsTrue, refl, sym, ap, subst, ◌∙◌, arith}
 use Rattle.std.specs.List.{cons_option}
 use Rattle.std.specs.Option.{option_to_list}
-use Rattle.std.proofs.lemmas.Bool.{cases_eq, cases_lt, or_cases, or_left, eqb-true, false≢true, false_from_ne_true}
-use Rattle.std.proofs.lemmas.Bool.Decides.{nat_tests}
+use Rattle.std.proofs.lemmas.Bool.{cases_eq, or_cases, eqb-true, false≢true, false_from_ne_true}
 use Rattle.std.proofs.lemmas.List.{length-set, get_or-set_same, get_or-set_other, get_or-replicate, length-replicate}
-use Rattle.std.proofs.lemmas.Option.{none-some, same_Some}
+use Rattle.std.proofs.lemmas.Option.{same_Some}
 use Rattle.gr_base.specs.EdgeSets.{is_edge, set_of}
-use Rattle.gr_base.specs.Grid.{AreNeighbours, cells_of, edge_of}
+use Rattle.gr_base.specs.Grid.{cells_of, edge_of}
 use Rattle.gr_base.specs.ParentEdges.{parent_edge}
-use Rattle.gr_base.specs.Trees.{TreeView, IsTree, IsWalkTo, attached, cell_at, edges_of, holds, node_of, node_with, parent_at, walk_edges}
+use Rattle.gr_base.specs.Trees.{TreeView, IsTree, IsWalkTo, attached, cell_at, edges_of, holds, node_of, node_with, parent_at}
 use Rattle.gr_base.specs.declared.grid.Edge.{Edge}
 use Rattle.gr_base.specs.declared.grid.Shape.{Shape}
 use Rattle.gr_base.specs.declared.tree.Node.{Node}
 use Rattle.gr_base.proofs.General.{is-some}
-use Rattle.gr_base.proofs.ParentEdgeLemmas.{IsHeld, parent-some}
+use Rattle.gr_base.proofs.ParentEdgeLemmas.{parent-some}
 use Rattle.gr_base.proofs.TreeDistinct.{is_edge-same}
 use Rattle.gr_base.proofs.TreeEdges.{edge-at, edge_of-self, found-at, near-from}
 use Rattle.gr_base.proofs.TreeGrowth.{adds-cells, adds-edges, attached-tree}
 use Rattle.gr_base.proofs.TreeLemmas.{cell_at-append, cell_at-within, cell-inside, cell-only, node_with-at, root-cell, some_from}
-use Rattle.kept_routes.specs.Cuts.{is_set, AreClosed, AreWanted, IsCut, IsCutTo, IsMarkedEdge, IsOnWay}
+use Rattle.kept_routes.specs.Cuts.{is_set, AreClosed, AreWanted, IsCut, IsCutTo, IsMarkedEdge}
 
 -- the tree of the first node and of the marked ones below a number, with the numbers of its nodes
 pub record IsCutBefore (t : TreeView) (marks : List Bool) (count : ℕ) (numbers : List ℕ) (now : TreeView) : Type 0 where

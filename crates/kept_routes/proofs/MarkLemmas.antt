@@ -1,5 +1,5 @@
 -- The marks of nodes on ways to pins.
-use Rattle.std.proofs.Common.{◌≡◌, ◌⊎◌, ℕ, ◌+◌, ◌<◌, ◌≤◌, ◌||◌, ◌==◌, inl, inr, Bool, true, false, List, [], ◌∷◌, length, take, get_or, set, replicate, Option, Some, None, IsTrue, refl, sym, ap, subst, ◌∙◌, arith}
+use Rattle.std.proofs.Common.{◌≡◌, ◌⊎◌, ℕ, ◌+◌, ◌<◌, ◌≤◌, ◌||◌, ◌==◌, inl, inr, Bool, true, false, List, [], ◌∷◌, length, take, get_or, set, replicate, Some, None, refl, sym, ap, subst, ◌∙◌, arith}
 use Rattle.std.proofs.lemmas.Bool.{cases_eq, cases_lt, or_cases, or_left, or_right, eqb-true, eq-eqb, false≢true}
 use Rattle.std.proofs.lemmas.List.{length-set, get_or-set_same, get_or-set_other, get_or-replicate, get_or_past, length-replicate, take_all}
 use Rattle.std.proofs.lemmas.List.Folds.{list_any_more}
@@ -7,7 +7,7 @@ use Rattle.std.proofs.lemmas.Option.{none-some, same_Some}
 use Rattle.gr_base.specs.Trees.{TreeView, cell_at, is_among, node_with, parent_at}
 use Rattle.gr_base.specs.declared.tree.Node.{Node}
 use Rattle.gr_base.proofs.TreeLemmas.{node_with-at}
-use Rattle.kept_routes.specs.Cuts.{is_set, IsAbove, Same, Higher, IsWanted, AreMarked, AreClosedFrom, AreWanted, MarksAbove}
+use Rattle.kept_routes.specs.Cuts.{is_set, IsAbove, Same, Higher, AreMarked, AreWanted, MarksAbove}
 
 -- ---- one more mark
 

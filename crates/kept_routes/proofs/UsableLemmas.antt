@@ -1,5 +1,5 @@
 -- Trees whose wires are in usable directions, node by node.
-use Rattle.std.proofs.Common.{◌≡◌, ℕ, ◌+◌, ◌<◌, ◌≤◌, inl, inr, Bool, true, false, length, Option, Some, None, slice_get, if◌then◌else◌, IsTrue, refl, sym, ap, subst, ◌∙◌, arith}
+use Rattle.std.proofs.Common.{◌≡◌, ℕ, ◌+◌, ◌<◌, ◌≤◌, inl, inr, Bool, true, false, length, Option, Some, None, if◌then◌else◌, IsTrue, refl, sym, ap, ◌∙◌, arith}
 use Rattle.std.specs.Option.{option_and_then}
 use Rattle.std.proofs.lemmas.Bool.{cases_eq, false≢true}
 use Rattle.std.proofs.lemmas.Option.{none-some, same_Some, slice_get_within}
@@ -7,9 +7,8 @@ use Rattle.gr_base.specs.Capacities.{usable}
 use Rattle.gr_base.specs.Designs.{DesignView}
 use Rattle.gr_base.specs.Grid.{has_edge, is_wire}
 use Rattle.gr_base.specs.ParentEdges.{parent_edge, wire_only, wire_to_parent}
-use Rattle.gr_base.specs.Trees.{TreeView, IsTree, edge_to_parent, edges_of, tree_edges}
+use Rattle.gr_base.specs.Trees.{TreeView, IsTree, edge_to_parent, tree_edges}
 use Rattle.gr_base.specs.declared.grid.Edge.{Edge}
-use Rattle.gr_base.specs.declared.tree.Node.{Node}
 use Rattle.gr_base.proofs.TreeDistinct.{gives}
 use Rattle.gr_base.proofs.TreeEdges.{tree-grid_edges}
 use Rattle.straight_runs.proofs.ListLemmas.{list-within}

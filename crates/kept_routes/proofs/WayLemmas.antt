@@ -1,18 +1,18 @@
 -- The edges of a tree that is cut to its pins are those on ways to pins.
-use Rattle.std.proofs.Common.{◌≡◌, ℕ, ◌<◌, ◌↔◌, inl, inr, Bool, true, List, ◌∷◌, length, get_or, All, Option, Some, slice_get, IsTrue, refl, sym, ap, subst, ◌∙◌, arith}
+use Rattle.std.proofs.Common.{◌≡◌, ℕ, ◌<◌, ◌↔◌, inr, true, List, ◌∷◌, length, Some, slice_get, IsTrue, sym, subst, ◌∙◌}
 use Rattle.std.proofs.lemmas.Option.{slice_get-get_or}
 use Rattle.gr_base.specs.EdgeSets.{Edges, set_of}
 use Rattle.gr_base.specs.Trees.{TreeView, IsTree, cell_at, edges_of, holds, is_among, walk_edges}
 use Rattle.gr_base.specs.declared.grid.Edge.{Edge}
 use Rattle.gr_base.specs.declared.grid.Shape.{Shape}
 use Rattle.gr_base.proofs.TreeEdges.{found-at}
-use Rattle.route_evaluator.specs.NetTrees.{AreTree, HasJust, IsPath, OnePath, StepsTo}
+use Rattle.route_evaluator.specs.NetTrees.{AreTree, HasJust, IsPath, OnePath}
 use Rattle.route_evaluator.proofs.NetTreeLemmas.{first-pin}
 use Rattle.route_evaluator.proofs.PathLemmas.{path-more, step-more}
 use Rattle.route_evaluator.proofs.TreePaths.{one-path}
 use Rattle.kept_routes.specs.Cuts.{IsCut}
 use Rattle.kept_routes.specs.Kept.{LiesOnWay, driver_of}
-use Rattle.kept_routes.proofs.ChainLemmas.{Chain, chain, edge-among, path-edges}
+use Rattle.kept_routes.proofs.ChainLemmas.{chain, edge-among, path-edges}
 
 module _ (set : Edges) (pins : List ℕ) (t now : TreeView) (tree : IsTree t) (just : HasJust set t) (are : AreTree t.shape set pins) (some : 0 < length pins)
     (start : cell_at t.nodes 0 ≡ slice_get pins 0) (held : (pin : ℕ) → is_among pins pin ≡ true → holds t pin ≡ true) (cut : IsCut t pins now) where

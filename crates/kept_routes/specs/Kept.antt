@@ -1,5 +1,5 @@
 -- Which nets of a design can be kept as a solution routes them, and their trees.
-use Rattle.std.specs.Prelude.{◌≡◌, ℕ, ◌↔◌, List, ◌∷◌, length, get_or, Option, Some, None, Result, Ok, IfOk, IfSome, IsSome, IsTrue}
+use Rattle.std.specs.Prelude.{◌≡◌, ℕ, ◌↔◌, List, ◌∷◌, length, get_or, Option, Some, None, Result, Ok, IsSome, IsTrue}
 use Rattle.gr_base.specs.Capacities.{usable}
 use Rattle.gr_base.specs.Designs.{DesignView, is_routed, pins_at}
 use Rattle.gr_base.specs.EdgeSets.{Edges, set_of}

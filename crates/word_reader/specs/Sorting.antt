@@ -1,5 +1,5 @@
 -- The words behind a command's, sorted into positionals and options with their values.
-use Rattle.std.specs.Prelude.{◌≡◌, ℕ, ◌↔◌, Bool, not, List, [], ◌∷◌, ◌++◌, Option, Some, None, IsTrue, if◌then◌else◌, codes}
+use Rattle.std.specs.Prelude.{◌≡◌, ℕ, ◌↔◌, not, List, [], ◌∷◌, ◌++◌, Option, Some, None, IsTrue, if◌then◌else◌, codes}
 use Rattle.std.specs.Option.{option_map}
 use Rattle.word_reader.specs.Forms.{is_option, option_of, option_row, takes_value}
 use Rattle.word_reader.specs.Meanings.{Meaning, Divides, Positional, Awaits, Holds, Unknown, is_positional, meaning_of}

@@ -1,10 +1,10 @@
-use Rattle.std.proofs.Common.{◌≡◌, ℕ, ◌+◌, ◌<◌, Bool, true, false, List, [], ◌∷◌, length, replicate, set, sym, ap, subst, ◌∙◌, arith}
+use Rattle.std.proofs.Common.{ℕ, ◌+◌, false, List, [], ◌∷◌, length, replicate, set, sym, ap, subst, ◌∙◌, arith}
 use Rattle.std.proofs.lemmas.Grind.{get_or_default_zero}
 use Rattle.std.proofs.lemmas.List.{get_or_default}
 use Rattle.gr_base.specs.Trees.{TreeView, cell_at, node_of}
 use Rattle.gr_base.specs.declared.grid.Shape.{Shape}
 use Rattle.kept_routes.specs.Cuts.{IsCutTo}
-use Rattle.kept_routes.proofs.CutLemmas.{IsCutBefore, cut-first, cut-next, cut-skip, cut-all, parent-there, walk-to}
+use Rattle.kept_routes.proofs.CutLemmas.{IsCutBefore, cut-first, cut-next, cut-all, parent-there, walk-to}
 use Rattle.kept_routes.proofs.cut.cut_to_marked.Goals as goal
 
 pub loop-node-init : goal.loop-node-init

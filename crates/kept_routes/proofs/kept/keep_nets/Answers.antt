@@ -3,7 +3,7 @@ use Rattle.gr_base.specs.Trees.{TreeView}
 use Rattle.route_reader.specs.Solutions.{edges_by}
 use Rattle.kept_routes.specs.Keepers.{AreKeptBefore}
 use Rattle.kept_routes.specs.Kept.{KeepsNet}
-use Rattle.kept_routes.proofs.KeptLemmas.{keep-all, keep-set, keep-skip, keep-unrouted}
+use Rattle.kept_routes.proofs.KeptLemmas.{keep-all, keep-set}
 use Rattle.kept_routes.proofs.kept.keep_nets.Goals as goal
 
 pub loop-net-preserved : goal.loop-net-preserved

@@ -1,4 +1,4 @@
-use Rattle.std.proofs.Common.{ℕ, List, Option, None, replicate, ap, ◌∙◌}
+use Rattle.std.proofs.Common.{ℕ, Option, None, replicate, ap, ◌∙◌}
 use Rattle.gr_base.specs.Trees.{TreeView}
 use Rattle.route_reader.specs.Solutions.{edges_by}
 use Rattle.kept_routes.proofs.KeptLemmas.{none-kept}

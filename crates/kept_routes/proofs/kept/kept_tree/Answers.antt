@@ -1,4 +1,4 @@
-use Rattle.std.proofs.Common.{◌≡◌, ◌<◌, List, ℕ, All, sym, ap, subst, ◌∙◌}
+use Rattle.std.proofs.Common.{◌<◌, List, ℕ, All, sym, ap, subst, ◌∙◌}
 use Rattle.std.proofs.lemmas.Bool.{false≢true}
 use Rattle.gr_base.specs.Grid.{cells_of}
 use Rattle.gr_base.specs.declared.grid.Shape.{Shape}

@@ -1,8 +1,8 @@
-use Rattle.std.proofs.Common.{◌≡◌, IsTrue, sym, subst, refl, ◌∙◌, arith}
+use Rattle.std.proofs.Common.{IsTrue, sym, subst, refl, ◌∙◌, arith}
 use Rattle.std.proofs.lemmas.Bool.{false≢true}
 use Rattle.gr_base.specs.Grid.{has_edge}
 use Rattle.gr_base.specs.declared.grid.Shape.{Shape}
-use Rattle.kept_routes.proofs.UsableLemmas.{usable-all, usable-more, usable-not, wire-inside}
+use Rattle.kept_routes.proofs.UsableLemmas.{usable-all, usable-not, wire-inside}
 use Rattle.kept_routes.proofs.usable.has_usable_wires.Goals as goal
 
 pub loop-node-init : goal.loop-node-init

@@ -1,7 +1,7 @@
-use Rattle.std.proofs.Common.{◌≡◌, ℕ, ◌+◌, ◌-◌, ◌<◌, Bool, true, false, List, length, sym, ap, subst, ◌∙◌, arith}
+use Rattle.std.proofs.Common.{◌≡◌, ℕ, ◌+◌, ◌-◌, ◌<◌, Bool, false, List, length, sym, subst, ◌∙◌, arith}
 use Rattle.std.proofs.lemmas.List.{get_or_default}
 use Rattle.kept_routes.specs.Cuts.{MarksAbove}
-use Rattle.kept_routes.proofs.MarkLemmas.{above-none, above-next, above-skip, above-all}
+use Rattle.kept_routes.proofs.MarkLemmas.{above-none, above-next, above-all}
 use Rattle.kept_routes.proofs.wanted.mark_above.Goals as goal
 
 pub loop-node-init : goal.loop-node-init

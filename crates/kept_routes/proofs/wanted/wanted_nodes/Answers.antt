@@ -1,4 +1,4 @@
-use Rattle.std.proofs.Common.{ℕ, false, replicate, sym, ap, ◌∙◌}
+use Rattle.std.proofs.Common.{ℕ, false, replicate, ap, ◌∙◌}
 use Rattle.kept_routes.proofs.MarkLemmas.{none-marked, wanted-are}
 use Rattle.kept_routes.proofs.wanted.wanted_nodes.Goals as goal
 
