@@ -228,6 +228,9 @@ impl OptionKind {
                     least: 0,
                     most: u64::MAX,
                 },
+                default: None,
+                excludes: None,
+            },
             OptionKind::Steps => OptionRow {
                 word: "--steps",
                 takes: Takes::Number {
@@ -235,9 +238,6 @@ impl OptionKind {
                     most: MOST_STEPS as u64,
                 },
                 default: Some("0"),
-                excludes: None,
-            },
-                default: None,
                 excludes: None,
             },
         }
