@@ -14,8 +14,7 @@ use Rattle.price_bounds.specs.Costs.{AreJoined, IsCostBound}
 use Rattle.price_bounds.specs.Figures.{divisor_of, IsFigure, IsRatesOf}
 use Rattle.price_bounds.specs.declared.figure.Figure.{Figure}
 use Rattle.price_bounds.specs.declared.figure.Figure.TheVariants.{Overflow, Length, Both}
-use Rattle.price_bounds.specs.Texts.{IsFloor}
-use Rattle.price_laws.specs.Laws.{ArePriceBounds, AreWeightsUpTo, AreWithin}
+use Rattle.price_laws.specs.Laws.{AreWeightsUpTo, AreWithin}
 use Rattle.price_laws.specs.Prices.{Prices, held_price}
 use Rattle.price_laws.proofs.PriceLemmas.{costs-law}
 use Rattle.wall_laws.specs.Spans.{AreUsable}
@@ -43,23 +42,23 @@ module _ (d : DesignView) (rates : Rates) (weights : List ℕ) (most cost surplu
   any-within sets all net routed e among = ap (λ (b : Bool). allowed_by d b e) all
 
   usable-within : (sets : ℕ → Edges) → rates.usable_only ≡ true → AreUsable d sets → AreWithin d allowed sets
-  usable-within sets only use net routed e among = ap (λ (b : Bool). allowed_by d b e) only ∙ use net routed e among
+  usable-within sets only along net routed e among = ap (λ (b : Bool). allowed_by d b e) only ∙ along net routed e among
 
   pub figure-holds : (figure : Figure) (via_cost bound : ℕ) → rates.via_cost ≡ via_cost → IsRatesOf figure rates →
       ((n : ℕ) → surplus ≤ n * divisor_of figure most → bound ≤ n) → IsFigure d via_cost figure bound
-  figure-holds Overflow via_cost bound same kind up sets join =
+  figure-holds Overflow via_cost bound same kind up = λ sets join.
       let v = surplus-low sets join (any-within sets kind.1) in
       let zero : rates.scale * wirelength d rates.via_cost sets ≡ 0 * wirelength d rates.via_cost sets =
       ap (λ (s : ℕ). s * wirelength d rates.via_cost sets) kind.0 in
       up (total_over d sets) (omega (arith, v, zero))
-  figure-holds Length via_cost bound same kind up sets join use none =
-      let v = surplus-low sets join (usable-within sets kind.1 use) in
+  figure-holds Length via_cost bound same kind up = λ sets join along none.
+      let v = surplus-low sets join (usable-within sets kind.1 along) in
       let scaled : rates.scale * wirelength d rates.via_cost sets ≡ 4096 * wirelength d via_cost sets =
       ap (λ (s : ℕ). s * wirelength d rates.via_cost sets) kind.0 ∙ ap (λ (n : ℕ). 4096 * wirelength d n sets) same in
       let nothing : most * total_over d sets ≡ most * 0 = ap (λ (n : ℕ). most * n) none in
       up (wirelength d via_cost sets) (omega (arith, v, scaled, nothing))
-  figure-holds Both via_cost bound same kind up sets join use =
-      let v = surplus-low sets join (usable-within sets kind.1 use) in
+  figure-holds Both via_cost bound same kind up = λ sets join along.
+      let v = surplus-low sets join (usable-within sets kind.1 along) in
       let scaled : rates.scale * wirelength d rates.via_cost sets ≡ 4096 * wirelength d via_cost sets =
       ap (λ (s : ℕ). s * wirelength d rates.via_cost sets) kind.0 ∙ ap (λ (n : ℕ). 4096 * wirelength d n sets) same in
       let top : ℕ = max most 4096 in
@@ -82,29 +81,10 @@ weights-up-to rates weights most each e = by weights (wire_number e) each
           | inr past ↦ let zero = get_or_past xs n 0 past in omega (arith, zero)
         ]
 
--- no figure is below 0, and of two the greater is one
-pub figure-zero : (d : DesignView) (via_cost : ℕ) (figure : Figure) → IsFigure d via_cost figure 0
-figure-zero d via_cost Overflow sets join = omega arith
-figure-zero d via_cost Length sets join use none = omega arith
-figure-zero d via_cost Both sets join use = omega arith
-
+-- of two figures the greater is one
 pub figure-max : (d : DesignView) (via_cost : ℕ) (figure : Figure) (a b c : ℕ) → c ≡ max a b → IsFigure d via_cost figure a →
     IsFigure d via_cost figure b → IsFigure d via_cost figure c
-figure-max d via_cost Overflow a b c is one two sets join = let x = one sets join in let y = two sets join in omega (arith, is, x, y)
-figure-max d via_cost Length a b c is one two sets join use none =
-    let x = one sets join use none in let y = two sets join use none in omega (arith, is, x, y)
-figure-max d via_cost Both a b c is one two sets join use = let x = one sets join use in let y = two sets join use in omega (arith, is, x, y)
-
--- figures, and what is known
-pub with-floor : (d : DesignView) (via_cost floor_over floor_length over length both sum : ℕ) → IsFloor d via_cost floor_over floor_length →
-    IsFigure d via_cost Overflow over → IsFigure d via_cost Length length → IsFigure d via_cost Both both → sum ≤ floor_over + floor_length →
-    ArePriceBounds d via_cost (max over floor_over) (max length floor_length) (max both sum)
-with-floor d via_cost floor_over floor_length over length both sum floor one two three few = record {
-  overflow = λ sets join. let x = one sets join in let y = floor.overflow sets join in omega (arith, x, y);
-  without_overflow = λ sets join use none. let x = two sets join use none in let y = floor.along_usable sets join use in omega (arith, x, y);
-  together = λ sets join use.
-      let x = three sets join use in
-      let y = floor.along_usable sets join use in
-      let z = floor.overflow sets join in
-      omega (arith, x, y, z, few);
-}
+figure-max d via_cost Overflow a b c is one two = λ sets join. let x = one sets join in let y = two sets join in omega (arith, is, x, y)
+figure-max d via_cost Length a b c is one two = λ sets join along none.
+    let x = one sets join along none in let y = two sets join along none in omega (arith, is, x, y)
+figure-max d via_cost Both a b c is one two = λ sets join along. let x = one sets join along in let y = two sets join along in omega (arith, is, x, y)

@@ -37,7 +37,7 @@ pub(crate) fn least_cost(
         }
         set_prices(design, capacity, pricer, rates, weights, priced, net);
         priced = Some(net);
-        cost += u128::from(pricer.bound(design, net)?);
+        cost = cost.saturating_add(u128::from(pricer.bound(design, net)?));
     }
     Ok(cost)
 }

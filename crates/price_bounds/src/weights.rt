@@ -9,6 +9,9 @@ use net_prices::NetPricer;
 /// The greatest weight.
 pub(crate) const MOST_WEIGHT: u32 = 1 << 20;
 
+/// More than the wire edges of a grid.
+const MOST_WIRES: usize = 1 << 25;
+
 /// Raises the weights of the wire edges of which the last trees take more than they hold, and lowers
 /// those of the others: by as much more as the step is an earlier one.
 pub(crate) fn move_weights(
@@ -22,8 +25,9 @@ pub(crate) fn move_weights(
 {
     let pace = pace_of(step);
     for number in 0..weights.len() {
-        let held = held_of(capacity, number as u32);
-        let taken = pricer.taken(number as u32);
+        let place = number.min(MOST_WIRES) as u32;
+        let held = held_of(capacity, place);
+        let taken = pricer.taken(place);
         weights[number] = moved(weights[number], taken, held, pace).min(most_of(figure));
     }
 }

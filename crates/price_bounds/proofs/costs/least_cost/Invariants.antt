@@ -1,4 +1,4 @@
-use Rattle.std.proofs.Common.{◌≡◌, ◌*◌, ◌≤◌, ◌^◌}
+use Rattle.std.proofs.Common.{◌≡◌}
 use Rattle.net_prices.specs.PriceTables.{allowed_by, prices_by}
 use Rattle.price_bounds.specs.Costs.{IsCostBound}
 use Rattle.price_bounds.specs.Priced.{IsPricedFor}
@@ -8,6 +8,5 @@ abbrev pub invariant-loop-net : goal.invariant-loop-net
 invariant-loop-net l = record {
   shape : l.pricer.shape ≡ l.design.frame.shape;
   bound : IsCostBound l.design (prices_by l.rates l.weights) (allowed_by l.design l.rates.usable_only) l.net l.cost;
-  fits : l.cost ≤ 2 ^ 64 * l.net;
   priced : IsPricedFor l.design l.rates l.weights l.priced l.pricer.table;
 }
