@@ -94,7 +94,6 @@ overflow 0" ]
 }
 try archive
 try scratch/usr
-cd "$work"
 # The package is where Debian's python looks, and nothing else of ours is.
 cd "$work/scratch/usr"
 [ "$(alone PYTHONPATH="$work/scratch/usr/lib/python3/dist-packages" python3 -B -c '
