@@ -1,4 +1,4 @@
-use Rattle.std.proofs.Common.{◌≡◌, ℕ, List, length, ap, sym, subst, ◌∙◌, arith}
+use Rattle.std.proofs.Common.{length, ap, ◌∙◌}
 use Rattle.batch_rounds.proofs.RoundSteps.{given-claimed, given-in_range}
 use Rattle.batch_rounds.proofs.given.claim_tree.Goals as goal
 
