@@ -14,7 +14,7 @@ use Rattle.gr_base.specs.declared.frame.Net.{Net}
 use Rattle.grid_demand.specs.Tables.{CapacityView, capacity_of}
 use Rattle.book_state.specs.Books.{nets_of, booked, reply_to, is_victim, victims, IsClaim}
 use Rattle.book_state.specs.Entries.{is_full_reply}
-use Rattle.book_state.specs.declared.entry.Call.TheVariants.{Claim as Claims}
+use Rattle.book_state.specs.declared.entry.Call.TheVariants.{Claim as Claims, Mark}
 use Rattle.book_state.specs.declared.entry.Claim.{Claim}
 use Rattle.book_state.specs.declared.entry.Entry.{Entry}
 use Rattle.book_state.specs.declared.entry.PlanKind.{PlanKind}
@@ -23,8 +23,8 @@ use Rattle.book_state.specs.declared.entry.Reply.{Reply}
 use Rattle.book_state.specs.declared.entry.Reply.TheVariants.{Claimed}
 use Rattle.book_state.specs.Views.{entry_of}
 use Rattle.run_histories.specs.Attempts.{kind_of}
-use Rattle.run_histories.specs.Rounds.{claim_of, IsPlanFor}
-use Rattle.batch_rounds.specs.BatchedHistories.{Batching, capacity_in, claims_given, claimant, after_call, after_claim, is_refused, IsClaimOver, at_any_demand, first_slack, IsClaimedAlone, IsTurn, AreTurns, IsBatch, AreBatches, IsRound, goes_on}
+use Rattle.run_histories.specs.Rounds.{marker, claim_of, IsPlanFor}
+use Rattle.batch_rounds.specs.BatchedHistories.{Batching, capacity_in, claims_given, claimant, after_call, after_claim, is_refused, IsClaimOver, at_any_demand, first_slack, IsClaimedAlone, IsTurn, AreTurns, IsBatch, AreBatches, nets_due, IsRound, goes_on}
 use Rattle.batch_rounds.specs.BatchedHistories.IsClaimedAlone.{Fits, Is_forced}
 use Rattle.batch_rounds.specs.BatchedHistories.IsTurn.{Is_first, Goes_on}
 use Rattle.batch_rounds.specs.BatchedHistories.AreTurns.{No_turns, Next_turn}
@@ -134,6 +134,15 @@ module _ (t : Batching) (round : ℕ) (start : List Entry) (nets : List ℕ) whe
 
       later : drop t.batch rest ≡ left
       later = ap (drop t.batch) parts ∙ cut-later t.batch batch left (long ∙ ap (λ (xs : List ℕ). min t.batch (length xs)) parts)
+
+-- a round's batches and its mark
+pub round-marked : (t : Batching) (round : ℕ) (h unmarked new : List Entry) (c : CapacityView) (nets : List ℕ) → c ≡ capacity_in t → nets ≡ nets_due t round h → AreBatches t round nets h unmarked →
+    new ≡ after_call c unmarked marker Mark → IsRound t round h new
+round-marked t round h unmarked new c nets is due batches marked = record {
+  unmarked = unmarked;
+  batches = subst (λ (ns : List ℕ). AreBatches t round ns h unmarked) due batches;
+  marked = marked ∙ ap (λ (v : CapacityView). after_call v unmarked marker Mark) is;
+}
 
 -- rounds
 pub run-first : (t : Batching) (h : List Entry) → IsRound t 0 (claims_given t) h → HasRun t 0 h

@@ -1,5 +1,5 @@
 -- The first worker's claims of given trees, one after another.
-use Rattle.std.proofs.Common.{◌≡◌, ℕ, suc, zero, ◌+◌, ◌<◌, ◌≤◌, Bool, true, false, ◌==◌, List, [], ◌∷◌, ◌++◌, filter, length, All, Option, Some, None, slice_get, if◌then◌else◌, IsTrue, refl, sym, ap, subst, ◌∙◌, arith}
+use Rattle.std.proofs.Common.{◌≡◌, ℕ, ◌+◌, ◌≤◌, Bool, true, false, ◌==◌, List, [], ◌∷◌, ◌++◌, length, All, Option, Some, None, slice_get, if◌then◌else◌, IsTrue, refl, sym, ap, subst, ◌∙◌, arith}
 use Rattle.std.proofs.lemmas.List.{append-nil, length_push}
 use Rattle.std.proofs.lemmas.List.Elements.{filter_passes}
 use Rattle.std.proofs.lemmas.Option.{none-some}
@@ -8,7 +8,7 @@ use Rattle.gr_base.specs.Designs.{DesignView, is_routed}
 use Rattle.gr_base.specs.Trees.{TreeView, tree_at}
 use Rattle.grid_demand.specs.Tables.{CapacityView, capacity_of}
 use Rattle.book_state.proofs.LegalHistories.{legal-nothing}
-use Rattle.book_state.specs.Books.{reply_to_claim, reply_to, IsLegal, IsRight}
+use Rattle.book_state.specs.Books.{reply_to_claim, IsLegal, IsRight}
 use Rattle.book_state.specs.Entries.{calls_of}
 use Rattle.book_state.specs.Views.{entry_of}
 use Rattle.book_state.specs.declared.entry.Call.TheVariants.{Claim as Claims}

@@ -4,21 +4,17 @@ use Rattle.std.specs.List.{fold, range_with_len}
 use Rattle.std.proofs.lemmas.Bool.{cases_Bool, both_ways}
 use Rattle.std.proofs.lemmas.Bool.Decides.{nat_tests}
 use Rattle.std.proofs.lemmas.List.{append-nil, length-map, nil_from_length}
-use Rattle.std.proofs.lemmas.List.Elements.{All-nil, All-cons, All-head, All-tail, All-weaker, All-filter, filter_passes}
-use Rattle.std.proofs.lemmas.Option.{none-some}
+use Rattle.std.proofs.lemmas.List.Elements.{All-nil, All-cons, All-weaker, All-filter, filter_passes}
 use Rattle.cost_rules.specs.declared.sight.Going.{Going}
 use Rattle.cost_rules.specs.declared.sight.Going.TheVariants.{On, Stop}
-use Rattle.gr_base.proofs.DesignLemmas.{routed-below}
 use Rattle.gr_base.specs.Designs.{DesignView, is_routed}
-use Rattle.gr_base.proofs.General.{filter-yes}
 use Rattle.gr_base.specs.Trees.{TreeView}
 use Rattle.gr_base.specs.declared.frame.Net.{Net}
 use Rattle.grid_demand.specs.Tables.{CapacityView, capacity_of}
-use Rattle.book_front.proofs.Prefixes.{prefix-none, prefix-then}
+use Rattle.book_front.proofs.Prefixes.{prefix-then}
 use Rattle.book_state.proofs.BookingLaws.{victim-booked}
-use Rattle.book_state.proofs.LegalHistories.{legal-nothing}
 use Rattle.book_state.proofs.ReplicaSteps.{take-entry}
-use Rattle.book_state.specs.Books.{nets_of, booked, overflow_after, reply_to, victims, is_victim, IsLegal}
+use Rattle.book_state.specs.Books.{nets_of, booked, overflow_after, reply_to, victims, is_victim}
 use Rattle.book_state.specs.Cuts.{cut}
 use Rattle.book_state.specs.Entries.{AtEach, is_mark, is_mark_call, calls_of}
 use Rattle.book_state.specs.Marks.{overflow_in, least_mark}
@@ -33,10 +29,9 @@ use Rattle.run_histories.proofs.RangeCounts.{times-kept}
 use Rattle.run_histories.proofs.RoutedTrees.{attempts-stand}
 use Rattle.run_histories.proofs.StandLemmas.{victims-routed, mark-stands, least-place, least-call, some-least}
 use Rattle.run_histories.proofs.TurnLemmas.{routed-within}
-use Rattle.track_book.specs.Passes.{PassView, IsNew, IsIn, IsClosed}
+use Rattle.track_book.specs.Passes.{PassView, IsIn, IsClosed}
 use Rattle.track_book.proofs.Dealing.{get-there}
-use Rattle.ripup_workers.specs.Closing.{AreNew}
-use Rattle.ripup_workers.specs.Rounding.{AreOf, HasSeen, IsNext, HasEnded, AreBefore, AreBehind, IsRoundOver, HaveRun, is_stop, is_stop_at, due_after}
+use Rattle.ripup_workers.specs.Rounding.{AreOf, IsNext, HasEnded, AreBefore, AreBehind, IsRoundOver, HaveRun, is_stop, is_stop_at, due_after}
 use Rattle.work_share.specs.Views.{times}
 use Rattle.ripup_workers.proofs.JoiningLists.{filter-all, all-prefix, same-history}
 use Rattle.ripup_workers.proofs.JoiningSegments.{mark-call}

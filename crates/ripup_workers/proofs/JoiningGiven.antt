@@ -1,25 +1,24 @@
 -- The begin of the rounds of several workers: the claims of given trees.
-use Rattle.std.proofs.Common.{◌≡◌, ℕ, suc, zero, ◌+◌, ◌<◌, ◌≤◌, inl, inr, Bool, true, false, ◌==◌, List, [], ◌∷◌, ◌++◌, filter, length, get_or, All, Option, Some, None, slice_get, if◌then◌else◌, IsTrue, refl, sym, ap, subst, ◌∙◌, arith}
+use Rattle.std.proofs.Common.{◌≡◌, ℕ, suc, zero, ◌+◌, ◌<◌, ◌≤◌, Bool, true, ◌==◌, List, [], length, get_or, All, Option, Some, None, slice_get, if◌then◌else◌, IsTrue, refl, sym, ap, subst, ◌∙◌, arith}
 use Rattle.std.specs.List.{range_with_len}
 use Rattle.std.proofs.lemmas.Bool.{both_ways, and_parts}
 use Rattle.std.proofs.lemmas.Bool.Decides.{nat_tests}
 use Rattle.std.proofs.lemmas.List.Elements.{All-weaker, filter_passes}
-use Rattle.std.proofs.lemmas.Option.{none-some, same_Some, slice_get_within}
+use Rattle.std.proofs.lemmas.Option.{none-some, slice_get_within}
 use mathlib.Core.List.{IsPrefix}
 use Rattle.gr_base.proofs.DesignLemmas.{routed-below}
 use Rattle.gr_base.specs.Designs.{DesignView, is_routed}
 use Rattle.gr_base.specs.Trees.{TreeView}
 use Rattle.grid_demand.specs.Tables.{CapacityView, capacity_of}
-use Rattle.book_front.proofs.Prefixes.{prefix-none, prefix-then, prefix-length}
+use Rattle.book_front.proofs.Prefixes.{prefix-none, prefix-length}
 use Rattle.book_state.specs.Books.{IsLegal}
-use Rattle.book_state.specs.Cuts.{Cut, cut, AtMarks}
+use Rattle.book_state.specs.Cuts.{Cut, AtMarks}
 use Rattle.book_state.specs.Entries.{AtEach, is_mark, calls_of}
 use Rattle.book_state.specs.declared.entry.Call.{Call}
 use Rattle.book_state.specs.declared.entry.Call.TheVariants.{Claim as Claims}
 use Rattle.book_state.specs.declared.entry.Claim.{Claim}
 use Rattle.book_state.specs.declared.entry.Entry.{Entry}
 use Rattle.run_histories.specs.GivenRoutes.{is_open, open_nets}
-use Rattle.run_histories.specs.Rounds.{first_worker}
 use Rattle.run_histories.specs.RunHistories.{Setting, Overflows, claims_given, is_due, IsNumbered, IsPlanned, IsAsked, AreWhole, AreOfDue, KeepsRules}
 use Rattle.run_histories.proofs.GivenLemmas.{IsOfGiven, given-no_mark, each-all, among-all, among-cut, among-overflows, open-due, begins-given}
 use Rattle.run_histories.proofs.JoiningLaw.{given-granted}

@@ -1,7 +1,7 @@
 -- What the claims of given trees leave, and histories that begin with them.
-use Rattle.std.proofs.Common.{◌≡◌, ℕ, suc, zero, ◌+◌, ◌<◌, ◌≤◌, inl, inr, Bool, true, false, ◌==◌, ◌&&◌, nat_lt, List, [], ◌∷◌, ◌++◌, length, filter, get_or, take, All, Option, Some, None, is_some, is_none, slice_get, if◌then◌else◌, IsTrue, refl, sym, ap, subst, ◌∙◌, arith, append_assoc}
+use Rattle.std.proofs.Common.{◌≡◌, ℕ, suc, zero, ◌+◌, ◌<◌, ◌≤◌, inl, inr, Bool, true, false, ◌&&◌, List, [], ◌∷◌, ◌++◌, length, filter, get_or, All, Option, Some, None, is_none, if◌then◌else◌, refl, sym, ap, subst, ◌∙◌, arith, append_assoc}
 use Rattle.std.specs.List.{fold, range_with_len}
-use Rattle.std.proofs.lemmas.Bool.{cases_Bool, cases_lt, cases_eq, both_ways, and_parts}
+use Rattle.std.proofs.lemmas.Bool.{cases_Bool, cases_lt, cases_eq}
 use Rattle.std.proofs.lemmas.List.{append-nil}
 use Rattle.std.proofs.lemmas.List.Elements.{All-nil, All-push, All-append}
 use Rattle.std.proofs.lemmas.List.Sums.{fold_push}
@@ -13,17 +13,14 @@ use Rattle.gr_base.specs.Trees.{TreeView, tree_at}
 use Rattle.book_state.proofs.BookSteps.{booked-none}
 use Rattle.book_state.proofs.ReplicaSteps.{booked-claim, booked-claim_other}
 use Rattle.book_state.specs.Books.{booked}
-use Rattle.book_state.specs.Cuts.{Cut, cut, ends_segment, uncut}
+use Rattle.book_state.specs.Cuts.{Cut, cut, uncut}
 use Rattle.book_state.specs.Entries.{AtEach, is_mark, is_mark_call, is_given, is_given_call, is_given_kind}
-use Rattle.book_state.specs.Marks.{overflow_of, overflow_in}
+use Rattle.book_state.specs.Marks.{overflow_in}
 use Rattle.book_state.specs.Views.{entry_of}
-use Rattle.book_state.specs.declared.entry.Call.{Call}
-use Rattle.book_state.specs.declared.entry.Call.TheVariants.{Claim as Claims, Release, Mark}
+use Rattle.book_state.specs.declared.entry.Call.TheVariants.{Claim as Claims}
 use Rattle.book_state.specs.declared.entry.Claim.{Claim}
 use Rattle.book_state.specs.declared.entry.Entry.{Entry}
-use Rattle.book_state.specs.declared.entry.PlanKind.{PlanKind}
 use Rattle.book_state.specs.declared.entry.PlanKind.TheVariants.{Given}
-use Rattle.book_state.specs.declared.entry.Reply.{Reply}
 use Rattle.book_state.specs.declared.entry.Reply.TheVariants.{Claimed}
 use Rattle.run_histories.specs.GivenRoutes.{given_to, is_open, with_given, given_among, given_claims, open_nets}
 use Rattle.run_histories.specs.Rounds.{first_worker, claim_of}

@@ -1,5 +1,4 @@
-use Rattle.std.proofs.Common.{◌≡◌, ◌<◌, None, length, sym, ap, subst, ◌∙◌}
-use Rattle.gr_base.proofs.DesignLemmas.{routed-net}
+use Rattle.std.proofs.Common.{length, sym, ap, subst, ◌∙◌}
 use Rattle.gr_base.specs.Trees.{TreeView}
 use Rattle.grid_demand.specs.Tables.{CapacityView}
 use Rattle.book_state.specs.declared.entry.Call.TheVariants.{Claim as Claims}

@@ -1,6 +1,6 @@
-use Rattle.std.proofs.Common.{ℕ, ◌≤◌, ◌<◌, List, All, IsTrue, None, map, sym, subst, ◌∙◌, arith, vec_len}
+use Rattle.std.proofs.Common.{ℕ, ◌≤◌, List, All, IsTrue, None, map, sym, subst, ◌∙◌, arith}
 use Rattle.gr_base.specs.Designs.{is_routed}
-use Rattle.ripup_workers.specs.Rounding.{setting_of, due_after, AreBefore}
+use Rattle.ripup_workers.specs.Rounding.{setting_of, AreBefore}
 use Rattle.ripup_workers.proofs.JoiningEnds.{round-goes_on, round-stops, filter-passed}
 use Rattle.ripup_workers.proofs.JoiningGiven.{open-routed}
 use Rattle.ripup_workers.proofs.TurningStages.{later}
