@@ -1,5 +1,5 @@
 -- What rounds begin from, where it is opened last.
-use Rattle.std.proofs.Common.{◌≡◌, ℕ, ◌+◌, ◌⊎◌, cond, count_by, inl, inr, Bool, true, false, List, [], Option, Some, None, Result, Ok, Err, IsTrue, refl, sym, ap, subst, ◌∙◌}
+use Rattle.std.proofs.Common.{◌≡◌, ℕ, ◌+◌, ◌⊎◌, cond, count_by, inl, inr, Bool, true, false, List, [], ◌∷◌, ◌++◌, Option, Some, None, Result, Ok, Err, IsTrue, refl, sym, ap, subst, ◌∙◌, arith}
 use Rattle.std.specs.List.{range_with_len}
 use Rattle.std.specs.Option.{IsSomeAnd, option_map}
 use Rattle.std.proofs.lemmas.Bool.{cases_Bool}
@@ -151,4 +151,13 @@ module _ (shelf : Reading) (held : Slot → List ℕ → Option (List ℕ)) (fau
 
 pub counted-more : (p : ℕ → Bool) (n : ℕ) → count_by p (range_with_len 0 (n + 1)) ≡ count_by p (range_with_len 0 n) + cond (p n) 1 0
 counted-more p n =
-    ap (count_by p) (range-more 0 n) ∙ sum_by_push (λ (x : ℕ). cond (p x) 1 0) (range_with_len 0 n) n
+    let same : 0 + n ≡ n = omega arith in
+    ap (count_by p) (range-more 0 n) ∙ ap (λ (k : ℕ). count_by p (range_with_len 0 n ++ k ∷ [])) same ∙ sum_by_push (λ (x : ℕ). cond (p x) 1 0) (range_with_len 0 n) n
+
+-- one more net, by whether it has a tree
+pub counted-next : (p : ℕ → Bool) (n kept : ℕ) (b : Bool) → p n ≡ b → kept ≡ count_by p (range_with_len 0 n) →
+    kept + cond b 1 0 ≡ count_by p (range_with_len 0 (n + 1))
+counted-next p n kept b is count =
+    let more = counted-more p n in
+    let one : cond {A = ℕ} (p n) 1 0 ≡ cond b 1 0 = ap (λ (x : Bool). cond {A = ℕ} x 1 0) is in
+    omega (arith, more, one, count)

@@ -44,7 +44,7 @@ pub(crate) fn open_beginning<S: Shelf>(
     from: Option<&str>,
 ) -> Result<Beginning, Stop>
     ensures { OpensBeginning (reading_of S.tells S.held S.faults S.misses shelf.old shelf.new)
-        design.now (option_map (λ (name : Bor (List ℕ)). name.now) from) result }
+        design.now (option_map (λ (name : Bor (List ℕ)). name.now) from.entry) result }
 {
     match from {
         Some(name) => open_kept(alloc, shelf, design, name),
@@ -97,9 +97,10 @@ fn kept_nets(given: &Routes, nets: u32) -> u32
 {
     let mut kept = 0;
     for net in 0..nets {
-        if given.get(net).is_some() {
-            kept += 1;
-        }
+        let Some(_) = given.get(net) else {
+            continue;
+        };
+        kept += 1;
     }
     kept
 }

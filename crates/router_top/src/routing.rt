@@ -63,7 +63,7 @@ pub(crate) fn route<R: Threads + Wait + Sync, S: Shelf, O: Sink, E: Sink, G: Gat
     options: Options,
 ) -> Left<Kept>
     requires { AreInRange options }
-    ensures { Leaves (routing design.now library.now (option_map (λ (name : Bor (List ℕ)). name.now) from) options)
+    ensures { Leaves (routing design.now library.now (option_map (λ (name : Bor (List ℕ)). name.now) from.entry) options)
         (reading_of S.tells S.held S.faults S.misses shelf.old shelf.new)
         (device_of O.tells O.faults O.written out.old out.new)
         (device_of E.tells E.faults E.written err.old err.new)
@@ -95,7 +95,7 @@ fn route_from<R: Threads + Wait + Sync, S: Shelf, O: Sink, E: Sink, G: Gate + Sy
     requires design { IsDesign design }
     requires library { IsLibraryOf design library }
     requires options { AreInRange options }
-    ensures { LeavesBegun design library (option_map (λ (name : Bor (List ℕ)). name.now) from) options
+    ensures { LeavesBegun design library (option_map (λ (name : Bor (List ℕ)). name.now) from.entry) options
         (reading_of S.tells S.held S.faults S.misses shelf.old shelf.new)
         (device_of O.tells O.faults O.written out.old out.new)
         (device_of E.tells E.faults E.written err.old err.new)
