@@ -58,12 +58,7 @@ fn write_bounds<O: Sink>(
 }
 
 /// The text of the bounds of a design. The only error is want of memory.
-fn text_of(
-    alloc: Global,
-    design: &Design,
-    via_cost: u32,
-    steps: u32,
-) -> Result<Text, AllocError>
+fn text_of(alloc: Global, design: &Design, via_cost: u32, steps: u32) -> Result<Text, AllocError>
     requires { via_cost ≤ 1000 }
     ensures { IfOk result (IsBoundsText design.now via_cost steps Whole) }
 {

@@ -53,13 +53,13 @@ fn carry_out<S: Shelf, O: Sink>(
     ensures unwritten { IsUnwritten (device_of O.tells O.faults O.written out.old out.new) result }
 {
     match read_words(Program::Grbound, words) {
-        Ok(Order::Bound {
-            design,
-            via_cost,
-            steps,
-        }) => {
-            read_and_bound(alloc, shelf, out, design, via_cost, steps)
-        }
+        Ok(
+            Order::Bound {
+                design,
+                via_cost,
+                steps,
+            },
+        ) => { read_and_bound(alloc, shelf, out, design, via_cost, steps) }
         _ => Err(Stop::Usage),
     }
 }

@@ -1,5 +1,6 @@
 //! The bounds of a design.
 ghost use Rattle.std.specs.Prelude.{◌≡◌};
+
 use crate::wall::MeasuredWall;
 use std::marker::Model;
 

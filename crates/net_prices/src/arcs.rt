@@ -142,13 +142,7 @@ fn pay_into(left: &mut Vec<u32>, labels: &[u32], shape: Shape, bound: u32, cell:
 }
 
 /// Takes what falls along the arcs into some cells. False where something falls by more than is left.
-fn pay_cells(
-    left: &mut Vec<u32>,
-    labels: &[u32],
-    shape: Shape,
-    bound: u32,
-    cells: &[u32],
-) -> bool
+fn pay_cells(left: &mut Vec<u32>, labels: &[u32], shape: Shape, bound: u32, cells: &[u32]) -> bool
     requires cells { All (λ cell. cell < cells_of shape) cells.now }
     requires labels { length labels.now ≡ cells_of shape }
     requires left { length left.old.items ≡ 6 * cells_of shape }

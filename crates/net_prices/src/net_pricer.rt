@@ -131,7 +131,15 @@ fn pay_net(
             break;
         };
         let distance = found.reached.distance;
-        let more = pay(left, labels, frame.shape, driver, pins, found.start, distance);
+        let more = pay(
+            left,
+            labels,
+            frame.shape,
+            driver,
+            pins,
+            found.start,
+            distance,
+        );
         paid = paid.saturating_add(u64::from(more));
         finder.join(labels, frame, width, found)?;
     }

@@ -115,9 +115,15 @@ fn price_cell(
         IsTrue (has_edge d.frame.shape (edge_at low way)) →
         IsPriced d rates weights.now net table.new.items (edge_at low way) }
 {
-    let east = Edge { low, way: Way::East };
+    let east = Edge {
+        low,
+        way: Way::East,
+    };
     price_way(table, capacity, rates, weights, net, east);
-    let north = Edge { low, way: Way::North };
+    let north = Edge {
+        low,
+        way: Way::North,
+    };
     price_way(table, capacity, rates, weights, net, north);
     let up = Edge { low, way: Way::Up };
     price_way(table, capacity, rates, weights, net, up);
@@ -151,13 +157,7 @@ fn empty_table(table: &mut Vec<u32>)
 }
 
 /// Puts in the prices of the edges from each cell.
-fn price_cells(
-    table: &mut Vec<u32>,
-    capacity: &Capacity,
-    rates: Rates,
-    weights: &[u32],
-    net: u32,
-)
+fn price_cells(table: &mut Vec<u32>, capacity: &Capacity, rates: Rates, weights: &[u32], net: u32)
     requires weights { length weights.now ≡ 2 * cells_of capacity.now.shape }
     requires table { length table.old.items ≡ 6 * cells_of capacity.now.shape }
     ensures long { length table.new.items ≡ length table.old.items }

@@ -56,9 +56,33 @@ pub fn price_bounds(
 {
     let capacity = Capacity::of(alloc, design)?;
     let mut pricer = NetPricer::new(alloc, design.frame().shape)?;
-    let overflow = best_bound(alloc, design, &capacity, &mut pricer, Figure::Overflow, via_cost, steps)?;
-    let length = best_bound(alloc, design, &capacity, &mut pricer, Figure::Length, via_cost, steps)?;
-    let both = best_bound(alloc, design, &capacity, &mut pricer, Figure::Both, via_cost, steps)?;
+    let overflow = best_bound(
+        alloc,
+        design,
+        &capacity,
+        &mut pricer,
+        Figure::Overflow,
+        via_cost,
+        steps,
+    )?;
+    let length = best_bound(
+        alloc,
+        design,
+        &capacity,
+        &mut pricer,
+        Figure::Length,
+        via_cost,
+        steps,
+    )?;
+    let both = best_bound(
+        alloc,
+        design,
+        &capacity,
+        &mut pricer,
+        Figure::Both,
+        via_cost,
+        steps,
+    )?;
     Ok(raised(overflow, length, both, floor))
 }
 

@@ -33,7 +33,11 @@ fn held_at(capacity: &Capacity, rates: Rates, weights: &[u32], number: u32) -> u
     ensures most { result ≤ 2 ^ 63 }
 {
     let shape = capacity.shape();
-    let way = if number % 2 == 0 { Way::East } else { Way::North };
+    let way = if number % 2 == 0 {
+        Way::East
+    } else {
+        Way::North
+    };
     let low = number / 2;
     if !shape.has_room(shape.place_of(low), way) {
         return 0;

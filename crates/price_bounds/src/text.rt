@@ -13,7 +13,10 @@ pub fn prices_text(alloc: Global, bounds: PriceBounds) -> Result<Text, AllocErro
 {
     let mut text = Text::new(alloc);
     text.put_number_line(b"overflow by prices at least", bounds.overflow)?;
-    text.put_number_line(b"usable wirelength without overflow at least", bounds.length)?;
+    text.put_number_line(
+        b"usable wirelength without overflow at least",
+        bounds.length,
+    )?;
     text.put_number_line(b"usable wirelength and overflow at least", bounds.both)?;
     Ok(text)
 }

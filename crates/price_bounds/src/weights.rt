@@ -58,7 +58,11 @@ fn moved(weight: u32, taken: u32, held: u32, pace: u32) -> u32 {
 fn held_of(capacity: &Capacity, number: u32) -> u32 {
     let shape = capacity.shape();
     let low = number / 2;
-    let way = if number % 2 == 0 { Way::East } else { Way::North };
+    let way = if number % 2 == 0 {
+        Way::East
+    } else {
+        Way::North
+    };
     if low >= shape.cells() || !shape.has_room(shape.place_of(low), way) {
         return 0;
     }

@@ -94,7 +94,7 @@ module _ (d : DesignView) (p : Prices) where
         sum-le (λ e. sum_by (λ net. weighed net (sets net) e) nets) (λ e. p.weight e * demand d sets e) wires
         (λ k blank below. at (slice_index_or wires k blank)) in
         let length_is : p.scale * (sum_by wire_count nets + p.via_cost * sum_by via_count nets)
-            ≡ p.scale * sum_by wire_count nets + (p.scale * p.via_cost) * sum_by via_count nets = omega arith in
+        ≡ p.scale * sum_by wire_count nets + (p.scale * p.via_cost) * sum_by via_count nets = omega arith in
         omega (arith, each, split, split', counted, counted_vias, swapped, whole, length_is)
       where
         at : (e : Edge) → sum_by (λ net. weighed net (sets net) e) nets ≤ p.weight e * demand d sets e

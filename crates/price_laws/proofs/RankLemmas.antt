@@ -121,9 +121,10 @@ module _ (g : Shape) (set : Edges) (driver : ℕ) where
       elim (cases_Bool (before.0.ranks.has cell)) [
         | inl known ↦ (before.0, known)
         | inr new ↦
-            let one = with-cell r.ranks.has before.0 b cell e before.1 among joins new in
-            (record { ranks = one.ranks; above = one.above; below = one.below; keeps = λ x is. one.keeps x (before.0.keeps x is) },
-            last before.0 b cell e before.1 among joins new)
+            let one = with-cell r.ranks.has before.0 b cell e before.1 among joins new in (
+              record { ranks = one.ranks; above = one.above; below = one.below; keeps = λ x is. one.keeps x (before.0.keeps x is) },
+              last before.0 b cell e before.1 among joins new,
+            )
       ]
     where
       last : (r' : Ranked g set driver r.ranks.has) (from x : ℕ) (e : Edge) (known : IsTrue (r'.ranks.has from)) (among : IsTrue (set e)) (joins : Joins g e from x)
@@ -136,9 +137,10 @@ module _ (g : Shape) (set : Edges) (driver : ℕ) where
       (record { ranks = r.ranks; above = r.above; below = r.below; keeps = λ x is. is }, All-nil (λ pin. r.ranks.has pin ≡ true))
   with-walks within (pin ∷ pins) had r inside first walks =
       let one = with-walk within had r pin inside first (All-head (Leads g set driver) pin pins walks) in
-      let more = with-walks within pins r.ranks.has one.0 inside (one.0.keeps driver first) (All-tail (Leads g set driver) pin pins walks) in
-      (record { ranks = more.0.ranks; above = more.0.above; below = more.0.below; keeps = λ x is. more.0.keeps x (one.0.keeps x is) },
-      All-cons (λ x. more.0.ranks.has x ≡ true) pin pins (more.0.keeps pin one.1) more.1)
+      let more = with-walks within pins r.ranks.has one.0 inside (one.0.keeps driver first) (All-tail (Leads g set driver) pin pins walks) in (
+        record { ranks = more.0.ranks; above = more.0.above; below = more.0.below; keeps = λ x is. more.0.keeps x (one.0.keeps x is) },
+        All-cons (λ x. more.0.ranks.has x ≡ true) pin pins (more.0.keeps pin one.1) more.1,
+      )
 
   -- the cells of pins that walks lead to can be ranked
   pub rank-pins : AreInGrid g set → (pins : List ℕ) → driver < cells_of g → All (Leads g set driver) pins →
@@ -196,8 +198,8 @@ module _ (g : Shape) (set : Edges) (driver : ℕ) where
         part (r.rank from) e + (level from - level cell) ≤ part (r.rank cell) e
     part-there e from cell among joins lower =
         let is = falls-there e from cell joins lower in
-        let out : is_up_to (r.rank from) e ≡ false = elim joins.ends [ | inl ends ↦ high-out ends.1 | inr ends ↦ low-out ends.0 ] in
-        let in' : is_up_to (r.rank cell) e ≡ true = elim joins.ends [ | inl ends ↦ both-in ends.0 ends.1 | inr ends ↦ both-in' ends.0 ends.1 ] in
+        let out : is_up_to (r.rank from) e ≡ false = elim joins.ends [ inl ends ↦ high-out ends.1 | inr ends ↦ low-out ends.0 ] in
+        let in' : is_up_to (r.rank cell) e ≡ true = elim joins.ends [ inl ends ↦ both-in ends.0 ends.1 | inr ends ↦ both-in' ends.0 ends.1 ] in
         let zero : part (r.rank from) e ≡ 0 = ap (λ (b : Bool). if b then falls e else 0) out in
         let one : part (r.rank cell) e ≡ falls e = ap (λ (b : Bool). if b then falls e else 0) in' in
         omega (arith, is, zero, one)

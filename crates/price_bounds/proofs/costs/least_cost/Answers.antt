@@ -27,6 +27,8 @@ loop-net-preserved c =
       shape = ap (λ (v : PricerView). v.shape) c.bound.ensures.same ∙ c.set_prices.ensures.shape;
       bound = more-costs d p allowed l.net l.cost c.in_ok-bound.field-0 c.saturating_add-cost.result (sym c.routed.ensures ∙ c.if-not-routed.false)
           l.invariant.bound one (omega (arith, c.saturating_add-cost.ensures, c.from.ensures));
-      priced = (omega (arith, c.loop-net-test.true, c.nets-net-end.ensures.nets),
-          subst (λ (v : PricerView). ArePrices d c.args.rates c.args.weights.now l.net v.table) (sym c.bound.ensures.same) c.set_prices.ensures.prices);
+      priced = (
+        omega (arith, c.loop-net-test.true, c.nets-net-end.ensures.nets),
+        subst (λ (v : PricerView). ArePrices d c.args.rates c.args.weights.now l.net v.table) (sym c.bound.ensures.same) c.set_prices.ensures.prices,
+      );
     }
