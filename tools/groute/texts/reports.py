@@ -54,7 +54,7 @@ def bounds_in(path: str) -> tuple[int, list[Wall]]:
     with open(path, encoding="ascii", errors="replace") as file:
         lines = [line.split() for line in file]
     try:
-        (*words, least), walls = lines[0], lines[6:]
+        (*words, least), walls = lines[0], [line for line in lines[6:] if "needs" in line]
         if words != ["overflow", "at", "least"]:
             raise ValueError
         return int(least), [Wall(kind, [*map(int, numbers)], int(needs), int(holds))
