@@ -87,6 +87,7 @@ fn put_claim(told: &mut Text, claim: &Claim) -> Result<(), AllocError> {
 fn put_kind(told: &mut Text, kind: PlanKind) -> Result<(), AllocError> {
     match kind {
         PlanKind::Pattern => told.put(b" pattern"),
+        PlanKind::Given => told.put(b" given"),
         PlanKind::Maze { margin } => {
             told.put(b" maze ")?;
             told.put_number(margin)
