@@ -10,7 +10,6 @@ where the page would pass 20 MB, it holds only the nets of the worst regions and
 
 Times are in picoseconds. Of a library that def_to_ispd.py made with --scale N say --scale N here too.
 """
-import sys
 from argparse import Namespace
 from typing import Sequence
 
@@ -59,6 +58,6 @@ def main(words: Sequence[str]) -> int:
               *(asked.timing or ()), *asked.before]
     with Outputs(filter(None, inputs)) as outputs:
         outputs.text(asked.output).write(text)
-    sys.stdout.write(objects.text_of("report", routes.answer(asked.before)) if asked.json
-                     else f"{routes.verdict(asked.before)}\n")
+    before = asked.before
+    print(objects.text_of("report", routes.answer(before)).rstrip() if asked.json else routes.verdict(before))
     return frame.tell_unjoined("report", routes.design, routes.edges.unjoined)
