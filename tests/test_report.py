@@ -117,17 +117,17 @@ class Report(InFolder):
             [{"overflow": 4, "nets": 2, "full": 0}, {"overflow": 0, "nets": 2, "full": 0}], 1))
         _, _, before = run(testing.program(), "route", *words, "0")
         _, _, plain = run(testing.program(), "route", *words, "2")
-        given = *given[:3], self.put("report", plain), "--before", self.put("before", before)
-        head, _ = self.data(self.page(*given)[1])
+        given = *given[:3], self.put("report", plain)
+        head, _ = self.data(self.page(*given, "--before", self.put("before", before))[1])
         self.assertEqual((head["rounds"], head["written"]), (
             [{"overflow": 4, "nets": None, "full": None}, {"overflow": 0, "nets": None, "full": None}], 1))
-        head, _ = self.data(self.page(*given[:4])[1])
+        head, _ = self.data(self.page(*given)[1])
         self.assertEqual((head["rounds"], head["written"]), ([], None))
-        self.assertEqual(reports.rounds_of(self.put("trial", "".join(
-            f"{line}\n" for line in (*traced.splitlines()[:5], "rounds 2", "round 0 overflow 7 nets 9 full 0",
-                                     "round 1 overflow 3 nets 5 full 2", "round 2 overflow 3 nets 4 full 1")))),
-            [reports.Round(7, 9, 0), reports.Round(3, 5, 2), reports.Round(3, 4, 1)])
-        self.assertEqual(reports.written(reports.rounds_of(f"{self.folder.name}/trial")), 1)
+        lines = (*traced.splitlines()[:5], "rounds 2", "round 0 overflow 7 nets 9 full 0",
+                 "round 1 overflow 3 nets 5 full 2", "round 2 overflow 3 nets 4 full 1")
+        found = reports.rounds_of(self.put("trial", "".join(f"{line}\n" for line in lines)))
+        self.assertEqual(found, [reports.Round(7, 9, 0), reports.Round(3, 5, 2), reports.Round(3, 4, 1)])
+        self.assertEqual(reports.written(found), 1)
         with self.assertRaisesRegex(Fault, "round 1 is due"):
             reports.rounds_of(self.put("odd", "routed 1\nround 0 overflow 7 nets 9 full 0\nround 2"))
 
