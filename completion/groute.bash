@@ -14,11 +14,11 @@ _groute() {
     fi
     [ "$command" != groute ] || command="groute ${COMP_WORDS[1]}"
     case $command in
-    'groute route') options="--workers --via-cost --batch --rule --stop --help" ;;
+    'groute route') options="--workers --via-cost --batch --rule --stop --from --trace --help" ;;
     'groute evaluate') options="--via-cost --help" ;;
     'groute buffer') options="--help" ;;
     'groute make') options="--help" ;;
-    'groute trial') options="--workers --rule --help" ;;
+    'groute trial') options="--workers --rule --trace --help" ;;
     'groute panels') options="--help" ;;
     grbound) options="--steps --via-cost --help --version" ;;
     groute-adjust) options="--help --layer --region --direction --output --names" ;;
@@ -26,7 +26,7 @@ _groute() {
     groute-congestion) options="--help --output --layer --edges --direction --region --worst --net --buffers --bound --tracks --json --names" ;;
     groute-def-to-ispd) options="--help --lef --tile --layers --adjust --via --driver --sink --liberty --kinds --kind --scale --keep-supply" ;;
     groute-differ) options="--help --worst --json" ;;
-    groute-flow) options="--help --lef --liberty --rounds --workers --rule --stop --batch --scale --sta --period --clock --sdc --verilog --program --json --output --tile --layers --adjust --kinds --driver --sink --kind --via --keep-supply" ;;
+    groute-flow) options="--help --lef --liberty --rounds --workers --rule --stop --batch --from --scale --sta --period --clock --sdc --verilog --program --json --output --tile --layers --adjust --kinds --driver --sink --kind --via --keep-supply" ;;
     groute-guides) options="--help --names" ;;
     groute-hotspots) options="--help --worst --csv --openroad --klayout --json --nets --names" ;;
     groute-insert) options="--help --output --lef --liberty --slack --below --keep --verilog --eco --pins --names" ;;

@@ -24,6 +24,12 @@ class Calls(InFolder):
         self.assertEqual(found.report, groute.Report(1, 0, 0, 5, 2))
         self.assertEqual(found.solution, text_of("examples/small.solution").encode())
         self.assertEqual(found.nets, (groute.Net("a", 0, -158000, ()),))
+        self.assertEqual((found.kept, found.rounds), (None, (groute.Round(0, 1, 0),)))
+        crowd = [f"{ROOT}/examples/crowd.{kind}" for kind in ("ispd", "library")]
+        first = groute.route(crowd[0], crowd[1], 0, program=program())
+        begun = self.put("begun", first.solution.decode())
+        found = groute.route(crowd[0], crowd[1], 1, given=begun, program=program())
+        self.assertEqual((found.kept, found.rounds), (2, (groute.Round(4, 2, 0), groute.Round(0, 2, 0))))
         found = groute.route(DESIGN, LIBRARY, 3, stop="still", via_cost=7, program=program())
         self.assertEqual(found.report.wirelength, 17)
 

@@ -96,6 +96,28 @@ class Changes(InFolder):
         again = json.loads(tool("differ.py", file.name, paths[0][0], paths[0][0], "--json")[1])
         self.assertEqual(again["groups"]["same"]["nets"], 1999)
 
+    def test_a_changed_chip(self) -> None:
+        """Of a chip of which a net goes and a pin moves, most nets are kept, and no other goes another way."""
+        chip = run_bytes("xz", "-dc", f"{ROOT}/examples/grom_osu035.ispd.xz").decode()
+        old, library = self.put("chip", chip), f"{ROOT}/examples/osu035.library"
+        lines = chip.splitlines()
+        first = next(at for at, line in enumerate(lines) if line.startswith("num net"))
+        pins = int(lines[first + 1].split()[2])
+        lines[first] = f"num net {int(lines[first].split()[2]) - 1}"
+        del lines[first + 1:first + 2 + pins]           # the first net
+        x, y, layer = lines[first + 2].split()
+        lines[first + 2] = f"{int(x) + 8000} {y} {layer}"     # a pin of the second
+        new = self.put("changed", "".join(f"{line}\n" for line in lines))
+        routes = self.put("before", run(program(), "route", old, library, "2")[1])
+        given = os.path.join(self.folder.name, "given")
+        self.assertEqual(tool("carry.py", old, routes, new, given)[1], "carried 1998\ngone 1\nnew 0\n")
+        _, out, report = run(program(), "route", new, library, "8", "--from", given, "--stop", "0")
+        kept = int(report.splitlines()[5].removeprefix("kept "))
+        self.assertEqual(kept, 1997)
+        groups = json.loads(tool("differ.py", new, routes, self.put("after", out), "--json")[1])["groups"]
+        self.assertGreater(groups["same"]["nets"], 1970)
+        self.assertEqual((groups["gone"]["nets"], groups["new"]["nets"]), (1, 0))
+
 
 def run_bytes(*words: str) -> bytes:
     """What a program writes."""

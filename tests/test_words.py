@@ -75,7 +75,7 @@ class Tables(unittest.TestCase):
         self.assertEqual(self.completed("groute", "e"), ["evaluate"])
         self.assertEqual(self.completed("groute", "--"), ["--help", "--version"])
         self.assertEqual(self.completed("groute", "route", "--"),
-                         ["--workers", "--via-cost", "--batch", "--rule", "--stop", "--help"])
+                         ["--workers", "--via-cost", "--batch", "--rule", "--stop", "--from", "--trace", "--help"])
         self.assertEqual(self.completed("groute", "make", "--"), ["--help"])
         for words in (("--rule", ""), ("--rule", "=", ""), ("--rule", "=")):
             self.assertEqual(self.completed("groute", "route", *words), ["first", "steep", "flat", "near"])
@@ -104,11 +104,13 @@ class Drawn(InFolder):
     TAKEN = {"DESIGN": ("d",), "LIBRARY": ("l",), "SOLUTION": ("s",), "SEED": ("0", "18446744073709551615"),
              "X": ("2", "3"), "Y": ("2", "3"), "L": ("2", "16"), "NETS": ("0", "5"), "ROUNDS": ("0", "064", "64")}
     VALUES = {"--workers": ("1", "016"), "--via-cost": ("0", "1000"), "--batch": ("1", "65536"),
-              "--rule": ("first", "steep", "flat", "near"), "--stop": ("still", "0", "18446744073709551615")}
+              "--rule": ("first", "steep", "flat", "near"), "--stop": ("still", "0", "18446744073709551615"),
+              "--from": ("g", "", "--", "--trace", "--rule=x"), "--trace": ("",)}
     ODD = ["", "-", "--", "-1", "+1", " 1", "1.0", "x", "\udcff", "\u0661", "65", "1001", "65537", "0" * 19 + "1",
            "0" * 20 + "1", "18446744073709551616", "99999999999999999999", "first", "still", "--rule", "--workers",
            "--workers=", "--workers=1", "--via-cost=7=", "--help", "--version", "-h", "--stop=still", "--batch=2",
-           "--rulefirst", "--rules=first", "route", "panels", "2048", "2049"]
+           "--rulefirst", "--from", "--from=", "--from=a", "--trace", "--trace=", "--trace=1",
+           "--rules=first", "route", "panels", "2048", "2049"]
 
     def draw(self, random: random.Random, program: str) -> list[str]:
         """Words of a command, of which some may be changed."""
@@ -118,7 +120,8 @@ class Drawn(InFolder):
             if random.random() < 0.2 or option in dict(row.options):
                 value = random.choice(self.VALUES[option])
                 at = random.randint(0, len(words))
-                words[at:at] = random.choice(([option, value], [f"{option}={value}"]))
+                words[at:at] = ["--trace"] if option == "--trace" else random.choice((
+                    [option, value], [f"{option}={value}"]))
         words = [*filter(None, [row.word]), *words]
         for _ in range(random.choice((0, 0, 1, 1, 2))):
             at = random.randint(0, len(words))

@@ -7,7 +7,7 @@ find_answer() {
     case "$# $name $*" in
     '1 groute --help')
         text='The commands:
-  groute route DESIGN LIBRARY ROUNDS [--workers N] [--via-cost V] [--batch B] [--rule first|steep|flat|near] [--stop still|N]
+  groute route DESIGN LIBRARY ROUNDS [--workers N] [--via-cost V] [--batch B] [--rule first|steep|flat|near] [--stop still|N] [--from SOLUTION] [--trace]
       routes a design
   groute evaluate DESIGN SOLUTION [--via-cost V]
       judges the routes of any router
@@ -15,7 +15,7 @@ find_answer() {
       places buffers on the routes of any router
   groute make SEED X Y L NETS
       makes a design
-  groute trial SEED X Y L NETS ROUNDS [--workers N] [--rule first|steep|flat|near]
+  groute trial SEED X Y L NETS ROUNDS [--workers N] [--rule first|steep|flat|near] [--trace]
       makes a design and routes it
   groute panels DESIGN SOLUTION
       gives straight runs the fewest tracks
@@ -37,7 +37,7 @@ docs/FORMATS.md, or man grbound, has all words, ranges, texts and faults.' ;;
     '1 grbound --version')
         text='grbound 0.1.0' ;;
     '2 groute route --help')
-        text='groute route DESIGN LIBRARY ROUNDS [--workers N] [--via-cost V] [--batch B] [--rule first|steep|flat|near] [--stop still|N]
+        text='groute route DESIGN LIBRARY ROUNDS [--workers N] [--via-cost V] [--batch B] [--rule first|steep|flat|near] [--stop still|N] [--from SOLUTION] [--trace]
 
 It routes a design.
 
@@ -48,7 +48,9 @@ It routes a design.
   --via-cost V                  as how many wire edges a via counts in wirelength, 0 to 1000; else 1
   --batch B                     nets are planned B at a time, so that threads change no byte, 1 to 65536
   --rule first|steep|flat|near  how costs of edges rise with demand; else first
-  --stop still|N                rounds end once one doesn'\''t lower the overflow (still), or once it is at most N, 0 to 2^64 - 1' ;;
+  --stop still|N                rounds end once one doesn'\''t lower the overflow (still), or once it is at most N, 0 to 2^64 - 1
+  --from SOLUTION               routes to begin from: those that are trees are kept until a later round
+  --trace                       what each round did is told behind the report' ;;
     '2 groute evaluate --help')
         text='groute evaluate DESIGN SOLUTION [--via-cost V]
 
@@ -76,7 +78,7 @@ It makes a design.
   L     layers, 2 to 16
   NETS  how many nets, 0 to 1000000' ;;
     '2 groute trial --help')
-        text='groute trial SEED X Y L NETS ROUNDS [--workers N] [--rule first|steep|flat|near]
+        text='groute trial SEED X Y L NETS ROUNDS [--workers N] [--rule first|steep|flat|near] [--trace]
 
 It makes a design and routes it.
 
@@ -87,7 +89,8 @@ It makes a design and routes it.
   NETS                          how many nets, 0 to 1000000
   ROUNDS                        the most rounds of rip-up and reroute, 0 to 64
   --workers N                   how many threads route, 1 to 16; else 1
-  --rule first|steep|flat|near  how costs of edges rise with demand; else first' ;;
+  --rule first|steep|flat|near  how costs of edges rise with demand; else first
+  --trace                       what each round did is told behind the report' ;;
     '2 groute panels --help')
         text='groute panels DESIGN SOLUTION
 

@@ -125,7 +125,7 @@ def zsh() -> str:
 def arguments(called: Called, first: int) -> str:
     """The words of `_arguments`."""
     parts = [f"'{option}[{value}]:{value}:({' '.join(words)})'" if words else f"'{option}[{value}]:{value}:_files'"
-             if value in FILES else f"'{option}[{value}]:{value}:'" if value else f"'{option}'"
+             if value in (*TEXTS, *FILES) else f"'{option}[{value}]:{value}:'" if value else f"'{option}'"
              for option, value, words in called.options]
     parts += [f"'{at}:{name}:{'_files' if name in (*TEXTS, *FILES) else ''}'"
               for at, name in enumerate(called.positionals, first)]

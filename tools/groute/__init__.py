@@ -2,9 +2,9 @@
 TYPE_CHECKING = False       # as checkers of types have it
 if TYPE_CHECKING:
     from groute.calls import (Bound, Buffer, DesignFault, Failed, Judged, LibraryFault, Net, NoMemory, ReadFailed,
-                              Report, Routed, SolutionFault, Usage, WriteFailed, bound, buffer, evaluate, route)
+                              Report, Round, Routed, SolutionFault, Usage, WriteFailed, bound, buffer, evaluate, route)
 __all__ = ["Bound", "Buffer", "DesignFault", "Failed", "Judged", "LibraryFault", "Net", "NoMemory", "ReadFailed",
-           "Report", "Routed", "SolutionFault", "Usage", "WriteFailed", "bound", "buffer", "evaluate", "route"]
+           "Report", "Round", "Routed", "SolutionFault", "Usage", "WriteFailed", "bound", "buffer", "evaluate", "route"]
 
 
 def __getattr__(name):      # type: ignore[no-untyped-def]

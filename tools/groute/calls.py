@@ -85,6 +85,14 @@ class Report:
 
 
 @dataclass(frozen=True)
+class Round:
+    """What a round did: the overflow at its end, the nets that were routed, and the plans that found no room."""
+    overflow: int
+    nets: int
+    full: int
+
+
+@dataclass(frozen=True)
 class Buffer:
     """A buffer: the centre of its tile, its layer from 1, and its kind."""
     x: int
@@ -104,9 +112,12 @@ class Net:
 
 @dataclass(frozen=True)
 class Routed:
-    """What `route` wrote: the solution's text, the report, and the nets in the design's order."""
+    """What `route` wrote: the solution's text, the report, the rounds, and the nets in the design's order; `kept` is
+    how many nets were kept of given routes, None where there were none."""
     solution: bytes
     report: Report
+    kept: int | None
+    rounds: tuple[Round, ...]
     nets: tuple[Net, ...]
 
 
@@ -126,13 +137,19 @@ class Bound:
 
 
 def route(design: Path, library: Path, rounds: int, *, workers: int = 1, via_cost: int = 1, batch: int | None = None,
-          rule: str = "first", stop: str | int | None = None, program: Path | None = None,
+          rule: str = "first", stop: str | int | None = None, given: Path | None = None, program: Path | None = None,
           timeout: float | None = None) -> Routed:
-    """Routes a design with at most so many rounds, and places buffers; options as of `groute route`."""
-    words = options(workers=workers, via_cost=via_cost, batch=batch, rule=rule, stop=stop)
+    """Routes a design with at most so many rounds, and places buffers; options as of `groute route`, `given` as of
+    `--from`."""
+    words = [*options(workers=workers, via_cost=via_cost, batch=batch, rule=rule, stop=stop), "--trace"]
+    if given is not None:
+        words.append(f"--from={text(given)}")
     out, err = run("groute", ["route", *words, "--", text(design), text(library), str(rounds)], program, timeout)
     lines = iter(err.decode("utf-8", "surrogateescape").split("\n"))
-    return Routed(out, report_in(lines), tuple(nets_in(lines)))
+    report = report_in(lines)
+    kept = None if given is None else number(lines, "kept")
+    done = tuple(round_in(next(lines)) for _ in range(number(lines, "rounds") + 1))
+    return Routed(out, report, kept, done, tuple(nets_in(lines)))
 
 
 def evaluate(design: Path, solution: Path, *, via_cost: int = 1, program: Path | None = None,
@@ -213,6 +230,12 @@ def number(lines: Iterator[str], word: str) -> int:
 def report_in(lines: Iterator[str]) -> Report:
     """The report that lines begin with."""
     return Report(*(number(lines, word) for word in ("routed", "overflow", "maximum", "wirelength", "vias")))
+
+
+def round_in(line: str) -> Round:
+    """The round of a line."""
+    _, _, _, overflow, _, nets, _, full = line.split(" ")
+    return Round(int(overflow), int(nets), int(full))
 
 
 def nets_in(lines: Iterator[str]) -> Iterator[Net]:

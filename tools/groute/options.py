@@ -25,12 +25,13 @@ COMES = {
 # The words of each command, and what it does.
 USAGE = {
     "route DESIGN LIBRARY ROUNDS [--workers N] [--via-cost V] [--batch B] [--rule first|steep|flat|near] "
-    "[--stop still|N]":
+    "[--stop still|N] [--from SOLUTION] [--trace]":
         "routes a design",
     "evaluate DESIGN SOLUTION [--via-cost V]": "judges the routes of any router",
     "buffer DESIGN LIBRARY SOLUTION": "places buffers on the routes of any router",
     "make SEED X Y L NETS": "makes a design",
-    "trial SEED X Y L NETS ROUNDS [--workers N] [--rule first|steep|flat|near]": "makes a design and routes it",
+    "trial SEED X Y L NETS ROUNDS [--workers N] [--rule first|steep|flat|near] [--trace]":
+        "makes a design and routes it",
     "panels DESIGN SOLUTION": "gives straight runs the fewest tracks",
 }
 # The same of grbound, which has one command without a word.
@@ -56,6 +57,8 @@ MEANS = {
     "--via-cost": "as how many wire edges a via counts in wirelength",
     "--batch": "nets are planned B at a time, so that threads change no byte",
     "--rule": "how costs of edges rise with demand",
+    "--from": "routes to begin from: those that are trees are kept until a later round",
+    "--trace": "what each round did is told behind the report",
     "--steps": "how many steps of prices look for better bounds",
     "--stop": "rounds end once one doesn't lower the overflow (still), or once it is at most N",
 }
@@ -110,7 +113,8 @@ FAULTS: dict[str, list[str]] = {
 
 
 class Row(NamedTuple):
-    """A command: its program, its word, its positionals, its options with their values, and what it does."""
+    """A command: its program, its word, its positionals, its options with their values, which are empty of an option
+    without one, and what it does."""
     program: str
     word: str
     positionals: list[str]
@@ -123,7 +127,12 @@ class Row(NamedTuple):
 
     def line(self) -> str:
         """The line of usage."""
-        return " ".join([self.name(), *self.positionals, *(f"[{word} {value}]" for word, value in self.options)])
+        return " ".join([self.name(), *self.positionals, *(f"[{option(*pair)}]" for pair in self.options)])
+
+
+def option(word: str, value: str) -> str:
+    """An option with its value, if it takes one."""
+    return f"{word} {value}" if value else word
 
 
 def rows(program: str = "groute") -> Iterator[Row]:
@@ -135,9 +144,9 @@ def rows(program: str = "groute") -> Iterator[Row]:
 
 def parted(line: str) -> tuple[list[str], list[tuple[str, str]]]:
     """The positionals and the options of a line of usage."""
-    words = line.replace("[", "").replace("]", "").split()
-    first = next((at for at, part in enumerate(words) if part.startswith("-")), len(words))
-    return words[:first], list(zip(words[first::2], words[first + 1::2]))
+    words, *options = line.split(" [")
+    pairs = (option.removesuffix("]").partition(" ") for option in options)
+    return words.split(), [(word, value) for word, _, value in pairs]
 
 
 def values(option: str) -> list[str]:
@@ -169,7 +178,7 @@ def told_of(program: str) -> Iterator[str]:
 def told_of_row(row: Row) -> Iterator[str]:
     """The lines that say of a command what its words are."""
     yield from (row.line(), "", f"It {row.does}.", "")
-    words = [*((word, word) for word in row.positionals), *((word, f"{word} {value}") for word, value in row.options)]
+    words = [*((word, word) for word in row.positionals), *((pair[0], option(*pair)) for pair in row.options)]
     wide = max(len(shown) for _, shown in words)
     for word, shown in words:
         some = f", {range_words(word)}" if word in RANGES else ""

@@ -8,7 +8,9 @@ from groute.options import EXCLUDES, MOST_CELLS, RANGES, TEXTS, Row, chosen, ran
 
 MOST_DIGITS = 20        # of a number
 # What takes the next word as its value, in whatever command it stands.
-TAKES = sorted({word for program in ("groute", "grbound") for row in rows(program) for word, _ in row.options})
+TAKES = sorted({word for program in ("groute", "grbound") for row in rows(program)
+                for word, value in row.options if value})
+FLAGS = sorted({word for row in rows() for word, value in row.options if not value})    # options without a value
 
 
 @dataclass
@@ -26,6 +28,8 @@ class Sorted:
     def files(self) -> Iterator[tuple[str, str]]:
         """What the words that are files are called, and the words, in the order in which they are opened."""
         yield from ((name, word) for name, word in self.positionals.items() if name in TEXTS)
+        own = dict(self.row.options) if self.row else {}
+        yield from ((own[option], word) for option, word in self.options.items() if own[option] in TEXTS)
 
 
 def nearest(word: str, right: Sequence[str]) -> str:
@@ -91,6 +95,10 @@ def sort(program: str, words: Sequence[str]) -> Sorted:
             is_option = False
         elif not is_option or not word.startswith("-") or word == "-":
             add_positional(found, word)
+        elif word in FLAGS:
+            add_option(found, word, "")
+        elif name in FLAGS:
+            found.fault(f"{word}: {name} takes no value")
         elif name not in TAKES:
             own = [option for option, _ in found.row.options]
             found.fault(f"{word}: {found.row.name()} has no such option{nearest(name, own)}")

@@ -22,6 +22,10 @@ and after:
 It stops at the first step that fails, with that tool's message and status; what an earlier run wrote is gone then. Else
 the status is 1 where routes leave nets unjoined, and 0.
 
+--from DIR begins from the routes of an earlier run, of which DIR is the folder: nets are found by their names
+(carry.py), and those whose pins are where they were keep their routes, until rounds need them otherwise. The grid has
+to be the same one. `given.solution` has what was carried over, and the verdict how many nets were kept.
+
 Routes are made by --rule near, if no other is given. Without --rounds there are up to 64 rounds, which end once the
 overflow is 0, but 16 where grbound proves that there is overflow in any routes; with --batch, which takes no --stop, 8.
 """
@@ -43,16 +47,17 @@ from groute.texts import objects
 from groute.texts.designs import Netlist
 from groute.texts.figures import NANOSECOND, Figures, object_of, read_figures, rows
 from groute.texts.files import Fault, Outputs
-from groute.texts.reports import bounds_in
+from groute.texts.reports import bounds_in, kept_in
 from groute.texts.tokens import Tokens
 from groute.timing import closing
 
 # Passed on to def_to_ispd.py, and how many words stand behind each.
 PASSED = {"--tile": 2, "--layers": 1, "--adjust": 1, "--kinds": 1, "--driver": 1, "--sink": 1, "--kind": 4, "--via": 2,
           "--keep-supply": 0}
-WRITTEN = ("design.ispd", "design.ispd.names", "design.ispd.pins", "design.library", "routes.solution", "report.txt",
-           "routes.guide", "bounds.txt", "hotspots.txt", "index.html", "congestion.csv", "netlist.v", "routes.spef",
-           "slacks.txt", "figures.txt", "timing.library", "buffers.txt", "timing.txt")
+WRITTEN = ("design.ispd", "design.ispd.names", "design.ispd.pins", "design.library", "given.solution",
+           "routes.solution", "report.txt", "routes.guide", "bounds.txt", "hotspots.txt", "index.html",
+           "congestion.csv", "netlist.v", "routes.spef", "slacks.txt", "figures.txt", "timing.library", "buffers.txt",
+           "timing.txt")
 OF_RUN = ("design.ispd", "design.library", "routes.solution", "report.txt")     # of each placement that is routed
 FOLDERS = (closing.BEST, *(f"run{number}" for number in range(1, closing.RUNS + 1)))
 MOST_ROUNDS = RANGES["ROUNDS"][1]
@@ -131,7 +136,7 @@ def called(program: str) -> bool:
 
 def prepare(asked: Namespace, paths: dict[str, str]) -> None:
     """Checks the inputs, and removes what an earlier run wrote."""
-    inputs = [asked.placed, *asked.lef, *asked.liberty, *filter(None, [asked.verilog, asked.sdc])]
+    inputs = [asked.placed, *asked.lef, *asked.liberty, *filter(None, [asked.verilog, asked.sdc]), *earlier(asked)]
     for path in inputs:
         with open(path, "rb"):
             pass
@@ -146,6 +151,11 @@ def prepare(asked: Namespace, paths: dict[str, str]) -> None:
         shutil.rmtree(os.path.join(asked.output, name), ignore_errors=True)
 
 
+def earlier(asked: Namespace) -> list[str]:
+    """The design and the routes of the earlier run, if there is one."""
+    return [os.path.join(asked.given, name) for name in ("design.ispd", "routes.solution")] if asked.given else []
+
+
 def steps(asked: Namespace) -> tuple[int, str]:
     """Goes through all steps; the answer is the status and what is printed."""
     paths = {name: os.path.join(asked.output, name) for name in WRITTEN}
@@ -153,19 +163,23 @@ def steps(asked: Namespace) -> tuple[int, str]:
     prepare(asked, paths)
     make_design(asked, asked.placed, paths)
     least = bound(bounds, paths) if bounds else 0
-    route(groute, asked, least, paths)
+    if asked.given:
+        tool("carry.py", *earlier(asked), paths["design.ispd"], paths["given.solution"])
+    route(groute, asked, least, paths, paths["given.solution"] if asked.given else None)
+    kept = kept_in(paths["report.txt"])
     timing = timed(groute, asked, least, paths) if asked.sta else ""
     if bounds and timing:
         bound(bounds, paths)    # of the placement that the page shows
     tool("guides.py", paths["design.ispd"], paths["routes.solution"], paths["routes.guide"])
     status, verdict, found = judged(asked, bounds is not None, paths)
-    verdict = f"{os.path.basename(asked.placed).split('.')[0]}: {verdict}{timing}"
+    of_kept = "" if kept is None else f"; {kept:,} nets kept"
+    verdict = f"{os.path.basename(asked.placed).split('.')[0]}: {verdict}{of_kept}{timing}"
     if not asked.json:
         return status, f"{verdict}\n"
     if asked.sta:
         found["timing"] = {name: object_of(read_figures(paths[name])) for name in ("before", "after")}
     written = sorted(name for name in WRITTEN if os.path.isfile(os.path.join(asked.output, name)))
-    least_words = {"least_overflow_units": least if bounds else None}
+    least_words = {"least_overflow_units": least if bounds else None, "kept_nets": kept}
     return status, objects.text_of("flow", {"verdict": verdict, "status": int(status), "folder": asked.output,
                                             "files": written, **least_words, **found})
 
@@ -236,9 +250,10 @@ def order(asked: Namespace, least: int) -> list[str]:
     return [str(rounds), *(str(word) for pair in given.items() if pair[1] is not None for word in pair)]
 
 
-def route(groute: str, asked: Namespace, least: int, paths: dict[str, str]) -> None:
+def route(groute: str, asked: Namespace, least: int, paths: dict[str, str], given: str | None = None) -> None:
     """Writes the routes and the report, together or none."""
-    words = ["route", paths["design.ispd"], paths["design.library"], *order(asked, least)]
+    words = ["route", paths["design.ispd"], paths["design.library"], *order(asked, least), "--trace"]
+    words += [f"--from={given}"] if given else []
     with Outputs() as outputs:
         report = outputs.binary(paths["report.txt"])
         run_program(groute, words, outputs.binary(paths["routes.solution"]), report)
@@ -300,6 +315,7 @@ def parser() -> frame.Parser:
     words.add_argument("--rule", choices=values("--rule"), help="as of groute route; else near")
     words.add_argument("--stop", type=stop, metavar="still|N", help="as of groute route")
     words.add_argument("--batch", type=frame.number(*RANGES["--batch"]), metavar="B", help="as of groute route")
+    words.add_argument("--from", metavar="DIR", dest="given", help="the folder of an earlier run, to keep its routes")
     words.add_argument("--scale", type=frame.number(1), default=100, metavar="N",
                        help="of the library's numbers; else 100")
     words.add_argument("--sta", action="store_true", help="goes on by OpenSTA's slacks")

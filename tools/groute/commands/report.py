@@ -1,12 +1,12 @@
 """Writes a page to look at a design's routes with: one file that a browser opens from disk, without a network.
 
 Its first screen has the verdict in a line, ACE, the table by layer, a map to zoom and pan, and the worst regions with
-their nets; a net is drawn with its pins, layers and buffers. LIBRARY and REPORT add required times and buffers; reports
-of earlier rounds, from round 0 on, add the overflow by round, and a text of grbound the overflow that any routes have,
-and the fullest walls. --slack ranks nets by a timer's slack, where nets that nothing constrains are free, and --timing
-adds its figures before and after buffers, and the nets of the worst paths. What is shown stands in the address, so that
-a link shows it again. Of designs with more than 100,000 nets, or where the page would pass 20 MB, it holds only the
-nets of the worst regions and the slowest ones, and says so.
+their nets; a net is drawn with its pins, layers and buffers. LIBRARY and REPORT add required times and buffers, and a
+REPORT of `route --trace` what each round left, as reports of earlier rounds (--before) do, from round 0 on; a text of
+grbound adds the overflow that any routes have, and the fullest walls. --slack ranks nets by a timer's slack, where nets
+that nothing constrains are free, and --timing adds its figures before and after buffers, and the nets of the worst
+paths. What is shown stands in the address, so that a link shows it again. Of designs with more than 100,000 nets, or
+where the page would pass 20 MB, it holds only the nets of the worst regions and the slowest ones, and says so.
 
 Times are in picoseconds. Of a library that def_to_ispd.py made with --scale N say --scale N here too.
 """
