@@ -73,15 +73,15 @@ impl Ended {
 /// one hasn't lowered the total overflow, or once it is at most a number. As many threads as `--workers`
 /// says (1 to 16) do it, each over what it has seen of the others' routes. In the first pass each takes
 /// the nets that can least go another way first, and in the rounds those that most can. Each passes the
-/// gate before it searches a plan, and before it claims a net. Where `--batch` says a number of nets, so
-/// many are planned over one state and then claimed in the design's order; what is written is then the
-/// same for every number of threads.
-/// Where `--from` names a solution, it is read after the library, and nets that can be kept begin with the
-/// routes that it gives them: routed nets whose edges are a tree, without the edges on no way from the
-/// driver to a pin, where the others go in usable directions. Only the other nets get a pattern plan.
-/// It writes the routes of the first round of least overflow on out, and on err their report of
-/// overflow, wirelength and vias; with `--from` how many nets are kept; with `--trace` what each round
-/// did; and each routed net's buffers and required time.
+/// gate before it begins with a net, searches a plan, or claims a net, and the end of each round passes
+/// it. Where `--batch` says a number of nets, so many are planned over one state and then claimed in the
+/// design's order; what is written is then the same for every number of threads. Where `--from` names a
+/// solution, it is read after the library, and nets that can be kept begin with the routes that it gives
+/// them: routed nets whose edges are a tree, without the edges on no way from the driver to a pin, where
+/// the others go in usable directions. Only the other nets get a pattern plan. It writes the routes of the
+/// first round of least overflow on out, and on err their report of overflow, wirelength and vias; with
+/// `--from` how many nets are kept; with `--trace` what each round did; and each routed net's buffers and
+/// required time.
 ///
 /// `evaluate DESIGN SOLUTION` reads a design and any router's solution for it, and writes on out
 /// the report, and the routed nets that the solution leaves unjoined. In both reports a via edge

@@ -16,7 +16,7 @@ returns g c =
     let history = r.rounds.book.state.history in
     let between =
     c.in_ok-between.ensures ∙ ap (told_between d c.args.beginning.now c.args.options)
-    (c.history.ensures.history ∙ ap (λ (b : BookView). b.history) c.state.ensures) in
+    (c.history-history.ensures.history ∙ ap (λ (b : BookView). b.history) c.state.ensures) in
     record {
       made = are.rounds.made;
       routes = chosen-routes d c.args.beginning.now.given c.args.options r are told.trees;

@@ -5,7 +5,7 @@ use Rattle.router_top.proofs.BeginningLemmas.{beginning-fails, begun-first, begu
 use Rattle.router_top.proofs.routing.route_from.Goals as goal
 
 pub route_opened-requires-clause-given : goal.route_opened-requires-clause-given
-route_opened-requires-clause-given g c =
+route_opened-requires-clause-given g c = λ κs within.
     begun-given _ c.args.design _ c.in-Ok.beginning c.in-Ok.ensures.2
 
 pub returns-in-Ok : goal.returns-in-Ok

@@ -15,7 +15,7 @@ use Rattle.router_top.proofs.trying.trial.Goals as goal
 use Rattle.text_commands.specs.Judging.{report_of}
 
 pub booked_routes-requires-clause-given : goal.booked_routes-requires-clause-given
-booked_routes-requires-clause-given g c = none-given c.in-Ok.design c.in-Ok-from_nothing.beginning.given c.in-Ok-from_nothing.ensures.given
+booked_routes-requires-clause-given g c = λ κs within. none-given c.in-Ok.design c.in-Ok-from_nothing.beginning.given c.in-Ok-from_nothing.ensures.given
 
 pub returns : goal.returns
 returns g c =
@@ -24,10 +24,10 @@ returns g c =
     let are = c.in-Ok-booked_routes.ensures in
     let v = c.in-Ok-verdict_on.verdict in
     let h = take r.rounds.chosen r.rounds.book.state.history in
-    let history : c.history.result.now ≡ r.rounds.book.state.history =
-    c.history.ensures.history ∙ ap (λ (b : BookView). b.history) c.state.ensures in
+    let history : c.history-history.result.now ≡ r.rounds.book.state.history =
+    c.history-history.ensures.history ∙ ap (λ (b : BookView). b.history) c.state.ensures in
     leaves-alone (trying c.args.made c.args.options) _ (Some (record { book = r.rounds.book; hands = r.rounds.hands }))
-    (report_of v ++ rounds_told c.args.options.trace c.history.result.now)
+    (report_of v ++ rounds_told c.args.options.trace c.history-history.result.now)
     c.write_report-end.result
     (λ shelf. (
       refl,
