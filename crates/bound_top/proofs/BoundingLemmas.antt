@@ -1,5 +1,6 @@
 -- The bounds of the design that was read, and the law of the command.
-use Rattle.std.proofs.Common.{◌≡◌, ℕ, zero, suc, ◌==◌, Bool, false, if◌then◌else◌, List, [], Option, Some, None, Result, Ok, IsTrue, refl, sym, ap, subst, ◌∙◌, arith}
+use Rattle.std.proofs.Common.{◌≡◌, ℕ, ◌==◌, inl, inr, Bool, false, if◌then◌else◌, List, [], Option, Some, None, Result, Ok, IsTrue, refl, sym, ap, subst, ◌∙◌, arith}
+use Rattle.std.proofs.lemmas.Bool.{cases_Bool, eqb-true}
 use Rattle.cut_bounds.specs.Bounds.{BoundsView, bounds_text}
 use Rattle.cut_bounds.specs.BoundsOf.{bounds_of}
 use Rattle.gr_base.specs.Designs.{DesignView}
@@ -57,8 +58,11 @@ lines-said d via_cost bounds steps floor_over floor_length lines over length bot
     })
   where
     not-zero : (n : ℕ) → (n ≡ 0 → ⊥) → (n == 0) ≡ false
-    not-zero zero none = absurd (none refl)
-    not-zero (suc n) none = refl
+    not-zero n none =
+        elim (cases_Bool (n == 0)) [
+          | inl same ↦ absurd (none (eqb-true n 0 same))
+          | inr other ↦ other
+        ]
 
 -- the bounds of what was read, as they were written, are what the command leaves
 pub bounded : (shelf : Reading) (design_name : List ℕ) (via_cost steps : ℕ) (d : DesignView) (out : Device) (end : Result Outcome Stop) →
