@@ -1,10 +1,13 @@
 -- The bounds of the design that was read, and the law of the command.
-use Rattle.std.proofs.Common.{◌≡◌, ℕ, Bool, List, Option, Some, None, Result, Ok, IsTrue, refl, sym, ap, subst, ◌∙◌}
+use Rattle.std.proofs.Common.{◌≡◌, ℕ, ◌==◌, inl, inr, Bool, false, if◌then◌else◌, List, [], Option, Some, None, Result, Ok, IsTrue, refl, sym, ap, subst, ◌∙◌, arith}
+use Rattle.std.proofs.lemmas.Bool.{cases_Bool, eqb-true}
 use Rattle.cut_bounds.specs.Bounds.{BoundsView, bounds_text}
 use Rattle.cut_bounds.specs.BoundsOf.{bounds_of}
 use Rattle.gr_base.specs.Designs.{DesignView}
 use Rattle.gr_io.specs.Devices.{Device, Reading, IsUntouched, device_of}
 use Rattle.ispd_reader.specs.declared.fault.DesignFault.{DesignFault}
+use Rattle.price_bounds.specs.Texts.{prices_text, AreAtLeast, IsFloor}
+use Rattle.price_laws.specs.Laws.{ArePriceBounds}
 use Rattle.wall_laws.specs.Laws.{AreBounds}
 use Rattle.command_form.specs.Commands.{IsLawful, checked}
 use Rattle.command_form.specs.Ends.{LeavesFor}
@@ -16,7 +19,7 @@ use Rattle.command_form.specs.declared.stop.Stop.{Stop}
 use Rattle.command_form.proofs.EndLemmas.{IsLawfully}
 use Rattle.command_form.proofs.LeavingLemmas.{open-whole, written-one}
 use Rattle.word_reader.specs.Orders.{Order, Route, Evaluate, Buffer, Make, Trial, Panels, Bound}
-use Rattle.bound_top.specs.Bounding.{asked_by, bounding, ArePriceLines, IsBoundsText}
+use Rattle.bound_top.specs.Bounding.{asked_by, bounding, ArePriceBoundLines, ArePriceLines, Hold, IsBoundsText}
 
 -- the text of bounds that were made
 pub bounds-said : (d : DesignView) (via_cost steps : ℕ) (bounds : BoundsView) (lines text : List ℕ) → bounds ≡ bounds_of d via_cost →
@@ -29,6 +32,37 @@ bounds-said d via_cost steps bounds lines text is holds prices says = record {
   holds = subst (λ (b : BoundsView). AreBounds d via_cost b.overflow b.wirelength b.usable_wirelength) is holds;
   prices = subst (λ (b : BoundsView). ArePriceLines d via_cost b steps lines) is prices;
 }
+
+-- what bounds tell is known of overflow and of wirelength along usable edges
+pub floor-said : (d : DesignView) (via_cost : ℕ) (bounds : BoundsView) (over length : ℕ) → Hold d via_cost bounds → over ≡ bounds.overflow →
+    length ≡ bounds.usable_wirelength → IsFloor d via_cost over length
+floor-said d via_cost bounds over length holds same_over same_length = record {
+  overflow = λ sets join. let v = holds.overflow sets join in omega (arith, v, same_over);
+  along_usable = λ sets join along. let v = holds.along_usable sets join along in omega (arith, v, same_length);
+}
+
+-- the lines of bounds by prices that were made
+pub lines-said : (d : DesignView) (via_cost : ℕ) (bounds : BoundsView) (steps floor_over floor_length : ℕ) (lines : List ℕ) (over length both : ℕ) →
+    (steps ≡ 0 → ⊥) → floor_over ≡ bounds.overflow → floor_length ≡ bounds.usable_wirelength → lines ≡ prices_text over length both →
+    ArePriceBounds d via_cost over length both → AreAtLeast floor_over floor_length over length both → ArePriceLines d via_cost bounds steps lines
+lines-said d via_cost bounds steps floor_over floor_length lines over length both some same_over same_length says hold least =
+    subst (λ (b : Bool). if b then lines ≡ [] else ArePriceBoundLines d via_cost bounds lines) (sym (not-zero steps some))
+    (record {
+      over = over;
+      length = length;
+      both = both;
+      says = says;
+      hold = hold;
+      least = subst (λ (n : ℕ). AreAtLeast bounds.overflow n over length both) same_length
+          (subst (λ (n : ℕ). AreAtLeast n floor_length over length both) same_over least);
+    })
+  where
+    not-zero : (n : ℕ) → (n ≡ 0 → ⊥) → (n == 0) ≡ false
+    not-zero n none =
+        elim (cases_Bool (n == 0)) [
+          | inl same ↦ absurd (none (eqb-true n 0 same))
+          | inr other ↦ other
+        ]
 
 -- the bounds of what was read, as they were written, are what the command leaves
 pub bounded : (shelf : Reading) (design_name : List ℕ) (via_cost steps : ℕ) (d : DesignView) (out : Device) (end : Result Outcome Stop) →

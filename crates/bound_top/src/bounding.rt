@@ -64,7 +64,8 @@ fn text_of(alloc: Global, design: &Design, via_cost: u32, steps: u32) -> Result<
 {
     let bounds = bounds_of(alloc, design, via_cost)?;
     let further = price_lines(alloc, design, &bounds, via_cost, steps)?;
-    bounds_text(alloc, &bounds, further.bytes())
+    let text = bounds_text(alloc, &bounds, further.bytes())?;
+    Ok(text)
 }
 
 /// The lines of the bounds by prices: none without steps. The only error is want of memory.
@@ -87,5 +88,6 @@ fn price_lines(
         usable_wirelength: bounds.usable_wirelength(),
     };
     let prices = price_bounds(alloc, design, via_cost, steps, floor)?;
-    prices_text(alloc, prices)
+    let lines = prices_text(alloc, prices)?;
+    Ok(lines)
 }

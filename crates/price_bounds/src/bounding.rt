@@ -11,7 +11,7 @@ ghost use Rattle.price_bounds.specs.declared.figure.Figure.TheVariants.{Overflow
 use crate::costs::least_cost;
 use crate::figure::{Figure, SCALE, rates_of};
 use crate::held::held_price_of;
-use crate::weights::move_weights;
+use crate::weights::{first_weight, move_weights};
 use gr_base::Design;
 use grid_demand::Capacity;
 use net_prices::NetPricer;
@@ -120,7 +120,7 @@ fn best_bound(
     ensures bound { IfOk result (IsFigure design.now via_cost figure) }
 {
     let wires = 2 * capacity.shape().cells() as usize;
-    let mut weights = vec![in alloc; 0; wires]?;
+    let mut weights = vec![in alloc; first_weight(figure); wires]?;
     let mut best = 0;
     for step in 0..steps {
         pricer.clear();

@@ -32,6 +32,16 @@ pub(crate) fn move_weights(
     }
 }
 
+/// The weight of each wire edge at the first step: where wirelength doesn't count, the first trees are short
+/// by it.
+pub(crate) fn first_weight(figure: Figure) -> u32 {
+    match figure {
+        Figure::Overflow => SCALE / 8,
+        Figure::Length | Figure::Both => 0,
+    }
+}
+
+/// The greatest weight that a step leaves.
 fn most_of(figure: Figure) -> u32 {
     match figure {
         Figure::Length => MOST_WEIGHT,
