@@ -128,7 +128,7 @@ meaning-by option value takes has =
     if takes then (if has then Holds option value else Awaits option) else (if has then Unknown else Holds option [])
 
 -- the word of an option, without a value
-by-itself : (word : List ℕ) (option : OptionKind) → option_of word ≡ Some option → (takes : Bool) →
+pub by-itself : (word : List ℕ) (option : OptionKind) → option_of word ≡ Some option → (takes : Bool) →
     takes_value (option_row option).takes ≡ takes → meaning_of word ≡ (if takes then Awaits option else Holds option [])
 by-itself word option names takes is_taker =
     let is = name-is word (name-of word option names) in
