@@ -1,5 +1,5 @@
 -- What a design's rounds begin from, and how that is told.
-use Rattle.std.specs.Prelude.{◌≡◌, ℕ, Bool, false, true, List, [], Option, Some, None, Result, Ok, Err, is_some, length, count_by, if◌then◌else◌, IsTrue, IsSomeAnd, codes}
+use Rattle.std.specs.Prelude.{◌≡◌, ℕ, false, true, List, [], Option, Some, None, Result, Ok, Err, is_some, length, count_by, if◌then◌else◌, IsTrue, IsSomeAnd, codes}
 use Rattle.std.specs.List.{range_with_len}
 use Rattle.gr_base.specs.Designs.{DesignView}
 use Rattle.gr_base.specs.Trees.{TreeView, tree_at}

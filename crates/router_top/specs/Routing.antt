@@ -1,5 +1,5 @@
 -- The command `route`: the book of its rounds, the text of its routes, and their report.
-use Rattle.std.specs.Prelude.{◌≡◌, ℕ, Bool, true, false, List, ◌++◌, Option, Some, is_some, Result, Ok, take, IsTrue, IsSomeAnd}
+use Rattle.std.specs.Prelude.{◌≡◌, ℕ, Bool, true, List, ◌++◌, Option, Some, is_some, Result, Ok, take, IsTrue, IsSomeAnd}
 use Rattle.gr_base.specs.Designs.{DesignView, IsDesign}
 use Rattle.gr_base.specs.EdgeSets.{Edges}
 use Rattle.gr_base.specs.Grid.{has_edge, is_wire}

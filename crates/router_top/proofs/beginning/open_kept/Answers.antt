@@ -1,4 +1,4 @@
-use Rattle.std.proofs.Common.{Some, Err, Result, refl, sym, subst}
+use Rattle.std.proofs.Common.{Some, refl, sym, subst}
 use Rattle.gr_io.specs.Devices.{Reading, reading_of}
 use Rattle.gr_io.specs.declared.shelf.Slot.TheVariants.{Solution}
 use Rattle.kept_routes.specs.Kept.{AreKept}

@@ -1,4 +1,4 @@
-use Rattle.std.proofs.Common.{List, ℕ, ◌+◌, map, refl, ap, ◌∙◌}
+use Rattle.std.proofs.Common.{List, ◌+◌, map, refl, ap, ◌∙◌}
 use Rattle.std.specs.List.{range_with_len}
 use Rattle.book_state.specs.declared.entry.Entry.{Entry}
 use Rattle.run_histories.specs.Hands.{log_of}
