@@ -1,6 +1,5 @@
 -- The bounds of the design that was read, and the law of the command.
-use Rattle.std.proofs.Common.{◌≡◌, ℕ, ◌==◌, inl, inr, Bool, false, if◌then◌else◌, List, [], Option, Some, None, Result, Ok, IsTrue, refl, sym, ap, subst, ◌∙◌, arith}
-use Rattle.std.proofs.lemmas.Bool.{cases_Bool, eqb-true}
+use Rattle.std.proofs.Common.{◌≡◌, ℕ, Bool, List, [], Option, Some, None, Result, Ok, IsTrue, refl, sym, ap, subst, ◌∙◌, arith}
 use Rattle.cut_bounds.specs.Bounds.{BoundsView, bounds_text}
 use Rattle.cut_bounds.specs.BoundsOf.{bounds_of}
 use Rattle.gr_base.specs.Designs.{DesignView}
@@ -19,7 +18,7 @@ use Rattle.command_form.specs.declared.stop.Stop.{Stop}
 use Rattle.command_form.proofs.EndLemmas.{IsLawfully}
 use Rattle.command_form.proofs.LeavingLemmas.{open-whole, written-one}
 use Rattle.word_reader.specs.Orders.{Order, Route, Evaluate, Buffer, Make, Trial, Panels, Bound}
-use Rattle.bound_top.specs.Bounding.{asked_by, bounding, ArePriceBoundLines, ArePriceLines, Hold, IsBoundsText}
+use Rattle.bound_top.specs.Bounding.{asked_by, bounding, ArePriceLines, Hold, IsBoundsText}
 
 -- the text of bounds that were made
 pub bounds-said : (d : DesignView) (via_cost steps : ℕ) (bounds : BoundsView) (lines text : List ℕ) → bounds ≡ bounds_of d via_cost →
@@ -41,28 +40,30 @@ floor-said d via_cost bounds over length holds same_over same_length = record {
   along_usable = λ sets join along. let v = holds.along_usable sets join along in omega (arith, v, same_length);
 }
 
+-- no lines of bounds by prices, without steps
+pub none-said : (d : DesignView) (via_cost : ℕ) (bounds : BoundsView) (steps : ℕ) (lines : List ℕ) → steps ≡ 0 → lines ≡ [] →
+    ArePriceLines d via_cost bounds steps lines
+none-said d via_cost bounds steps lines none is = record {
+  without = λ same. is;
+  by_prices = λ some. absurd (omega (arith, none, some));
+}
+
 -- the lines of bounds by prices that were made
 pub lines-said : (d : DesignView) (via_cost : ℕ) (bounds : BoundsView) (steps floor_over floor_length : ℕ) (lines : List ℕ) (over length both : ℕ) →
     (steps ≡ 0 → ⊥) → floor_over ≡ bounds.overflow → floor_length ≡ bounds.usable_wirelength → lines ≡ prices_text over length both →
     ArePriceBounds d via_cost over length both → AreAtLeast floor_over floor_length over length both → ArePriceLines d via_cost bounds steps lines
-lines-said d via_cost bounds steps floor_over floor_length lines over length both some same_over same_length says hold least =
-    subst (λ (b : Bool). if b then lines ≡ [] else ArePriceBoundLines d via_cost bounds lines) (sym (not-zero steps some))
-    (record {
-      over = over;
-      length = length;
-      both = both;
-      says = says;
-      hold = hold;
-      least = subst (λ (n : ℕ). AreAtLeast bounds.overflow n over length both) same_length
-          (subst (λ (n : ℕ). AreAtLeast n floor_length over length both) same_over least);
-    })
-  where
-    not-zero : (n : ℕ) → (n ≡ 0 → ⊥) → (n == 0) ≡ false
-    not-zero n none =
-        elim (cases_Bool (n == 0)) [
-          | inl same ↦ absurd (none (eqb-true n 0 same))
-          | inr other ↦ other
-        ]
+lines-said d via_cost bounds steps floor_over floor_length lines over length both some same_over same_length says hold least = record {
+  without = λ none. absurd (some none);
+  by_prices = λ given. record {
+    over = over;
+    length = length;
+    both = both;
+    says = says;
+    hold = hold;
+    least = subst (λ (n : ℕ). AreAtLeast bounds.overflow n over length both) same_length
+        (subst (λ (n : ℕ). AreAtLeast n floor_length over length both) same_over least);
+  };
+}
 
 -- the bounds of what was read, as they were written, are what the command leaves
 pub bounded : (shelf : Reading) (design_name : List ℕ) (via_cost steps : ℕ) (d : DesignView) (out : Device) (end : Result Outcome Stop) →

@@ -1,5 +1,5 @@
 -- The command of grbound: what its file says, and what it writes.
-use Rattle.std.specs.Prelude.{◌≡◌, ℕ, Bool, true, false, nat_eq, ◌==◌, if◌then◌else◌, List, [], ◌∷◌, Option, Some, None, Result, Ok, Err, IsTrue}
+use Rattle.std.specs.Prelude.{◌≡◌, ℕ, Bool, true, false, ◌<◌, nat_eq, List, [], ◌∷◌, Option, Some, None, Result, Ok, Err, IsTrue}
 use Rattle.std.specs.List.{list_any}
 use Rattle.cut_bounds.specs.Bounds.{BoundsView, bounds_text}
 use Rattle.cut_bounds.specs.BoundsOf.{bounds_of}
@@ -32,9 +32,9 @@ pub record ArePriceBoundLines (d : DesignView) (via_cost : ℕ) (bounds : Bounds
   pub least : AreAtLeast bounds.overflow bounds.usable_wirelength over length both
 
 -- what stands behind the figures: without steps nothing
-abbrev pub ArePriceLines : DesignView → (via_cost : ℕ) → BoundsView → (steps : ℕ) → List ℕ → Type 0
-ArePriceLines d via_cost bounds steps lines =
-    if steps == 0 then lines ≡ [] else ArePriceBoundLines d via_cost bounds lines
+pub record ArePriceLines (d : DesignView) (via_cost : ℕ) (bounds : BoundsView) (steps : ℕ) (lines : List ℕ) : Type 0 where
+  pub without : steps ≡ 0 → lines ≡ []
+  pub by_prices : 0 < steps → ArePriceBoundLines d via_cost bounds lines
 
 -- the text of the bounds of a design, which hold
 pub record IsBoundsText (d : DesignView) (via_cost steps : ℕ) (outcome : Outcome) (text : List ℕ) : Type 0 where

@@ -9,5 +9,5 @@ price_bounds-requires-clause-floor c =
 pub returns : goal.returns
 returns c =
     lines-said c.args.design.now c.args.via_cost c.args.bounds.now c.args.steps c.overflow.result c.usable_wirelength.result c.in_ok-lines.lines
-    c.in_ok-prices.prices.overflow c.in_ok-prices.prices.length c.in_ok-prices.prices.both c.if-steps-0.false c.overflow.ensures
+    c.in_ok-prices.prices.overflow c.in_ok-prices.prices.length c.in_ok-prices.prices.both c.if-steps-eq0.false c.overflow.ensures
     c.usable_wirelength.ensures c.in_ok-lines.ensures c.in_ok-prices.ensures.bounds c.in_ok-prices.ensures.least
