@@ -227,9 +227,9 @@ def tiny(rng):
     count = rng.choice([1, 2, 2])
     text.append(f"num net {count}")
     for net in range(count):
-        count = rng.choice([2, 2, 3])
-        pins = [(rng.randrange(columns), rng.randrange(rows), rng.randrange(layers)) for _ in range(count)]
         ends = rng.choice([2, 2, 3])
+        pins = [(rng.randrange(columns), rng.randrange(rows), rng.randrange(layers)) for _ in range(ends)]
+        text.append(f"n{net} {net} {len(pins)} {rng.choice([1, 1, 3])}")
         text += [f"{10 * x + 5} {10 * y + 5} {layer + 1}" for x, y, layer in pins]
     if columns > 1 and rng.random() < 0.5:
         text += ["1", f"0 0 1 1 0 1 {rng.choice([0, 1, 5])}"]
