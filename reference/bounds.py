@@ -3,8 +3,8 @@
 
 For each seed the walls of a random design are counted tile by tile and edge by edge, and the bounds are added up from
 them. On grids of a few edges with two nets at most, all sets of edges for each net are tried besides: none that join
-the nets' pins may have less overflow or wirelength than the bounds, those by prices too. Designs on which something differs are kept under
-the names of their seed.
+the nets' pins may have less overflow or wirelength than the bounds, those by prices too. Designs on which something
+differs are kept under the names of their seed.
 """
 import itertools
 import os
@@ -227,7 +227,8 @@ def tiny(rng):
     count = rng.choice([1, 2, 2])
     text.append(f"num net {count}")
     for net in range(count):
-        pins = [(rng.randrange(columns), rng.randrange(rows), rng.randrange(layers)) for _ in range(rng.choice([2, 2, 3]))]
+        ends = rng.choice([2, 2, 3])
+        pins = [(rng.randrange(columns), rng.randrange(rows), rng.randrange(layers)) for _ in range(ends)]
         text.append(f"n{net} {net} {len(pins)} {rng.choice([1, 1, 3])}")
         text += [f"{10 * x + 5} {10 * y + 5} {layer + 1}" for x, y, layer in pins]
     if columns > 1 and rng.random() < 0.5:

@@ -263,7 +263,8 @@ class Rounds:
         else:
             net, tries = self.trying.pop(entry.number, (None, 0))
             check(net == entry.net, "a claim out of turn")
-            check(entry.kind == "maze" and entry.margin == MARGIN * self.round and entry.slack == SLACKS[tries], "a claim's kind or slack")
+            check(entry.kind == "maze" and entry.margin == MARGIN * self.round, "a claim's kind")
+            check(entry.slack == SLACKS[tries], "a claim's slack")
             check(entry.reply in ("claimed", "full"), "a claim's reply")
             if entry.reply == "full":
                 self.trying[entry.number] = net, tries + 1

@@ -1,7 +1,7 @@
 # shellcheck shell=sh
 # Finds the program `name` of the repository at `here`, and runs it with the words given: ./groute and ./grbound source
-# this. Words that tools/start.sh answers need no program. In this order: a program that was built here from the sources as they stand; the released program, if it is made
-# from them; else it is proved and built first.
+# this. Words that tools/start.sh answers need no program. In this order: a program that was built here from the sources
+# as they stand; the released program, if it is made from them; else it is proved and built first.
 #
 # Which one it was is noted in .seen, with all that it hangs on. The sums are taken again only where a file or folder of
 # these changed since; where nothing can be noted, at each call.
