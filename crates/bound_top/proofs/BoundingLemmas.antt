@@ -1,5 +1,5 @@
 -- The bounds of the design that was read, and the law of the command.
-use Rattle.std.proofs.Common.{◌≡◌, ℕ, Bool, List, [], Option, Some, None, Result, Ok, IsTrue, refl, sym, ap, subst, ◌∙◌, arith}
+use Rattle.std.proofs.Common.{◌≡◌, ℕ, Bool, List, Option, Some, None, Result, Ok, IsTrue, refl, sym, ap, subst, ◌∙◌, arith}
 use Rattle.cut_bounds.specs.Bounds.{BoundsView, bounds_text}
 use Rattle.cut_bounds.specs.BoundsOf.{bounds_of}
 use Rattle.gr_base.specs.Designs.{DesignView}
@@ -38,14 +38,6 @@ pub floor-said : (d : DesignView) (via_cost : ℕ) (bounds : BoundsView) (over l
 floor-said d via_cost bounds over length holds same_over same_length = record {
   overflow = λ sets join. let v = holds.overflow sets join in omega (arith, v, same_over);
   along_usable = λ sets join along. let v = holds.along_usable sets join along in omega (arith, v, same_length);
-}
-
--- no lines of bounds by prices, without steps
-pub none-said : (d : DesignView) (via_cost : ℕ) (bounds : BoundsView) (steps : ℕ) (lines : List ℕ) → steps ≡ 0 → lines ≡ [] →
-    ArePriceLines d via_cost bounds steps lines
-none-said d via_cost bounds steps lines none is = record {
-  without = λ same. is;
-  by_prices = λ some. absurd (omega (arith, none, some));
 }
 
 -- the lines of bounds by prices that were made

@@ -1,5 +1,5 @@
 -- Which statuses come, and that out gained nothing where memory was wanting.
-use Rattle.std.proofs.Common.{◌≡◌, ℕ, ◌⊎◌, inl, inr, nat_eq, [], ◌∷◌, Option, Some, None, Result, Ok, Err, IsTrue, refl, sym, ap, subst, ◌∙◌, arith}
+use Rattle.std.proofs.Common.{◌≡◌, ℕ, inl, inr, nat_eq, [], ◌∷◌, Option, Some, None, Result, Ok, Err, IsTrue, refl, sym, ap, subst, ◌∙◌, arith}
 use Rattle.std.specs.List.{list_any}
 use Rattle.gr_io.specs.Devices.{Device, Reading, IsUntouched}
 use Rattle.gr_io.specs.declared.shelf.Slot.TheVariants.{Design, Library, Solution}

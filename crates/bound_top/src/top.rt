@@ -15,7 +15,7 @@ use word_reader::{Order, Program, read_words};
 
 /// Carries out `DESIGN [--steps K] [--via-cost V]`: reads the design of that name, and writes on out what
 /// no edge sets that join its routed nets can be below, in overflow and in wirelength, and the fullest
-/// walls.
+/// walls. With steps, also what they can't be below by prices, which are moved K times for each figure.
 ///
 /// Status 0: done. 2: the words ask for nothing. 3: the design's text is at fault. 6: a read failed,
 /// or the name is missing. 7: a write failed. 8: out of memory. At 2 to 6 and at 8 a line on err tells
