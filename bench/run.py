@@ -1,7 +1,7 @@
 #!/usr/bin/env python3
 """Times the built programs and writes the tables of bench/RESULTS.md: bench/run.py [--beside PROGRAM] [DESIGN ..]
 
-Each command is run three times, and the least time counts. Beside the files named, designs are made: nets of 2, 3 or
+Each command is run five times, and the median counts. Beside the files named, designs are made: nets of 2, 3 or
 12 pins near one another, on layers that go one way each. They are routed without rounds, and their routes are judged;
 some are routed and buffered with kinds of buffers; crowded ones are routed with rounds, also by several workers, by
 the clock. A library or a solution with a wrong last token is read whole, and nothing is done with it: that tells what
@@ -18,6 +18,7 @@ import argparse
 import datetime
 import os
 import resource
+import statistics
 import subprocess
 import sys
 import tempfile
@@ -49,6 +50,7 @@ WORKED = (400, 400, 8, 500_000)
 LONG_LIBRARY = (300, 300, 6, 100_000)
 BLOCKS = 50_000
 ROUNDS = [0, 3, 10]
+MANY_ROUNDS = 32
 BUFFERED = (300, 300, 6, 100_000)
 WIDE = (300, 300, 6, 1_000)
 KINDS = [4, 32]
@@ -130,9 +132,9 @@ def once(command, status):
 
 
 def timed(*commands, status=0):
-    """For each command the run of least time of three; the commands alternate."""
-    runs = [[once(command, status) for command in commands] for _ in range(3)]
-    return [min(of_one) for of_one in zip(*runs)]
+    """For each command the run of median time of five; the commands alternate."""
+    runs = [[once(command, status) for command in commands] for _ in range(5)]
+    return [sorted(of_one)[2] for of_one in zip(*runs)]
 
 
 class Bench:
@@ -166,7 +168,7 @@ class Bench:
     def timed(self, name, *words, status=0):
         """The row of a run, and what the routers took."""
         times = timed(*([router, *words] for router in self.routers), status=status)
-        return self.row(name, [seconds for seconds, _ in times], f"{times[0][1]:,}"), times
+        return self.row(name, [seconds for seconds, _ in times], *(f"{memory:,}" for _, memory in times)), times
 
     def outputs(self, *words):
         """Standard output and standard error, which are the same of all routers."""
@@ -239,13 +241,14 @@ def long_read(bench):
                                 bench.put("wrong", "none\n"), "0", status=4)
     _, both = bench.timed("", "route", path, bench.put("faulty", text + "none\n"), "0", status=4)
     parts = [max(b - a, 1e-9) for (a, _), (b, _) in zip(before, both)]
-    behind = bench.row(f"reading a library of {len(text.split()):,} tokens behind it", parts, f"{both[0][1]:,}")
+    behind = bench.row(f"reading a library of {len(text.split()):,} tokens behind it", parts,
+                       *(f"{memory:,}" for _, memory in both))
     return [alone, behind]
 
 
 def runs(bench, designs):
     """All runs whose processor time counts."""
-    table = bench.table("run", "KiB")
+    table = bench.table("run", "KiB", *(["plain router, KiB"] if len(bench.routers) > 1 else []))
     texts = [(os.path.basename(path), path) for path in designs]
     for name, path in texts:
         table += [*judged(bench, name, path), *rerouted(bench, name, path, ROUNDS[1:])]
@@ -253,7 +256,7 @@ def runs(bench, designs):
         table += judged(bench, named(*size), bench.put("design", made(*size)))
     table += buffers(bench)
     for size in CROWDED:
-        table += rerouted(bench, crowded(size), bench.put("design", made(*size)), ROUNDS)
+        table += rerouted(bench, crowded(size), bench.put("design", made(*size)), [*ROUNDS, MANY_ROUNDS])
     table += rerouted(bench, named(*LARGE), bench.put("design", made(*LARGE)), [1])
     return table + long_read(bench)
 
@@ -361,12 +364,12 @@ def fill_in_readme(tables):
 
 
 def by_clock(command):
-    """The least seconds of three runs, by the clock."""
+    """The median seconds of five runs, by the clock."""
     def run():
         start = time.monotonic()
         subprocess.run(command, stdout=subprocess.DEVNULL, stderr=subprocess.DEVNULL, check=True)
         return time.monotonic() - start
-    return min(run() for _ in range(3))
+    return statistics.median(run() for _ in range(5))
 
 
 def main():
@@ -378,7 +381,7 @@ def main():
     with tempfile.TemporaryDirectory() as folder:
         bench = Bench([ROUTER, *([given.beside] if given.beside else [])], folder)
         tables = [runs(bench, given.designs), clock(bench), overflows(bench, given.designs), parts()]
-    note = (f"On {machine()}. Seconds of processor time where nothing else is said, least of three runs, with what is "
+    note = (f"On {machine()}. Seconds of processor time where nothing else is said, median of five runs, with what is "
             "written going to a null device. Designs are made, columns by rows by layers. `reading both` reads a "
             "design and its routes and judges nothing.")
     if given.beside:

@@ -3,8 +3,8 @@
 
 For each seed the walls of a random design are counted tile by tile and edge by edge, and the bounds are added up from
 them. On grids of a few edges with two nets at most, all sets of edges for each net are tried besides: none that join
-the nets' pins may have less overflow or wirelength than the bounds. Designs on which something differs are kept under
-the names of their seed.
+the nets' pins may have less overflow or wirelength than the bounds, those by prices too. Designs on which something
+differs are kept under the names of their seed.
 """
 import itertools
 import os
@@ -183,6 +183,32 @@ def beaten(d, figures, via_cost):
     return all(along) and sum(min(length(d, e, via_cost) for e in some) for some in along) < figures[2]
 
 
+def priced(lines):
+    """The numbers of the lines of bounds by prices, which stand behind the first three, and the others."""
+    words = ["overflow by prices at least ", "usable wirelength without overflow at least ",
+             "usable wirelength and overflow at least "]
+    if not all(line.startswith(word) for line, word in zip(lines[3:6], words)):
+        return None, lines
+    return [int(line.split()[-1]) for line in lines[3:6]], lines[:3] + lines[6:]
+
+
+def beaten_by_prices(d, prices, via_cost):
+    """Whether some sets of edges of a tiny design have less than a bound by prices."""
+    over, without, both = prices
+    nets = [d.nets[number] for number in d.routed()]
+    grid = list(wire_edges(d)) + via_edges(d)
+    choices = [list(ways(d, net, grid)) for net in nets]
+    for chosen in itertools.product(*choices):
+        above = overflow(d, nets, chosen)
+        if above < over:
+            return True
+        if all(usable(d, e) for edges in chosen for e in edges):
+            total = sum(length(d, edges, via_cost) for edges in chosen)
+            if total + above < both or (above == 0 and total < without):
+                return True
+    return False
+
+
 def is_tiny(d):
     wide = len(list(wire_edges(d))) + len(via_edges(d))
     return len(d.routed()) <= 2 and wide <= 8
@@ -201,7 +227,8 @@ def tiny(rng):
     count = rng.choice([1, 2, 2])
     text.append(f"num net {count}")
     for net in range(count):
-        pins = [(rng.randrange(columns), rng.randrange(rows), rng.randrange(layers)) for _ in range(rng.choice([2, 2, 3]))]
+        ends = rng.choice([2, 2, 3])
+        pins = [(rng.randrange(columns), rng.randrange(rows), rng.randrange(layers)) for _ in range(ends)]
         text.append(f"n{net} {net} {len(pins)} {rng.choice([1, 1, 3])}")
         text += [f"{10 * x + 5} {10 * y + 5} {layer + 1}" for x, y, layer in pins]
     if columns > 1 and rng.random() < 0.5:
@@ -227,7 +254,26 @@ def tried(program, seed):
     if (done.returncode, done.stdout, done.stderr) != (0, wanted.encode(), b""):
         print("differs:", *words[1:])
         return False
-    os.remove(path)
+    return priced_right(words, d, figures, via_cost, wanted) and not os.remove(path)
+
+
+def priced_right(words, d, figures, via_cost, wanted):
+    """Whether the bounds by prices are at least the others, and no routes of a tiny design are below them."""
+    before = None
+    for steps in ("1", "6"):
+        done = subprocess.run([*words, "--steps", steps], capture_output=True, check=False)
+        prices, others = priced(done.stdout.decode().splitlines())
+        if prices is None or others != wanted.splitlines():
+            print("differs:", *words[1:], "--steps", steps)
+            return False
+        floors = before or [figures[0], figures[2], figures[0] + figures[2]]
+        if any(price < floor for price, floor in zip(prices, floors)):
+            print("prices fall:", *words[1:], "--steps", steps)
+            return False
+        if is_tiny(d) and beaten_by_prices(d, prices, via_cost):
+            print("routes are below the prices:", *words[1:], "--steps", steps)
+            return False
+        before = prices
     return True
 
 

@@ -2,7 +2,8 @@
 """Compares a router with the slow one on random small texts: reference/compare.py [--program PATH] [SEED [COUNT]]
 
 For each seed a design is routed with a library, by a rule and with an end of the rounds or in batches that are drawn
-too, and then its routes are judged and buffered; in some cases a place of one of the texts was changed. Status,
+too, at times from other routes, some of them with stubs, loops, gaps or wires against a layer's way, and then its routes
+are judged and buffered; in some cases a place of one of the texts was changed. Status,
 standard output and standard error are compared byte for byte. Texts on which the two differ are kept in the working
 folder under the names of their seed.
 """
@@ -13,7 +14,8 @@ import subprocess
 import sys
 
 import route
-from design import read_design
+from design import cell, edge, place, read_design
+from solution import solution_text
 
 HERE = os.path.dirname(os.path.abspath(__file__))
 ROUTER = os.path.join(HERE, "..", "crates", "groute", "out", "groute")
@@ -153,9 +155,44 @@ def ends(rng, d, rule):
     # What `still` gives up shows where a round after it would leave less.
     rounds = 8 if stop == "still" else rng.randint(0, 4)
     if stop == "goal":
-        overflows, _ = route.route(d, rounds, rule, None)
-        stop = max(0, rng.choice(overflows) - rng.randint(0, 1))
+        done, _ = route.route(d, rounds, rule, None, {})
+        stop = max(0, rng.choice(done).overflow - rng.randint(0, 1))
     return rounds, stop
+
+
+def beside(rng, d, at):
+    """A cell beside another one, or that one where none is there."""
+    x, y, l = place(d, at)
+    x, y, l = rng.choice([(x + 1, y, l), (x - 1, y, l), (x, y + 1, l), (x, y - 1, l), (x, y, l + 1), (x, y, l - 1)])
+    return cell(d, x, y, l) if 0 <= x < d.X and 0 <= y < d.Y and 0 <= l < d.L else at
+
+
+def damaged(rng, d, net, edges):
+    """A net's edges with a walk from one of their cells, or without one of them."""
+    if edges and rng.random() < 0.4:
+        return edges - {rng.choice(sorted(edges))}
+    at = rng.choice(sorted({c for e in edges for c in e} | {cell(d, *pin) for pin in d.nets[net].pins}))
+    more = set()
+    for _ in range(rng.randint(1, 5)):
+        to = beside(rng, d, at)
+        if to != at:
+            more.add(edge(at, to))
+        at = to
+    return edges | more
+
+
+def given(rng, d):
+    """The text of routes to begin from: those of some round by some rule, of which nets are left out or damaged."""
+    rule, rounds = rng.choice(list(route.FORMULAS)), rng.randint(0, 2)
+    trees = route.route(d, rounds, rule, None, {})[1]
+    share = rng.choice([0, 0.2, 0.5, 1])
+    found = {}
+    for net, edges in trees.items():
+        if rng.random() >= share:
+            found[net] = edges
+        elif rng.random() < 0.7:
+            found[net] = damaged(rng, d, net, edges)
+    return at_times(rng, 0.1, solution_text(d, found), f"{NUMBERS} {POINTS}")
 
 
 def option(rng, name, value):
@@ -217,7 +254,12 @@ def tried(program, seed):
     options = ["--via-cost", str(via_cost)]
     rounds, rule, stop, batch, words = rules(rng, d)
     path = case.put("ispd", text)
-    wanted = route.route_command(text, rc, rounds, via_cost, rule, stop, batch)
+    begun = given(rng, d) if rng.random() < 0.5 else None
+    if begun is not None:
+        words += option(rng, "--from", case.put("from", begun))
+    is_traced = rng.random() < 0.5
+    words += ["--trace"] * is_traced
+    wanted = route.route_command(text, rc, rounds, via_cost, rule, stop, batch, begun, is_traced)
     rc_path = case.put("library", rc)
     case.compare(wanted, "route", path, rc_path, str(rounds), *options, *words)
     twice = rng.random() < 0.05

@@ -3,12 +3,15 @@
 
 Each design (made ones where none is named) is routed by 1, 2, 4, 8 and 16 workers, each N times (20 where nothing is
 said), by each rule and with each end of the rounds in turn: none, `still`, and as enough the overflow at the middle
-mark of the run before. The program round_histories tells the history of its book. Each history is gone through entry
+mark of the run before; every other run begins from the routes of the run before, of which some are left out or damaged.
+The program router_rows tells the history of its book. Each history is gone through entry
 by entry with a book and plans that were written apart from the proved code:
 
 - each reply is what a book of one caller answers at that point;
 - marks are those of caller 0, claims and releases those of the workers;
-- in round 0 each routed net is claimed once, for a pattern plan at any demand; in each later round each net on an
+- round 0 begins with a claim by worker 1 of each net that is kept, in the design's order, at any demand, for the part
+  of the given tree that joins its pins, with its front at its own place; then each other routed net is claimed once,
+  for a pattern plan at any demand, over all of these; in each later round each net on an
   edge over its capacity is released once and then claimed by the same worker, until it is booked, for plans of that
   round's margin, twice with room within capacity and then at any demand, and no other net is;
 - each claim's tree is the plan over the demand and the marks of the first `front` entries, among which are all of
@@ -32,15 +35,16 @@ import tempfile
 
 import compare
 from design import cell, edge, place, read_design, way
-from route import FORMULAS, Book, cut, maze_plan, pattern_plan, stops
-from solution import solution_text
+from route import FORMULAS, Book, cut, kept_routes, maze_plan, pattern_plan, stops
+from solution import read_solution, solution_text
 from workers import ROUTER, WORKERS, library, run
 
 HERE = os.path.dirname(os.path.abspath(__file__))
-PROGRAM = os.path.join(HERE, "..", "crates", "round_histories", "out", "round_histories")
+PROGRAM = os.path.join(HERE, "..", "crates", "router_rows", "out", "router_rows")
 # The words of made designs, and the rounds of each: the first has room, the second is crowded.
 MADE = (("7 24 24 6 1200", 3), ("11 12 12 4 700", 4))
 MARGIN = 4
+LOST = 0.2      # the share of nets of given routes that are left out or damaged
 SLACKS = (0, 0, None)
 ENDS = (None, "still", "goal")
 TIMEOUT = 600
@@ -57,16 +61,25 @@ def check(holds, what):
 
 class Asked:
     """How a design is to be routed: what ends the rounds is None, `still` or an overflow that is enough, and batches
-    have so many nets, or None."""
+    have so many nets, or None. `given` is the path of the routes to begin from, or None."""
 
-    def __init__(self, rounds, workers, rule, stop, batch):
+    def __init__(self, rounds, workers, rule, stop, batch, given=None):
         self.rounds, self.workers, self.rule, self.stop, self.batch = rounds, workers, rule, stop, batch
+        self.given = given
 
     def words(self):
         rule = [] if self.rule == "first" else ["--rule", self.rule]
         stop = [] if self.stop is None else ["--stop", str(self.stop)]
         batch = [] if self.batch is None else ["--batch", str(self.batch)]
-        return [str(self.rounds), "--workers", str(self.workers), *rule, *stop, *batch]
+        given = [] if self.given is None else ["--from=given"]
+        return [str(self.rounds), "--workers", str(self.workers), *rule, *stop, *batch, *given]
+
+    def kept(self, d):
+        """By net the part that is kept of the given routes."""
+        if self.given is None:
+            return {}
+        with open(self.given, "rb") as file:
+            return kept_routes(d, read_solution(file.read(), d))
 
 
 class Entry:
@@ -91,8 +104,8 @@ class Entry:
     def read_claim(self, d, words):
         check(next(words) == "front", "form")
         self.front = int(next(words))
-        kind = next(words)
-        self.margin = None if kind == "pattern" else int(next(words))
+        self.kind = next(words)
+        self.margin = int(next(words)) if self.kind == "maze" else None
         self.slack = None if next(words) == "any" else int(next(words))
         check(next(words) == "tree", "form")
         cells = [int(word) for word in words]
@@ -190,14 +203,18 @@ class Rounds:
     def __init__(self, d, asked, share):
         self.d, self.asked, self.share = d, asked, share
         self.replay = Replay(d, asked.rule)
-        self.round, self.due, self.trying, self.own = 0, set(d.routed()), {}, {}
+        self.kept = asked.kept(d)
+        self.waiting = sorted(self.kept)        # kept nets that aren't claimed yet
+        self.round, self.due, self.trying, self.own = 0, set(d.routed()) - set(self.kept), {}, {}
         self.overflows, self.lengths = [], []
         self.met, self.over, self.stopped = 0, False, False
 
     def go(self, at, entry):
         check(not self.over, "an entry behind the end")
         check(reply_of(self.d, self.replay.book, entry) == (entry.reply, entry.told), "a reply")
-        if entry.call == "mark":
+        if self.waiting:
+            self.keep(at, entry)
+        elif entry.call == "mark":
             self.mark(entry)
         else:
             check(1 <= entry.number <= self.asked.workers, "the number of a worker")
@@ -206,6 +223,14 @@ class Rounds:
         if entry.call == "mark":
             self.begin_round()
         self.own[entry.number] = at + 1
+
+    def keep(self, at, entry):
+        net = self.waiting.pop(0)
+        check(entry.call == "claim" and (entry.number, entry.net) == (1, net), "a kept net out of turn")
+        check(entry.kind == "given" and entry.slack is None and entry.reply == "claimed", "a claim of a kept net")
+        check(entry.front == at, "the front of a kept net")
+        check_tree(self.d, entry)
+        check(entry.edges == self.kept[net], "the tree of a kept net")
 
     def mark(self, entry):
         check(entry.number == 0, "the number of a mark")
@@ -233,11 +258,13 @@ class Rounds:
         if self.round == 0:
             check(entry.net in self.due, "a net that isn't due")
             self.due.remove(entry.net)
-            check(entry.margin is None and entry.slack is None and entry.reply == "claimed", "a first claim")
+            check(entry.kind == "pattern" and entry.slack is None and entry.reply == "claimed", "a first claim")
+            check(entry.front >= len(self.kept), "a first claim that doesn't see all kept nets")
         else:
             net, tries = self.trying.pop(entry.number, (None, 0))
             check(net == entry.net, "a claim out of turn")
-            check(entry.margin == MARGIN * self.round and entry.slack == SLACKS[tries], "a claim's kind or slack")
+            check(entry.kind == "maze" and entry.margin == MARGIN * self.round, "a claim's kind")
+            check(entry.slack == SLACKS[tries], "a claim's slack")
             check(entry.reply in ("claimed", "full"), "a claim's reply")
             if entry.reply == "full":
                 self.trying[entry.number] = net, tries + 1
@@ -257,6 +284,7 @@ class Rounds:
         while len(self.replay.done) > chosen:
             self.replay.back()
         check(solution_text(self.d, self.replay.book.booked) == routes, "the routes")
+        self.routes = dict(self.replay.book.booked)
 
 
 class Batches(Rounds):
@@ -301,16 +329,30 @@ class Batches(Rounds):
 
     def claim(self, at, entry):
         call = "claim", entry.net, entry.margin, entry.slack, entry.front
+        check(entry.kind == ("maze" if self.round else "pattern"), "a claim's kind")
         check(entry.number == 1 and self.next_call() == call, "a claim out of turn")
         self.reply = entry.reply
         self.plan(at, entry)
 
 
+# The most bytes that a run may write.
+ROOM = 1 << 30
+
+
+def held(name, path):
+    """Lines that give the program the text of a file under a name."""
+    with open(path, "rb") as file:
+        return b"text %s\n" % name.encode() + b"".join(b"| " + line + b"\n" for line in file.read().splitlines())
+
+
 def told(program, design, paths, asked):
     """The routes, the history's lines and the length of the chosen part of a run."""
-    line = " ".join(["run route", design, paths, *asked.words()]) + "\n"
-    done = subprocess.run([program], input=line.encode(), capture_output=True, check=True, timeout=TIMEOUT)
-    lines = done.stdout.split(b"\n")
+    line = " ".join(["entries route design library", *asked.words()])
+    given = b"" if asked.given is None else held("given", asked.given)
+    texts = held("design", design) + held("library", paths) + given
+    asked_for = texts + f"set room {ROOM}\n{line}\n".encode()
+    done = subprocess.run([program], input=asked_for, capture_output=True, check=True, timeout=TIMEOUT)
+    lines = done.stdout.split(b"\n")[1:]
     check(lines[-1] == b"" and lines[-2].startswith(b"chosen "), "a run has no history")
     first = max(at for at, text in enumerate(lines) if text.startswith(b"status "))
     check(lines[first] == b"status 0", "status")
@@ -353,13 +395,27 @@ def random_designs(folder, count):
         yield *put(folder, f"random_{seed}", compare.design(random.Random(seed))), "4"
 
 
-def tried(program, design, paths, rounds, times, share, orders, batch):
+def less(design, routes, folder):
+    """The path of these routes, of which some are left out or damaged."""
+    rng = random.Random(len(routes))
+    with open(design, "rb") as file:
+        d = read_design(file.read())
+    found = {net: edges if rng.random() >= LOST else compare.damaged(rng, d, net, edges)
+             for net, edges in routes.items() if rng.random() >= LOST}
+    path = os.path.join(folder, "given")
+    with open(path, "wb") as file:
+        file.write(solution_text(d, found))
+    return path
+
+
+def tried(program, design, paths, rounds, times, share, orders, batch, folder):
     """Replays runs by each number of workers; the count of those that break a rule."""
-    faults, enough = 0, 0
+    faults, enough, routes = 0, 0, None
     for workers in WORKERS:
         entries, met, stopped, overflows = 0, 0, 0, []
         for rule, end in itertools.islice(orders, times):
-            asked = Asked(int(rounds), workers, rule, enough if end == "goal" else end, batch)
+            given = less(design, routes, folder) if routes is not None else None
+            asked = Asked(int(rounds), workers, rule, enough if end == "goal" else end, batch, given)
             try:
                 replay = replayed(program, design, paths, asked, share)
             except Wrong as wrong:
@@ -369,6 +425,7 @@ def tried(program, design, paths, rounds, times, share, orders, batch):
             entries, met, stopped = entries + replay.lengths[-1], met + replay.met, stopped + replay.stopped
             overflows.append(min(replay.overflows))
             enough = replay.overflows[len(replay.overflows) // 2]
+            routes = replay.routes if routes is None else None
         if overflows:
             print(f"{os.path.basename(design)}, {rounds} rounds, {workers} workers: {len(overflows)} runs, "
                   f"{stopped} stopped, {entries} entries, {met} claims behind others' entries, "
@@ -393,9 +450,9 @@ def main():
     with tempfile.TemporaryDirectory() as folder:
         named = [tuple(words.names[at : at + 3]) for at in range(0, len(words.names), 3)]
         for design, paths, rounds in named or made(words.router, folder):
-            faults += tried(words.program, design, paths, rounds, words.times, words.share, orders, words.batch)
+            faults += tried(words.program, design, paths, rounds, words.times, words.share, orders, words.batch, folder)
         for design, paths, rounds in () if named else random_designs(folder, words.random):
-            faults += tried(words.program, design, paths, rounds, 1, 1, orders, words.batch)
+            faults += tried(words.program, design, paths, rounds, 1, 1, orders, words.batch, folder)
     print(f"{faults} faults")
     return 1 if faults else 0
 

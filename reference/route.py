@@ -2,6 +2,7 @@
 """A slow router for small designs, to compare the proved one with:
 
     reference/route.py route DESIGN LIBRARY ROUNDS [--via-cost V] [--rule first|steep|flat|near] [--stop still|N | --batch B]
+                             [--from SOLUTION] [--trace]
     reference/route.py evaluate DESIGN SOLUTION [--via-cost V]
     reference/route.py buffer DESIGN LIBRARY SOLUTION
 
@@ -12,9 +13,10 @@ are sums along paths. It writes and ends as the proved router does, which has mo
 import argparse
 import heapq
 import sys
-from itertools import product
+from collections import namedtuple
+from itertools import product, repeat
 
-from buffers import buffers_text, first_without_tree
+from buffers import buffers_text, first_without_tree, is_tree
 from design import capacity, cell, edge, need, place, read_design, usable, way
 from library import read_library
 from solution import read_solution, report_text, solution_text, unjoined_text
@@ -22,6 +24,8 @@ from text import Fault
 
 VIA = 3
 TOP = 1048576
+# What a round did: the overflow at its mark, and how many claims were booked and how many found no room.
+Round = namedtuple("Round", "overflow nets full")
 
 
 # Costs, watches and the book.
@@ -421,6 +425,41 @@ def maze_plan(book, net, margin):
     return edges
 
 
+# Given routes.
+
+def way_between(edges, root, cells):
+    """Of a tree's edges those on the way from a cell to some others."""
+    near = {}
+    for a, b in edges:
+        near.setdefault(a, []).append(b)
+        near.setdefault(b, []).append(a)
+    above, todo = {root: None}, [root]
+    for v in todo:
+        for u in near.get(v, ()):
+            if u not in above:
+                above[u] = v
+                todo.append(u)
+    found = set()
+    for v in cells:
+        while above[v] is not None:
+            found.add(edge(v, above[v]))
+            v = above[v]
+    return found
+
+
+def kept_routes(d, trees):
+    """Of a solution's edges by net, the part that is kept of each net that can be."""
+    kept = {}
+    for n in d.routed():
+        pins = d.nets[n].pins
+        if is_tree(d, pins, trees[n]):
+            driver, *sinks = [cell(d, *pin) for pin in pins]
+            given = way_between(trees[n], driver, sinks)
+            if all(way(d, e) == "Up" or usable(d, e) for e in given):
+                kept[n] = given
+    return kept
+
+
 # The rounds.
 
 def freedom(d, net):
@@ -430,67 +469,102 @@ def freedom(d, net):
     return max(columns) - min(columns) + max(rows) - min(rows) - 2 * len(tiles)
 
 
-def route(d, rounds, rule, stop):
-    """The overflow at each mark, and the edges of each routed net at the first mark of the least."""
+def begun(d, rule, given):
+    """A book with the nets that are kept, and the nets that are open, in design order."""
     book = Book(d, rule)
+    for n in sorted(given):
+        book.claim(n, given[n], None)
+    return book, [n for n in d.routed() if n not in given]
+
+
+def claimed(book, n, trees):
+    """Claims a net's plan until it is booked, twice with room within capacity; how often it finds none."""
+    for full, slack in enumerate((0, 0, None)):
+        if book.claim(n, next(trees), slack):
+            return full
+
+
+def route(d, rounds, rule, stop, given):
+    """What each round did, and the edges of each routed net at the first mark of least overflow."""
+    book, left = begun(d, rule, given)
     free = {n: freedom(d, n) for n in d.routed()}
-    for n in sorted(free, key=lambda n: (free[n], n)):
+    for n in sorted(left, key=lambda n: (free[n], n)):
         book.claim(n, pattern_plan(book, n), None)
     overflows = [book.mark()]
+    done = [Round(overflows[0], len(free), 0)]
     best = dict(book.booked)
     while len(overflows) <= rounds and not stops(stop, overflows):
         due = book.victims()
         if not due:
             break
-        margin = 4 * len(overflows)
+        margin, full = 4 * len(overflows), 0
         for n in sorted(due, key=lambda n: (-free[n], n)):
             book.release(n)
             # A refused claim changes neither demand nor marks, so the second plan is the first plan again,
             # and the third too: the tree is planned once.
-            tree = maze_plan(book, n, margin)
-            book.claim(n, tree, 0) or book.claim(n, tree, 0) or book.claim(n, tree, None)
+            full += claimed(book, n, repeat(maze_plan(book, n, margin)))
         overflows.append(book.mark())
+        done.append(Round(overflows[-1], len(due), full))
         if overflows[-1] < min(overflows[:-1]):
             best = dict(book.booked)
-    return overflows, best
+    return done, best
 
 
 def cut(nets, batch):
     return [nets[i:i + batch] for i in range(0, len(nets), batch)]
 
 
-def route_batches(d, rounds, rule, batch):
-    """The edges at that mark, where the nets of a batch are planned over one state and then claimed in design order."""
-    book = Book(d, rule)
-    for nets in cut(list(d.routed()), batch):
+def again_and_again(book, n, tree, margin):
+    """The plans of a net in a batch: this one, then two times that over what is booked when it is asked for."""
+    yield tree
+    tree = maze_plan(book, n, margin)
+    yield tree
+    yield tree
+
+
+def route_batches(d, rounds, rule, batch, given):
+    """The same, where the nets of a batch are planned over one state and then claimed in design order."""
+    book, left = begun(d, rule, given)
+    for nets in cut(left, batch):
         plans = [pattern_plan(book, n) for n in nets]
         for n, tree in zip(nets, plans):
             book.claim(n, tree, None)
     best = (book.mark(), dict(book.booked))
+    done = [Round(best[0], len(book.booked), 0)]
     for r in range(1, rounds + 1):
-        due = book.victims()
+        due, full = book.victims(), 0
         if not due:
             break
         for nets in cut(due, batch):
             for n in nets:
                 book.release(n)
             plans = [maze_plan(book, n, 4 * r) for n in nets]
-            for n, tree in zip(nets, plans):
-                if not book.claim(n, tree, 0):
-                    tree = maze_plan(book, n, 4 * r)
-                    book.claim(n, tree, 0) or book.claim(n, tree, None)
+            full += sum(claimed(book, n, again_and_again(book, n, tree, 4 * r)) for n, tree in zip(nets, plans))
         total = book.mark()
+        done.append(Round(total, len(due), full))
         if total < best[0]:
             best = (total, dict(book.booked))
-    return best[1]
+    return done, best[1]
 
 
 # The commands: status, standard output and standard error.
 
-def routed(d, library, rounds, via_cost, rule, stop, batch):
-    trees = route(d, rounds, rule, stop)[1] if batch is None else route_batches(d, rounds, rule, batch)
-    report = report_text(d, trees, via_cost) + buffers_text(d, library, trees)
-    return 0, solution_text(d, trees), report
+def trace_text(done):
+    lines = [b"rounds %d" % (len(done) - 1)]
+    lines += [b"round %d overflow %d nets %d full %d" % (at, *some) for at, some in enumerate(done)]
+    return b"".join(line + b"\n" for line in lines)
+
+
+def routed(d, library, solution, rounds, via_cost, rule, stop, batch, is_traced):
+    given = {} if solution is None else kept_routes(d, solution)
+    done, trees = (route(d, rounds, rule, stop, given) if batch is None
+                   else route_batches(d, rounds, rule, batch, given))
+    report = report_text(d, trees, via_cost)
+    if solution is not None:
+        report += b"kept %d\n" % len(given)
+    if is_traced:
+        report += trace_text(done)
+    return 0, solution_text(d, trees), report + buffers_text(d, library, trees)
 
 
 def judged(d, trees, via_cost):
@@ -522,10 +596,13 @@ def read(files):
     return said, None
 
 
-def route_command(design, library, rounds, via_cost, rule="first", stop=None, batch=None):
-    """Of texts' bytes."""
-    said, fault = read([(3, b"design", read_design, design), (4, b"library", read_library, library)])
-    return fault or routed(*said, rounds, via_cost, rule, stop, batch)
+def route_command(design, library, rounds, via_cost, rule="first", stop=None, batch=None, given=None, is_traced=False):
+    """Of texts' bytes; `given` is those of the solution from which routes begin, if there is one."""
+    files = [(3, b"design", read_design, design), (4, b"library", read_library, library)]
+    if given is not None:
+        files.append((5, b"solution", read_solution, given))
+    said, fault = read(files)
+    return fault or routed(*[*said, None][:3], rounds, via_cost, rule, stop, batch, is_traced)
 
 
 def evaluate_command(design, solution, via_cost):
@@ -561,6 +638,8 @@ def arguments():
             ends = words.add_mutually_exclusive_group()
             ends.add_argument("--stop", metavar="still|N", type=stop_of)
             ends.add_argument("--batch", metavar="B", type=int)
+            words.add_argument("--from", metavar="SOLUTION", dest="given", type=argparse.FileType("rb"))
+            words.add_argument("--trace", action="store_true")
         if command != "buffer":
             words.add_argument("--via-cost", type=int, default=1)
     return parser.parse_args()
@@ -570,8 +649,9 @@ def main():
     words = arguments()
     texts = [getattr(words, name).read() for name in FILES[words.command]]
     if words.command == "route":
-        status, out, err = route_command(*texts, words.rounds, words.via_cost, words.rule, words.stop,
-                                         words.batch)
+        given = words.given.read() if words.given else None
+        status, out, err = route_command(*texts, words.rounds, words.via_cost, words.rule, words.stop, words.batch,
+                                         given, words.trace)
     elif words.command == "evaluate":
         status, out, err = evaluate_command(*texts, words.via_cost)
     else:

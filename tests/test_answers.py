@@ -150,7 +150,7 @@ class Hotspots(InFolder):
                        for id_, segments in records(design, solution)}
             mine = loads.Loads(edges_numpy.Edges(design, solution))
             with self.subTest(seed=seed):
-                left = {edge for edge in over if edges.capacity_of(*edge)}
+                left = {edge for edge in over if edges_plain.capacity_of(design, *edge)}
                 for region in mine.regions(10):
                     regions += 1
                     inside = {edge for edge in over if is_in(region, design.place(*edge))}
@@ -364,7 +364,8 @@ class Pictures(InFolder):
                 for column in range(design.columns - (way == 0)):
                     for row in range(design.rows - (way == 1)):
                         number = design.number(way, column, row, layers)
-                        capacity, demand = edges.capacity_of(way, number), used.get((way, number), 0)
+                        capacity = edges_plain.capacity_of(design, way, number)
+                        demand = used.get((way, number), 0)
                         excess = max(0, demand - capacity)
                         found = (demand / capacity, excess, 0) if capacity else (-1.0, 0, excess)
                         for tile in ((row, column), (row + (way == 1), column + (way == 0))):

@@ -1,4 +1,5 @@
 """Tests of the samples in the documents, and of what stands in two places."""
+import doctest
 import glob
 import os
 import re
@@ -9,9 +10,10 @@ import sys
 import tempfile
 import unittest
 from typing import Iterator
+from unittest import mock
 
 from dev import definitions, man_page, theorem
-from groute import options
+from groute import calls, options
 from testing import PICTURES, ROOT, bounds, program, text_of
 
 DOCUMENTS = ["README.md", *(f"docs/{name}" for name in sorted(os.listdir(f"{ROOT}/docs")) if name.endswith(".md"))]
@@ -139,3 +141,20 @@ class Manual(unittest.TestCase):
         self.assertEqual(len(words), 6)
         for line in words:
             self.assertIn(f"{line}\n", manual)
+
+
+class Python(unittest.TestCase):
+    """README's lines of Python do what they show."""
+
+    def test_lines(self) -> None:
+        lines = [line[4:] for line in text_of("README.md").splitlines() if line.startswith("    ")]
+        first = next(at for at, line in enumerate(lines) if line.startswith(">>> import groute"))
+        last = max(at for at, line in enumerate(lines) if line.startswith(">>> "))
+        text = "".join(f"{line}\n" for line in lines[first:last + 2])
+        sample = doctest.DocTestParser().get_doctest(text, {}, "README", None, None)
+        self.assertEqual(len(sample.examples), 3)
+        folder = os.getcwd()
+        self.addCleanup(os.chdir, folder)
+        os.chdir(ROOT)
+        with mock.patch.object(calls, "found", lambda name: program()):
+            self.assertEqual(doctest.DocTestRunner().run(sample).failed, 0)

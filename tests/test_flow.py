@@ -76,13 +76,34 @@ class Flow(InFolder):
         groute = self.script("noting", f'[ $# -gt 0 ] && echo "$*" >> {noted}\nexec {shlex.quote(program())} "$@"')
         self.script("grbound", f"[ $# -gt 0 ] || exit 2\ncat <<E\n{BOUNDS}E")
         given = ("--layers", "met1-met5", "--program", groute)
-        for words, wanted in ((("--rule", "flat", "--stop", "3"), "16 --workers 1 --rule flat --stop 3"),
-                              (("--rounds", "3", "--batch", "7"), "3 --workers 1 --rule near --batch 7"),
-                              ((), "16 --workers 1 --rule near")):
+        for words, wanted in ((("--rule", "flat", "--stop", "3"), "16 --workers 1 --rule flat --stop 3 --trace"),
+                              (("--rounds", "3", "--batch", "7"), "3 --workers 1 --rule near --batch 7 --trace"),
+                              ((), "16 --workers 1 --rule near --trace")):
             status, _, err, _ = self.made(SKY[0], *given, *words)
             with open(noted, encoding="utf-8") as file:
                 line = file.readlines()[-1].split(" ", 3)
             self.assertEqual((status, line[0], line[3]), (0, "route", f"{wanted}\n"), err)
+
+    def test_from(self) -> None:
+        """What an earlier run routed is kept, by the names of nets; of the same placement, all of it."""
+        words = ("--layers", "met1-met5", "--rounds", "1")
+        self.assertEqual(self.made(SKY[0], *words)[0], 0)
+        first = os.path.join(self.folder.name, "out")
+        earlier = os.path.join(self.folder.name, "earlier")
+        os.rename(first, earlier)
+        status, out, err, folder = self.made(SKY[0], *words, "--from", earlier)
+        self.assertEqual(status, 0, err)
+        self.assertIn("; 44 nets kept", out)
+        for name in ("routes.solution", "given.solution"):
+            with open(f"{earlier}/routes.solution", "rb") as before, open(f"{folder}/{name}", "rb") as after:
+                self.assertEqual(before.read(), after.read())
+        with open(f"{folder}/report.txt", encoding="utf-8") as file:
+            self.assertEqual([line.split()[0] for line in file][5:8], ["kept", "rounds", "round"])
+        os.rename(folder, f"{folder}.second")
+        self.assertEqual(self.made(SKY[0], *words, "--from", "/none")[0], 3)
+        status, _, err, _ = self.made(SKY[0], "--layers", "met2-met5", "--rounds", "1", "--from", earlier)
+        self.assertEqual((status, "its grid is another one" in err), (3, True), err)
+        self.assertEqual(self.made(SKY[0], *words, "--from", folder)[0], 3)      # it would be written over
 
     def test_programs_first(self) -> None:
         """Both programs are called once before the first step: what a build says is told and not in the report, and one

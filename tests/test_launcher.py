@@ -12,7 +12,8 @@ import tempfile
 import unittest
 
 ROOT = os.path.dirname(os.path.dirname(os.path.abspath(__file__)))
-SCRIPTS = ("groute", "grbound", "tools/launch.sh", "tools/programs.sh", "tools/release.sh", "tools/build.py")
+SCRIPTS = ("groute", "grbound", "tools/launch.sh", "tools/start.sh", "tools/answers.sh",
+           "tools/programs.sh", "tools/release.sh", "tools/build.py")
 PROGRAMS = ("groute", "grbound")
 PLAIN = "/usr/bin:/bin"     # a PATH without the toolchain
 PROGRAM = '#!/bin/sh\n[ $# -gt 0 ] || exit 2\necho "$0: {says}" "$@"\n'
@@ -218,15 +219,33 @@ class Launcher(Small):
             self.assertTrue(done.stdout.endswith(b"released a\n"), (words, done))
 
     def test_on_a_terminal(self) -> None:
-        """What is wrong with groute's words is told by another script; the rest is the program's."""
+        """What is wrong is told by another script; the rest is the program's."""
         self.put("tools/in_words.py", "import sys\nprint('in words', *sys.argv[2:])\n")
-        for name, shown in (("groute", "in words a\n"), ("grbound", "released a\n")):
+        for name in PROGRAMS:
             mine, theirs = pty.openpty()
             done = subprocess.run([self.path(name), "a"], stderr=theirs, stdout=subprocess.PIPE, check=False,
                                   env={"PATH": PLAIN})
             os.close(theirs)
             os.close(mine)
-            self.assertTrue(done.stdout.decode().endswith(shown), done)
+            self.assertTrue(done.stdout.decode().endswith("in words a\n"), done)
+
+    def test_answers(self) -> None:
+        """What the launcher answers it answers without a program and without python, and other words are the
+        program's."""
+        for name in PROGRAMS:
+            self.assertEqual(self.told(name, "--version"), (0, f"{name} {text_of(f'{ROOT}/VERSION')}", ""))
+            self.assertIn(f"{name} ", self.told(name, "--help")[1])
+        status, out, err = self.told("groute", "route", "--help")
+        self.assertEqual((status, out.splitlines()[0][:20], err), (0, "groute route DESIGN ", ""))
+        self.assertFalse(os.path.exists(self.path(".seen")))
+        with open("/dev/full", "wb") as full:
+            self.assertEqual(subprocess.run([self.path("groute"), "--help"], stdout=full, stderr=subprocess.DEVNULL,
+                                            check=False).returncode, 7)
+        for words in (["route --help"], ["--help", "route"], ["route", "--version"], ["--help", ""], ["", "--help"],
+                      ["route", "a", "--help"], ["--", "--help"], ["rout", "--help"], ["*", "--help"]):
+            status, out, err = self.told("groute", *words)
+            self.assertEqual((status, out.partition(": ")[2], err), (0, f"released {' '.join(words)}\n", ""))
+        self.assertEqual(self.told("grbound", "route", "--help")[1].partition(": ")[2], "released route --help\n")
 
     def test_a_build(self) -> None:
         self.put("crates/low/src/lib.rt", "// lou\n")

@@ -9,7 +9,7 @@ import unittest
 from typing import Iterator
 
 from groute import options
-from groute.commands import where
+from groute.texts import places
 from testing import ROOT, TOOLS, InFolder, run
 
 PACKAGE = os.path.join(TOOLS, "groute")
@@ -82,7 +82,7 @@ class Pythons(InFolder):
         os.symlink(PACKAGE, package)
         called = f"import sys; sys.path.insert(0, {self.folder.name!r}); from groute.texts.names import Names; print(1)"
         self.assertEqual(run(sys.executable, "-c", called), (0, "1\n", ""))
-        self.assertEqual(where.line_and_column(b"a\nb", 2), (2, 1))
+        self.assertEqual(places.line_and_column(b"a\nb", 2), (2, 1))
 
     def called(self, name: str, before: str, *words: str, **env: str) -> tuple[int, str, str]:
         """What a script does in a python that is made to be another one by some lines."""

@@ -14,6 +14,7 @@ import testing
 from typing import Any
 from groute.commands import report
 from groute.loads import edges_plain
+from groute.texts import reports
 from groute.texts.designs import Netlist
 from groute.texts.files import Fault
 from groute.texts.solutions import records
@@ -104,6 +105,31 @@ class Report(InFolder):
         self.assertEqual((head["least"], head["walls"]), (None, []))
         status, _, err = tool("report.py", *words, "--bound", words[0], "-o", self.put("page", ""))
         self.assertEqual((status, err), (3, f"report: {words[0]}: it isn't what grbound writes\n"))
+
+    def test_rounds(self) -> None:
+        """What each round did is read from the report, or from those of earlier rounds; the first of the least overflow
+        is the one that is written."""
+        words = f"{ROOT}/examples/crowd.ispd", f"{ROOT}/examples/crowd.library"
+        _, solution, traced = run(testing.program(), "route", *words, "2", "--trace")
+        given = words[0], self.put("solution", solution), words[1], self.put("report", traced)
+        head, _ = self.data(self.page(*given)[1])
+        self.assertEqual((head["rounds"], head["written"]), (
+            [{"overflow": 4, "nets": 2, "full": 0}, {"overflow": 0, "nets": 2, "full": 0}], 1))
+        _, _, before = run(testing.program(), "route", *words, "0")
+        _, _, plain = run(testing.program(), "route", *words, "2")
+        given = *given[:3], self.put("report", plain)
+        head, _ = self.data(self.page(*given, "--before", self.put("before", before))[1])
+        self.assertEqual((head["rounds"], head["written"]), (
+            [{"overflow": 4, "nets": None, "full": None}, {"overflow": 0, "nets": None, "full": None}], 1))
+        head, _ = self.data(self.page(*given)[1])
+        self.assertEqual((head["rounds"], head["written"]), ([], None))
+        lines = (*traced.splitlines()[:5], "rounds 2", "round 0 overflow 7 nets 9 full 0",
+                 "round 1 overflow 3 nets 5 full 2", "round 2 overflow 3 nets 4 full 1")
+        found = reports.rounds_of(self.put("trial", "".join(f"{line}\n" for line in lines)))
+        self.assertEqual(found, [reports.Round(7, 9, 0), reports.Round(3, 5, 2), reports.Round(3, 4, 1)])
+        self.assertEqual(reports.written(found), 1)
+        with self.assertRaisesRegex(Fault, "round 1 is due"):
+            reports.rounds_of(self.put("odd", "routed 1\nround 0 overflow 7 nets 9 full 0\nround 2"))
 
     def test_most_nets(self) -> None:
         """Of a larger design, and where the page is too large, the nets of regions and the slowest alone are there."""

@@ -12,10 +12,15 @@ def formats() -> str:
         return file.read()
 
 
-def manual() -> str:
-    """The text of the man page, without fonts and escapes."""
-    with open(f"{ROOT}/man/groute.1", encoding="utf-8") as file:
+def manual(program: str = "groute") -> str:
+    """The text of a man page, without fonts and escapes."""
+    with open(f"{ROOT}/man/{program}.1", encoding="utf-8") as file:
         return re.sub(r"\\f[BIR]", "", file.read()).replace("\\-", "-")
+
+
+def parts_of(page: str) -> list[str]:
+    """The paragraphs of a man page."""
+    return re.split(r"^\.(?:TP|PP|SH|SS).*\n", page, flags=re.MULTILINE)
 
 
 class Words(unittest.TestCase):
@@ -57,11 +62,13 @@ class Words(unittest.TestCase):
         for line, (word, count, options) in zip(lines, self.commands):
             with self.subTest(command=word):
                 self.assertEqual(len(line[1].split()), count)
-                given = re.findall(r"\[(--[a-z-]+) ([^\]]+)\]", line[2])
+                given = re.findall(r"\[(--[a-z-]+)(?: ([^\]]+))?\]", line[2])
                 self.assertEqual([option for option, _ in given], [self.options[name][0] for name in options])
                 for (_, value), name in zip(given, options):
-                    words, numbers = self.values(self.options[name][1])
-                    self.assertRegex(value, "^" + "[|]".join([*words, *(["[A-Z]+"] if numbers else [])]) + "$")
+                    takes = self.options[name][1]
+                    words, numbers = self.values(takes)
+                    open_ended = ["[A-Z]+"] if numbers or takes == "Takes::Name" else []
+                    self.assertRegex(value, "^" + "[|]".join([*words, *open_ended]) + "$")
                 self.assertIn(f"groute {''.join(line)}\n", manual())
 
     def patterns(self, word: str, takes: str, default: str) -> Any:
@@ -75,11 +82,13 @@ class Words(unittest.TestCase):
             yield rf"(?:else|default:?|default is) `?{default}\b|\| *`?{default}`? *\|"
 
     def test_options(self) -> None:
-        for document, places in (
-                ("docs/FORMATS.md", re.split(r"\n\s*\n|\n(?=\|)", formats())),    # paragraphs, and rows of tables
-                ("man/groute.1", re.split(r"^\.(?:TP|PP|SH|SS).*\n", manual(), flags=re.MULTILINE))):
+        pages = [(f"man/{program}.1", parts_of(manual(program)), program) for program in ("groute", "grbound")]
+        paragraphs = re.split(r"\n\s*\n|\n(?=\|)", formats())     # and rows of tables
+        for document, places, program in [("docs/FORMATS.md", paragraphs, ""), *pages]:
             places = [re.sub(r"(?<=[0-9]),(?=[0-9])", "", place) for place in places]
-            for option in self.options.values():
+            own = {name for word, _, options in self.rows for name in options
+                   if program in ("", "groute" if word else "grbound")}
+            for option in (self.options[name] for name in sorted(own)):
                 patterns = list(self.patterns(*option))
                 with self.subTest(document=document, option=option[0]):
                     self.assertTrue(any(all(re.search(pattern, place) for pattern in patterns) for place in places),

@@ -35,11 +35,12 @@ proved_with() {
 }
 
 # Tools that are commands of their own; others are what these are made of.
-tools="adjust congestion def_to_ispd flow guides hotspots insert liberty netlist report required slowest spef to_solution where"
+tools="adjust carry congestion def_to_ispd differ flow guides hotspots insert liberty netlist report required slowest spef to_solution where"
 
 put_tools() {
     mkdir -p "$share/groute" "$share/man/man1"
     git ls-files -z tools/groute | tar -c --null -T - | tar -x --strip-components=1 -C "$share/groute"
+    install -m 644 tools/start.sh tools/answers.sh "$share/groute"
     for tool in $tools in_words; do
         # Debian's own python finds Debian's numpy and matplotlib, whatever stands first on PATH.
         sed '1s|^#!/usr/bin/env python3$|#!/usr/bin/python3|' "tools/$tool.py" >"$share/groute/$tool.py"
@@ -53,8 +54,10 @@ put_tools() {
 }
 
 install -D -m 755 "$program" "$root/lib/groute/groute"
-install -D -m 755 packaging/groute.sh "$root/bin/groute"
-install -D -m 755 "$bounds" "$root/bin/grbound"
+install -D -m 755 "$bounds" "$root/lib/groute/grbound"
+for name in groute grbound; do
+    install -D -m 755 packaging/launch.sh "$root/bin/$name"
+done
 put_tools
 for page in groute grbound; do
     gzip -9nc "man/$page.1" >"$share/man/man1/$page.1.gz"

@@ -1,7 +1,7 @@
 # shellcheck shell=sh
 # Finds the program `name` of the repository at `here`, and runs it with the words given: ./groute and ./grbound source
-# this. In this order: a program that was built here from the sources as they stand; the released program, if it is made
-# from them; else it is proved and built first.
+# this. Words that tools/start.sh answers need no program. In this order: a program that was built here from the sources
+# as they stand; the released program, if it is made from them; else it is proved and built first.
 #
 # Which one it was is noted in .seen, with all that it hangs on. The sums are taken again only where a file or folder of
 # these changed since; where nothing can be noted, at each call.
@@ -48,18 +48,14 @@ note_seen() {
     find .seen -name "$name.*" ! -path "$listed" -cmin +1 -exec rm -f {} +
 }
 
-# Runs the program. On a terminal, what is wrong with groute's is told in words where it ends with status 2 to 5.
-run_program() {
-    if [ "$name" = groute ] && [ -t 2 ] && command -v python3 >/dev/null; then
-        exec python3 "$here/tools/in_words.py" "$here/$program" "$@"
-    fi
-    exec "$here/$program" "$@"
-}
-
+tools=$here/tools
+# shellcheck source=tools/start.sh
+. "$tools/start.sh"
+answer "$@"
 program=
 watched=
 [ ! -r "$here/$seen" ] || { read -r program && read -r listed && read -r watched; } <"$here/$seen"
 if [ -z "$watched" ] || ! is_unchanged; then
     find_and_note
 fi
-run_program "$@"
+run_program "$here/$program" "$@"

@@ -65,13 +65,17 @@ try() {
     cmp "$work/out" examples/small.solution
     [ "$(head -n 2 "$work/err")" = "routed 1
 overflow 0" ]
+    for name in groute grbound; do
+        [ "$(alone "$name" --version)" = "$name $(cat "$here/VERSION")" ]
+        alone "$name" --help | grep -q "$name .*DESIGN"
+    done
     alone groute-where examples/small.ispd 2 >/dev/null
     grep -q '^kit rattle-kit' PROVED_WITH
     grep -q "^groute .* $(sha256sum <"$work/$1/lib/groute/groute" | cut -d ' ' -f 1)\$" PROVED_WITH
-    grep -q "^grbound .* $(sha256sum <"$work/$1/bin/grbound" | cut -d ' ' -f 1)\$" PROVED_WITH
+    grep -q "^grbound .* $(sha256sum <"$work/$1/lib/groute/grbound" | cut -d ' ' -f 1)\$" PROVED_WITH
     if "$here/tools/release.sh" --current 2>/dev/null && [ ! -e "$here/crates/groute/out/groute" ]; then
         cmp "$work/$1/lib/groute/groute" "$here/release/groute"
-        cmp "$work/$1/bin/grbound" "$here/release/grbound"
+        cmp "$work/$1/lib/groute/grbound" "$here/release/grbound"
     fi
     # README's chip
     xz -dc examples/grom_osu035.ispd.xz >"$work/grom.ispd"
@@ -90,11 +94,12 @@ overflow 0" ]
 }
 try archive
 try scratch/usr
-cd "$work"
 # The package is where Debian's python looks, and nothing else of ours is.
+cd "$work/scratch/usr"
 [ "$(alone PYTHONPATH="$work/scratch/usr/lib/python3/dist-packages" python3 -B -c '
-import groute.texts.designs, groute.options
-print(groute.texts.designs.MOST_ROUTED)')" = 1000 ]
+import groute, groute.texts.designs, groute.options
+small = ["share/doc/groute/examples/small.ispd", "share/doc/groute/examples/small.library"]
+print(groute.texts.designs.MOST_ROUTED, *groute.route(*small, 3).report.__dict__.values())')" = "1000 1 0 0 5 2" ]
 [ "$(ls "$work/scratch/usr/lib/python3/dist-packages")" = groute ]
 alone "$work/scratch/usr/bin/groute" >/dev/null 2>&1 || [ $? -eq 2 ]
 echo "packed program: passed"

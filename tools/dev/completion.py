@@ -7,7 +7,7 @@ import sys
 from typing import Iterator, NamedTuple, Sequence
 
 sys.path.insert(0, os.path.dirname(os.path.dirname(os.path.abspath(__file__))))
-from groute.options import BOUNDS, TEXTS, TOOLS, chosen, parted, rows  # noqa: E402
+from groute.options import TEXTS, TOOLS, chosen, rows  # noqa: E402
 
 BASH = """# Completion of groute, grbound and the tools for bash, as tools/dev/completion.py writes it.
 _groute() {
@@ -19,7 +19,8 @@ _groute() {
         before=${COMP_WORDS[COMP_CWORD - 2]}
     fi
     if [ "$command" = groute ] && [ "$COMP_CWORD" -eq 1 ]; then
-        COMPREPLY=($(compgen -W "%s" -- "$word"))
+        [[ $word == -* ]] && values="--help --version" || values="%s"
+        COMPREPLY=($(compgen -W "$values" -- "$word"))
         return
     fi
     [ "$command" != groute ] || command="groute ${COMP_WORDS[1]}"
@@ -67,17 +68,18 @@ class Called(NamedTuple):
     options: list[tuple[str, str, list[str]]]
 
 
-def commands() -> Iterator[Called]:
-    """The commands of groute."""
-    for row in rows():
+def commands(program: str = "groute") -> Iterator[Called]:
+    """The commands of a program."""
+    for row in rows(program):
         options = [(word, value, chosen(value)) for word, value in row.options]
-        yield Called(f"groute {row.word}", row.positionals, options)
+        for word in ("--help",) if row.word else ("--help", "--version"):
+            options.append((word, "", []))
+        yield Called(row.name(), row.positionals, options)
 
 
 def programs() -> Iterator[Called]:
     """grbound and the tools."""
-    names, options = parted(BOUNDS)
-    yield Called("grbound", names, [(word, value, chosen(value)) for word, value in options])
+    yield from commands("grbound")
     for tool in TOOLS:
         parser = importlib.import_module(f"groute.commands.{tool}").parser()
         yield Called(f"groute-{tool.replace('_', '-')}", *read(parser))
@@ -123,7 +125,7 @@ def zsh() -> str:
 def arguments(called: Called, first: int) -> str:
     """The words of `_arguments`."""
     parts = [f"'{option}[{value}]:{value}:({' '.join(words)})'" if words else f"'{option}[{value}]:{value}:_files'"
-             if value in FILES else f"'{option}[{value}]:{value}:'" if value else f"'{option}'"
+             if value in (*TEXTS, *FILES) else f"'{option}[{value}]:{value}:'" if value else f"'{option}'"
              for option, value, words in called.options]
     parts += [f"'{at}:{name}:{'_files' if name in (*TEXTS, *FILES) else ''}'"
               for at, name in enumerate(called.positionals, first)]
@@ -132,7 +134,7 @@ def arguments(called: Called, first: int) -> str:
 
 # Words for files, beside those of groute's commands.
 FILES = ("FILE", "DEF", "LEF", "PLACED.def", "ROUTES", "GUIDES", "LIBERTY", "REPORT", "BOUNDS", "PANELS", "TEXT",
-         "PATH", "DIR")
+         "PATH", "DIR", "OLD_DESIGN", "NEW_DESIGN", "BEFORE", "AFTER")
 
 
 def main(words: Sequence[str]) -> int:

@@ -58,6 +58,11 @@ def add_scale(words: argparse.ArgumentParser) -> None:
     words.add_argument("--scale", type=number(1), default=1, metavar="N", help="of the library's numbers; else 1")
 
 
+def add_json(words: argparse.ArgumentParser) -> None:
+    """The option of tools whose answer programs read."""
+    words.add_argument("--json", action="store_true", help="print the answer as one object of JSON")
+
+
 def number(least: int, most: int = 10 ** 9) -> Callable[[str], int]:
     """The reader of a whole number in a range."""
     def read(word: str) -> int:

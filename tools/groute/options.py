@@ -25,18 +25,50 @@ COMES = {
 # The words of each command, and what it does.
 USAGE = {
     "route DESIGN LIBRARY ROUNDS [--workers N] [--via-cost V] [--batch B] [--rule first|steep|flat|near] "
-    "[--stop still|N]":
+    "[--stop still|N] [--from SOLUTION] [--trace]":
         "routes a design",
     "evaluate DESIGN SOLUTION [--via-cost V]": "judges the routes of any router",
     "buffer DESIGN LIBRARY SOLUTION": "places buffers on the routes of any router",
     "make SEED X Y L NETS": "makes a design",
-    "trial SEED X Y L NETS ROUNDS [--workers N] [--rule first|steep|flat|near]": "makes a design and routes it",
+    "trial SEED X Y L NETS ROUNDS [--workers N] [--rule first|steep|flat|near] [--trace]":
+        "makes a design and routes it",
     "panels DESIGN SOLUTION": "gives straight runs the fewest tracks",
 }
-BOUNDS = "DESIGN [--via-cost V]"     # the words of grbound
+# The same of grbound, which has one command without a word.
+BOUNDS = {"DESIGN [--steps K] [--via-cost V]": "says what overflow and wirelength no routes of a design can be below"}
+# The ranges of numbers, by the word or the option that takes them.
+RANGES = {
+    "ROUNDS": (0, 64), "SEED": (0, (1 << 64) - 1), "X": (2, 2048), "Y": (2, 2048), "L": (2, 16), "NETS": (0, 1_000_000),
+    "--workers": (1, 16), "--via-cost": (0, 1000), "--batch": (1, 65536), "--stop": (0, (1 << 64) - 1),
+    "--steps": (0, 10_000),
+}
+# What words and options are.
+MEANS = {
+    "DESIGN": "a design in the form of the ISPD 2008 contest",
+    "LIBRARY": "of the design's wires and of buffers",
+    "SOLUTION": "the routes of a design",
+    "ROUNDS": "the most rounds of rip-up and reroute",
+    "SEED": "where the draws of a made design begin",
+    "X": "columns of tiles",
+    "Y": "rows of tiles",
+    "L": "layers",
+    "NETS": "how many nets",
+    "--workers": "how many threads route",
+    "--via-cost": "as how many wire edges a via counts in wirelength",
+    "--batch": "nets are planned B at a time, so that threads change no byte",
+    "--rule": "how costs of edges rise with demand",
+    "--from": "routes to begin from: those that are trees are kept until a later round",
+    "--trace": "what each round did is told behind the report",
+    "--steps": "how many steps of prices look for better bounds",
+    "--stop": "rounds end once one doesn't lower the overflow (still), or once it is at most N",
+}
+ELSE = {"--workers": "1", "--via-cost": "1", "--rule": "first", "--steps": "0"}     # what is taken where none is given
+EXCLUDES = [("--batch", "--stop")]      # options of which only one may be given
+MOST_CELLS = 8_388_608                  # of a made design, X * Y * L
+READ_ON = "docs/FORMATS.md"             # where texts, ranges and faults stand, beside the man page
 # The tools that are commands of their own, installed as groute-NAME.
-TOOLS = ("adjust", "congestion", "def_to_ispd", "flow", "guides", "hotspots", "insert", "liberty", "netlist",
-         "report", "required", "slowest", "spef", "to_solution", "where")
+TOOLS = ("adjust", "carry", "congestion", "def_to_ispd", "differ", "flow", "guides", "hotspots", "insert", "liberty",
+         "netlist", "report", "required", "slowest", "spef", "to_solution", "where")
 TEXTS = ("DESIGN", "LIBRARY", "SOLUTION")   # words that are files
 FAULTS: dict[str, list[str]] = {
     "design": [
@@ -81,25 +113,40 @@ FAULTS: dict[str, list[str]] = {
 
 
 class Row(NamedTuple):
-    """A command: its word, its positionals, its options with their values, and what it does."""
+    """A command: its program, its word, its positionals, its options with their values, which are empty of an option
+    without one, and what it does."""
+    program: str
     word: str
     positionals: list[str]
     options: list[tuple[str, str]]
     does: str
 
+    def name(self) -> str:
+        """What is called."""
+        return f"{self.program} {self.word}".strip()
 
-def rows() -> Iterator[Row]:
-    """The commands of groute."""
-    for line, does in USAGE.items():
-        word, _, rest = line.partition(" ")
-        yield Row(word, *parted(rest), does)
+    def line(self) -> str:
+        """The line of usage."""
+        return " ".join([self.name(), *self.positionals, *(f"[{option(*pair)}]" for pair in self.options)])
+
+
+def option(word: str, value: str) -> str:
+    """An option with its value, if it takes one."""
+    return f"{word} {value}" if value else word
+
+
+def rows(program: str = "groute") -> Iterator[Row]:
+    """The commands of a program; the one of grbound has no word."""
+    for line, does in (USAGE if program == "groute" else BOUNDS).items():
+        word, _, rest = line.partition(" ") if program == "groute" else ("", "", line)
+        yield Row(program, word, *parted(rest), does)
 
 
 def parted(line: str) -> tuple[list[str], list[tuple[str, str]]]:
     """The positionals and the options of a line of usage."""
-    words = line.replace("[", "").replace("]", "").split()
-    first = next((at for at, part in enumerate(words) if part.startswith("-")), len(words))
-    return words[:first], list(zip(words[first::2], words[first + 1::2]))
+    words, *options = line.split(" [")
+    pairs = (option.removesuffix("]").partition(" ") for option in options)
+    return words.split(), [(word, value) for word, _, value in pairs]
 
 
 def values(option: str) -> list[str]:
@@ -111,3 +158,35 @@ def values(option: str) -> list[str]:
 def chosen(value: str) -> list[str]:
     """The words among an option's values."""
     return [word for word in value.split("|") if word.islower()]
+
+
+def told_of(program: str) -> Iterator[str]:
+    """The lines of a program's --help."""
+    every = list(rows(program))
+    if len(every) == 1:
+        yield from told_of_row(every[0])
+    else:
+        yield "The commands:"
+        for row in every:
+            yield from (f"  {row.line()}", f"      {row.does}")
+    yield ""
+    if len(every) > 1:
+        yield f"{program} COMMAND --help has a command's words."
+    yield f"{READ_ON}, or man {program}, has all words, ranges, texts and faults."
+
+
+def told_of_row(row: Row) -> Iterator[str]:
+    """The lines that say of a command what its words are."""
+    yield from (row.line(), "", f"It {row.does}.", "")
+    words = [*((word, word) for word in row.positionals), *((pair[0], option(*pair)) for pair in row.options)]
+    wide = max(len(shown) for _, shown in words)
+    for word, shown in words:
+        some = f", {range_words(word)}" if word in RANGES else ""
+        default = f"; else {ELSE[word]}" if word in ELSE else ""
+        yield f"  {shown:<{wide}}  {MEANS[word]}{some}{default}"
+
+
+def range_words(word: str) -> str:
+    """The range of the numbers that a word or an option takes."""
+    low, high = RANGES[word]
+    return f"{low} to {'2^64 - 1' if high == (1 << 64) - 1 else high}"

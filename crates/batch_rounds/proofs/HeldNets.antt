@@ -1,24 +1,24 @@
 -- Which nets are booked in rounds in batches: at each mark exactly the routed ones, each by a tree that routes it.
-use Rattle.std.proofs.Common.{◌≡◌, ◌⊎◌, ℕ, zero, suc, ◌+◌, ◌≤◌, inl, inr, Bool, true, false, ◌||◌, ◌==◌, List, [], ◌∷◌, ◌++◌, length, take, drop, All, Option, Some, None, is_some, slice_get, IsSome, if◌then◌else◌, IsTrue, IsSomeAnd, refl, sym, ap, subst, ◌∙◌, arith}
+use Rattle.std.proofs.Common.{◌≡◌, ◌⊎◌, ℕ, zero, suc, ◌+◌, ◌≤◌, inl, inr, Bool, true, false, ◌||◌, ◌&&◌, ◌==◌, List, [], ◌∷◌, ◌++◌, length, take, drop, All, Option, Some, None, is_some, is_none, slice_get, IsSome, if◌then◌else◌, IsTrue, IsSomeAnd, refl, sym, ap, subst, ◌∙◌, arith}
 use Rattle.std.specs.List.{range_with_len}
-use Rattle.std.proofs.lemmas.Bool.{cases_Bool, both_ways}
+use Rattle.std.proofs.lemmas.Bool.{cases_Bool, both_ways, and_parts}
 use Rattle.std.proofs.lemmas.Bool.Decides.{nat_tests}
 use Rattle.std.proofs.lemmas.List.{take-append-drop, take-append-le, take_all, length_push}
-use Rattle.std.proofs.lemmas.List.Elements.{All-head, All-tail, All-take, All-drop, filter_passes}
+use Rattle.std.proofs.lemmas.List.Elements.{All-head, All-tail, All-take, All-drop, All-weaker, filter_passes}
 use Rattle.std.proofs.lemmas.List.Folds.{list_any-append}
 use Rattle.std.proofs.lemmas.Option.{none-some, same_Some, slice_get_within}
 use Rattle.gr_base.proofs.DesignLemmas.{get-push, routed-below}
 use Rattle.gr_base.proofs.General.{some-and, and-some, is-some}
 use Rattle.gr_base.specs.Designs.{DesignView, is_routed, AreRouted}
 use Rattle.gr_base.specs.Plans.{IsRouteOfNet}
-use Rattle.gr_base.specs.Trees.{TreeView, is_among}
+use Rattle.gr_base.specs.Trees.{TreeView, is_among, tree_at}
 use Rattle.grid_demand.proofs.RangeFilters.{filter-has}
 use Rattle.grid_demand.specs.Tables.{CapacityView}
-use Rattle.book_state.proofs.BookSteps.{booked-none, booked-push}
+use Rattle.book_state.proofs.BookSteps.{booked-push}
 use Rattle.book_state.proofs.HistoryLists.{slice_get-right}
 use Rattle.book_state.proofs.BookingLaws.{unbounded}
 use Rattle.book_state.specs.Books.{booked_by, booked, reply_to, reply_to_claim, overflow_after, IsLegal}
-use Rattle.book_state.specs.Entries.{is_full_reply}
+use Rattle.book_state.specs.Entries.{is_mark, is_mark_call, is_full_reply}
 use Rattle.book_state.specs.Marks.{least_mark}
 use Rattle.book_state.specs.Views.{entry_of}
 use Rattle.book_state.specs.declared.entry.Call.TheVariants.{Claim as Claims, Release, Mark}
@@ -28,9 +28,11 @@ use Rattle.book_state.specs.declared.entry.Reply.{Reply}
 use Rattle.book_state.specs.declared.entry.Reply.TheVariants.{Claimed, Taken, Full, Released, NotBooked, Marked}
 use Rattle.run_histories.proofs.StandLemmas.{mark-stands, victims-routed, least-call, least-place, some-least}
 use Rattle.run_histories.proofs.TurnLemmas.{claim-answered}
+use Rattle.run_histories.proofs.GivenLemmas.{IsOfGiven, given-no_mark, each-all, among-all, given-booked}
+use Rattle.run_histories.specs.GivenRoutes.{AreGivenRoutes, given_to, is_open, open_nets}
 use Rattle.run_histories.specs.Rounds.{marker}
 use Rattle.run_histories.specs.Standing.{IsHeld, Stands}
-use Rattle.batch_rounds.specs.BatchedHistories.{Batching, capacity_in, claimant, IsNumbered, after_call, after_claim, after_mark, after_releases, is_refused, IsClaimOver, at_any_demand, IsClaimedAlone, IsTurn, AreTurns, opened, IsBatch, AreBatches, nets_due, IsRound, AreRounds, IsBatched}
+use Rattle.batch_rounds.specs.BatchedHistories.{Batching, capacity_in, claims_given, claimant, IsNumbered, after_call, after_claim, after_mark, after_releases, is_refused, IsClaimOver, at_any_demand, IsClaimedAlone, IsTurn, AreTurns, opened, IsBatch, AreBatches, nets_due, IsRound, AreRounds, IsBatched}
 use Rattle.batch_rounds.specs.BatchedHistories.IsClaimedAlone.{Fits, Is_forced}
 use Rattle.batch_rounds.specs.BatchedHistories.IsTurn.{Is_first, Goes_on}
 use Rattle.batch_rounds.specs.BatchedHistories.AreTurns.{No_turns, Next_turn}
@@ -352,12 +354,43 @@ pub record IsReady (t : Batching) (round : ℕ) (h : List Entry) : Type 0 where
   pub due : (net : ℕ) → IsTrue (is_routed t.design net) → (is_among (nets_due t round h) net ≡ true) ⊎ IsBooked h net
   pub routed : AreRouted t.design (nets_due t round h)
 
-pub ready-first : (t : Batching) → IsReady t 0 []
-ready-first t = record {
-  routes = λ net tree is. absurd (none-some tree (sym (booked-none net) ∙ is));
-  due = λ net routed. inl (filter-has (is_routed t.design) 0 (length t.design.nets) net (omega arith) (let below = routed-below t.design net routed in omega (arith, below)) ∙ routed);
-  routed = filter_passes (is_routed t.design) (range_with_len 0 (length t.design.nets));
+-- behind the claims of given trees the open nets are due
+given-there : (t : Batching) (net : ℕ) (tree : TreeView) → given_to t.design t.given net ≡ Some tree → tree_at t.given net ≡ Some tree
+given-there t net tree is = by (is_routed t.design net) is
+  where
+    by : (b : Bool) → (if b then tree_at t.given net else None) ≡ Some tree → tree_at t.given net ≡ Some tree
+    by true there = there
+    by false there = absurd (none-some tree there)
+
+given-or_open : (t : Batching) (net : ℕ) → IsTrue (is_routed t.design net) → (is_among (open_nets t.design t.given) net ≡ true) ⊎ IsBooked (claims_given t) net
+given-or_open t net routed = by (tree_at t.given net) refl
+  where
+    by : (o : Option TreeView) → tree_at t.given net ≡ o → (is_among (open_nets t.design t.given) net ≡ true) ⊎ IsBooked (claims_given t) net
+    by None none =
+        inl (filter-has (is_open t.design t.given) 0 (length t.design.nets) net (omega arith) (let below = routed-below t.design net routed in omega (arith, below))
+        ∙ ap (λ (b : Bool). b && is_none (tree_at t.given net)) routed ∙ ap (λ (o : Option TreeView). is_none o) none)
+    by (Some tree) there =
+        inr (ap (λ (o : Option TreeView). is_some o)
+        (given-booked t.design t.given net ∙ ap (λ (b : Bool). if b then tree_at t.given net else None) routed ∙ there))
+
+pub ready-first : (t : Batching) → AreGivenRoutes t.design t.given → IsReady t 0 (claims_given t)
+ready-first t fits = record {
+  routes = λ net tree is.
+      let route = fits.each net tree (given-there t net tree (sym (given-booked t.design t.given net) ∙ is)) in
+      (route.routed, route.routes);
+  due = given-or_open t;
+  routed = All-weaker (λ (net : ℕ). IsTrue (is_open t.design t.given net)) (λ (net : ℕ). IsTrue (is_routed t.design net))
+      (λ net is. (and_parts (is_routed t.design net) (is_none (tree_at t.given net)) is).0) (open_nets t.design t.given)
+      (filter_passes (is_open t.design t.given) (range_with_len 0 (length t.design.nets)));
 }
+
+-- their claims are the claimant's, and no marks
+given-marks : (t : Batching) → MarksStand t.design (claims_given t)
+given-marks t place e there =
+    let of = each-all IsOfGiven (claims_given t) (among-all t.design t.given (length t.design.nets)) place e there in (
+      of.number_is ∙ sym (ap (λ (b : Bool). if b then marker else claimant) (given-no_mark e of)),
+      λ mark. absurd (both_ways (is_mark e) (given-no_mark e of) (ap is_mark_call mark)),
+    )
 
 pub ready-next : (t : Batching) (round : ℕ) (h : List Entry) → Stands t.design h → IsReady t (suc round) h
 ready-next t round h stands = record {
@@ -418,14 +451,14 @@ rounds-stand t round h after ready marks (Next_round {between = between} one on 
     let done = round-stands t round h between ready one in
     rounds-stand t (round + 1) between after (subst (λ (n : ℕ). IsReady t n between) (sym (one-more round)) (ready-next t round between done.stands)) (done.marks marks) rest
 
-pub batched-sound : (t : Batching) (h : List Entry) → IsBatched t h → MarksStand t.design h
-batched-sound t h batched = rounds-stand t 0 [] h (ready-first t) (λ place e there. absurd (none-some e there)) batched
+pub batched-sound : (t : Batching) (h : List Entry) → AreGivenRoutes t.design t.given → IsBatched t h → MarksStand t.design h
+batched-sound t h fits batched = rounds-stand t 0 (claims_given t) h (ready-first t fits) (given-marks t) batched
 
-pub batched-stands : (t : Batching) (h : List Entry) (chosen : ℕ) → IsBatched t h → IsLegal (capacity_in t) h → least_mark h ≡ Some chosen → Stands t.design (take chosen h)
-batched-stands t h chosen batched legal least =
+pub batched-stands : (t : Batching) (h : List Entry) (chosen : ℕ) → AreGivenRoutes t.design t.given → IsBatched t h → IsLegal (capacity_in t) h → least_mark h ≡ Some chosen → Stands t.design (take chosen h)
+batched-stands t h chosen fits batched legal least =
     let at = least-place h chosen least in
     let mark = least-call (capacity_in t) h (take at.0 h) at.1 (legal.right at.0 at.1 at.3) at.4 in
-    subst (λ (n : ℕ). Stands t.design (take n h)) (sym at.2) ((batched-sound t h batched at.0 at.1 at.3).1 mark)
+    subst (λ (n : ℕ). Stands t.design (take n h)) (sym at.2) ((batched-sound t h fits batched at.0 at.1 at.3).1 mark)
 
 -- a batched history ends with a mark
 ends-marked : (t : Batching) (round : ℕ) (h after : List Entry) → AreRounds t round h after → (u : List Entry) × (after ≡ after_mark t u)
@@ -434,7 +467,7 @@ ends-marked t round h after (Next_round {between = between} one on rest) = ends-
 
 pub batched-marked : (t : Batching) (h : List Entry) → IsBatched t h → IsSome (least_mark h)
 batched-marked t h batched =
-    let last = ends-marked t 0 [] h batched in
+    let last = ends-marked t 0 (claims_given t) h batched in
     let mark = entry_of marker Mark (reply_to (capacity_in t) last.0 Mark) in
     subst (λ (g : List Entry). IsSome (least_mark g)) (sym last.1)
     (some-least (after_mark t last.0) (length last.0) (overflow_after (capacity_in t) last.0) (record {

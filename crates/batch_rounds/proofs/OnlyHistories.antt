@@ -1,5 +1,5 @@
 -- There is one batched history.
-use Rattle.std.proofs.Common.{◌≡◌, ℕ, zero, suc, ◌+◌, ◌<◌, Bool, true, false, ◌&&◌, nat_lt, List, [], ◌∷◌, length, take, drop, All, Option, Some, None, slice_get, if◌then◌else◌, refl, sym, ap, subst, ◌∙◌, arith}
+use Rattle.std.proofs.Common.{◌≡◌, ℕ, zero, suc, ◌+◌, ◌*◌, ◌<◌, Bool, true, false, ◌&&◌, nat_lt, List, [], ◌∷◌, length, take, drop, All, Option, Some, None, slice_get, if◌then◌else◌, refl, sym, ap, subst, ◌∙◌, arith}
 use Rattle.std.proofs.lemmas.Bool.{both_ways}
 use Rattle.std.proofs.lemmas.List.Elements.{All-nil}
 use Rattle.cost_rules.specs.Formulas.{cost_at, via_price}
@@ -21,12 +21,10 @@ use Rattle.book_state.specs.Views.{entry_of}
 use Rattle.book_state.specs.declared.entry.Call.TheVariants.{Claim as Claims, Release, Mark}
 use Rattle.book_state.specs.declared.entry.Claim.{Claim}
 use Rattle.book_state.specs.declared.entry.Entry.{Entry}
-use Rattle.book_state.specs.declared.entry.PlanKind.{PlanKind}
-use Rattle.book_state.specs.declared.entry.PlanKind.TheVariants.{Pattern, Maze}
 use Rattle.run_histories.specs.Attempts.{kind_of}
 use Rattle.run_histories.specs.Rounds.{marker, claim_of, IsPlan, IsPlanFor}
 use Rattle.batch_rounds.proofs.PatternPrices.{AreSamePrices, patterns-same}
-use Rattle.batch_rounds.specs.BatchedHistories.{Batching, capacity_in, claimant, after_call, after_claim, after_mark, after_releases, is_refused, IsClaimOver, at_any_demand, first_slack, IsClaimedAlone, IsTurn, AreTurns, opened, IsBatch, AreBatches, nets_due, IsRound, goes_on, AreRounds, IsBatched}
+use Rattle.batch_rounds.specs.BatchedHistories.{Batching, capacity_in, claims_given, claimant, after_call, after_claim, after_mark, after_releases, is_refused, IsClaimOver, at_any_demand, first_slack, IsClaimedAlone, IsTurn, AreTurns, opened, IsBatch, AreBatches, nets_due, IsRound, goes_on, AreRounds, IsBatched}
 use Rattle.batch_rounds.specs.BatchedHistories.IsClaimedAlone.{Fits, Is_forced}
 use Rattle.batch_rounds.specs.BatchedHistories.IsTurn.{Is_first, Goes_on}
 use Rattle.batch_rounds.specs.BatchedHistories.AreTurns.{No_turns, Next_turn}
@@ -68,7 +66,7 @@ pins-in d net design = by (slice_get d.nets net) refl
 
 plan-only : (d : DesignView) (formula : Formula) (round net : ℕ) (h : List Entry) (t u : TreeView) → IsDesign d →
     IsPlanFor d formula h net (kind_of round) t → IsPlanFor d formula h net (kind_of round) u → t ≡ u
-plan-only d formula round net h t u design one other = by (kind_of round) one.plan.plan other.plan.plan
+plan-only d formula round net h t u design one other = by round one.plan.plan other.plan.plan
   where
     c : CapacityView
     c = capacity_of d
@@ -82,10 +80,10 @@ plan-only d formula round net h t u design one other = by (kind_of round) one.pl
     same : AreSamePrices c.shape (price_of c l formula net) (price_of c m formula net)
     same = prices-same c h l m formula net one.plan.there other.plan.there
 
-    by : (kind : PlanKind) → IsPlan c l formula net (pins_at d net) kind t → IsPlan c m formula net (pins_at d net) kind u → t ≡ u
-    by Pattern first second =
+    by : (round : ℕ) → IsPlan c l formula net (pins_at d net) (kind_of round) t → IsPlan c m formula net (pins_at d net) (kind_of round) u → t ≡ u
+    by zero first second =
         sym (patterns-same c.shape (ways_of c) (price_of c l formula net) (price_of c m formula net) (pins_at d net) t u same (pins-in d net design) first second)
-    by (Maze margin) first second = mazes-same c l m formula net (pins_at d net) margin t u same first second
+    by (suc r) first second = mazes-same c l m formula net (pins_at d net) (4 * suc r) t u same first second
 
 module _ (t : Batching) (design : IsDesign t.design) where
   claim-only : (round net : ℕ) (slack : Option ℕ) (h : List Entry) (a b : Claim) → IsClaimOver t round net slack h a → IsClaimOver t round net slack h b → a ≡ b
@@ -148,4 +146,4 @@ module _ (t : Batching) (design : IsDesign t.design) where
 
 -- two batched histories of one design are the same
 pub batched-only : (t : Batching) (h g : List Entry) → IsDesign t.design → IsBatched t h → IsBatched t g → g ≡ h
-batched-only t h g design one two = sym (rounds-only t design 0 [] h g one two)
+batched-only t h g design one two = sym (rounds-only t design 0 (claims_given t) h g one two)

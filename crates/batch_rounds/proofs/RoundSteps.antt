@@ -1,33 +1,39 @@
 -- The steps of rounds in batches: claims, turns, batches, rounds.
-use Rattle.std.proofs.Common.{◌≡◌, ℕ, ◌+◌, ◌<◌, ◌≤◌, inl, inr, append-nil, length-append, Bool, true, false, cond, ◌&&◌, nat_lt, ◌==◌, min, List, [], ◌∷◌, ◌++◌, length, get_or, take, drop, filter, Option, Some, refl, sym, ap, subst, ◌∙◌, arith}
+use Rattle.std.proofs.Common.{◌≡◌, ℕ, ◌+◌, ◌<◌, ◌≤◌, inl, inr, append-nil, length-append, Bool, true, false, cond, ◌&&◌, nat_lt, ◌==◌, min, List, [], ◌∷◌, ◌++◌, length, get_or, take, drop, filter, Option, Some, None, if◌then◌else◌, refl, sym, ap, subst, ◌∙◌, arith}
 use Rattle.std.proofs.Math.Seq.{take-append_seam, drop-append_seam}
 use Rattle.std.specs.List.{range_with_len}
 use Rattle.std.proofs.lemmas.Bool.{cases_lt, both_ways}
 use Rattle.std.proofs.lemmas.Bool.Decides.{nat_tests}
 use Rattle.std.proofs.lemmas.List.{at_drop_more, drop_all, take_all, nil_from_length, length-map}
 use Rattle.std.proofs.lemmas.List.FromFn.{length-range_with_len}
+use Rattle.gr_base.proofs.DesignLemmas.{routed-net}
 use Rattle.gr_base.specs.Designs.{DesignView, is_routed}
 use Rattle.gr_base.specs.Limits.{most_nets}
-use Rattle.gr_base.specs.Trees.{TreeView}
+use Rattle.gr_base.specs.Trees.{TreeView, tree_at}
 use Rattle.gr_base.specs.declared.frame.Net.{Net}
 use Rattle.grid_demand.specs.Tables.{CapacityView, capacity_of}
-use Rattle.book_state.specs.Books.{nets_of, reply_to, is_victim, victims}
+use Rattle.book_state.specs.Books.{nets_of, booked, reply_to, is_victim, victims, IsClaim}
 use Rattle.book_state.specs.Entries.{is_full_reply}
-use Rattle.book_state.specs.declared.entry.Call.TheVariants.{Claim as Claims}
+use Rattle.book_state.specs.declared.entry.Call.TheVariants.{Claim as Claims, Mark}
 use Rattle.book_state.specs.declared.entry.Claim.{Claim}
 use Rattle.book_state.specs.declared.entry.Entry.{Entry}
 use Rattle.book_state.specs.declared.entry.PlanKind.{PlanKind}
+use Rattle.book_state.specs.declared.entry.PlanKind.TheVariants.{Given}
 use Rattle.book_state.specs.declared.entry.Reply.{Reply}
+use Rattle.book_state.specs.declared.entry.Reply.TheVariants.{Claimed}
+use Rattle.book_state.specs.Views.{entry_of}
 use Rattle.run_histories.specs.Attempts.{kind_of}
-use Rattle.run_histories.specs.Rounds.{claim_of, IsPlanFor}
-use Rattle.batch_rounds.specs.BatchedHistories.{Batching, capacity_in, claimant, after_call, after_claim, is_refused, IsClaimOver, at_any_demand, first_slack, IsClaimedAlone, IsTurn, AreTurns, IsBatch, AreBatches, IsRound, goes_on}
+use Rattle.run_histories.specs.Rounds.{marker, claim_of, IsPlanFor}
+use Rattle.batch_rounds.specs.BatchedHistories.{Batching, capacity_in, claims_given, claimant, after_call, after_claim, is_refused, IsClaimOver, at_any_demand, first_slack, IsClaimedAlone, IsTurn, AreTurns, IsBatch, AreBatches, nets_due, IsRound, goes_on}
 use Rattle.batch_rounds.specs.BatchedHistories.IsClaimedAlone.{Fits, Is_forced}
 use Rattle.batch_rounds.specs.BatchedHistories.IsTurn.{Is_first, Goes_on}
 use Rattle.batch_rounds.specs.BatchedHistories.AreTurns.{No_turns, Next_turn}
 use Rattle.batch_rounds.specs.BatchedHistories.AreBatches.{Next_batch}
 use Rattle.batch_rounds.specs.BatchedHistories.AreRounds.{Last_round, Next_round}
 use Rattle.batch_rounds.specs.Rounds.{HasRun}
-use Rattle.run_histories.specs.RunHistories.{routed_nets}
+use Rattle.run_histories.specs.GivenRoutes.{IsGivenRoute, given_to, is_open, open_nets, with_given, given_among}
+use Rattle.run_histories.proofs.GivenLemmas.{among-more, among-later}
+use Rattle.run_histories.proofs.TurnLemmas.{unbounded-claimed, routed-within}
 
 -- a claim that was added, with its reply, after a history
 pub record IsAdded (t : Batching) (h : List Entry) (claim : Claim) (reply : Reply) (new : List Entry) : Type 0 where
@@ -70,9 +76,9 @@ alone-fits t round net h new claim reply is added fits = subst (IsClaimedAlone t
 
 pub alone-forced : (t : Batching) (round net : ℕ) (h new after : List Entry) (claim forced : Claim) (reply last : Reply) → IsClaimOver t round net (Some 0) h claim →
     IsAdded t h claim reply new → is_full_reply reply ≡ true → forced ≡ at_any_demand new claim → IsAdded t new forced last after → IsClaimedAlone t round net h after
-alone-forced t round net h new after claim forced reply last is added full forced_is then =
+alone-forced t round net h new after claim forced reply last is added full forced_is said =
     let again : after ≡ after_claim t (after_claim t h claim) (at_any_demand (after_claim t h claim) claim) =
-    then.after ∙ ap (λ (c : Claim). after_claim t new c) forced_is ∙ ap (λ (x : List Entry). after_claim t x (at_any_demand x claim)) added.after in
+    said.after ∙ ap (λ (c : Claim). after_claim t new c) forced_is ∙ ap (λ (x : List Entry). after_claim t x (at_any_demand x claim)) added.after in
     subst (IsClaimedAlone t round net h) (sym again) (Is_forced claim is (added.refused ∙ full))
 
 -- turns, one after another: what goes on from here goes on from the first
@@ -129,8 +135,17 @@ module _ (t : Batching) (round : ℕ) (start : List Entry) (nets : List ℕ) whe
       later : drop t.batch rest ≡ left
       later = ap (drop t.batch) parts ∙ cut-later t.batch batch left (long ∙ ap (λ (xs : List ℕ). min t.batch (length xs)) parts)
 
+-- a round's batches and its mark
+pub round-marked : (t : Batching) (round : ℕ) (h unmarked new : List Entry) (c : CapacityView) (nets : List ℕ) → c ≡ capacity_in t → nets ≡ nets_due t round h → AreBatches t round nets h unmarked →
+    new ≡ after_call c unmarked marker Mark → IsRound t round h new
+round-marked t round h unmarked new c nets is due batches marked = record {
+  unmarked = unmarked;
+  batches = subst (λ (ns : List ℕ). AreBatches t round ns h unmarked) due batches;
+  marked = marked ∙ ap (λ (v : CapacityView). after_call v unmarked marker Mark) is;
+}
+
 -- rounds
-pub run-first : (t : Batching) (h : List Entry) → IsRound t 0 [] h → HasRun t 0 h
+pub run-first : (t : Batching) (h : List Entry) → IsRound t 0 (claims_given t) h → HasRun t 0 h
 run-first t h one = record {
   more = λ on after rest. Next_round one on rest;
   over = λ off. Last_round one off;
@@ -159,10 +174,10 @@ few-victims d h nets are most =
     let widths = length-map d.nets (λ (net : Net). net.width) in
     omega (arith, all, few, long, widths, most)
 
-pub few-routed : (d : DesignView) (nets : List ℕ) → nets ≡ routed_nets d → length d.nets ≤ most_nets → length nets ≤ most_nets
-few-routed d nets are most =
+pub few-open : (d : DesignView) (given : List (Option TreeView)) (nets : List ℕ) → nets ≡ open_nets d given → length d.nets ≤ most_nets → length nets ≤ most_nets
+few-open d given nets are most =
     let all = ap (λ (xs : List ℕ). length xs) are in
-    let few = few-kept (is_routed d) (range_with_len 0 (length d.nets)) in
+    let few = few-kept (is_open d given) (range_with_len 0 (length d.nets)) in
     let long = length-range_with_len 0 (length d.nets) in
     omega (arith, all, few, long, most)
 
@@ -182,3 +197,35 @@ stops-last t done h past = by (nat_lt done t.rounds) (grind (arith, nat_tests))
     by : (a : Bool) → a ≡ false → (a && nat_lt 0 (length (victims (capacity_in t) h))) ≡ false
     by true is = absurd (both_ways true is refl)
     by false is = refl
+
+-- the claims of given trees, one after another
+pub given-passed : (d : DesignView) (given : List (Option TreeView)) (n : ℕ) → tree_at given n ≡ None → given_among d given (n + 1) ≡ given_among d given n
+given-passed d given n none =
+    among-more d given n ∙ ap (λ (o : Option TreeView). with_given (given_among d given n) n o) (by (is_routed d n))
+  where
+    by : (b : Bool) → (if b then tree_at given n else None) ≡ None
+    by true = none
+    by false = refl
+
+-- such a claim is in range, and gets its tree
+pub given-in_range : (d : DesignView) (c : CapacityView) (n : ℕ) (tree copy : TreeView) (front : ℕ) (h : List Entry) → c ≡ capacity_of d → IsGivenRoute d n tree → copy ≡ tree → front ≡ length h →
+    IsClaim c (length h) (claim_of n copy None front Given)
+given-in_range d c n tree copy front h is route same long =
+    let one = routed-net d n route.routed in
+    record {
+      net = routed-within d c n is route.routed;
+      shape = ap (λ (t : TreeView). t.shape) same ∙ (route.routes one.net one.there).shape ∙ sym (ap (λ (v : CapacityView). v.shape) is);
+      front = omega (arith, long);
+    }
+
+pub given-claimed : (d : DesignView) (given : List (Option TreeView)) (c : CapacityView) (n : ℕ) (tree copy : TreeView) (front : ℕ) (h new : List Entry) → c ≡ capacity_of d → h ≡ given_among d given n →
+    IsGivenRoute d n tree → tree_at given n ≡ Some tree → copy ≡ tree → front ≡ length h → new ≡ after_call c h claimant (Claims (claim_of n copy None front Given)) → new ≡ given_among d given (n + 1)
+given-claimed d given c n tree copy front h new is before route there same long after =
+    let claim : ℕ → TreeView → Claim = λ f t. claim_of n t None f Given in
+    let free : booked h n ≡ None = ap (λ (k : List Entry). booked k n) before ∙ among-later d given n n (omega arith) in
+    let to : given_to d given n ≡ Some tree = ap (λ (b : Bool). if b then tree_at given n else None) route.routed ∙ there in
+    after ∙ ap (λ (r : Reply). h ++ entry_of claimant (Claims (claim front copy)) r ∷ []) (unbounded-claimed c h (claim front copy) free refl)
+    ∙ ap (λ (t : TreeView). h ++ entry_of claimant (Claims (claim front t)) Claimed ∷ []) same
+    ∙ ap (λ (f : ℕ). h ++ entry_of claimant (Claims (claim f tree)) Claimed ∷ []) long
+    ∙ ap (λ (k : List Entry). k ++ entry_of claimant (Claims (claim (length k) tree)) Claimed ∷ []) before
+    ∙ sym (among-more d given n ∙ ap (λ (o : Option TreeView). with_given (given_among d given n) n o) to)

@@ -13,18 +13,20 @@ use Rattle.book_state.specs.declared.entry.Claim.{Claim}
 use Rattle.book_state.specs.declared.entry.Entry.{Entry}
 use Rattle.run_histories.specs.Attempts.{kind_of}
 use Rattle.run_histories.specs.Rounds.{marker, claim_of, IsPlanFor}
-use Rattle.run_histories.specs.RunHistories.{routed_nets}
+use Rattle.run_histories.specs.GivenRoutes.{open_nets, given_claims}
 
--- what is asked for: the design, the formula of the plans, at most how many rounds after round 0, and how many nets a
--- batch has
+-- what is asked for: the design, the trees that nets are given, the formula of the plans, at most how many rounds after
+-- round 0, and how many nets a batch has
 pub record Batching : Type 0 where
   pub design : DesignView
+  pub given : List (Option TreeView)
   pub formula : Formula
   pub rounds : ℕ
   pub batch : ℕ
 
-abbrev pub batches_of : DesignView → Formula → ℕ → ℕ → Batching
-batches_of d formula rounds batch = record { design = d; formula = formula; rounds = rounds; batch = batch }
+abbrev pub batches_of : DesignView → List (Option TreeView) → Formula → ℕ → ℕ → Batching
+batches_of d given formula rounds batch =
+    record { design = d; given = given; formula = formula; rounds = rounds; batch = batch }
 
 abbrev pub capacity_in : Batching → CapacityView
 capacity_in t = capacity_of t.design
@@ -111,9 +113,9 @@ pub data AreBatches (t : Batching) (round : ℕ) : List ℕ → List Entry → L
       IsBatch t round (take t.batch nets) h between → AreBatches t round (drop t.batch nets) between after →
       AreBatches t round nets h after
 
--- the nets that are due after the marks so far: in round 0 the routed ones, later the victims
+-- the nets that are due after the marks so far: in round 0 the open ones, later the victims
 abbrev pub nets_due : Batching → ℕ → List Entry → List ℕ
-nets_due t zero h = routed_nets t.design
+nets_due t zero h = open_nets t.design t.given
 nets_due t (suc round) h = victims (capacity_in t) h
 
 -- a round: the batches of the nets that are due, and a mark
@@ -133,6 +135,9 @@ pub data AreRounds (t : Batching) : ℕ → List Entry → List Entry → Type 0
   Next_round : {round : ℕ} {h between after : List Entry} → IsRound t round h between →
       goes_on t round between ≡ true → AreRounds t (round + 1) between after → AreRounds t round h after
 
--- a batched history: the rounds from round 0 on
+-- a batched history: the claims of the given trees, and the rounds from round 0 on
+abbrev pub claims_given : Batching → List Entry
+claims_given t = given_claims t.design t.given
+
 abbrev pub IsBatched : Batching → List Entry → Type 0
-IsBatched t h = AreRounds t 0 [] h
+IsBatched t h = AreRounds t 0 (claims_given t) h

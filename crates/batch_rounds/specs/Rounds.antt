@@ -8,7 +8,7 @@ use Rattle.batch_rounds.specs.declared.asked.Asked.{Asked}
 
 -- what is asked for, as batched histories know it
 abbrev pub batching_of : {X : Type 0} {price : Mut X (Site × Unit {0}) ℕ} → Asked X price → Batching
-batching_of a = batches_of a.design.now a.rule.now.formula a.rounds a.batch
+batching_of a = batches_of a.design.now a.given.now a.rule.now.formula a.rounds a.batch
 
 -- after so many rounds behind round 0: what goes on from here is a batched history, or this one is it
 pub record HasRun (t : Batching) (done : ℕ) (h : List Entry) : Type 0 where

@@ -15,7 +15,9 @@ use crate::seat::{Seat, all_done, take_plan};
 use beside_calls::for_each_beside;
 use book_state::BookState;
 use net_plan::Planner;
+use run_histories::Gate;
 use std::alloc::{AllocError, Global};
+use std::sync::Wait;
 use std::thread::Threads;
 
 /// How many nets a thread has to plan at least in round 0, and how many later. Starting a thread takes as
@@ -26,10 +28,11 @@ const LEAST_MAZES: usize = 4;
 
 /// A batch of these nets: in a later round they are released; then they are planned over the history
 /// there is, and claimed in order. The only error is want of memory.
-pub(crate) fn run_batch<R: Threads + Sync>(
+pub(crate) fn run_batch<R: Threads + Wait + Sync, G: Gate + Sync>(
     rt: &R,
     alloc: Global,
     asked: &Asked,
+    gate: &G,
     round: u32,
     nets: &[u32],
     book: &mut BookState,
@@ -49,7 +52,7 @@ pub(crate) fn run_batch<R: Threads + Sync>(
     }
     let count = seats_for(asked.threads, round, nets.len());
     let seats = &mut seats[..count];
-    plan_beside(rt, alloc, asked, round, nets, book, seats);
+    plan_beside(rt, alloc, asked, gate, round, nets, book, seats);
     all_done(seats)?;
     claim_all(alloc, asked, round, nets, book, seats, alone)
 }
@@ -82,10 +85,11 @@ fn release_all(book: &mut BookState, nets: &[u32]) -> Result<(), AllocError>
 }
 
 /// Plans the nets over the history there is, at the seats side by side. Memory may be wanting at a seat.
-fn plan_beside<R: Threads + Sync>(
+fn plan_beside<R: Threads + Wait + Sync, G: Gate + Sync>(
     rt: &R,
     alloc: Global,
     asked: &Asked,
+    gate: &G,
     round: u32,
     nets: &[u32],
     book: &BookState,
@@ -111,7 +115,7 @@ fn plan_beside<R: Threads + Sync>(
             requires { IsShare first count nets.now × AreRouted basis.design.now nets.now }
             ensures { seat.exit.now.done ≡ Ok tt → HasPlanned basis.entry.design.now basis.entry.rule.now.formula
                 basis.entry.round basis.entry.loads.now nets.entry.now first count seat.exit.now }
-        { seat.plan_share(&basis, nets, first, count) },
+        { seat.plan_share(rt, gate, &basis, nets, first, count) },
     );
 }
 

@@ -110,7 +110,7 @@ fn claim_alone(
 }
 
 /// Adds a claim to the book. The only error is want of memory.
-fn add_claim(book: &mut BookState, claim: Claim) -> Result<Reply, AllocError>
+pub(crate) fn add_claim(book: &mut BookState, claim: Claim) -> Result<Reply, AllocError>
     requires { IsClaim book.old.capacity (length book.old.history) claim }
     ensures capacity { OnOk result (book.new.capacity ≡ book.old.capacity) }
     ensures reply { IfOk result

@@ -8,6 +8,7 @@ mod asked;
 mod basis;
 mod batch;
 mod claims;
+mod given;
 mod laws;
 mod rounds;
 mod run;

@@ -4,9 +4,13 @@ ghost use Rattle.batch_rounds.specs.Seats.{IsShare, plan_for, HasPlanned};
 ghost use Rattle.gr_base.specs.Designs.{AreRouted};
 
 use crate::basis::Basis;
+use crate::claims::CLAIMANT;
 use gr_base::RouteTree;
 use net_plan::Planner;
+use run_histories::{Gate, Stop};
 use std::alloc::{AllocError, Global};
+use std::sync::Wait;
+use std::thread::Threads;
 
 /// A net's plan, and the demand for the wire edges that begin at its cells, together, over which it was
 /// made.
@@ -28,18 +32,28 @@ pub(crate) struct Seat {
 
 impl Seat {
     /// Plans the nets of a batch from the first on, each so many places behind the one before.
-    pub(crate) fn plan_share(&mut self, basis: &Basis<'_>, nets: &[u32], first: usize, count: usize)
+    pub(crate) fn plan_share<R: Threads + Wait + Sync, G: Gate>(
+        &mut self,
+        rt: &R,
+        gate: &G,
+        basis: &Basis<'_>,
+        nets: &[u32],
+        first: usize,
+        count: usize,
+    )
         requires share { IsShare first count nets.now }
         requires nets { AreRouted basis.now.design.now nets.now }
         ensures { self.new.done ≡ Ok tt → HasPlanned basis.now.design.now basis.now.rule.now.formula basis.now.round
             basis.now.loads.now nets.now first count self.new }
     {
-        self.done = self.plan_each(basis, nets, first, count);
+        self.done = self.plan_each(rt, gate, basis, nets, first, count);
     }
 
     /// The same. The only error is want of memory.
-    fn plan_each(
+    fn plan_each<R: Threads + Wait + Sync, G: Gate>(
         &mut self,
+        rt: &R,
+        gate: &G,
         basis: &Basis<'_>,
         nets: &[u32],
         first: usize,
@@ -53,7 +67,16 @@ impl Seat {
         self.plans.clear();
         let mut at = first;
         while at < nets.len() {
-            let plan = basis.noted_plan(&mut self.planner, nets[at])?;
+            let net = nets[at];
+            gate.pass(
+                rt,
+                CLAIMANT,
+                Stop::Turn {
+                    net,
+                    round: basis.round,
+                },
+            );
+            let plan = basis.noted_plan(&mut self.planner, net)?;
             self.plans.push(Some(plan))?;
             at += count;
         }

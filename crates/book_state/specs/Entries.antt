@@ -4,6 +4,8 @@ use Rattle.std.specs.List.{filter}
 use Rattle.book_state.specs.declared.entry.Call.{Call}
 use Rattle.book_state.specs.declared.entry.Call.TheVariants.{Claim as Claims, Mark}
 use Rattle.book_state.specs.declared.entry.Entry.{Entry}
+use Rattle.book_state.specs.declared.entry.PlanKind.{PlanKind}
+use Rattle.book_state.specs.declared.entry.PlanKind.TheVariants.{Given}
 use Rattle.book_state.specs.declared.entry.Reply.{Reply}
 use Rattle.book_state.specs.declared.entry.Reply.TheVariants.{Full}
 
@@ -18,6 +20,18 @@ is_mark e = is_mark_call e.call
 abbrev pub is_claim_call : Call → Bool
 is_claim_call (Claims claim) = true
 is_claim_call _ = false
+
+-- the call claims a tree that was given
+abbrev pub is_given_kind : PlanKind → Bool
+is_given_kind Given = true
+is_given_kind _ = false
+
+abbrev pub is_given_call : Call → Bool
+is_given_call (Claims claim) = is_given_kind claim.kind
+is_given_call _ = false
+
+abbrev pub is_given : Entry → Bool
+is_given e = is_given_call e.call
 
 -- the reply says that a claim found no room
 abbrev pub is_full_reply : Reply → Bool

@@ -4,12 +4,13 @@ ghost use Rattle.book_state.specs.Entries.{is_full_reply};
 
 use gr_base::{Edge, RouteTree};
 
-/// How the tree of a claim was planned: by patterns, or by a maze search in the window of the net's
-/// pins, widened by a margin in tiles.
+/// How the tree of a claim came about: by patterns, or by a maze search in the window of the net's pins,
+/// widened by a margin in tiles; or it was given before the rounds began.
 #[derive(Clone, Copy, Debug, PartialEq, Eq)]
 pub enum PlanKind {
     Pattern,
     Maze { margin: u32 },
+    Given,
 }
 
 /// A call that asks for the tracks of a tree for a net.

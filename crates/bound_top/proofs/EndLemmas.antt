@@ -1,5 +1,5 @@
 -- Which statuses come, and that out gained nothing where memory was wanting.
-use Rattle.std.proofs.Common.{◌≡◌, ℕ, ◌⊎◌, inl, inr, nat_eq, [], ◌∷◌, Option, Some, None, Result, Ok, Err, IsTrue, refl, sym, ap, subst, ◌∙◌, arith}
+use Rattle.std.proofs.Common.{◌≡◌, ℕ, inl, inr, nat_eq, [], ◌∷◌, Option, Some, None, Result, Ok, Err, IsTrue, refl, sym, ap, subst, ◌∙◌, arith}
 use Rattle.std.specs.List.{list_any}
 use Rattle.gr_io.specs.Devices.{Device, Reading, IsUntouched}
 use Rattle.gr_io.specs.declared.shelf.Slot.TheVariants.{Design, Library, Solution}
@@ -40,19 +40,19 @@ module _ (program : Program) (shelf : Reading) (out err told_err : Device) where
         | inr h ↦ at-stop out NoMemory told status h.0 is refl (λ same. unwritten)
       ]
 
-  by-end : (design : _) (via_cost : ℕ) (end : Result Outcome Stop) (status : ℕ) → Leaves (bounding design via_cost) shelf out err None end →
+  by-end : (design : _) (via_cost steps : ℕ) (end : Result Outcome Stop) (status : ℕ) → Leaves (bounding design via_cost steps) shelf out err None end →
       IsUnwritten out end → Finishes program told_err end status → LeavesNoPart out status
-  by-end design via_cost (Ok Whole) status leaves unwritten is = at-status out status 0 is.0 refl (λ same. absurd (omega (arith, same)))
-  by-end design via_cost (Ok Open) status leaves unwritten is = absurd (open-whole leaves.says.2.bounds.whole)
-  by-end design via_cost (Err Usage) status leaves unwritten is = absurd leaves
-  by-end design via_cost (Err (Fault Design number token)) status leaves unwritten is =
+  by-end design via_cost steps (Ok Whole) status leaves unwritten is = at-status out status 0 is.0 refl (λ same. absurd (omega (arith, same)))
+  by-end design via_cost steps (Ok Open) status leaves unwritten is = absurd (open-whole leaves.says.2.bounds.whole)
+  by-end design via_cost steps (Err Usage) status leaves unwritten is = absurd leaves
+  by-end design via_cost steps (Err (Fault Design number token)) status leaves unwritten is =
       told-or-not (Fault Design number token) is.0 status is.1 is.2 refl leaves.0.unwritten
-  by-end design via_cost (Err (Fault Library number token)) status leaves unwritten is = absurd (let read = leaves.0.read in cc)
-  by-end design via_cost (Err (Fault Solution number token)) status leaves unwritten is = absurd (let read = leaves.0.read in cc)
-  by-end design via_cost (Err (NotTree id)) status leaves unwritten is = absurd leaves.0.refuses
-  by-end design via_cost (Err ReadFailed) status leaves unwritten is = at-stop out ReadFailed is.0 status is.1.0 is.2 refl (λ same. leaves.0.unwritten)
-  by-end design via_cost (Err WriteFailed) status leaves unwritten is = at-stop out WriteFailed is.0 status is.1.0 is.2 refl (λ same. absurd (omega (arith, same)))
-  by-end design via_cost (Err NoMemory) status leaves unwritten is = at-stop out NoMemory is.0 status is.1.0 is.2 refl (λ same. unwritten)
+  by-end design via_cost steps (Err (Fault Library number token)) status leaves unwritten is = absurd (let read = leaves.0.read in cc)
+  by-end design via_cost steps (Err (Fault Solution number token)) status leaves unwritten is = absurd (let read = leaves.0.read in cc)
+  by-end design via_cost steps (Err (NotTree id)) status leaves unwritten is = absurd leaves.0.refuses
+  by-end design via_cost steps (Err ReadFailed) status leaves unwritten is = at-stop out ReadFailed is.0 status is.1.0 is.2 refl (λ same. leaves.0.unwritten)
+  by-end design via_cost steps (Err WriteFailed) status leaves unwritten is = at-stop out WriteFailed is.0 status is.1.0 is.2 refl (λ same. absurd (omega (arith, same)))
+  by-end design via_cost steps (Err NoMemory) status leaves unwritten is = at-stop out NoMemory is.0 status is.1.0 is.2 refl (λ same. unwritten)
 
   -- words that ask for nothing
   by-usage : (end : Result Outcome Stop) (status : ℕ) → end ≡ Err Usage → IsUntouched out → Finishes program told_err end status → LeavesNoPart out status
@@ -63,10 +63,10 @@ module _ (program : Program) (shelf : Reading) (out err told_err : Device) where
   pub no-part : (order : Option Order) (end : Result Outcome Stop) (status : ℕ) → LeavesFor (asked_by order) shelf out err None end →
       IsUnwritten out end → Finishes program told_err end status → LeavesNoPart out status
   no-part None end status leaves unwritten is = by-usage end status leaves.0 leaves.1 is
-  no-part (Some (Route design library options)) end status leaves unwritten is = by-usage end status leaves.0 leaves.1 is
+  no-part (Some (Route design library from options)) end status leaves unwritten is = by-usage end status leaves.0 leaves.1 is
   no-part (Some (Evaluate design solution via_cost)) end status leaves unwritten is = by-usage end status leaves.0 leaves.1 is
   no-part (Some (Buffer design library solution)) end status leaves unwritten is = by-usage end status leaves.0 leaves.1 is
   no-part (Some (Make made)) end status leaves unwritten is = by-usage end status leaves.0 leaves.1 is
   no-part (Some (Trial made options)) end status leaves unwritten is = by-usage end status leaves.0 leaves.1 is
   no-part (Some (Panels design solution)) end status leaves unwritten is = by-usage end status leaves.0 leaves.1 is
-  no-part (Some (Bound design via_cost)) end status leaves unwritten is = by-end design via_cost end status leaves unwritten is
+  no-part (Some (Bound design via_cost steps)) end status leaves unwritten is = by-end design via_cost steps end status leaves unwritten is

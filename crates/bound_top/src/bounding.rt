@@ -1,33 +1,38 @@
 //! The command that bounds what routers can do on a design.
-ghost use Rattle.std.specs.Prelude.{◌≤◌, None};
+ghost use Rattle.std.specs.Prelude.{◌≤◌, None, IfOk};
 ghost use Rattle.gr_io.specs.Devices.{device_of, reading_of};
 ghost use Rattle.command_form.specs.Leaving.{LeavesOut, WritesOne};
-ghost use Rattle.bound_top.specs.Bounding.{bounding, IsBoundsText, IsUnwritten};
+ghost use Rattle.command_form.specs.declared.stop.Outcome.TheVariants.{Whole};
+ghost use Rattle.bound_top.specs.Bounding.{bounding, ArePriceLines, Hold, IsBoundsText, IsUnwritten};
 
 use command_form::{Outcome, Stop, open_design};
-use cut_bounds::{bounds_of, bounds_text};
+use cut_bounds::{Bounds, bounds_of, bounds_text};
 use gr_base::Design;
 use gr_io::{Shelf, Sink, write_whole};
-use std::alloc::Global;
+use gr_text::Text;
+use price_bounds::{Floor, price_bounds, prices_text};
+use std::alloc::{AllocError, Global};
 
 /// Reads the design of this name, and writes on out what no solution of it can be better in. A via edge
-/// counts as `via_cost` wire edges, at most 1,000.
+/// counts as `via_cost` wire edges, at most 1,000. With steps, prices are moved as often for each of three
+/// further bounds.
 pub(crate) fn read_and_bound<S: Shelf, O: Sink>(
     alloc: Global,
     shelf: &mut S,
     out: &mut O,
     design: &str,
     via_cost: u32,
+    steps: u32,
 ) -> Result<Outcome, Stop>
     requires { via_cost ≤ 1000 }
-    ensures leaves { LeavesOut (bounding design.now via_cost)
+    ensures leaves { LeavesOut (bounding design.now via_cost steps)
         (reading_of S.tells S.held S.faults S.misses shelf.old shelf.new)
         (device_of O.tells O.faults O.written out.old out.new)
         None result }
     ensures unwritten { IsUnwritten (device_of O.tells O.faults O.written out.old out.new) result }
 {
     let design = open_design(alloc, shelf, design)?;
-    write_bounds(alloc, out, &design, via_cost)
+    write_bounds(alloc, out, &design, via_cost, steps)
 }
 
 /// Writes the bounds of a design on out.
@@ -36,20 +41,53 @@ fn write_bounds<O: Sink>(
     out: &mut O,
     design: &Design,
     via_cost: u32,
+    steps: u32,
 ) -> Result<Outcome, Stop>
     requires { via_cost ≤ 1000 }
-    ensures { WritesOne (IsBoundsText design.now via_cost) (λ stop. ⊥)
+    ensures { WritesOne (IsBoundsText design.now via_cost steps) (λ stop. ⊥)
         (device_of O.tells O.faults O.written out.old out.new)
         result }
 {
-    let Ok(bounds) = bounds_of(alloc, design, via_cost) else {
-        return Err(Stop::NoMemory);
-    };
-    let Ok(text) = bounds_text(alloc, &bounds) else {
+    let Ok(text) = text_of(alloc, design, via_cost, steps) else {
         return Err(Stop::NoMemory);
     };
     match write_whole(out, text.bytes()) {
         Ok(()) => Ok(Outcome::Whole),
         Err(_) => Err(Stop::WriteFailed),
     }
+}
+
+/// The text of the bounds of a design. The only error is want of memory.
+fn text_of(alloc: Global, design: &Design, via_cost: u32, steps: u32) -> Result<Text, AllocError>
+    requires { via_cost ≤ 1000 }
+    ensures { IfOk result (IsBoundsText design.now via_cost steps Whole) }
+{
+    let bounds = bounds_of(alloc, design, via_cost)?;
+    let further = price_lines(alloc, design, &bounds, via_cost, steps)?;
+    let text = bounds_text(alloc, &bounds, further.bytes())?;
+    Ok(text)
+}
+
+/// The lines of the bounds by prices: none without steps. The only error is want of memory.
+fn price_lines(
+    alloc: Global,
+    design: &Design,
+    bounds: &Bounds,
+    via_cost: u32,
+    steps: u32,
+) -> Result<Text, AllocError>
+    requires via_cost { via_cost ≤ 1000 }
+    requires bounds { Hold design.now via_cost bounds.now }
+    ensures { IfOk result (ArePriceLines design.now via_cost bounds.now steps) }
+{
+    if steps == 0 {
+        return Ok(Text::new(alloc));
+    }
+    let floor = Floor {
+        overflow: bounds.overflow(),
+        usable_wirelength: bounds.usable_wirelength(),
+    };
+    let prices = price_bounds(alloc, design, via_cost, steps, floor)?;
+    let lines = prices_text(alloc, prices)?;
+    Ok(lines)
 }

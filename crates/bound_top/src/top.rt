@@ -13,8 +13,9 @@ use gr_io::{Shelf, Sink};
 use std::alloc::Global;
 use word_reader::{Order, Program, read_words};
 
-/// Carries out `DESIGN [--via-cost V]`: reads the design of that name, and writes on out what no edge
-/// sets that join its routed nets can be below, in overflow and in wirelength, and the fullest walls.
+/// Carries out `DESIGN [--steps K] [--via-cost V]`: reads the design of that name, and writes on out what
+/// no edge sets that join its routed nets can be below, in overflow and in wirelength, and the fullest
+/// walls. With steps, also what they can't be below by prices, which are moved K times for each figure.
 ///
 /// Status 0: done. 2: the words ask for nothing. 3: the design's text is at fault. 6: a read failed,
 /// or the name is missing. 7: a write failed. 8: out of memory. At 2 to 6 and at 8 a line on err tells
@@ -52,9 +53,13 @@ fn carry_out<S: Shelf, O: Sink>(
     ensures unwritten { IsUnwritten (device_of O.tells O.faults O.written out.old out.new) result }
 {
     match read_words(Program::Grbound, words) {
-        Ok(Order::Bound { design, via_cost }) => {
-            read_and_bound(alloc, shelf, out, design, via_cost)
-        }
+        Ok(
+            Order::Bound {
+                design,
+                via_cost,
+                steps,
+            },
+        ) => { read_and_bound(alloc, shelf, out, design, via_cost, steps) }
         _ => Err(Stop::Usage),
     }
 }

@@ -49,7 +49,7 @@ length-cons_option : {B : Type 0} (o : Option B) (ys : List B) (n : ℕ) → len
 length-cons_option None ys n few = omega arith
 length-cons_option (Some y) ys n few = omega arith
 
-length-filter_map : {A B : Type 0} (h : A → Option B) (xs : List A) → length (filter_map h xs) ≤ length xs
+pub length-filter_map : {A B : Type 0} (h : A → Option B) (xs : List A) → length (filter_map h xs) ≤ length xs
 length-filter_map h [] = omega arith
 length-filter_map h (x ∷ xs) = length-cons_option (h x) (filter_map h xs) (length xs) (length-filter_map h xs)
 
@@ -112,47 +112,55 @@ sums-most f h x (suc n) p below here each = elim (cases_eq p n) [
 abbrev one : ℕ → ℕ
 one node = 1
 
+-- counts of candidates beyond one each, where so many last nodes are hung: none at first, and at a node that is hung its
+-- parent's grows by its own and by the kinds
+pub record IsCount (s : Sites) (count : ℕ → ℕ → ℕ) : Type 0 where
+  pub start : (v : ℕ) → count 0 v ≡ 0
+  pub hung : (n k : ℕ) → k + suc n ≡ s.tree.nodes →
+      count (suc n) (s.tree.parent k) ≤ count n (s.tree.parent k) + (count n k + length s.library.kinds)
+  pub other : (n k v : ℕ) → k + suc n ≡ s.tree.nodes → v ≢ s.tree.parent k → count (suc n) v ≡ count n v
+
 -- the candidates at v and at the nodes below it that aren't hung yet, beyond one each, are as many as the kinds times the hung ones allow
-few-within : (n k v : ℕ) (s : Sites) → IsRcTree s.tree → v < k → k + n ≡ s.tree.nodes →
-    sums (only (is_within s.tree v) (more n s)) k + length s.library.kinds * sums (only (lies_below s.tree v) one) k
+few-within : (n k v : ℕ) (s : Sites) (more : ℕ → ℕ → ℕ) → IsCount s more → IsRcTree s.tree → v < k → k + n ≡ s.tree.nodes →
+    sums (only (is_within s.tree v) (more n)) k + length s.library.kinds * sums (only (lies_below s.tree v) one) k
     ≤ length s.library.kinds * sums (only (lies_below s.tree v) one) s.tree.nodes
-few-within zero k v s tree later at =
-    let none : sums (only (is_within s.tree v) (more zero s)) k ≡ 0 =
-    sums-none (only (is_within s.tree v) (more zero s)) k (λ u lt. nothing (is_within s.tree v u) (more zero s u) (omega arith)) in
+few-within zero k v s more is tree later at =
+    let none : sums (only (is_within s.tree v) (more zero)) k ≡ 0 =
+    sums-none (only (is_within s.tree v) (more zero)) k (λ u lt. nothing (is_within s.tree v u) (more zero u) (is.start u)) in
     let same = ap (λ (m : ℕ). length s.library.kinds * sums (only (lies_below s.tree v) one) m) (let e : k ≡ s.tree.nodes = omega arith in e) in
     omega (arith, none, same)
   where
     nothing : (p : Bool) (n : ℕ) → n ≡ 0 → (if p then n else 0) ≡ 0
     nothing true n none = none
     nothing false n none = refl
-few-within (suc n) k v s tree later at =
+few-within (suc n) k v s more is tree later at =
     let q = s.tree.parent k in
     let kinds : ℕ = length s.library.kinds in
-    let f : ℕ → ℕ = only (is_within s.tree v) (more n s) in
-    let h : ℕ → ℕ = only (is_within s.tree v) (more (suc n) s) in
+    let f : ℕ → ℕ = only (is_within s.tree v) (more n) in
+    let h : ℕ → ℕ = only (is_within s.tree v) (more (suc n)) in
     let count : ℕ → ℕ = only (lies_below s.tree v) one in
     let earlier = tree.earlier k (omega arith) (omega arith) in
-    let rest = few-within n (suc k) v s tree (omega arith) (omega arith) in
+    let rest = few-within n (suc k) v s more is tree (omega arith) (omega arith) in
     let others : (u : ℕ) → u < k → u ≢ q → h u ≡ f u = λ u lt other.
-    ap (λ (os : List Candidate). if is_within s.tree v u then length os - 1 else 0) (candidates-other n k u s at other) in
+    ap (λ (m : ℕ). if is_within s.tree v u then m else 0) (is.other n k u at other) in
     elim (cases_Bool (is_within s.tree v k)) [
       | inl within ↦
           let upper : is_within s.tree v q ≡ true = sym (within-more s.tree v k tree later (omega arith)) ∙ within in
           let under : lies_below s.tree v k ≡ true = sym (within-below s.tree v k later) ∙ within in
-          let grows = more-hung n k s at in
-          let first : f k ≡ more n s k = cond-true (is_within s.tree v k) (more n s k) 0 within in
-          let second : f q ≡ more n s q = cond-true (is_within s.tree v q) (more n s q) 0 upper in
-          let third : h q ≡ more (suc n) s q = cond-true (is_within s.tree v q) (more (suc n) s q) 0 upper in
+          let grows = is.hung n k at in
+          let first : f k ≡ more n k = cond-true (is_within s.tree v k) (more n k) 0 within in
+          let second : f q ≡ more n q = cond-true (is_within s.tree v q) (more n q) 0 upper in
+          let third : h q ≡ more (suc n) q = cond-true (is_within s.tree v q) (more (suc n) q) 0 upper in
           let fourth : count k ≡ 1 = cond-true (lies_below s.tree v k) 1 0 under in
-          let most = sums-most f h (more n s k + kinds) k q earlier (omega (arith, grows, second, third)) others in
+          let most = sums-most f h (more n k + kinds) k q earlier (omega (arith, grows, second, third)) others in
           let product : kinds * (sums count k + 1) ≡ kinds * sums count k + kinds = omega arith in
           let next : kinds * sums count (suc k) ≡ kinds * (sums count k + 1) = ap (λ (m : ℕ). kinds * (sums count k + m)) fourth in
           omega (arith, rest, most, first, product, next)
       | inr apart ↦
           let upper : is_within s.tree v q ≡ false = sym (within-more s.tree v k tree later (omega arith)) ∙ apart in
           let under : lies_below s.tree v k ≡ false = sym (within-below s.tree v k later) ∙ apart in
-          let first : f k ≡ 0 = cond-false (is_within s.tree v k) (more n s k) 0 apart in
-          let third : h q ≡ 0 = cond-false (is_within s.tree v q) (more (suc n) s q) 0 upper in
+          let first : f k ≡ 0 = cond-false (is_within s.tree v k) (more n k) 0 apart in
+          let third : h q ≡ 0 = cond-false (is_within s.tree v q) (more (suc n) q) 0 upper in
           let fourth : count k ≡ 0 = cond-false (lies_below s.tree v k) 1 0 under in
           let most = sums-most f h 0 k q earlier (omega (arith, third)) others in
           let next : kinds * sums count (suc k) ≡ kinds * (sums count k + 0) = ap (λ (m : ℕ). kinds * (sums count k + m)) fourth in
@@ -164,15 +172,29 @@ length-sum : (xs : List ℕ) → sum_by one xs ≡ length xs
 length-sum [] = refl
 length-sum (x ∷ xs) = let rest = length-sum xs in let first = sum_by-cons one x xs in omega (arith, rest, first)
 
-pub few-at : (l : LoadingView) (v : ℕ) → IsLoading l → v < length l.tree.nodes →
-    length (candidates_at l v) ≤ 1 + length l.library.kinds * length (nodes_below (rc_of l) v)
-few-at l v loading inside =
+-- so at a node there are at most as many as the kinds times the nodes below it, and one
+pub few-counted : (l : LoadingView) (v : ℕ) (more : ℕ → ℕ → ℕ) → IsCount (sites_of l) more → IsLoading l → v < length l.tree.nodes →
+    more (length l.tree.nodes - suc v) v ≤ length l.library.kinds * length (nodes_below (rc_of l) v)
+few-counted l v more is loading inside =
     let s = sites_of l in
     let n : ℕ = length l.tree.nodes - suc v in
     let kinds : ℕ = length l.library.kinds in
-    let few = few-within n (suc v) v s (rc-tree l loading) (omega arith) (omega arith) in
-    let own : only (is_within s.tree v) (more n s) v ≡ more n s v = cond-true (is_within s.tree v v) (more n s v) 0 (within-itself s.tree v) in
+    let few = few-within n (suc v) v s more is (rc-tree l loading) (omega arith) (omega arith) in
+    let own : only (is_within s.tree v) (more n) v ≡ more n v = cond-true (is_within s.tree v v) (more n v) 0 (within-itself s.tree v) in
     let nodes : sums (only (lies_below s.tree v) one) s.tree.nodes ≡ length (nodes_below s.tree v) =
     sym (sum-passing (lies_below s.tree v) one s.tree.nodes) ∙ length-sum (nodes_below s.tree v) in
     let product = ap (λ (m : ℕ). kinds * m) nodes in
     omega (arith, few, own, product)
+
+few-more : (s : Sites) → IsCount s (λ n v. more n s v)
+few-more s = record {
+  start = λ v. omega arith;
+  hung = λ n k at. more-hung n k s at;
+  other = λ n k v at apart. ap (λ (os : List Candidate). length os - 1) (candidates-other n k v s at apart);
+}
+
+pub few-at : (l : LoadingView) (v : ℕ) → IsLoading l → v < length l.tree.nodes →
+    length (candidates_at l v) ≤ 1 + length l.library.kinds * length (nodes_below (rc_of l) v)
+few-at l v loading inside =
+    let few = few-counted l v (λ n u. more n (sites_of l) u) (few-more (sites_of l)) loading inside in
+    omega (arith, few)

@@ -55,32 +55,9 @@ seen-within (suc n) k v t b c tree later at each =
       | inr other ↦ seen-other n k v t b at other ∙ own ∙ sym (seen-other n k v t c at other)
     ]
 
--- a selection of candidates with a given one at v
+-- what is held, with which each of a selection of candidates is seen and chosen: the placement that the one at v names
 module _ (l : LoadingView) (v n : ℕ) (loading : IsLoading l) (at : suc v + n ≡ length l.tree.nodes) (o : Candidate)
-    (among : Contains (candidates_of_last n (sites_of l) v) o) where
-  abbrev any_at : (u : ℕ) → (x : Candidate) × Contains (candidates_of_last n (sites_of l) u) x
-  any_at u =
-      let served = complete n (suc v) u (sites_of l) (λ node. None) at (λ node. tt) in
-      (served.by, served.among)
-
-  abbrev selected : ℕ → Candidate
-  selected u = if u == v then o else (any_at u).0
-
-  selected-v : selected v ≡ o
-  selected-v = if-same v v o (any_at v).0 refl
-
-  selected-each : (u : ℕ) → u < suc v → Contains (candidates_of_last n (sites_of l) u) (selected u)
-  selected-each u below = elim (cases_eq u v) [
-    | inl same ↦
-        subst (λ (x : Candidate). Contains (candidates_of_last n (sites_of l) u) x) (sym (if-same u v o (any_at u).0 same))
-        (subst (λ (w : ℕ). Contains (candidates_of_last n (sites_of l) w) o) (sym same) among)
-    | inr other ↦
-        subst (λ (x : Candidate). Contains (candidates_of_last n (sites_of l) u) x) (sym (if-other u v o (any_at u).0 other)) (any_at u).1
-  ]
-
-  found : IsReal n (suc v) (sites_of l) selected
-  found = real n (suc v) (sites_of l) selected (rc-tree l loading) (omega arith) at selected-each
-
+    (selected : ℕ → Candidate) (selected-v : selected v ≡ o) (found : IsReal n (suc v) (sites_of l) selected) where
   -- the named placement holds below v what is found, and else nothing
   named-at : (node : ℕ) (d : Option ℕ) → node < length l.tree.nodes →
       slice_index_or (placement_of l o.chosen) node d ≡ (if lies_below (rc_of l) v node then found.held node else None)
@@ -89,7 +66,7 @@ module _ (l : LoadingView) (v n : ℕ) (loading : IsLoading l) (at : suc v + n �
       ∙ ap (λ (c : Chosen). chosen_at c node) (sym (found.chosen v (omega arith) ∙ ap (λ (x : Candidate). x.chosen) selected-v))
       ∙ chosen-below n v node (rc_of l) found.held (rc-tree l loading) at within
 
-  named-below : (node : ℕ) (d : Option ℕ) → node < length l.tree.nodes → lies_below (rc_of l) v node ≡ true →
+  pub named-below : (node : ℕ) (d : Option ℕ) → node < length l.tree.nodes → lies_below (rc_of l) v node ≡ true →
       slice_index_or (placement_of l o.chosen) node d ≡ found.held node
   named-below node d within under = named-at node d within ∙ cond-true (lies_below (rc_of l) v node) (found.held node) None under
 
@@ -131,7 +108,7 @@ module _ (l : LoadingView) (v n : ℕ) (loading : IsLoading l) (at : suc v + n �
       ∙ found.seen v (omega arith)
       ∙ ap (λ (x : Candidate). x.seen) selected-v
 
-  named-real : IsRealAt l v o
+  pub named-real : IsRealAt l v o
   named-real =
       let long = length-map-range_with_len (chosen_at o.chosen) 0 (length l.tree.nodes) in
       record {
@@ -144,6 +121,35 @@ module _ (l : LoadingView) (v n : ℕ) (loading : IsLoading l) (at : suc v + n �
         seen = named-seen;
       }
 
+-- a selection of candidates with a given one at v
+module _ (l : LoadingView) (v n : ℕ) (loading : IsLoading l) (at : suc v + n ≡ length l.tree.nodes) (o : Candidate)
+    (among : Contains (candidates_of_last n (sites_of l) v) o) where
+  abbrev any_at : (u : ℕ) → (x : Candidate) × Contains (candidates_of_last n (sites_of l) u) x
+  any_at u =
+      let served = complete n (suc v) u (sites_of l) (λ node. None) at (λ node. tt) in
+      (served.by, served.among)
+
+  abbrev selected : ℕ → Candidate
+  selected u = if u == v then o else (any_at u).0
+
+  selected-v : selected v ≡ o
+  selected-v = if-same v v o (any_at v).0 refl
+
+  selected-each : (u : ℕ) → u < suc v → Contains (candidates_of_last n (sites_of l) u) (selected u)
+  selected-each u below = elim (cases_eq u v) [
+    | inl same ↦
+        subst (λ (x : Candidate). Contains (candidates_of_last n (sites_of l) u) x) (sym (if-same u v o (any_at u).0 same))
+        (subst (λ (w : ℕ). Contains (candidates_of_last n (sites_of l) w) o) (sym same) among)
+    | inr other ↦
+        subst (λ (x : Candidate). Contains (candidates_of_last n (sites_of l) u) x) (sym (if-other u v o (any_at u).0 other)) (any_at u).1
+  ]
+
+  found : IsReal n (suc v) (sites_of l) selected
+  found = real n (suc v) (sites_of l) selected (rc-tree l loading) (omega arith) at selected-each
+
+  pub real-one : IsRealAt l v o
+  real-one = named-real l v n loading at o selected selected-v found
+
 pub real-at : (l : LoadingView) (v : ℕ) → IsLoading l → v < length l.tree.nodes → AreReal l v (candidates_at l v)
 real-at l v loading inside k d below =
-    named-real l v (length l.tree.nodes - suc v) loading (omega arith) (slice_index_or (candidates_at l v) k d) (All-contains_itself (candidates_at l v) k d below)
+    real-one l v (length l.tree.nodes - suc v) loading (omega arith) (slice_index_or (candidates_at l v) k d) (All-contains_itself (candidates_at l v) k d below)

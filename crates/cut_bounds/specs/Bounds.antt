@@ -36,11 +36,12 @@ taken_text b =
     number_line (codes "row cuts") b.rows ++
     number_line (codes "boxes") b.boxes
 
--- the figures, and the fullest walls, a line each
-abbrev pub bounds_text : BoundsView → List ℕ
-bounds_text b =
+-- the figures, further lines, and the fullest walls, a line each
+abbrev pub bounds_text : BoundsView → (further : List ℕ) → List ℕ
+bounds_text b further =
     number_line (codes "overflow at least") b.overflow ++
     number_line (codes "wirelength at least") b.wirelength ++
     number_line (codes "usable wirelength at least") b.usable_wirelength ++
+    further ++
     taken_text b ++
     flat_map wall_line b.fullest

@@ -1,4 +1,6 @@
 //! The bounds of a design.
+ghost use Rattle.std.specs.Prelude.{◌≡◌};
+
 use crate::wall::MeasuredWall;
 use std::marker::Model;
 
@@ -22,4 +24,20 @@ impl Model for Bounds {
     ghost Value = { BoundsView };
 
     ghost view = { seen };
+}
+
+impl Bounds {
+    /// What total overflow is at least.
+    pub fn overflow(&self) -> u128
+        ensures { result ≡ self.now.overflow }
+    {
+        self.overflow
+    }
+
+    /// What wirelength along usable edges is at least.
+    pub fn usable_wirelength(&self) -> u128
+        ensures { result ≡ self.now.usable_wirelength }
+    {
+        self.usable_wirelength
+    }
 }

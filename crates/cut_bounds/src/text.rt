@@ -10,16 +10,17 @@ use crate::wall::{MeasuredWall, TileBox, Wall};
 use gr_text::Text;
 use std::alloc::{AllocError, Global};
 
-/// The lines `overflow at least`, `wirelength at least`, `usable wirelength at least`, `column cuts`,
-/// `row cuts` and `boxes`, each with its number, and a line for each of the fullest walls: its word and
-/// numbers, what is needed of it and what it holds. The only error is want of memory.
-pub fn bounds_text(alloc: Global, bounds: &Bounds) -> Result<Text, AllocError>
-    ensures { IfOk result (λ text. text ≡ bounds_text bounds.now) }
+/// The lines `overflow at least`, `wirelength at least`, `usable wirelength at least`, further ones, then
+/// `column cuts`, `row cuts` and `boxes`, each with its number, and a line for each of the fullest walls:
+/// its word and numbers, what is needed of it and what it holds. The only error is want of memory.
+pub fn bounds_text(alloc: Global, bounds: &Bounds, further: &[u8]) -> Result<Text, AllocError>
+    ensures { IfOk result (λ text. text ≡ bounds_text bounds.now further.now) }
 {
     let mut text = Text::new(alloc);
     text.put_number_line(b"overflow at least", bounds.overflow)?;
     text.put_number_line(b"wirelength at least", bounds.wirelength)?;
     text.put_number_line(b"usable wirelength at least", bounds.usable_wirelength)?;
+    text.put(further)?;
     put_taken(&mut text, bounds)?;
     put_walls(&mut text, &bounds.fullest)?;
     Ok(text)

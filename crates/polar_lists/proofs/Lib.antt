@@ -4,6 +4,8 @@ pub mod BothServed
 pub mod BothReal
 pub mod BothSmall
 pub mod LegalLemmas
+pub mod BelowSignals
+pub mod NodeSignals
 pub mod BothGathering
 pub mod BothSteps
 pub mod BothJoined

@@ -67,7 +67,7 @@ served-same (suc n) k v t lib p q inverted at each =
     ]
 
 -- the signal below a node is that below its parent, inverted by the inverter that it may hold; below node 0 it is plain
-odd-more : (lib : LibraryView) (held : Option ℕ) (path : List ℕ) (p : Held) (node : ℕ) → p node ≡ held →
+pub odd-more : (lib : LibraryView) (held : Option ℕ) (path : List ℕ) (p : Held) (node : ℕ) → p node ≡ held →
     is_odd (count_by (λ (above : ℕ). is_inverter lib (p above)) (node ∷ path))
     ≡ below_it (is_inverter lib held) (is_odd (count_by (λ (above : ℕ). is_inverter lib (p above)) path))
 odd-more lib held path p node is =
@@ -90,13 +90,13 @@ pub inverted-root : (t : RcTree) (lib : LibraryView) (p : Held) → p 0 ≡ None
 inverted-root t lib p none = odd-more lib None [] p 0 none
 
 -- a sink wants the signal that it gets
-right : (inverted flipped : Bool) → (if inverted then flipped else not flipped) ≡ true → inverted ≡ flipped
+pub right : (inverted flipped : Bool) → (if inverted then flipped else not flipped) ≡ true → inverted ≡ flipped
 right true true is = refl
 right true false is = sym is
 right false true is = is
 right false false is = refl
 
-suited : (inverted flipped : Bool) → inverted ≡ flipped → (if inverted then flipped else not flipped) ≡ true
+pub suited : (inverted flipped : Bool) → inverted ≡ flipped → (if inverted then flipped else not flipped) ≡ true
 suited true true is = refl
 suited true false is = sym is
 suited false true is = is
@@ -105,10 +105,10 @@ suited false false is = refl
 abbrev pub AreServed : (ℕ → Bool) → List Sink → Type 0
 AreServed signal sinks = All (λ (sink : Sink). signal sink.node ≡ sink.flipped) sinks
 
-abbrev at_node : ℕ → Sink → Bool
+abbrev pub at_node : ℕ → Sink → Bool
 at_node v sink = sink.node == v
 
-suited-rest : (signal : ℕ → Bool) (sink : Sink) (rest : List Sink) (v : ℕ) → list_all (suits (signal v)) (filter (at_node v) (sink ∷ rest)) ≡ true →
+pub suited-rest : (signal : ℕ → Bool) (sink : Sink) (rest : List Sink) (v : ℕ) → list_all (suits (signal v)) (filter (at_node v) (sink ∷ rest)) ≡ true →
     list_all (suits (signal v)) (filter (at_node v) rest) ≡ true
 suited-rest signal sink rest v all = elim (cases_Bool (at_node v sink)) [
   | inl here ↦ (and_parts (suits (signal v) sink) (list_all (suits (signal v)) (filter (at_node v) rest))
@@ -140,7 +140,7 @@ nodes-from_served signal (sink ∷ rest) v are =
       | inr other ↦ ap (list_all (suits (signal v))) (filter-no (at_node v) sink rest other) ∙ later
     ]
 
-both-true : (x y : Bool) → x ≡ true → y ≡ true → (x && y) ≡ true
+pub both-true : (x y : Bool) → x ≡ true → y ≡ true → (x && y) ≡ true
 both-true x y first second = ap (λ (b : Bool). b && y) first ∙ second
 
 -- each sink gets what it wants exactly where each node that isn't hung yet says so

@@ -1,4 +1,5 @@
 pub mod Polarity
 pub mod Signals
+pub mod SignalsBelow
 pub mod BothLists
 pub mod PolarPlans

@@ -13,6 +13,6 @@ mod side;
 mod sides;
 
 pub use error::PolarError;
-pub use laws::picked_legal_is_best;
+pub use laws::{candidates_for_signals, picked_legal_is_best};
 pub use nets::plan_all_polar;
 pub use planner::PolarPlanner;

@@ -179,7 +179,7 @@ pub tried-legal : (d : DesignView) (formula : Formula) (c : CapacityView) (round
     ((p : PassView) (h : HandView) → slice_get old 0 ≡ Some p → slice_get hands 0 ≡ Some h → HasAttemptedOver d formula round h.taken p q) → IsLegal c q.seen
 tried-legal d formula c round is old hands q first tried =
     subst (λ (k : CapacityView). IsLegal k q.seen) (sym is)
-    (tried first.p first.h first.p_there first.h_there (asked_for d formula 0 0 Never 0) (record { design = refl; formula_is = refl })).legal
+    (tried first.p first.h first.p_there first.h_there (asked_for d [] formula 0 0 Never 0) (record { design = refl; formula_is = refl })).legal
 
 -- the hands of members that have just been given out
 pub hands-of : {M : Type 0} (hand : M → HandView) (s : ShareView) (xs : List M) (hands : List HandView) → map hand xs ≡ hands → ((at : ℕ) (h : HandView) → slice_get hands at ≡ Some h → IsNewHand s at h) →

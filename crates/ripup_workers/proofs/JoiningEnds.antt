@@ -1,24 +1,20 @@
--- The begin of the rounds of several workers, what comes after a mark, and the end.
-use Rattle.std.proofs.Common.{◌≡◌, ◌⊎◌, ℕ, suc, zero, ◌+◌, ◌<◌, ◌≤◌, inl, inr, Bool, true, false, ◌==◌, List, [], ◌∷◌, ◌++◌, filter, length, take, All, Option, Some, None, is_some, slice_get, IsSome, IsTrue, if◌then◌else◌, refl, sym, ap, subst, ◌∙◌, arith}
+-- What comes after a mark in the rounds of several workers, and the end.
+use Rattle.std.proofs.Common.{◌≡◌, ◌⊎◌, ℕ, suc, zero, ◌+◌, ◌<◌, ◌≤◌, inl, inr, Bool, true, false, ◌||◌, ◌==◌, List, [], ◌∷◌, ◌++◌, filter, length, take, All, Option, Some, None, is_some, slice_get, IsSome, IsTrue, if◌then◌else◌, refl, sym, ap, subst, ◌∙◌, arith}
 use Rattle.std.specs.List.{fold, range_with_len}
 use Rattle.std.proofs.lemmas.Bool.{cases_Bool, both_ways}
 use Rattle.std.proofs.lemmas.Bool.Decides.{nat_tests}
 use Rattle.std.proofs.lemmas.List.{append-nil, length-map, nil_from_length}
-use Rattle.std.proofs.lemmas.List.Elements.{All-nil, All-cons, All-head, All-tail, All-weaker, All-filter, filter_passes}
-use Rattle.std.proofs.lemmas.Option.{none-some}
+use Rattle.std.proofs.lemmas.List.Elements.{All-nil, All-cons, All-weaker, All-filter, filter_passes}
 use Rattle.cost_rules.specs.declared.sight.Going.{Going}
 use Rattle.cost_rules.specs.declared.sight.Going.TheVariants.{On, Stop}
-use Rattle.gr_base.proofs.DesignLemmas.{routed-below}
 use Rattle.gr_base.specs.Designs.{DesignView, is_routed}
-use Rattle.gr_base.proofs.General.{filter-yes}
 use Rattle.gr_base.specs.Trees.{TreeView}
 use Rattle.gr_base.specs.declared.frame.Net.{Net}
 use Rattle.grid_demand.specs.Tables.{CapacityView, capacity_of}
-use Rattle.book_front.proofs.Prefixes.{prefix-none, prefix-then}
+use Rattle.book_front.proofs.Prefixes.{prefix-then}
 use Rattle.book_state.proofs.BookingLaws.{victim-booked}
-use Rattle.book_state.proofs.LegalHistories.{legal-nothing}
 use Rattle.book_state.proofs.ReplicaSteps.{take-entry}
-use Rattle.book_state.specs.Books.{nets_of, booked, overflow_after, reply_to, victims, is_victim, IsLegal}
+use Rattle.book_state.specs.Books.{nets_of, booked, overflow_after, reply_to, victims, is_victim}
 use Rattle.book_state.specs.Cuts.{cut}
 use Rattle.book_state.specs.Entries.{AtEach, is_mark, is_mark_call, calls_of}
 use Rattle.book_state.specs.Marks.{overflow_in, least_mark}
@@ -33,64 +29,12 @@ use Rattle.run_histories.proofs.RangeCounts.{times-kept}
 use Rattle.run_histories.proofs.RoutedTrees.{attempts-stand}
 use Rattle.run_histories.proofs.StandLemmas.{victims-routed, mark-stands, least-place, least-call, some-least}
 use Rattle.run_histories.proofs.TurnLemmas.{routed-within}
-use Rattle.track_book.specs.Passes.{PassView, IsNew, IsIn, IsClosed}
+use Rattle.track_book.specs.Passes.{PassView, IsIn, IsClosed}
 use Rattle.track_book.proofs.Dealing.{get-there}
-use Rattle.ripup_workers.specs.Closing.{AreNew}
-use Rattle.ripup_workers.specs.Rounding.{AreOf, HasSeen, IsNext, HasEnded, AreBefore, AreBehind, IsRoundOver, HaveRun, is_stop, is_stop_at}
+use Rattle.ripup_workers.specs.Rounding.{AreOf, IsNext, HasEnded, AreBefore, AreBehind, IsRoundOver, HaveRun, is_stop, is_stop_at, due_after}
 use Rattle.work_share.specs.Views.{times}
-use Rattle.ripup_workers.proofs.JoiningLists.{all-prefix, same-history}
+use Rattle.ripup_workers.proofs.JoiningLists.{filter-all, all-prefix, same-history}
 use Rattle.ripup_workers.proofs.JoiningSegments.{mark-call}
-use Rattle.run_histories.proofs.KeptRules.{first-rules}
-use Rattle.run_histories.specs.RunHistories.{routed_nets}
-
--- at the begin nothing is seen
-new-seen : (c : CapacityView) (number : ℕ) (p : PassView) → IsNew number p → HasSeen c [] p
-new-seen c number p new = record {
-  pass = record {
-    legal = subst (IsLegal c) (sym new.seen) (legal-nothing c);
-    calls = new.mine ∙ ap (λ (l : List Entry). calls_of p.number l) (sym new.seen);
-  };
-  begins = prefix-none p.seen;
-  own = ap (λ (l : List Entry). calls_of p.number l) new.seen;
-}
-
-first-next : (t : Setting) → IsNext t 0 (routed_nets t.design) None []
-unfolding cut
-first-next t = record {
-  done = record {
-    rules = first-rules t;
-    round_is = refl;
-    segment = refl;
-  };
-  due = λ net. times-kept (is_routed t.design) (length t.design.nets) net (routed-below t.design net);
-  asked = λ later. absurd (omega (arith, later));
-  overflow_is = refl;
-}
-
-pub rounds-begin : (t : Setting) (nets : List ℕ) (coordinator : PassView) (workers : List PassView) → AreNew t coordinator workers → nets ≡ routed_nets t.design → AreBefore t 0 nets None coordinator workers
-rounds-begin t nets coordinator workers new nets_are = record {
-  h = [];
-  at = record {
-    count = new.count;
-    number = new.first.number_is;
-    seen = new-seen (capacity_of t.design) 0 coordinator new.first;
-    each = λ place p there. (
-        let one = new.each place p there in
-        record {
-          number_is = one.number_is;
-          seen = new-seen (capacity_of t.design) (place + 1) p one;
-          planned = λ at e seen. absurd (none-some e (sym (ap (λ (l : List Entry). slice_get l at) one.seen) ∙ seen));
-        });
-  };
-  next = λ numbers. subst (λ (ns : List ℕ). IsNext t 0 ns None []) (sym nets_are) (first-next t);
-}
-
--- the victims are routed, and so are all kept
-filter-all : {A : Type 0} (test : A → Bool) (xs : List A) → All (λ x. IsTrue (test x)) xs → filter test xs ≡ xs
-filter-all test [] all = refl
-filter-all test (x ∷ xs) all =
-    filter-yes test x xs (All-head (λ y. IsTrue (test y)) x xs all)
-    ∙ ap (λ (l : List _). x ∷ l) (filter-all test xs (All-tail (λ y. IsTrue (test y)) x xs all))
 
 -- they are nets of the design
 all-below : (from n : ℕ) → All (λ (k : ℕ). k < from + n) (range_with_len from n)
@@ -110,16 +54,6 @@ victims-of_design d c h nets found is same found_are =
     let count : nets_of c ≡ length (capacity_of d).widths = ap nets_of is in
     subst (All (λ (net : ℕ). net < length d.nets)) (sym (same ∙ found_are))
     (All-weaker (λ (net : ℕ). net < nets_of c) (λ (net : ℕ). net < length d.nets) (λ net below. omega (arith, below, long, count)) (victims c h) (victims-below c h))
-
-pub none-nets : (count : ℕ) (nets : List ℕ) → length nets ≡ count → true ≡ (count == 0) → nets ≡ []
-none-nets count nets is test =
-    let none : count ≡ 0 = grind (arith, nat_tests) in
-    nil_from_length nets (omega (arith, is, none))
-
-pub some-nets : (count : ℕ) (nets : List ℕ) → length nets ≡ count → false ≡ (count == 0) → 0 < length nets
-some-nets count nets is test =
-    let some : 0 < count = grind (arith, nat_tests) in
-    omega (arith, is, some)
 
 pub filter-passed : (test : ℕ → Bool) (xs : List ℕ) → All (λ (x : ℕ). IsTrue (test x)) (filter test xs)
 filter-passed test xs = filter_passes test xs
@@ -184,7 +118,7 @@ module _ (t : Setting) (round overflow : ℕ) (before : Option ℕ) (found nets 
   run-from h ended over =
       let rules = ended.done.rules in
       record {
-        attempts = record { legal = rules.legal; last = ended.last; numbers = rules.numbers; plans = rules.plans; whole = rules.whole; due = rules.due };
+        attempts = record { legal = rules.legal; given = rules.given; last = ended.last; numbers = rules.numbers; plans = rules.plans; whole = rules.whole; due = rules.due };
         granted = rules.granted;
         asked = rules.asked;
         over = by over;
@@ -199,14 +133,36 @@ module _ (t : Setting) (round overflow : ℕ) (before : Option ℕ) (found nets 
       (nets ≡ []) ⊎ ((is_stop_at t overflow before ≡ true) ⊎ (round ≡ t.rounds)) → HaveRun t coordinator workers
   stops coordinator workers behind over = record { h = behind.h; at = behind.at; run = λ numbers. run-from behind.h (behind.ended numbers) over }
 
+-- how many nets the next round has
+after-some : (last stop : Bool) (nets : ℕ) → 0 < (if last || stop then 0 else nets) → (last ≡ false) × (stop ≡ false) × (0 < nets)
+after-some true stop nets some = absurd (omega (arith, some))
+after-some false true nets some = absurd (omega (arith, some))
+after-some false false nets some = (refl, refl, some)
+
+after-none : (last stop : Bool) (nets : ℕ) → (if last || stop then 0 else nets) ≡ 0 → (nets ≡ 0) ⊎ ((stop ≡ true) ⊎ (last ≡ true))
+after-none true stop nets none = inr (inr refl)
+after-none false true nets none = inr (inl refl)
+after-none false false nets none = inl none
+
 -- the same of a round that has been run
 module _ (t : Setting) (round overflow : ℕ) (before : Option ℕ) (nets kept : List ℕ) (coordinator new : PassView) (workers after : List PassView)
     (over : IsRoundOver t round overflow nets kept coordinator new workers after) (at : AreBefore t round nets before coordinator workers) where
-  pub round-goes_on : 0 < length kept → is_stop_at t overflow before ≡ false → round + 1 ≤ t.rounds → AreBefore t (round + 1) kept (Some overflow) new after
-  round-goes_on = goes-on t round overflow before over.victims kept over.kept_are new after (over.behind before at)
+  pub round-goes_on : (count : ℕ) → count ≡ length kept → 0 < due_after t round overflow before count → round ≤ t.rounds → (round + 1 ≤ t.rounds) × AreBefore t (round + 1) kept (Some overflow) new after
+  round-goes_on count count_is some few =
+      let on = after-some (round == t.rounds) (is_stop_at t overflow before) count some in
+      let any = on.2 in
+      let other = on.0 in
+      let more : round + 1 ≤ t.rounds = grind (arith, nat_tests) in
+      (more, goes-on t round overflow before over.victims kept over.kept_are new after (over.behind before at) (omega (arith, any, count_is)) on.1 more)
 
-  pub round-stops : (kept ≡ []) ⊎ ((is_stop_at t overflow before ≡ true) ⊎ (round ≡ t.rounds)) → HaveRun t new after
-  round-stops = stops t round overflow before over.victims kept over.kept_are new after (over.behind before at)
+  pub round-stops : (count : ℕ) → count ≡ length kept → due_after t round overflow before count ≡ 0 → HaveRun t new after
+  round-stops count count_is none =
+      stops t round overflow before over.victims kept over.kept_are new after (over.behind before at) (by (after-none (round == t.rounds) (is_stop_at t overflow before) count none))
+    where
+      by : (count ≡ 0) ⊎ ((is_stop_at t overflow before ≡ true) ⊎ ((round == t.rounds) ≡ true)) → (kept ≡ []) ⊎ ((is_stop_at t overflow before ≡ true) ⊎ (round ≡ t.rounds))
+      by (inl empty) = inl (nil_from_length kept (omega (arith, count_is, empty)))
+      by (inr (inl stop)) = inr (inl stop)
+      by (inr (inr last)) = inr (inr (grind (arith, nat_tests)))
 
 -- once the book is closed, all its entries are the callers', and lie before the last mark
 pub run-closed : (t : Setting) (coordinator : PassView) (workers : List PassView) (h : List Entry) → HaveRun t coordinator workers → IsClosed (capacity_of t.design) (coordinator ∷ workers) h →

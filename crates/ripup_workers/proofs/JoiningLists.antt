@@ -1,5 +1,5 @@
 -- Histories between others, the entries of one number in them, and counts by number.
-use Rattle.std.proofs.Common.{◌≡◌, ℕ, suc, zero, ◌+◌, ◌≤◌, Bool, true, false, cond, ◌==◌, List, [], ◌∷◌, ◌++◌, length, All, Some, slice_get, get_or, sum_by, refl, sym, ap, subst, ◌∙◌, arith, length-append}
+use Rattle.std.proofs.Common.{◌≡◌, ℕ, suc, zero, ◌+◌, ◌≤◌, Bool, true, false, cond, ◌==◌, List, [], ◌∷◌, ◌++◌, length, All, Some, slice_get, get_or, filter, sum_by, IsTrue, refl, sym, ap, subst, ◌∙◌, arith, length-append}
 use Rattle.std.specs.List.{count_by, range_with_len}
 use Rattle.std.proofs.lemmas.Bool.Decides.{nat_tests}
 use Rattle.std.proofs.lemmas.List.{append-nil}
@@ -111,3 +111,10 @@ all-second P (x ∷ xs) ys all = all-second P xs ys (All-tail P x (xs ++ ys) all
 
 pub all-prefix : {A : Type 0} (P : A → Type 0) (xs ys : List A) → IsPrefix xs ys → All P ys → All P xs
 all-prefix P xs ys begins all = all-first P xs begins.0 (subst (All P) (sym begins.1) all)
+
+-- a list of which all pass a test
+pub filter-all : {A : Type 0} (test : A → Bool) (xs : List A) → All (λ x. IsTrue (test x)) xs → filter test xs ≡ xs
+filter-all test [] all = refl
+filter-all test (x ∷ xs) all =
+    filter-yes test x xs (All-head (λ y. IsTrue (test y)) x xs all)
+    ∙ ap (λ (l : List _). x ∷ l) (filter-all test xs (All-tail (λ y. IsTrue (test y)) x xs all))

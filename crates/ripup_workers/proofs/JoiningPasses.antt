@@ -3,6 +3,7 @@ use Rattle.std.proofs.Common.{◌≡◌, ℕ, inl, inr, List, [], ◌∷◌, ◌
 use Rattle.std.proofs.lemmas.Bool.{cases_eq}
 use Rattle.std.proofs.lemmas.List.Elements.{All-nil, All-cons}
 use Rattle.grid_demand.specs.Tables.{CapacityView}
+use Rattle.book_front.proofs.Prefixes.{prefix-length}
 use Rattle.book_state.specs.Entries.{AtEach, calls_of}
 use Rattle.book_state.specs.declared.entry.Call.TheVariants.{Claim as Claims}
 use Rattle.book_state.specs.declared.entry.Claim.{Claim}
@@ -10,7 +11,7 @@ use Rattle.book_state.specs.declared.entry.Entry.{Entry}
 use Rattle.run_histories.specs.RunHistories.{Setting, IsPlanned}
 use Rattle.track_book.specs.Passes.{PassView}
 use Rattle.ripup_workers.specs.Meetings.{Learns}
-use Rattle.ripup_workers.specs.Working.{ArePlanned}
+use Rattle.ripup_workers.specs.Working.{AreOwnPlanned, ArePlanned}
 use Rattle.ripup_workers.proofs.JoiningLists.{calls-append, calls-first, calls-after}
 use Rattle.ripup_workers.proofs.JoiningSegments.{each-more}
 
@@ -38,8 +39,8 @@ nothing-more xs (y ∷ ys) is =
     absurd (omega (arith, count, parts))
 
 -- so its claims stay planned
-pub planned-learns : (t : Setting) (c : CapacityView) (old new : PassView) → Learns c old new → ArePlanned t old → ArePlanned t new
-planned-learns t c old new learns planned =
+pub own-learns : (t : Setting) (c : CapacityView) (old new : PassView) → Learns c old new → AreOwnPlanned t old → AreOwnPlanned t new
+own-learns t c old new learns planned =
     let begins = learns.learnt.begins in
     let number = learns.learnt.number in
     let more : List Entry = begins.0 in
@@ -51,3 +52,12 @@ planned-learns t c old new learns planned =
     (each-more (λ before x. x.number ≡ new.number → (claim : Claim) → x.call ≡ Claims claim → IsPlanned t before x.number claim)
     (λ (x : Entry). x.number ≡ new.number → ⊥) old.seen more (λ place x at is. planned place x at (is ∙ number))
     (λ before x apart is. absurd (apart is)) none)
+
+pub planned-learns : (t : Setting) (c : CapacityView) (old new : PassView) → Learns c old new → ArePlanned t old → ArePlanned t new
+planned-learns t c old new learns planned = record {
+  behind =
+      let more = prefix-length old.seen new.seen learns.learnt.begins in
+      let behind = planned.behind in
+      omega (arith, behind, more);
+  own = own-learns t c old new learns planned.own;
+}

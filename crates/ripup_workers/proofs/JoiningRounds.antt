@@ -13,7 +13,7 @@ use Rattle.book_front.proofs.Prefixes.{prefix-then, prefix-more, prefix-length}
 use Rattle.book_state.proofs.HistoryLists.{slice_get-left}
 use Rattle.book_state.proofs.LegalHistories.{each-push}
 use Rattle.book_state.specs.Books.{IsLegal, victims}
-use Rattle.book_state.specs.Cuts.{Cut, cut, AtMarks}
+use Rattle.book_state.specs.Cuts.{Cut, ends_segment, cut, AtMarks}
 use Rattle.book_state.specs.Entries.{AtEach, is_mark, calls_of}
 use Rattle.book_state.specs.Views.{entry_of}
 use Rattle.book_state.specs.declared.entry.Call.{Call}
@@ -22,9 +22,10 @@ use Rattle.book_state.specs.declared.entry.Claim.{Claim}
 use Rattle.book_state.specs.declared.entry.Entry.{Entry}
 use Rattle.book_state.specs.declared.entry.Reply.TheVariants.{Marked as Answer}
 use Rattle.run_histories.specs.Attempts.{stage_of, begins, attempts_at}
-use Rattle.run_histories.specs.RunHistories.{Setting, Overflows, IsNumbered, IsPlanned, IsAsked, AreWhole, AreOfDue, AreAttempts, ends_with_mark, overflows_of}
+use Rattle.run_histories.specs.RunHistories.{Setting, Overflows, IsNumbered, IsPlanned, IsAsked, BeginsGiven, AreWhole, AreOfDue, AreAttempts, ends_with_mark, overflows_of}
 use Rattle.run_histories.specs.Standing.{Stands}
-use Rattle.run_histories.proofs.CutSteps.{grown, closed, cut-mark, cut-whole, each-next}
+use Rattle.run_histories.proofs.CutSteps.{grown, closed, cut-mark, cut-whole, unmarked, ungiven, each-next}
+use Rattle.run_histories.proofs.GivenLemmas.{begins-more, begins-push}
 use Rattle.run_histories.proofs.JoiningLaw.{attempts-granted}
 use Rattle.run_histories.proofs.RoutedTrees.{attempts-stand}
 use Rattle.run_histories.proofs.StandLemmas.{mark-stands}
@@ -38,7 +39,7 @@ use Rattle.ripup_workers.specs.Working.{HasAttempted}
 use Rattle.ripup_workers.specs.declared.team.Marked.{Marked}
 use Rattle.ripup_workers.proofs.JoiningLists.{all-at, all-prefix, all-second, calls-append, prefix-calls, prefix-long, squeeze, same-history, calls-first, calls-after, count-parts, sum-places}
 use Rattle.ripup_workers.proofs.JoiningPasses.{learns-own, nothing-more, planned-learns}
-use Rattle.ripup_workers.proofs.JoiningSegments.{whole-unmarked, calls-all, calls-none, each-more, marks-more, cut-more, numbered, overflows-more}
+use Rattle.ripup_workers.proofs.JoiningSegments.{whole-free, calls-all, calls-none, each-more, marks-more, cut-more, numbered, overflows-more}
 use Rattle.run_histories.proofs.KeptRules.{overflows-push}
 use Rattle.run_histories.specs.RunHistories.{KeepsRules}
 
@@ -283,9 +284,9 @@ module _ (t : Setting) (round : ℕ) (nets : List ℕ) (h : List Entry) (coordin
         ap (λ (l : List Entry). l ++ mark_entry ∷ []) (sym (calls-split 0)) ∙ sym calls-here ∙ own-zero in
         nothing-more (calls_of 0 h) (calls_of 0 segment) (append_cancel_right (calls_of 0 h ++ calls_of 0 segment) (calls_of 0 h) (mark_entry ∷ []) both)
 
-    -- they are no marks, and the workers'
+    -- they end no segment, and are the workers'
     record IsPart (e : Entry) : Type 0 where
-      pub other : is_mark e ≡ false
+      pub other : ends_segment e ≡ false
       pub some : 0 < e.number
       pub few : e.number ≤ t.workers
 
@@ -299,15 +300,18 @@ module _ (t : Setting) (round : ℕ) (nets : List ℕ) (h : List Entry) (coordin
             let next_number : place + 1 ≡ suc place = omega arith in
             let calls : calls_of (suc place) segment ≡ w.attempted.added =
             subst (λ (n : ℕ). calls_of n segment ≡ w.attempted.added) next_number (of-worker place w) in
-            let unmarked = subst (All (λ (e : Entry). is_mark e ≡ false)) (sym calls) (whole-unmarked round w.attempted.added w.attempted.led) in
+            let free = subst (All (λ (e : Entry). ends_segment e ≡ false)) (sym calls) (whole-free round w.attempted.added w.attempted.led) in
             let own = filter_passes (λ (e : Entry). e.number == suc place) segment in
             λ i d within. (
             let test = own i d within in
             let is : (get_or (calls_of (suc place) segment) i d).number ≡ suc place = grind (arith, nat_tests) in
-            record { other = unmarked i d within; some = omega (arith, is); few = omega (arith, is, few) })
+            record { other = free i d within; some = omega (arith, is); few = omega (arith, is, few) })
 
-    unmarked : All (λ (e : Entry). is_mark e ≡ false) segment
-    unmarked = λ i d within. (parts i d within).other
+    all_free : All (λ (e : Entry). ends_segment e ≡ false) segment
+    all_free = λ i d within. (parts i d within).other
+
+    all_unmarked : All (λ (e : Entry). is_mark e ≡ false) segment
+    all_unmarked = λ i d within. unmarked (get_or segment i d) (all_free i d within)
 
     before-is : (cut h).before ≡ h
     before-is = sym (append-nil (cut h).before) ∙ ap (λ (l : List Entry). (cut h).before ++ l) (sym next.done.segment) ∙ cut-whole h
@@ -316,7 +320,7 @@ module _ (t : Setting) (round : ℕ) (nets : List ℕ) (h : List Entry) (coordin
     cut-h = λ i. cut_of (next.done.round_is i) (before-is i) (next.done.segment i)
 
     cut-unmarked : cut unmarked_history ≡ cut_of round h segment
-    cut-unmarked = ap cut (sym split) ∙ cut-more h segment unmarked ∙ ap (λ (s : Cut). grown s segment) cut-h
+    cut-unmarked = ap cut (sym split) ∙ cut-more h segment all_free ∙ ap (λ (s : Cut). grown s segment) cut-h
 
     whole-here : AreWhole (cut_of round h segment)
     whole-here zero = ap (λ (l : List Entry). stage_of round l) of-coordinator
@@ -367,7 +371,7 @@ module _ (t : Setting) (round : ℕ) (nets : List ℕ) (h : List Entry) (coordin
     at-marks P old here =
         subst (AtMarks P) (sym answered.seen)
         (each-push (λ prior e. IsTrue (is_mark e) → P (cut prior)) unmarked_history mark_entry
-        (subst (AtMarks P) split (marks-more P h segment old unmarked)) (λ mark. subst P (sym cut-unmarked) here))
+        (subst (AtMarks P) split (marks-more P h segment old all_unmarked)) (λ mark. subst P (sym cut-unmarked) here))
 
     numbers-here : AtEach (λ prior e. IsNumbered t.workers e.call e.number) marked_history
     numbers-here =
@@ -375,7 +379,7 @@ module _ (t : Setting) (round : ℕ) (nets : List ℕ) (h : List Entry) (coordin
         (each-push (λ prior e. IsNumbered t.workers e.call e.number) unmarked_history mark_entry
         (subst (AtEach (λ prior e. IsNumbered t.workers e.call e.number)) split
         (each-more (λ prior e. IsNumbered t.workers e.call e.number) IsPart h segment next.done.rules.numbers
-        (λ prior e part. numbered t.workers e.call e.number part.other part.some part.few) parts)) met-number)
+        (λ prior e part. numbered t.workers e.call e.number (unmarked e part.other) part.some part.few) parts)) met-number)
 
     plans-here : AtEach (λ prior e. (claim : Claim) → e.call ≡ Claims claim → IsPlanned t prior e.number claim) marked_history
     plans-here p e there claim call = by e.number refl
@@ -401,7 +405,13 @@ module _ (t : Setting) (round : ℕ) (nets : List ℕ) (h : List Entry) (coordin
             let first : take p w.last.seen ≡ take p marked_history =
             ap (λ (l : List Entry). take p l) (sym more.1) ∙ take-append-le p marked_history more.0 (omega (arith, within)) in
             let number : e.number ≡ w.last.number = is ∙ omega arith ∙ sym worker.number_is in
-            subst (λ (l : List Entry). IsPlanned t l e.number claim) first (worker.planned p e is_there number claim call)
+            subst (λ (l : List Entry). IsPlanned t l e.number claim) first (worker.planned.own p e is_there number claim call)
+
+    begins-here : BeginsGiven t marked_history
+    begins-here =
+        subst (BeginsGiven t) (sym answered.seen)
+        (begins-push t unmarked_history mark_entry
+        (subst (BeginsGiven t) split (begins-more t h segment next.done.rules.given (λ i d within. ungiven (get_or segment i d) (all_free i d within)))) refl)
 
     last-here : IsTrue (ends_with_mark marked_history)
     last-here =
@@ -410,6 +420,7 @@ module _ (t : Setting) (round : ℕ) (nets : List ℕ) (h : List Entry) (coordin
     attempts-here : AreAttempts t marked_history
     attempts-here = record {
       legal = answered.legal;
+      given = begins-here;
       last = last-here;
       numbers = numbers-here;
       plans = plans-here;
@@ -420,6 +431,7 @@ module _ (t : Setting) (round : ℕ) (nets : List ℕ) (h : List Entry) (coordin
     rules-here : KeepsRules t marked_history
     rules-here = record {
       legal = answered.legal;
+      given = begins-here;
       numbers = numbers-here;
       plans = plans-here;
       granted = attempts-granted t marked_history attempts-here;
@@ -445,7 +457,7 @@ module _ (t : Setting) (round : ℕ) (nets : List ℕ) (h : List Entry) (coordin
         ap (λ (l : List Entry). overflows_of l) answered.seen ∙ overflows-push unmarked_history mark_entry
         ∙ ap (λ (o : Option ℕ). overflows marked.overflow o)
         (ap (λ (l : List Entry). (overflows_of l).last) (sym split)
-        ∙ ap (λ (o : Overflows). o.last) (overflows-more c_here h segment (mark_entry ∷ []) legal unmarked) ∙ next.overflow_is)
+        ∙ ap (λ (o : Overflows). o.last) (overflows-more c_here h segment (mark_entry ∷ []) legal all_unmarked) ∙ next.overflow_is)
 
     victims-here : marked.victims ≡ victims c_here marked_history
     victims-here =

@@ -1,61 +1,52 @@
 -- Entries that workers add between two marks.
-use Rattle.std.proofs.Common.{◌≡◌, ℕ, suc, zero, ◌<◌, ◌≤◌, inl, inr, Bool, true, false, List, [], ◌∷◌, ◌++◌, All, Option, Some, None, IsTrue, if◌then◌else◌, refl, sym, ap, subst, ◌∙◌, arith, append_assoc}
+use Rattle.std.proofs.Common.{◌≡◌, ℕ, suc, zero, ◌<◌, ◌≤◌, inl, inr, true, false, ◌||◌, List, [], ◌∷◌, ◌++◌, All, Option, Some, None, IsTrue, refl, sym, ap, subst, ◌∙◌, arith, append_assoc}
 use Rattle.std.specs.List.{fold}
-use Rattle.std.proofs.lemmas.Bool.{cases_eq, cases_Bool, both_ways}
+use Rattle.std.proofs.lemmas.Bool.{cases_eq, both_ways}
 use Rattle.std.proofs.lemmas.List.{append-nil}
 use Rattle.std.proofs.lemmas.List.Elements.{All-nil, All-cons, All-head, All-tail}
 use Rattle.std.proofs.lemmas.List.Sums.{fold-append}
 use Rattle.grid_demand.specs.Tables.{CapacityView}
 use Rattle.book_state.proofs.LegalHistories.{each-push}
 use Rattle.book_state.specs.Books.{IsRight, IsLegal}
-use Rattle.book_state.specs.Cuts.{Cut, uncut, cut_after, cut, AtMarks}
-use Rattle.book_state.specs.Entries.{AtEach, is_mark, is_mark_call, calls_of}
+use Rattle.book_state.specs.Cuts.{Cut, uncut, ends_segment, cut_after, cut, AtMarks}
+use Rattle.book_state.specs.Entries.{AtEach, is_mark, is_mark_call, is_given_kind, is_given_call, calls_of}
 use Rattle.book_state.specs.declared.entry.Call.{Call}
 use Rattle.book_state.specs.declared.entry.Call.TheVariants.{Claim as Claims, Release, Mark}
+use Rattle.book_state.specs.declared.entry.Claim.{Claim}
 use Rattle.book_state.specs.declared.entry.Entry.{Entry}
-use Rattle.book_state.specs.declared.entry.Reply.{Reply}
 use Rattle.book_state.specs.Marks.{overflow_of}
-use Rattle.run_histories.specs.Attempts.{Stage, Rests, Claiming, Broken, kind_of, first_stage, later_stage, stage_after, stage_of}
-use Rattle.run_histories.proofs.CutSteps.{with_segment, grown, closed, each-next}
+use Rattle.run_histories.specs.Attempts.{Stage, Rests, Broken, kind_of, stage_after, stage_of}
+use Rattle.run_histories.proofs.CutSteps.{with_segment, grown, after-other, each-next}
 use Rattle.run_histories.proofs.StandLemmas.{marked-mark, reply-marked}
 use Rattle.run_histories.specs.RunHistories.{IsNumbered, overflows_after, overflows_of}
-use Rattle.run_histories.proofs.StageSteps.{broken-stays, rests-broken}
+use Rattle.run_histories.proofs.StageSteps.{broken-stays, rests-broken, first-shape, later-shape}
 use Rattle.ripup_workers.proofs.JoiningLists.{calls-first, calls-after}
 use Rattle.run_histories.proofs.KeptRules.{overflows-push}
 
--- a mark is no part of an attempt
-mark-breaks : (round : ℕ) (stage : Stage) (e : Entry) → is_mark e ≡ true → stage_after round stage e ≡ Broken
-mark-breaks zero stage e mark = by stage e.call mark
-  where
-    by : (stage : Stage) (call : Call) → is_mark_call call ≡ true → first_stage stage call ≡ Broken
-    by Rests (Claims claim) is = absurd (both_ways false refl is)
-    by Rests (Release net) is = refl
-    by Rests Mark is = refl
-    by (Claiming net slacks) call is = refl
-    by Broken call is = refl
-mark-breaks (suc r) stage e mark = by stage e.call e.reply mark
-  where
-    by : (stage : Stage) (call : Call) (reply : Reply) → is_mark_call call ≡ true → later_stage (kind_of (suc r)) stage call reply ≡ Broken
-    by Rests (Claims claim) reply is = absurd (both_ways false refl is)
-    by Rests (Release net) reply is = absurd (both_ways false refl is)
-    by Rests Mark reply is = refl
-    by (Claiming net (slack ∷ slacks)) (Claims claim) reply is = absurd (both_ways false refl is)
-    by (Claiming net (slack ∷ slacks)) (Release other) reply is = refl
-    by (Claiming net (slack ∷ slacks)) Mark reply is = refl
-    by (Claiming net []) call reply is = refl
-    by Broken call reply is = refl
+-- part of an attempt is neither a mark nor a claim of a given tree
+claim-free : (e : Entry) (claim : Claim) → e.call ≡ Claims claim → is_given_kind claim.kind ≡ false → ends_segment e ≡ false
+claim-free e claim call plain = ap (λ (k : Call). is_mark_call k || is_given_call k) call ∙ plain
 
--- whole attempts hold no mark
-no-mark : (round : ℕ) (stage : Stage) (es : List Entry) → fold (stage_after round) stage es ≡ Rests → All (λ (e : Entry). is_mark e ≡ false) es
-no-mark round stage [] whole = All-nil (λ (e : Entry). is_mark e ≡ false)
-no-mark round stage (e ∷ es) whole = elim (cases_Bool (is_mark e)) [
-  | inl mark ↦
-      absurd (rests-broken (sym whole ∙ ap (λ (s : Stage). fold (stage_after round) s es) (mark-breaks round stage e mark) ∙ broken-stays round es))
-  | inr other ↦ All-cons (λ (e : Entry). is_mark e ≡ false) e es other (no-mark round (stage_after round stage e) es whole)
+unbroken-free : (round : ℕ) (stage : Stage) (e : Entry) → (stage_after round stage e ≡ Broken → ⊥) → ends_segment e ≡ false
+unbroken-free zero stage e fine =
+    let shape = first-shape stage e.call fine in
+    claim-free e shape.claim shape.call_is (ap is_given_kind (sym shape.fits.kind_is))
+unbroken-free (suc r) stage e fine = elim (later-shape (kind_of (suc r)) stage e.call e.reply fine) [
+  | inl shape ↦ ap (λ (k : Call). is_mark_call k || is_given_call k) shape.call_is
+  | inr shape ↦ claim-free e shape.claim shape.call_is (ap is_given_kind (sym shape.fits.kind_is))
 ]
 
-pub whole-unmarked : (round : ℕ) (es : List Entry) → stage_of round es ≡ Rests → All (λ (e : Entry). is_mark e ≡ false) es
-whole-unmarked round es whole = no-mark round Rests es whole
+-- whole attempts hold none of these
+all-free : (round : ℕ) (stage : Stage) (es : List Entry) → fold (stage_after round) stage es ≡ Rests → All (λ (e : Entry). ends_segment e ≡ false) es
+all-free round stage [] whole = All-nil (λ (e : Entry). ends_segment e ≡ false)
+all-free round stage (e ∷ es) whole =
+    All-cons (λ (e : Entry). ends_segment e ≡ false) e es
+    (unbroken-free round stage e (λ broken.
+    rests-broken (sym whole ∙ ap (λ (s : Stage). fold (stage_after round) s es) broken ∙ broken-stays round es)))
+    (all-free round (stage_after round stage e) es whole)
+
+pub whole-free : (round : ℕ) (es : List Entry) → stage_of round es ≡ Rests → All (λ (e : Entry). ends_segment e ≡ false) es
+whole-free round es whole = all-free round Rests es whole
 
 -- what holds of each number's entries holds of all
 pub calls-all : (P : Entry → Type 0) (most : ℕ) (es : List Entry) → All (λ (e : Entry). e.number ≤ most) es → ((number : ℕ) → number ≤ most → All P (calls_of number es)) → All P es
@@ -88,17 +79,16 @@ marks-more P h es each all =
     each-more (λ before e. IsTrue (is_mark e) → P (cut before)) (λ (e : Entry). is_mark e ≡ false) h es each
     (λ before e other mark. absurd (both_ways (is_mark e) other mark)) all
 
--- entries that are no marks stand in the last segment
-grown-fold : (s : Cut) (es : List Entry) → All (λ (e : Entry). is_mark e ≡ false) es → fold cut_after s es ≡ grown s es
+-- entries that end no segment stand in the last one
+grown-fold : (s : Cut) (es : List Entry) → All (λ (e : Entry). ends_segment e ≡ false) es → fold cut_after s es ≡ grown s es
 grown-fold s [] all = ap (λ (segment : List Entry). with_segment s segment) (sym (append-nil s.segment))
 grown-fold s (e ∷ es) all =
-    let other = All-head (λ (e : Entry). is_mark e ≡ false) e es all in
-    let step : cut_after s e ≡ grown s (e ∷ []) = ap (λ (b : Bool). if b then closed s e else grown s (e ∷ [])) other in
-    ap (λ (k : Cut). fold cut_after k es) step
-    ∙ grown-fold (grown s (e ∷ [])) es (All-tail (λ (e : Entry). is_mark e ≡ false) e es all)
+    let other = All-head (λ (e : Entry). ends_segment e ≡ false) e es all in
+    ap (λ (k : Cut). fold cut_after k es) (after-other s e other)
+    ∙ grown-fold (grown s (e ∷ [])) es (All-tail (λ (e : Entry). ends_segment e ≡ false) e es all)
     ∙ ap (λ (segment : List Entry). with_segment s segment) (append_assoc s.segment (e ∷ []) es)
 
-pub cut-more : (h es : List Entry) → All (λ (e : Entry). is_mark e ≡ false) es → cut (h ++ es) ≡ grown (cut h) es
+pub cut-more : (h es : List Entry) → All (λ (e : Entry). ends_segment e ≡ false) es → cut (h ++ es) ≡ grown (cut h) es
 unfolding cut
 cut-more h es all = fold-append cut_after uncut h es ∙ grown-fold (cut h) es all
 

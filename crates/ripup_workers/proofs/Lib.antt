@@ -9,5 +9,7 @@ pub mod JoiningPasses
 pub mod JoiningRounds
 pub mod JoiningAttempts
 pub mod JoiningEnds
+pub mod GivingSteps
+pub mod JoiningGiven
 pub mod CallerLists
 pub mod MeetingSteps

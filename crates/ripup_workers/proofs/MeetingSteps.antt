@@ -13,7 +13,7 @@ use Rattle.book_state.specs.declared.entry.Reply.{Reply}
 use Rattle.book_state.specs.declared.entry.Reply.TheVariants.{Marked}
 use Rattle.run_histories.proofs.CutSteps.{each-next}
 use Rattle.track_book.specs.Passes.{PassView, IsAnswered}
-use Rattle.ripup_workers.specs.Meetings.{Learns, HasMet, HaveMet}
+use Rattle.ripup_workers.specs.Meetings.{Learns, HasMet, HaveMet, HaveMetBehind}
 
 -- a mark is answered with an overflow
 pub mark-answered : (c : CapacityView) (old new : PassView) (reply : Reply) → IsAnswered c old new Mark reply → (overflow : ℕ) × (reply ≡ Marked overflow)
@@ -116,4 +116,20 @@ met-all c count first now old new some more long = record {
   learns = some.learns more;
   count = some.same_length;
   each = λ at p q old_there new_there. some.met at p q (let within = slice_get_within old at p old_there in omega (arith, within, long)) old_there new_there;
+}
+
+-- the first of them, and then all
+pub met-first : {A : Type 0} (c : CapacityView) (part : A → PassView) (xs : List A) (x y : A) (coordinator met after : PassView) (new : List PassView) → 0 < length xs → x ≡ get_or xs 0 x →
+    Learns c coordinator met → Learns c (part x) (part y) → met.seen ≡ (part y).seen → HaveMet c met after (map part (set xs 0 y)) new → HaveMetBehind c coordinator after (map part xs) new
+met-first c part xs x y coordinator met after new some is own other same all = record {
+  met = met;
+  between = map part (set xs 0 y);
+  learns = own;
+  count = put-length part xs 0 y;
+  first = λ p q p_there q_there.
+      let p_is : part x ≡ p = same_Some (part x) p (sym (part-there part xs 0 x some is) ∙ p_there) in
+      let q_is : part y ≡ q = same_Some (part y) q (sym (put-there part xs 0 y some) ∙ q_there) in
+      (subst (λ (k : PassView). Learns c k q) p_is (subst (λ (k : PassView). Learns c (part x) k) q_is other), subst (λ (k : PassView). met.seen ≡ k.seen) q_is same);
+  others = λ at behind. put-other part xs 0 at y (λ zero_is. absurd (omega (arith, zero_is, behind)));
+  all = all;
 }

@@ -1,17 +1,17 @@
 -- Where a worker's entries of a round lead.
-use Rattle.std.proofs.Common.{◌≡◌, ℕ, suc, zero, ◌<◌, Bool, true, false, cond, ◌&&◌, ◌==◌, List, [], ◌∷◌, ◌++◌, length, take, Option, Some, None, slice_get, Result, Ok, Err, OnOk, if◌then◌else◌, refl, sym, ap, subst, ◌∙◌, arith, append_assoc}
+use Rattle.std.proofs.Common.{◌≡◌, ℕ, suc, zero, ◌<◌, ◌≤◌, Bool, true, false, cond, ◌&&◌, ◌==◌, List, [], ◌∷◌, ◌++◌, length, take, Option, Some, None, slice_get, Result, Ok, Err, OnOk, if◌then◌else◌, refl, sym, ap, subst, ◌∙◌, arith, append_assoc}
 use Rattle.std.specs.List.{fold}
 use mathlib.Core.List.{IsPrefix}
 use Rattle.std.proofs.lemmas.Bool.{both_ways}
 use Rattle.std.proofs.lemmas.Bool.Decides.{nat_tests}
-use Rattle.std.proofs.lemmas.List.{append-nil, take_at}
+use Rattle.std.proofs.lemmas.List.{append-nil, take_at, length_push}
 use Rattle.std.proofs.lemmas.List.Sums.{fold-append, sum_by-append}
 use Rattle.gr_base.proofs.General.{eqb-swap}
 use Rattle.gr_base.specs.Designs.{DesignView}
 use Rattle.gr_base.specs.Trees.{TreeView}
 use Rattle.cost_rules.specs.declared.site.Formula.{Formula}
 use Rattle.grid_demand.specs.Tables.{CapacityView, capacity_of}
-use Rattle.book_front.proofs.Prefixes.{prefix-all, prefix-then}
+use Rattle.book_front.proofs.Prefixes.{prefix-all, prefix-then, prefix-length}
 use Rattle.book_state.proofs.BookingLaws.{unbounded}
 use Rattle.book_state.proofs.HistoryLists.{slice_get-right}
 use Rattle.book_state.specs.Books.{IsLegal, reply_to_claim}
@@ -21,18 +21,18 @@ use Rattle.book_state.specs.declared.entry.Call.TheVariants.{Claim as Claims, Re
 use Rattle.book_state.specs.declared.entry.Claim.{Claim}
 use Rattle.book_state.specs.declared.entry.Entry.{Entry}
 use Rattle.book_state.specs.declared.entry.PlanKind.{PlanKind}
-use Rattle.book_state.specs.declared.entry.PlanKind.TheVariants.{Pattern, Maze}
+use Rattle.book_state.specs.declared.entry.PlanKind.TheVariants.{Pattern, Maze, Given}
 use Rattle.book_state.specs.declared.entry.Reply.{Reply}
 use Rattle.book_state.specs.declared.entry.Reply.TheVariants.{Claimed, Taken, Full, Released, NotBooked, Marked}
 use Rattle.run_histories.specs.Attempts.{Stage, Rests, Claiming, Broken, kind_of, is_kind, is_slack, is_claim_for, stage_replied, stage_after, begins, attempts_at}
 use Rattle.run_histories.specs.Rounds.{IsFull, claim_of, slacks_of_turn, IsPlanFor}
-use Rattle.run_histories.specs.RunHistories.{Setting, IsPlanOver, IsPlanned}
+use Rattle.run_histories.specs.RunHistories.{Setting, claims_given, IsPlanOver, IsPlanned}
 use Rattle.run_histories.proofs.Answered.{full-goes}
 use Rattle.run_histories.proofs.StageSteps.{attempts-push}
 use Rattle.track_book.specs.Passes.{PassView, IsPass, IsAnswered, HasLearnt}
 use Rattle.ripup_workers.specs.Turning.{IsOver, HasFollowed, HasTried}
 use Rattle.work_share.specs.Views.{times}
-use Rattle.ripup_workers.specs.Working.{ArePlanned, HasLed}
+use Rattle.ripup_workers.specs.Working.{AreOwnPlanned, ArePlanned, HasLed}
 use Rattle.ripup_workers.proofs.TurningPasses.{own-learnt, own-answered, answered-others, own-place}
 
 -- a pass that added nothing
@@ -92,19 +92,44 @@ led-by t r from to nets p q call reply answered leads begun planned =
 
 -- what is planned stays so, as a pass learns more
 pub planned-learnt : (t : Setting) (p q : PassView) → HasLearnt (capacity_of t.design) p q → IsPass (capacity_of t.design) p → IsPass (capacity_of t.design) q → ArePlanned t p → ArePlanned t q
-planned-learnt t p q learnt one two =
-    own-learnt (λ before e. (claim : Claim) → e.call ≡ Claims claim → IsPlanned t before e.number claim) (capacity_of t.design) p q learnt one two
+planned-learnt t p q learnt one two planned = record {
+  behind =
+      let more = prefix-length p.seen q.seen learnt.begins in
+      let behind = planned.behind in
+      omega (arith, behind, more);
+  own = own-learnt (λ before e. (claim : Claim) → e.call ≡ Claims claim → IsPlanned t before e.number claim) (capacity_of t.design) p q learnt one two planned.own;
+}
+
+pub own-said : (t : Setting) (p q : PassView) (call : Call) (reply : Reply) (answered : IsAnswered (capacity_of t.design) p q call reply) →
+    IsPass (capacity_of t.design) p → IsPass (capacity_of t.design) q → ((claim : Claim) → call ≡ Claims claim → IsPlanned t answered.before p.number claim) →
+    AreOwnPlanned t p → AreOwnPlanned t q
+own-said t p q call reply answered one two said =
+    own-answered (λ before e. (claim : Claim) → e.call ≡ Claims claim → IsPlanned t before e.number claim) (capacity_of t.design) p q call reply answered one two said
+
+-- what a pass had seen is no longer than what it has seen after a call
+pub answered-longer : (c : CapacityView) (p q : PassView) (call : Call) (reply : Reply) → IsAnswered c p q call reply → length p.seen < length q.seen
+answered-longer c p q call reply answered =
+    let more = prefix-length p.seen answered.before answered.begins in
+    let whole = ap length answered.seen in
+    let one = length_push answered.before (entry_of p.number call reply) in
+    omega (arith, more, whole, one)
 
 pub planned-answered : (t : Setting) (p q : PassView) (call : Call) (reply : Reply) (answered : IsAnswered (capacity_of t.design) p q call reply) →
-    IsPass (capacity_of t.design) p → IsPass (capacity_of t.design) q → ((claim : Claim) → call ≡ Claims claim → IsPlanned t answered.before p.number claim) →
+    IsPass (capacity_of t.design) p → IsPass (capacity_of t.design) q → (ArePlanned t p → (claim : Claim) → call ≡ Claims claim → IsPlanned t answered.before p.number claim) →
     ArePlanned t p → ArePlanned t q
-planned-answered t p q call reply answered one two said =
-    own-answered (λ before e. (claim : Claim) → e.call ≡ Claims claim → IsPlanned t before e.number claim) (capacity_of t.design) p q call reply answered one two said
+planned-answered t p q call reply answered one two said planned = record {
+  behind =
+      let more = answered-longer (capacity_of t.design) p q call reply answered in
+      let behind = planned.behind in
+      omega (arith, behind, more);
+  own = own-said t p q call reply answered one two (said planned) planned.own;
+}
 
 -- a claim for a plan over all that the pass had seen is planned
 pub claim-planned : (t : Setting) (p q : PassView) (claim : Claim) (reply : Reply) (answered : IsAnswered (capacity_of t.design) p q (Claims claim) reply) →
-    IsPass (capacity_of t.design) p → IsPass (capacity_of t.design) q → claim.front ≡ length p.seen → IsPlanOver t p.seen claim → IsPlanned t answered.before p.number claim
-claim-planned t p q claim reply answered one two front tree =
+    IsPass (capacity_of t.design) p → IsPass (capacity_of t.design) q → claim.front ≡ length p.seen → (claim.kind ≡ Pattern → length (claims_given t) ≤ length p.seen) → IsPlanOver t p.seen claim →
+    IsPlanned t answered.before p.number claim
+claim-planned t p q claim reply answered one two front behind tree =
     let rest = answered.begins.0 in
     let whole = answered.begins.1 in
     let others = answered-others (capacity_of t.design) p q (Claims claim) reply answered one two in
@@ -112,6 +137,7 @@ claim-planned t p q claim reply answered one two front tree =
       front = λ place own there is.
           let within = own-place p.number p.seen rest place own others (ap (λ (h : List Entry). slice_get h place) whole ∙ there) is in
           omega (arith, within, front);
+      behind = λ pattern. (let more = behind pattern in omega (arith, more, front));
       tree = subst (λ (h : List Entry). IsPlanOver t h claim)
           (sym (take_at p.seen rest claim.front (sym front)) ∙ ap (λ (h : List Entry). take claim.front h) whole) tree;
     }
@@ -120,6 +146,7 @@ claim-planned t p q claim reply answered one two front tree =
 kind-itself : (kind : PlanKind) → is_kind kind kind ≡ true
 kind-itself Pattern = refl
 kind-itself (Maze margin) = grind (arith, nat_tests)
+kind-itself Given = refl
 
 slack-itself : (slack : Option ℕ) → is_slack slack slack ≡ true
 slack-itself None = refl
@@ -160,7 +187,7 @@ pub freed-led : (t : Setting) (r net : ℕ) (reply : Reply) (p q : PassView) →
 freed-led t zero net reply p q later answered one two = absurd (omega (arith, later))
 freed-led t (suc r) net reply p q later answered one two =
     led-by t (suc r) Rests (Claiming net slacks_of_turn) (net ∷ []) p q (Release net) reply answered refl (one-net net)
-    (planned-answered t p q (Release net) reply answered one two (λ claim is. absurd (cc)))
+    (planned-answered t p q (Release net) reply answered one two (λ planned claim is. absurd (cc)))
 
 -- and claims go on with it
 pub tried-led : (t : Setting) (r net : ℕ) (slack : Option ℕ) (slacks : List (Option ℕ)) (reply : Reply) (p q : PassView) → 0 < r → HasTried t net (kind_of r) slack reply p q →
@@ -252,9 +279,9 @@ tried-so t d formula c net kind slack tree reply p q over same one two plan answ
       slack_is = refl;
       answered = said;
       planned = planned-answered t p q (Claims claim) reply said first second
-          (λ other same_call.
+          (λ planned other same_call.
           let other_is : claim ≡ other = cc in
-          subst (λ (k : Claim). IsPlanned t said.before p.number k) other_is (claim-planned t p q claim reply said first second refl over_it));
+          subst (λ (k : Claim). IsPlanned t said.before p.number k) other_is (claim-planned t p q claim reply said first second refl (λ pattern. planned.behind) over_it));
     }
 
 -- a release of a net begins its attempt in a later round

@@ -1,5 +1,6 @@
 pub mod Working
 pub mod Turning
+pub mod Giving
 pub mod Foresight
 pub mod Crews
 pub mod Made

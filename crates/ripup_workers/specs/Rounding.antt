@@ -1,5 +1,5 @@
 -- What stands between rounds, and what a round leaves.
-use Rattle.std.specs.Prelude.{◌≡◌, ℕ, ◌+◌, ◌<◌, ◌≤◌, Bool, true, false, List, [], All, length, Option, Some, slice_get, sum_by, if◌then◌else◌, IsTrue}
+use Rattle.std.specs.Prelude.{◌≡◌, ℕ, ◌+◌, ◌<◌, ◌≤◌, Bool, true, false, ◌||◌, ◌==◌, List, [], All, length, Option, Some, slice_get, sum_by, if◌then◌else◌, IsTrue}
 use Rattle.std.specs.List.{filter}
 use denote.Param.Members.{Mut}
 use mathlib.Core.List.{IsPrefix}
@@ -25,7 +25,8 @@ use Rattle.run_histories.specs.RunHistories.{KeepsRules}
 -- what is asked for, as run histories know it
 abbrev pub setting_of : {X Y : Type 0} {price : Mut X (Site × Unit {0}) ℕ} {look : Mut Y (Sight × Unit {0}) Going} →
     Asked X Y price look → Setting
-setting_of a = asked_for a.design.now a.rule.now.formula a.workers a.rounds a.watcher.now.watch a.goal
+setting_of a =
+    asked_for a.design.now a.given.now a.rule.now.formula a.workers a.rounds a.watcher.now.watch a.goal
 
 -- the watch says Stop at this overflow, after that one
 abbrev pub is_stop : Going → Bool
@@ -34,6 +35,10 @@ is_stop Stop = true
 
 abbrev pub is_stop_at : Setting → ℕ → Option ℕ → Bool
 is_stop_at t overflow before = is_stop (says_at t.watch t.goal before (Some overflow))
+
+-- how many nets the round after this one has: none where that was the last one, or the watch says Stop
+abbrev pub due_after : Setting → (round overflow : ℕ) → Option ℕ → (nets : ℕ) → ℕ
+due_after t round overflow before nets = if (round == t.rounds) || is_stop_at t overflow before then 0 else nets
 
 -- each entry is the marker's or a worker's
 abbrev pub AreOf : ℕ → List Entry → Type 0

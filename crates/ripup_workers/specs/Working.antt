@@ -1,5 +1,5 @@
 -- What a worker adds to the shared history in a round.
-use Rattle.std.specs.Prelude.{◌≡◌, ℕ, List, ◌++◌}
+use Rattle.std.specs.Prelude.{◌≡◌, ℕ, ◌≤◌, List, ◌++◌, length}
 use Rattle.std.specs.List.{fold}
 use mathlib.Core.List.{IsPrefix}
 use Rattle.grid_demand.specs.Tables.{capacity_of}
@@ -9,15 +9,20 @@ use Rattle.book_state.specs.declared.entry.Call.TheVariants.{Claim as Claims}
 use Rattle.book_state.specs.declared.entry.Claim.{Claim}
 use Rattle.book_state.specs.declared.entry.Entry.{Entry}
 use Rattle.run_histories.specs.Attempts.{Stage, Rests, stage_after, attempts_at}
-use Rattle.run_histories.specs.RunHistories.{Setting, IsPlanned}
+use Rattle.run_histories.specs.RunHistories.{Setting, claims_given, IsPlanned}
 use Rattle.track_book.specs.Passes.{PassView}
 use Rattle.work_share.specs.Views.{times}
 
 -- each claim among a pass's own entries is planned from the entries before its front
-abbrev pub ArePlanned : Setting → PassView → Type 0
-ArePlanned t p =
+abbrev pub AreOwnPlanned : Setting → PassView → Type 0
+AreOwnPlanned t p =
     AtEach (λ before e. e.number ≡ p.number → (claim : Claim) → e.call ≡ Claims claim →
     IsPlanned t before e.number claim) p.seen
+
+-- so it is, and the pass has seen at least as many entries as there are claims of given trees
+pub record ArePlanned (t : Setting) (p : PassView) : Type 0 where
+  pub behind : length (claims_given t) ≤ length p.seen
+  pub own : AreOwnPlanned t p
 
 -- a pass has added entries of a round that lead from one stage to another, and begun as many attempts at each net as it
 -- stands among these; its claims are planned

@@ -1,6 +1,6 @@
 //! The coordinator, who ends the rounds.
 ghost use Rattle.std.specs.Prelude.{◌≡◌, ◌<◌, ◌++◌, length, map, IfOk};
-ghost use Rattle.ripup_workers.specs.Meetings.{Learns, HaveMet};
+ghost use Rattle.ripup_workers.specs.Meetings.{Learns, HaveMet, HaveMetBehind};
 ghost use Rattle.ripup_workers.specs.Marking.{IsMarked, AreMarked};
 
 use crate::team::{Coordinator, Marked};
@@ -37,6 +37,21 @@ impl<N: BookName> Coordinator<N> {
         let marked = self.mark(rt, book, threads)?;
         self.meet_all(rt, book, workers, Meeting::AfterMark);
         Ok(marked)
+    }
+
+    /// Meets the first worker and then all of them, so that each comes to know what the first had added.
+    pub(crate) fn meet_behind_first<R: Wait>(
+        &mut self,
+        rt: &R,
+        book: &TrackBook<N>,
+        workers: &mut Vec<Worker<N>>,
+    )
+        requires { 0 < length workers.old.items }
+        ensures { HaveMetBehind N.capacity self.old.pass self.new.pass (map (λ w. w.pass) workers.old.items)
+            (map (λ w. w.pass) workers.new.items) }
+    {
+        self.meet(rt, book, &mut workers[0], Meeting::BeforeMark);
+        self.meet_all(rt, book, workers, Meeting::BeforeMark);
     }
 
     /// Meets each worker.

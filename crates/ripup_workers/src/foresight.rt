@@ -13,7 +13,6 @@ ghost use Rattle.ripup_workers.specs.Foresight.{IsForeseen};
 ghost use Rattle.ripup_workers.specs.Turning.{HasCapacity, IsOver, HasFollowed};
 ghost use Rattle.ripup_workers.specs.Working.{HasLed};
 
-use crate::gate::{Gate, Stop};
 use crate::ground::Ground;
 use crate::wish::Wish;
 use crate::worker::Worker;
@@ -21,6 +20,7 @@ use book_state::Sought;
 use gr_base::RouteTree;
 use maze_route::Window;
 use net_plan::Planner;
+use run_histories::{Gate, Stop};
 use std::alloc::AllocError;
 use std::sync::Wait;
 use std::thread::Threads;

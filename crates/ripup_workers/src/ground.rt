@@ -2,7 +2,7 @@
 use std::alloc::Global;
 use track_book::{BookName, TrackBook};
 
-/// What the workers share as they attempt nets. What they attempt stands apart, in `Asked`.
+/// What the workers share as they attempt nets. What they attempt stands apart, in `Task`.
 #[derive(Drop)]
 pub(crate) struct Ground<'a, N: BookName, R, G> {
     pub(crate) rt: &'a R,

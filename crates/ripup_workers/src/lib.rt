@@ -4,7 +4,7 @@
 mod asked;
 mod coordinator;
 mod foresight;
-mod gate;
+mod given;
 mod ground;
 mod members;
 mod ready;
@@ -17,5 +17,5 @@ mod wish;
 mod work;
 mod worker;
 
-pub use gate::{Gate, OpenGate, Stop};
 pub use rounds::{Rounds, route_rounds};
+pub use run_histories::{Gate, OpenGate, Stop};

@@ -7,8 +7,7 @@ ghost use Rattle.work_share.specs.Views.{IsHandOf};
 ghost use Rattle.ripup_workers.specs.Rounding.{setting_of, HaveAttempted};
 ghost use Rattle.ripup_workers.specs.Crews.{IsWorked, HasAttemptedOver};
 
-use crate::asked::Asked;
-use crate::gate::Gate;
+use crate::asked::{Asked, Task};
 use crate::ground::Ground;
 use crate::members::{members_of, parted};
 use crate::team::Member;
@@ -16,6 +15,7 @@ use crate::work::work;
 use crate::worker::Worker;
 use beside_calls::for_each_beside;
 use net_plan::Planner;
+use run_histories::Gate;
 use std::alloc::{AllocError, Global};
 use std::sync::Wait;
 use std::thread::Threads;
@@ -46,10 +46,16 @@ pub(crate) fn attempt_nets<N: BookName + Send + Sync, R: Threads + Wait + Sync, 
         book,
         gate,
     } = *ground;
-    work_all(rt, alloc, asked, round, book, &shared, gate, &mut members);
+    let task = Task {
+        design: asked.design,
+        rule: asked.rule,
+        workers: asked.workers,
+        rounds: asked.rounds,
+    };
+    work_all(rt, alloc, &task, round, book, &shared, gate, &mut members);
     let (mut workers, hands) = parted(ground.alloc, members)?;
     let end = shared.end(hands)?;
-    attempt_rest(ground, asked, round, end.rest(), &mut workers[0])?;
+    attempt_rest(ground, &task, round, end.rest(), &mut workers[0])?;
     Ok(workers)
 }
 
@@ -58,20 +64,20 @@ pub(crate) fn attempt_nets<N: BookName + Send + Sync, R: Threads + Wait + Sync, 
 fn work_all<N: BookName + Send + Sync, R: Threads + Wait + Sync, G: Gate + Sync>(
     rt: &R,
     alloc: Global,
-    asked: &Asked,
+    task: &Task,
     round: u32,
     book: &TrackBook<N>,
     share: &Share,
     gate: &G,
     members: &mut Vec<Member<N>>,
 )
-    requires capacity { N.capacity ≡ capacity_of asked.now.design.now }
-    requires round { round ≤ asked.now.rounds }
-    requires nets { All (λ net. IsTrue (is_routed asked.now.design.now net)) share.now.nets }
+    requires capacity { N.capacity ≡ capacity_of task.now.design.now }
+    requires round { round ≤ task.now.rounds }
+    requires nets { All (λ net. IsTrue (is_routed task.now.design.now net)) share.now.nets }
     requires hands { All (λ m. IsHandOf share.now m.hand) members.old.items }
     ensures count { length members.new.items ≡ length members.old.items }
     ensures worked { (at : ℕ) (d : _) → at < length members.old.items →
-        IsWorked share.now asked.now.design.now asked.now.rule.now.formula round
+        IsWorked share.now task.now.design.now task.now.rule.now.formula round
         (slice_index_or members.old.items at d).hand
         (slice_index_or members.new.items at d).hand (slice_index_or members.old.items at d).worker.pass
         (slice_index_or members.new.items at d).worker.pass (slice_index_or members.new.items at d).done }
@@ -79,17 +85,17 @@ fn work_all<N: BookName + Send + Sync, R: Threads + Wait + Sync, G: Gate + Sync>
     for_each_beside(
         rt,
         members.as_mut_slice(),
-        asked.workers as usize,
+        task.workers as usize,
         &|_, member: &mut Member<N>|
-            requires { (N.capacity ≡ capacity_of asked.now.design.now) × (round ≤ asked.now.rounds) ×
-                All (λ net. IsTrue (is_routed asked.now.design.now net)) share.now.nets ×
+            requires { (N.capacity ≡ capacity_of task.now.design.now) × (round ≤ task.now.rounds) ×
+                All (λ net. IsTrue (is_routed task.now.design.now net)) share.now.nets ×
                 IsHandOf share.now member.now.hand }
-            ensures { IsWorked share.entry.now asked.entry.now.design.now
-                asked.entry.now.rule.now.formula round
+            ensures { IsWorked share.entry.now task.entry.now.design.now
+                task.entry.now.rule.now.formula round
                 member.entry.now.hand member.exit.now.hand member.entry.now.worker.pass member.exit.now.worker.pass
                 member.exit.now.done }
         {
-            work_one(rt, alloc, asked, round, book, share, gate, member);
+            work_one(rt, alloc, task, round, book, share, gate, member);
         },
     );
 }
@@ -98,18 +104,18 @@ fn work_all<N: BookName + Send + Sync, R: Threads + Wait + Sync, G: Gate + Sync>
 fn work_one<N: BookName, R: Threads + Wait + Sync, G: Gate>(
     rt: &R,
     alloc: Global,
-    asked: &Asked,
+    task: &Task,
     round: u32,
     book: &TrackBook<N>,
     share: &Share,
     gate: &G,
     member: &mut Member<N>,
 )
-    requires capacity { N.capacity ≡ capacity_of asked.now.design.now }
-    requires round { round ≤ asked.now.rounds }
-    requires nets { All (λ net. IsTrue (is_routed asked.now.design.now net)) share.now.nets }
+    requires capacity { N.capacity ≡ capacity_of task.now.design.now }
+    requires round { round ≤ task.now.rounds }
+    requires nets { All (λ net. IsTrue (is_routed task.now.design.now net)) share.now.nets }
     requires hand { IsHandOf share.now member.old.hand }
-    ensures { IsWorked share.now asked.now.design.now asked.now.rule.now.formula round
+    ensures { IsWorked share.now task.now.design.now task.now.rule.now.formula round
         member.old.hand member.new.hand member.old.worker.pass member.new.worker.pass member.new.done }
 {
     let ground = Ground {
@@ -120,7 +126,7 @@ fn work_one<N: BookName, R: Threads + Wait + Sync, G: Gate>(
     };
     member.done = work(
         &ground,
-        asked,
+        task,
         round,
         share,
         &mut member.hand,
@@ -131,22 +137,22 @@ fn work_one<N: BookName, R: Threads + Wait + Sync, G: Gate>(
 /// A worker attempts the nets that are left, of which there are none in practice.
 fn attempt_rest<N: BookName, R: Threads + Wait + Sync, G: Gate>(
     ground: &Ground<'_, N, R, G>,
-    asked: &Asked,
+    task: &Task,
     round: u32,
     nets: &[u32],
     worker: &mut Worker<N>,
 ) -> Result<(), AllocError>
-    requires capacity { N.capacity ≡ capacity_of asked.now.design.now }
-    requires round { round ≤ asked.now.rounds }
-    requires nets { All (λ net. IsTrue (is_routed asked.now.design.now net)) nets.now }
+    requires capacity { N.capacity ≡ capacity_of task.now.design.now }
+    requires round { round ≤ task.now.rounds }
+    requires nets { All (λ net. IsTrue (is_routed task.now.design.now net)) nets.now }
     requires legal { IsLegal N.capacity worker.old.pass.seen }
     ensures { OnOk result
-        (HasAttemptedOver asked.now.design.now asked.now.rule.now.formula round nets.now
+        (HasAttemptedOver task.now.design.now task.now.rule.now.formula round nets.now
         worker.old.pass worker.new.pass) }
 {
     let mut planner = Planner::new(ground.alloc)?;
     for &net in nets {
-        ground.attempt(asked, round, net, worker, &mut planner)?;
+        ground.attempt(task, round, net, worker, &mut planner)?;
     }
     Ok(())
 }

@@ -5,10 +5,10 @@ ghost use Rattle.gr_base.specs.Designs.{is_routed};
 ghost use Rattle.grid_demand.specs.Tables.{capacity_of};
 ghost use Rattle.track_book.specs.Passes.{AreBegun, AreAll, IsClosed};
 ghost use Rattle.ripup_workers.specs.Closing.{AreNew, IsMadeBook};
-ghost use Rattle.ripup_workers.specs.Rounding.{setting_of, is_stop_at, IsRoundOver, HaveRun};
+ghost use Rattle.ripup_workers.specs.Rounding.{setting_of, is_stop_at, due_after, IsRoundOver, HaveRun};
 
 use crate::asked::Asked;
-use crate::gate::Gate;
+use crate::given::begin_given;
 use crate::ground::Ground;
 use crate::round::attempt_nets;
 use crate::team::{Coordinator, RoundEnd};
@@ -17,7 +17,7 @@ use book_state::Replica;
 use cost_rules::{Going, Sight};
 use gr_base::Design;
 use net_order::{Survey, by_regions};
-use run_histories::routed_nets;
+use run_histories::{Gate, MARKER, Stop, open_nets};
 use std::alloc::{AllocError, Global};
 use std::sync::Wait;
 use std::thread::Threads;
@@ -118,16 +118,22 @@ fn run_rounds<N: BookName + Send + Sync, R: Threads + Wait + Sync, G: Gate + Syn
 {
     let mut workers = workers;
     let survey = Survey::of(ground.rt, ground.alloc, asked.design, asked.workers)?;
-    let mut nets = routed_nets(ground.alloc, asked.design)?;
+    let mut nets = open_nets(ground.alloc, asked.design, asked.given)?;
+    let Ground {
+        rt,
+        alloc,
+        book,
+        gate,
+    } = *ground;
+    begin_given(rt, alloc, book, asked, coordinator, &mut workers)?;
     let mut before = None;
     for round in 0..asked.rounds + 1 {
         let end = run_round(ground, asked, round, &survey, nets, coordinator, workers)?;
         workers = end.workers;
         nets = end.nets;
-        if is_stopped(asked, end.overflow, before) {
-            return Ok(workers);
-        }
-        if nets.is_empty() {
+        let due = due_after(asked, round, end.overflow, before, nets.len());
+        tell_mark(rt, gate, round, end.overflow, due);
+        if due == 0 {
             return Ok(workers);
         }
         before = Some(end.overflow);
@@ -165,6 +171,35 @@ fn run_round<N: BookName + Send + Sync, R: Threads + Wait + Sync, G: Gate + Sync
         nets: kept,
         overflow: marked.overflow,
     })
+}
+
+/// How many nets the round after this one has, where so many could be due.
+fn due_after(asked: &Asked, round: u32, overflow: u128, before: Option<u128>, nets: usize) -> u64
+    ensures { result ≡ due_after (setting_of asked.now) round overflow before nets }
+{
+    if round == asked.rounds || is_stopped(asked, overflow, before) {
+        return 0;
+    }
+    nets as u64
+}
+
+/// Lets the gate know that a round has ended with a mark.
+fn tell_mark<R: Threads + Wait + Sync, G: Gate>(
+    rt: &R,
+    gate: &G,
+    round: u32,
+    overflow: u128,
+    due: u64,
+) {
+    gate.pass(
+        rt,
+        MARKER,
+        Stop::Marked {
+            round,
+            overflow,
+            due,
+        },
+    );
 }
 
 /// Whether the watcher says Stop at this overflow, after that one.

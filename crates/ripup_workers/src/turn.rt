@@ -13,9 +13,8 @@ ghost use Rattle.ripup_workers.specs.Foresight.{IsForeseen};
 ghost use Rattle.ripup_workers.specs.Turning.{HasCapacity, IsOver, HasFollowed, HasTried, HasLedOn, WasPlanned};
 ghost use Rattle.ripup_workers.specs.Working.{HasLed, HasAttempted};
 
-use crate::asked::Asked;
+use crate::asked::Task;
 use crate::foresight::Foreseen;
-use crate::gate::{Gate, Stop};
 use crate::ground::Ground;
 use crate::ready::ready_memory;
 use crate::wish::Wish;
@@ -23,7 +22,7 @@ use crate::worker::Worker;
 use book_state::{Reply, Sought};
 use gr_base::RouteTree;
 use net_plan::Planner;
-use run_histories::kind_of;
+use run_histories::{Gate, Stop, kind_of};
 use std::alloc::AllocError;
 use std::sync::Wait;
 use std::thread::Threads;
@@ -38,24 +37,26 @@ impl<N: BookName, R: Threads + Wait + Sync, G: Gate> Ground<'_, N, R, G> {
     /// The only error is want of memory.
     pub(crate) fn attempt(
         &self,
-        asked: &Asked,
+        task: &Task,
         round: u32,
         net: u32,
         worker: &mut Worker<N>,
         planner: &mut Planner,
     ) -> Result<(), AllocError>
-        requires capacity { N.capacity ≡ capacity_of asked.now.design.now }
+        requires capacity { N.capacity ≡ capacity_of task.now.design.now }
         requires round { round ≤ most_rounds }
-        requires net { IsTrue (is_routed asked.now.design.now net) }
-        ensures { (t : Setting) → IsOver asked.now.design.now asked.now.rule.now.formula t →
+        requires net { IsTrue (is_routed task.now.design.now net) }
+        ensures { (t : Setting) → IsOver task.now.design.now task.now.rule.now.formula t →
             OnOk result (HasAttempted t round (net ∷ []) worker.old.pass worker.new.pass) }
     {
-        let within = net < asked.design.nets();
+        let number = worker.pass.number();
+        self.gate.pass(self.rt, number, Stop::Turn { net, round });
+        let within = net < task.design.nets();
         prove!(within);
         let wish = Wish {
             alloc: self.alloc,
-            design: asked.design,
-            rule: asked.rule,
+            design: task.design,
+            rule: task.rule,
             net,
             kind: kind_of(round),
         };

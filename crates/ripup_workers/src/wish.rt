@@ -2,6 +2,7 @@
 ghost use Rattle.std.specs.Prelude.{◌≡◌, List, IfOk, IfSome, IsTrue};
 ghost use Rattle.book_state.specs.Books.{AreLoadsOf};
 ghost use Rattle.book_state.specs.declared.entry.Entry.{Entry};
+ghost use Rattle.book_state.specs.declared.entry.PlanKind.TheVariants.{Given};
 ghost use Rattle.gr_base.specs.Designs.{is_routed};
 ghost use Rattle.grid_demand.specs.Tables.{capacity_of};
 ghost use Rattle.net_plan.specs.Prices.{HasBoundedDemand};
@@ -26,6 +27,7 @@ pub(crate) struct Wish<'a> {
     pub(crate) net: u32,
     pub(crate) kind: PlanKind,
     ghost routed: { IsTrue (is_routed design.now net) },
+    ghost planned: { kind ≡ Given → ⊥ },
 }
 
 impl Wish<'_> {
@@ -59,7 +61,7 @@ impl Wish<'_> {
         ensures { IfSome result (IsWindowOf self.now.design.now self.now.net self.now.kind) }
     {
         match self.kind {
-            PlanKind::Pattern => None,
+            PlanKind::Pattern | PlanKind::Given => None,
             PlanKind::Maze { margin } => Some(maze_window(self.design, self.net, margin)),
         }
     }

@@ -1,5 +1,5 @@
 -- The fields of the machine before any step.
-use Rattle.std.proofs.Common.{◌≡◌, ℕ, ◌≤◌, Bool, false, List, [], filter, length, replicate, Option, None, sym, ap, subst, ◌∙◌, arith}
+use Rattle.std.proofs.Common.{◌≡◌, ℕ, ◌≤◌, Bool, false, List, [], filter, length, replicate, Option, None, refl, sym, ap, subst, ◌∙◌, arith}
 use Rattle.std.proofs.lemmas.List.{length-replicate}
 use Rattle.std.proofs.lemmas.List.Sums.{length-filter, count_by-le-length}
 use Rattle.std.proofs.lemmas.List.FromFn.{length-range_with_len}
@@ -54,9 +54,9 @@ pub record IsMadeFrom (w : Inside) (workers : ℕ) : Type 0 where
   pub rounds : w.rounds ≤ most_rounds
   pub nets : length w.design.now.nets ≤ most_nets
 
-pub made-view : (w : Inside) (workers : ℕ) → IsMadeFrom w workers → seen w ≡ at_first (asked_for w.design.now w.formula workers w.rounds w.watch w.goal)
+pub made-view : (w : Inside) (workers : ℕ) → IsMadeFrom w workers → seen w ≡ at_first (asked_for w.design.now [] w.formula workers w.rounds w.watch w.goal)
 made-view w workers made =
-    let asked : ℕ → Setting = λ n. asked_for w.design.now w.formula n w.rounds w.watch w.goal in
+    let asked : ℕ → Setting = λ n. asked_for w.design.now [] w.formula n w.rounds w.watch w.goal in
     let count : length w.phases.items ≡ workers = ap (λ (ps : List Phase). length ps) made.phases_are ∙ length-replicate workers Idle in
     ap (λ (r : ℕ). at_round w r w.over) made.round_is ∙ ap (λ (b : Bool). at_round w 0 b) made.over_is
     ∙ ap (λ (n : ℕ). made_view (asked n) w.book.history w.left.items w.phases.items w.since.items) count
@@ -80,7 +80,7 @@ made-keeps w workers made =
     let nets = made.nets in
     let first = made.round_is in
     record {
-      world = subst IsWorld (sym (made-view w workers made)) (first-world (asked_for w.design.now w.formula workers w.rounds w.watch w.goal));
+      world = subst IsWorld (sym (made-view w workers made)) (first-world (asked_for w.design.now [] w.formula workers w.rounds w.watch w.goal) refl);
       capacity = ap (λ (b : BookView). b.capacity) made.book_is;
       overflow = no-overflow w.overflow w.book.history made.overflow_is (ap (λ (b : BookView). b.history) made.book_is);
       workers = omega (arith, count, few);

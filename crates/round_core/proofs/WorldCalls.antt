@@ -1,5 +1,5 @@
 -- The releases and claims that the machine allows are parts of attempts.
-use Rattle.std.proofs.Common.{◌≡◌, ℕ, suc, zero, ◌+◌, ◌<◌, ◌≤◌, inl, inr, Bool, true, false, cond, ◌==◌, nat_lt, nat_le, List, ◌∷◌, length, drop, take, Option, Some, None, is_some, slice_get, slice_set, if◌then◌else◌, refl, sym, ap, subst, ◌∙◌, arith}
+use Rattle.std.proofs.Common.{◌≡◌, ℕ, suc, zero, ◌+◌, ◌<◌, ◌≤◌, inl, inr, Bool, true, false, cond, ◌==◌, nat_lt, nat_le, List, [], ◌∷◌, length, drop, take, Option, Some, None, is_some, is_none, slice_get, slice_set, if◌then◌else◌, refl, sym, ap, subst, ◌∙◌, arith}
 use Rattle.std.specs.List.{count_by}
 use Rattle.std.proofs.lemmas.Bool.{cases_Bool, both_ways, and_parts}
 use Rattle.std.proofs.lemmas.Bool.Decides.{nat_tests}
@@ -7,7 +7,7 @@ use Rattle.gr_base.specs.Designs.{DesignView, is_routed}
 use Rattle.grid_demand.specs.Tables.{capacity_of}
 use Rattle.book_state.specs.Books.{nets_of, booked, reply_to_claim, IsClaim}
 use Rattle.book_state.specs.Cuts.{Cut, cut}
-use Rattle.book_state.specs.Entries.{calls_of}
+use Rattle.book_state.specs.Entries.{is_given_kind, calls_of}
 use Rattle.book_state.specs.declared.entry.Call.{Call}
 use Rattle.book_state.specs.declared.entry.Call.TheVariants.{Claim as Claims, Release as Releases}
 use Rattle.book_state.specs.declared.entry.Claim.{Claim as ClaimOf}
@@ -25,7 +25,8 @@ use Rattle.round_core.specs.declared.steps.Phase.TheVariants.{Idle, Holding, Try
 use Rattle.round_core.specs.declared.steps.Step.TheVariants.{Release, Claim}
 use Rattle.run_histories.proofs.Answered.{held-routed, none-is, is-later, full-slack}
 use Rattle.round_core.proofs.HeldCounts.{held-change, held-some}
-use Rattle.run_histories.proofs.StageSteps.{claim-for}
+use Rattle.run_histories.proofs.GivenLemmas.{claims-nothing}
+use Rattle.run_histories.proofs.StageSteps.{kind-plain, claim-for}
 use Rattle.run_histories.proofs.TurnLemmas.{unbounded-claimed, routed-within}
 use Rattle.round_core.proofs.WorldSteps.{IsCallOf, call-world}
 use Rattle.run_histories.proofs.KeptRules.{one-more}
@@ -82,7 +83,7 @@ release-leads (suc r) net stage e call rests later =
 -- a net that is due, and wasn't begun, is one of the design's
 due-below : (d : DesignView) (r : ℕ) (before h segment : List Entry) (net : ℕ) → AreApart d r before h segment → is_due d r before net ≡ true → attempts_at r net segment ≡ 0 →
     net < nets_of (capacity_of d)
-due-below d zero before h segment net apart due none = routed-within d (capacity_of d) net refl due
+due-below d zero before h segment net apart due none = routed-within d (capacity_of d) net refl (and_parts (is_routed d net) (is_none (booked before net)) due).0
 due-below d (suc r) before h segment net apart due none =
     routed-within d (capacity_of d) net refl
     (held-routed (nat_lt 0 (suc r)) (is_routed d) (is_due d (suc r) before) (booked h) (λ worker. stage_of (suc r) (calls_of worker segment))
@@ -103,6 +104,7 @@ release-of v worker net world one runs holds later =
     record {
       one = one;
       other = refl;
+      plain = refl;
       in_range = due-below v.setting.design s.round s.before v.history s.segment net running.apart first.0 first.1;
       planned = λ claim is. absurd (cc);
       led = release-leads s.round net (stage_in (phase_before_end v worker)) said refl (ap stage_in holds) now;
@@ -147,15 +149,16 @@ claim-runs v worker claim allowed =
     (claiming-by v.over (phase_before_end v worker) v.round claim parts.1).0
 
 -- the claim of a worker is planned
-claim-planned : (v : WorldView) (worker : ℕ) (claim other : ClaimOf) → IsRunning v (cut v.history) → nat_le (since_of v worker) claim.front ≡ true →
+claim-planned : (v : WorldView) (worker : ℕ) (claim other : ClaimOf) → v.setting.given ≡ [] → IsRunning v (cut v.history) → nat_le (since_of v worker) claim.front ≡ true →
     IsPlanOver v.setting (take claim.front v.history) claim → Claims claim ≡ Claims other → IsPlanned v.setting v.history (worker + 1) other
-claim-planned v worker claim other running late tree is =
+claim-planned v worker claim other plain running late tree is =
     let same : claim ≡ other = cc in
     subst (λ (c : ClaimOf). IsPlanned v.setting v.history (worker + 1) c) same (record {
       front = λ place own there number.
           let before = running.last worker place own there (number ∙ one-more worker) in
           let front : since_of v worker ≤ claim.front = grind (arith, nat_tests) in
           omega (arith, before, front);
+      behind = λ pattern. (let none = ap length (claims-nothing v.setting plain) in omega (arith, none));
       tree = tree;
     })
 
@@ -257,8 +260,9 @@ module _ (v : WorldView) (worker : ℕ) (claim : ClaimOf) (world : IsWorld v) (r
         record {
           one = one;
           other = refl;
+          plain = ap is_given_kind (sym for_net.kind_is);
           in_range = in_range;
-          planned = λ other same. claim-planned v worker claim other running late tree same;
+          planned = λ other same. claim-planned v worker claim other world.plain running late tree same;
           led = first-leads s.round net (stage_in (phase_before_end v worker)) said claim now refl (ap stage_in holds) is;
           first = λ other begins_is.
               subst (λ (n : ℕ). (is_due v.setting.design s.round s.before n ≡ true) × (attempts_at s.round n s.segment ≡ 0))
@@ -289,8 +293,9 @@ module _ (v : WorldView) (worker : ℕ) (claim : ClaimOf) (world : IsWorld v) (r
       record {
         one = one;
         other = refl;
+        plain = ap is_given_kind (sym for_net.kind_is) ∙ kind-plain s.round;
         in_range = in_range;
-        planned = λ other same. claim-planned v worker claim other running late tree same;
+        planned = λ other same. claim-planned v worker claim other world.plain running late tree same;
         led = later-leads s.round net tries (length v.history + 1) (stage_in (phase_before_end v worker)) said claim right.0 right.1 refl stage now;
         first = λ other begins_is. absurd (both_ways (begins s.round other said) (unbegun other) begins_is);
         held = λ other.

@@ -1,19 +1,24 @@
 -- The state of the machine at first, and the end.
-use Rattle.std.proofs.Common.{◌≡◌, ℕ, suc, zero, Bool, true, false, [], length, replicate, slice_get, if◌then◌else◌, refl, sym, ap, subst, arith}
+use Rattle.std.proofs.Common.{◌≡◌, ℕ, suc, zero, Bool, true, false, ◌&&◌, List, [], length, replicate, slice_get, Option, is_none, if◌then◌else◌, refl, sym, ap, subst, ◌∙◌, arith}
 use Rattle.std.specs.List.{count_by}
 use Rattle.std.proofs.lemmas.Bool.{both_ways}
 use Rattle.std.proofs.lemmas.List.{length-replicate}
 use Rattle.std.proofs.lemmas.Option.{none-some}
 use Rattle.gr_base.proofs.DesignLemmas.{routed-below}
 use Rattle.gr_base.specs.Designs.{is_routed}
+use Rattle.gr_base.specs.Trees.{TreeView}
+use Rattle.book_state.proofs.BookSteps.{booked-none}
 use Rattle.book_state.specs.Cuts.{cut}
+use Rattle.book_state.specs.declared.entry.Entry.{Entry}
+use Rattle.run_histories.specs.Apart.{AreApartIn}
 use Rattle.run_histories.specs.Attempts.{Rests}
-use Rattle.run_histories.specs.RunHistories.{Setting, IsRunHistory}
+use Rattle.run_histories.specs.RunHistories.{Setting, is_due, IsRunHistory}
 use Rattle.round_core.specs.WorldRules.{stage_in, stage_at, is_holding_net, IsPhaseRight, IsRunning, IsWorld}
 use Rattle.round_core.specs.Worlds.{WorldView, phase_in, phase_before_end, phase_at, since_in, since_of, at_first}
 use Rattle.round_core.specs.declared.steps.Phase.{Phase}
 use Rattle.round_core.specs.declared.steps.Phase.TheVariants.{Idle, Ended}
-use Rattle.run_histories.proofs.JoiningLaw.{none-apart}
+use Rattle.run_histories.proofs.GivenLemmas.{claims-nothing}
+use Rattle.run_histories.proofs.JoiningLaw.{given-apart}
 use Rattle.run_histories.proofs.RangeCounts.{times-kept}
 use Rattle.run_histories.proofs.KeptRules.{first-rules}
 
@@ -36,9 +41,20 @@ first-stages : (t : Setting) (number : ℕ) → Rests ≡ stage_at (at_first t) 
 first-stages t zero = refl
 first-stages t (suc worker) = ap stage_in (sym (first-phase t.workers worker))
 
-first-running : (t : Setting) → IsRunning (at_first t) (cut [])
+-- without given trees the routed nets are due in round 0
+first-due : (t : Setting) (net : ℕ) → is_due t.design 0 [] net ≡ is_routed t.design net
+first-due t net = ap (λ (o : Option TreeView). is_routed t.design net && is_none o) (booked-none net) ∙ by (is_routed t.design net)
+  where
+    by : (b : Bool) → (b && true) ≡ b
+    by true = refl
+    by false = refl
+
+first-apart : (t : Setting) → t.given ≡ [] → AreApartIn t.design [] (cut [])
+first-apart t plain = subst (λ (h : List Entry). AreApartIn t.design h (cut h)) (claims-nothing t plain) (given-apart t.design t.given)
+
+first-running : (t : Setting) → t.given ≡ [] → IsRunning (at_first t) (cut [])
 unfolding cut
-first-running t = record {
+first-running t plain = record {
   round = refl;
   asked = λ later. absurd (omega (arith, later));
   phases = length-replicate t.workers Idle;
@@ -47,17 +63,19 @@ first-running t = record {
   nets = λ net.
       let kept = times-kept (is_routed t.design) (length t.design.nets) net (routed-below t.design net) in
       let held = first-held t.workers net in
-      omega (arith, kept, held);
+      let due = ap {B = ℕ} (λ (b : Bool). if b then 1 else 0) (first-due t net) in
+      omega (arith, kept, held, due);
   last = λ worker place own there number. absurd (none-some own there);
   exact = λ worker some. let none = first-since t.workers worker in absurd (omega (arith, some, none));
   right = λ worker. subst (λ (p : Phase). IsPhaseRight 0 (since_of (at_first t) worker) p) (sym (first-phase t.workers worker)) tt;
-  apart = none-apart t.design;
+  apart = first-apart t plain;
 }
 
-pub first-world : (t : Setting) → IsWorld (at_first t)
-first-world t = record {
-  rules = first-rules t;
-  running = λ still. first-running t;
+pub first-world : (t : Setting) → t.given ≡ [] → IsWorld (at_first t)
+first-world t plain = record {
+  plain = plain;
+  rules = first-rules t plain;
+  running = λ still. first-running t plain;
   ended = λ over. absurd (both_ways false refl over);
 }
 
@@ -74,7 +92,7 @@ ended-run v worker world is = by v.over refl is
         let rules = world.rules in
         let ended = world.ended over in
         record {
-          attempts = record { legal = rules.legal; last = ended.last; numbers = rules.numbers; plans = rules.plans; whole = rules.whole; due = rules.due };
+          attempts = record { legal = rules.legal; given = rules.given; last = ended.last; numbers = rules.numbers; plans = rules.plans; whole = rules.whole; due = rules.due };
           granted = rules.granted;
           asked = rules.asked;
           over = ended.over;

@@ -46,7 +46,7 @@ over-ended w worker keeps over =
 -- the view of fields in which other vectors stand
 abbrev view_with : Inside → ℕ → List ℕ → List Phase → WorldView
 view_with w workers left phases = record {
-  setting = record { design = w.design.now; formula = w.formula; workers = workers; rounds = w.rounds; watch = w.watch; goal = w.goal };
+  setting = record { design = w.design.now; given = []; formula = w.formula; workers = workers; rounds = w.rounds; watch = w.watch; goal = w.goal };
   history = w.book.history;
   round = w.round;
   over = w.over;
@@ -132,7 +132,7 @@ pub record IsCalled (w : Inside) (book : BookView) (worker : ℕ) (call : Call) 
 
 abbrev called_view : Inside → ℕ → Phase → ℕ → List Entry → ℕ → WorldView
 called_view w worker phase workers history since = record {
-  setting = record { design = w.design.now; formula = w.formula; workers = workers; rounds = w.rounds; watch = w.watch; goal = w.goal };
+  setting = record { design = w.design.now; given = []; formula = w.formula; workers = workers; rounds = w.rounds; watch = w.watch; goal = w.goal };
   history = history;
   round = w.round;
   over = w.over;

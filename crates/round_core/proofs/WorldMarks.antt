@@ -31,6 +31,7 @@ use Rattle.run_histories.proofs.JoiningLaw.{AreHeld, all-held, mark-apart}
 use Rattle.run_histories.proofs.RangeCounts.{times-kept}
 use Rattle.run_histories.proofs.TurnLemmas.{routed-within}
 use Rattle.round_core.proofs.WorldSteps.{entry-cases, own-kept}
+use Rattle.run_histories.proofs.GivenLemmas.{begins-push}
 use Rattle.run_histories.specs.RunHistories.{KeepsRules}
 
 -- a mark at which every worker is idle, and no net is left
@@ -75,6 +76,7 @@ module _ (v : WorldView) (world : IsWorld v) (runs : v.over ≡ false) (idle : f
       let rules = world.rules in
       record {
         legal = legal-push (capacity_of v.setting.design) v.history mark_entry rules.legal (record { call = tt; reply = refl });
+        given = begins-push v.setting v.history mark_entry rules.given refl;
         numbers = each-push (λ before e. IsNumbered v.setting.workers e.call e.number) v.history mark_entry rules.numbers refl;
         plans = each-push (λ before e. (claim : ClaimOf) → e.call ≡ Claims claim → IsPlanned v.setting before e.number claim) v.history mark_entry rules.plans (λ claim is. absurd (cc));
         granted = each-push (λ before e. IsGranted e.call e.reply) v.history mark_entry rules.granted tt;
@@ -187,11 +189,13 @@ module _ (v : WorldView) (world : IsWorld v) (runs : v.over ≡ false) (idle : f
 
   mark-on : (on : Bool) → goes_on v.setting v.round (marked v) ≡ on → IsWorld (with_mark v on)
   mark-on true is = record {
+    plain = world.plain;
     rules = mark-rules;
     running = λ still. subst (λ (s : Cut). IsRunning (with_mark v true) s) (sym (cut-mark v.history mark_entry refl)) (next-running is);
     ended = λ over. absurd (both_ways false refl over);
   }
   mark-on false is = record {
+    plain = world.plain;
     rules = mark-rules;
     running = λ still. absurd (both_ways true still refl);
     ended = λ over. rounds-over is;

@@ -10,7 +10,7 @@ use Rattle.book_state.proofs.LegalHistories.{each-push, legal-push}
 use Rattle.book_state.proofs.ReplicaSteps.{is_same}
 use Rattle.book_state.specs.Books.{IsCall, IsRight}
 use Rattle.book_state.specs.Cuts.{Cut, cut, AtMarks}
-use Rattle.book_state.specs.Entries.{is_mark, is_mark_call, calls_of}
+use Rattle.book_state.specs.Entries.{is_mark, is_mark_call, is_given_call, calls_of}
 use Rattle.book_state.specs.declared.entry.Call.{Call}
 use Rattle.book_state.specs.declared.entry.Call.TheVariants.{Claim as Claims, Release as Releases, Mark as Marks}
 use Rattle.book_state.specs.declared.entry.Claim.{Claim as ClaimOf}
@@ -22,7 +22,8 @@ use Rattle.round_core.specs.Worlds.{WorldView, phase_in, phase_before_end, since
 use Rattle.round_core.specs.declared.steps.Phase.{Phase}
 use Rattle.round_core.specs.declared.steps.Phase.TheVariants.{Idle, Holding, Trying, Ended}
 use Rattle.run_histories.proofs.Answered.{GoesWell, answered}
-use Rattle.run_histories.proofs.CutSteps.{grown, cut-other}
+use Rattle.run_histories.proofs.CutSteps.{grown, cut-other, unended}
+use Rattle.run_histories.proofs.GivenLemmas.{begins-push}
 use Rattle.run_histories.proofs.StageSteps.{stage-own, stage-other, attempts-push}
 use Rattle.run_histories.proofs.ListPlaces.{set-here}
 use Rattle.run_histories.proofs.ListPlaces.{set-elsewhere}
@@ -34,6 +35,7 @@ use Rattle.run_histories.proofs.KeptRules.{one-more}
 pub record IsCallOf (v : WorldView) (worker : ℕ) (call : Call) (phase : Phase) : Type 0 where
   pub one : worker < v.setting.workers
   pub other : is_mark_call call ≡ false
+  pub plain : is_given_call call ≡ false
   pub in_range : IsCall (capacity_of v.setting.design) (length v.history) call
   pub planned : (claim : ClaimOf) → call ≡ Claims claim → IsPlanned v.setting v.history (worker + 1) claim
   pub led : stage_after (cut v.history).round (stage_in (phase_before_end v worker)) (entry_by v (worker + 1) call) ≡ stage_in phase
@@ -111,6 +113,7 @@ module _ (v : WorldView) (worker : ℕ) (call : Call) (phase : Phase) (world : I
       let rules = world.rules in
       record {
         legal = legal-push (capacity_of v.setting.design) v.history said rules.legal call-right;
+        given = begins-push v.setting v.history said rules.given by.plain;
         numbers = each-push (λ before e. IsNumbered v.setting.workers e.call e.number) v.history said rules.numbers
             (numbered v.setting.workers worker call by.one by.other);
         plans = each-push (λ before e. (claim : ClaimOf) → e.call ≡ Claims claim → IsPlanned v.setting before e.number claim) v.history said rules.plans by.planned;
@@ -220,7 +223,8 @@ module _ (v : WorldView) (worker : ℕ) (call : Call) (phase : Phase) (world : I
 
   pub call-world : IsWorld called
   call-world = record {
+    plain = world.plain;
     rules = call-rules;
-    running = λ still. subst (λ (s : Cut). IsRunning called s) (sym (cut-other v.history said by.other)) call-running;
+    running = λ still. subst (λ (s : Cut). IsRunning called s) (sym (cut-other v.history said (unended said by.other by.plain))) call-running;
     ended = λ over. absurd (both_ways v.over runs over);
   }

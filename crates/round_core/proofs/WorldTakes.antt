@@ -89,6 +89,7 @@ module _ (v : WorldView) (worker net : ℕ) (world : IsWorld v) (one : worker < 
 
   take-world : IsWorld taken
   take-world = record {
+    plain = world.plain;
     rules = world.rules;
     running = λ still. record {
       round = running.round;

@@ -1,5 +1,5 @@
 -- What every state of the machine keeps.
-use Rattle.std.specs.Prelude.{◌≡◌, ℕ, zero, suc, ◌+◌, ◌<◌, ◌≤◌, Bool, true, false, ◌==◌, List, length, drop, slice_get, Some, if◌then◌else◌, IsTrue}
+use Rattle.std.specs.Prelude.{◌≡◌, ℕ, zero, suc, ◌+◌, ◌<◌, ◌≤◌, Bool, true, false, ◌==◌, List, [], length, drop, slice_get, Some, if◌then◌else◌, IsTrue}
 use Rattle.std.specs.List.{count_by}
 use Rattle.book_state.specs.Cuts.{Cut, cut}
 use Rattle.book_state.specs.Entries.{calls_of}
@@ -68,8 +68,9 @@ pub record HasEnded (t : Setting) (h : List Entry) : Type 0 where
   pub last : IsTrue (ends_with_mark h)
   pub over : IsOver t h
 
--- what every state keeps
+-- what every state keeps: no trees are given
 pub record IsWorld (v : WorldView) : Type 0 where
+  pub plain : v.setting.given ≡ []
   pub rules : KeepsRules v.setting v.history
   pub running : v.over ≡ false → IsRunning v (cut v.history)
   pub ended : v.over ≡ true → HasEnded v.setting v.history

@@ -1,5 +1,5 @@
 -- What the fields of a world keep.
-use Rattle.std.specs.Prelude.{◌≡◌, ◌≤◌, length}
+use Rattle.std.specs.Prelude.{◌≡◌, ◌≤◌, [], length}
 use Rattle.gr_base.specs.Limits.{most_nets, most_rounds, most_workers}
 use Rattle.grid_demand.specs.Tables.{capacity_of}
 use Rattle.run_histories.specs.RunHistories.{Setting, overflows_of}
@@ -11,6 +11,7 @@ use Rattle.round_core.specs.declared.world.World.TheInside.{Inside}
 abbrev pub setting_of : Inside → Setting
 setting_of w = record {
   design = w.design.now;
+  given = [];
   formula = w.formula;
   workers = length w.phases.items;
   rounds = w.rounds;

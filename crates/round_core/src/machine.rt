@@ -1,5 +1,5 @@
 //! What can be asked of the machine.
-ghost use Rattle.std.specs.Prelude.{◌≡◌, ◌<◌, ◌≤◌, length, IfOk, IfErr, OnOk, OnErr, IsTrue};
+ghost use Rattle.std.specs.Prelude.{◌≡◌, ◌<◌, ◌≤◌, [], length, IfOk, IfErr, OnOk, OnErr, IsTrue};
 ghost use Rattle.gr_base.specs.Limits.{most_rounds, most_workers};
 ghost use Rattle.grid_demand.specs.Tables.{capacity_of};
 ghost use Rattle.run_histories.specs.RunHistories.{asked_for, IsRunHistory};
@@ -31,7 +31,7 @@ impl<'a> World<'a> {
         requires workers { workers ≤ most_workers }
         requires rounds { rounds ≤ most_rounds }
         ensures { IfOk result (λ world. world
-            ≡ at_first (asked_for design.now formula workers rounds watch.now.watch goal)) }
+            ≡ at_first (asked_for design.now [] formula workers rounds watch.now.watch goal)) }
     {
         let nets = routed_nets(alloc, design)?;
         Ok(World {

@@ -115,9 +115,10 @@ fn is_kind(kind: PlanKind, other: PlanKind) -> bool
     match (kind, other) {
         (PlanKind::Pattern, PlanKind::Pattern) => true,
         (PlanKind::Maze { margin }, PlanKind::Maze { margin: other }) => margin == other,
-        (PlanKind::Pattern, PlanKind::Maze { .. }) | (PlanKind::Maze { .. }, PlanKind::Pattern) => {
-            false
-        }
+        (PlanKind::Given, PlanKind::Given) => true,
+        (PlanKind::Pattern, PlanKind::Maze { .. } | PlanKind::Given)
+        | (PlanKind::Maze { .. }, PlanKind::Pattern | PlanKind::Given)
+        | (PlanKind::Given, PlanKind::Pattern | PlanKind::Maze { .. }) => false,
     }
 }
 

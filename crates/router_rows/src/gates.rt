@@ -100,6 +100,7 @@ impl HoldingGate {
 impl Gate for HoldingGate {
     fn pass<R: Threads + Wait + Sync>(&self, rt: &R, worker: u32, stop: Stop) {
         match stop {
+            Stop::Turn { .. } | Stop::Marked { .. } => {}
             Stop::Claim { .. } => self.count(rt, u64::from(worker)),
             Stop::Search { .. } => {
                 if !self.holds(rt, u64::from(worker)) {

@@ -2,7 +2,7 @@
 use crate::bench::{Bench, Left};
 use crate::devices::Devices;
 use crate::gates::{HoldingGate, Whom};
-use crate::told;
+use crate::{entries, told};
 use cost_rules::Rules;
 use gr_text::Text;
 use ripup_workers::OpenGate;
@@ -34,7 +34,7 @@ pub(crate) fn carry_out<R: AllocGlobal + Threads + Wait + Sync>(
             bench.devices = Devices::ample();
             Ok(())
         }
-        "run" | "brief" | "hold" | "keep" | "each" | "cut" => {
+        "run" | "brief" | "entries" | "hold" | "keep" | "each" | "cut" => {
             put_line(told, line)?;
             put_runs(rt, bench, rules, command, rest, told)
         }
@@ -113,25 +113,25 @@ fn put_runs<R: AllocGlobal + Threads + Wait + Sync>(
         }
         _ => {
             let words = words_of(rt.alloc(), rest)?;
-            put_run(rt, bench, rules, &words, command == "brief", told)
+            put_run(rt, bench, rules, &words, command, told)
         }
     }
 }
 
-/// What is told of a run, or how it ended alone.
+/// What a command tells of a run.
 fn put_run<R: AllocGlobal + Threads + Wait + Sync>(
     rt: &R,
     bench: &Bench,
     rules: &Rules,
     words: &[String],
-    brief: bool,
+    command: &str,
     told: &mut Text,
 ) -> Result<(), AllocError> {
     let left = bench.run(rt, &OpenGate, rules, bench.devices, None, words)?;
-    if brief {
-        told::put_brief(rt.alloc(), told, &left)
-    } else {
-        told::put_whole(told, &left)
+    match command {
+        "brief" => told::put_brief(rt.alloc(), told, &left),
+        "entries" => entries::put_entries(told, &left),
+        _ => told::put_whole(told, &left),
     }
 }
 

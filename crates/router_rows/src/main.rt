@@ -10,6 +10,8 @@
 //! - `run WORD ..` runs the command, and prints its status, what out and err gained, and the book;
 //! - `brief WORD ..` runs it, and prints its status, the five numbers that err gained first, and the nets
 //!   of each round: all that is the same whatever the order in which several workers call;
+//! - `entries WORD ..` runs it, and prints what out gained as it stands, its status, each entry of the book's
+//!   history, with a claim's tree as pairs of a cell and its parent's, and the length of the chosen part;
 //! - `hold WORKER CLAIMS WORD ..` does so while the worker of that number waits at its first search until
 //!   the others have come to so many claims;
 //! - `keep SEARCH CLAIMS WORD ..` likewise for whoever comes to that search of all, from 0;
@@ -20,6 +22,7 @@
 
 mod bench;
 mod devices;
+mod entries;
 mod gates;
 mod lines;
 mod told;

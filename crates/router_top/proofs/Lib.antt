@@ -3,3 +3,4 @@ pub mod RouteLemmas
 pub mod RoutingLemmas
 pub mod RepeatingLemmas
 pub mod CommandLaws
+pub mod BeginningLemmas

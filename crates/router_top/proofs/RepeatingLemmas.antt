@@ -32,7 +32,10 @@ use Rattle.text_commands.specs.Judging.{report_of}
 use Rattle.word_reader.specs.declared.order.Options.{Options}
 use Rattle.router_top.specs.Booking.{batching_of, booked_edges, IsHistoryBy}
 use Rattle.router_top.specs.Repeating.{AskForSameBatches, BatchesDecide}
-use Rattle.router_top.specs.Routing.{IsRouting, IsRoutingOf}
+use Rattle.router_top.specs.Beginning.{kept_nets, kept_told}
+use Rattle.router_top.specs.Routing.{told_between, IsRouting, IsRoutingOf}
+use Rattle.router_top.specs.Tracing.{rounds_told}
+use Rattle.router_top.specs.declared.beginning.Beginning.{Beginning}
 use Rattle.router_top.specs.declared.kept.Kept.{Kept}
 use Rattle.book_state.specs.Views.{BookView}
 use Rattle.gr_io.specs.Devices.{Reading, Gains}
@@ -45,16 +48,16 @@ use Rattle.router_top.proofs.DemandLemmas.{sum-kept}
 
 -- histories of the same batches are the same
 histories-same : (d : DesignView) (one other : Options) (h g : List Entry) → IsDesign d → AskForSameBatches one other →
-    IsHistoryBy d one one.batch h → IsHistoryBy d other other.batch g → h ≡ g
+    IsHistoryBy d [] one one.batch h → IsHistoryBy d [] other other.batch g → h ≡ g
 histories-same d one other h g design asked made made_too =
-    batched-only (batching_of d one asked.batch) g h design
-    (subst (λ (t : Batching). IsBatched t g) same (subst (λ (o : Option ℕ). IsHistoryBy d other o g) asked.second made_too).batched)
-    (subst (λ (o : Option ℕ). IsHistoryBy d one o h) asked.first made).batched
+    batched-only (batching_of d [] one asked.batch) g h design
+    (subst (λ (t : Batching). IsBatched t g) same (subst (λ (o : Option ℕ). IsHistoryBy d [] other o g) asked.second made_too).batched)
+    (subst (λ (o : Option ℕ). IsHistoryBy d [] one o h) asked.first made).batched
   where
-    same : batching_of d other asked.batch ≡ batching_of d one asked.batch
+    same : batching_of d [] other asked.batch ≡ batching_of d [] one asked.batch
     same =
-        ap (λ (f : Formula). batches_of d f other.rounds asked.batch) (sym asked.rule)
-        ∙ ap (λ (n : ℕ). batches_of d one.rule n asked.batch) (sym asked.rounds)
+        ap (λ (f : Formula). batches_of d [] f other.rounds asked.batch) (sym asked.rule)
+        ∙ ap (λ (n : ℕ). batches_of d [] one.rule n asked.batch) (sym asked.rounds)
 
 -- the numbers of the report are those of the sets of edges
 numbers-only : (d : DesignView) (via_cost : ℕ) (sets : ℕ → Edges) (v w : Verdict) → IsVerdict d via_cost sets v → IsVerdict d via_cost sets w → report_of v ≡ report_of w
@@ -151,20 +154,39 @@ module _ (d : DesignView) (lib : LibraryView) (trees others : List (Option TreeV
   buffers-same : AreBestPlans d lib trees plans → AreBestPlans d lib others more → buffers_text d lib trees plans ≡ buffers_text d lib others more
   buffers-same planned planned_too = texts-same (plan-same planned planned_too)
 
+-- no net is given a tree
+abbrev IsFromNothing : Beginning → Type 0
+IsFromNothing b = (b.from_solution ≡ false) × (b.given ≡ [])
+
 -- for a design and a library, what is asked for decides the text and the report of routing in batches
-routings-same : (d : DesignView) (lib : LibraryView) (one other : Options) (b c : BookView) (hands logs : List HandLog)
+routings-same : (d : DesignView) (lib : LibraryView) (begun begun_too : Beginning) (one other : Options) (b c : BookView) (hands logs : List HandLog)
     (text report written told : List ℕ) → AskForSameBatches one other →
-    IsRoutingOf d lib one b hands text report → IsRoutingOf d lib other c logs written told → (text ≡ written) × (report ≡ told)
-routings-same d lib one other b c hands logs text report written told asked r s = (
+    IsFromNothing begun → IsFromNothing begun_too →
+    IsRoutingOf d lib begun one b hands text report → IsRoutingOf d lib begun_too other c logs written told → (text ≡ written) × (report ≡ told)
+routings-same d lib begun begun_too one other b c hands logs text report written told asked nothing nothing_too r s = (
   texts,
   r.reports
-      ∙ ap (λ (first : List ℕ). first ++ buffers_text d lib r.trees r.plans) numbers
-      ∙ ap (λ (rest : List ℕ). report_of s.verdict ++ rest) (buffers-same d lib r.trees s.trees r.plans s.plans trees r.planned s.planned)
+      ∙ ap (λ (first : List ℕ). first ++ told_between d begun one b.history ++ buffers_text d lib r.trees r.plans) numbers
+      ∙ ap (λ (between : List ℕ). report_of s.verdict ++ between ++ buffers_text d lib r.trees r.plans) betweens
+      ∙ ap (λ (rest : List ℕ). report_of s.verdict ++ told_between d begun_too other c.history ++ rest)
+      (buffers-same d lib r.trees s.trees r.plans s.plans trees r.planned s.planned)
       ∙ sym s.reports,
 )
   where
+    none : (x : Beginning) → IsFromNothing x → kept_told d x ≡ []
+    none x is = ap (λ (told : Bool). if told then number_line (codes "kept") (kept_nets d x.given) else []) is.0
+
     same : b.history ≡ c.history
-    same = histories-same d one other b.history c.history r.design asked r.made.made s.made.made
+    same =
+        histories-same d one other b.history c.history r.design asked
+        (subst (λ (given : List (Option TreeView)). IsHistoryBy d given one one.batch b.history) nothing.1 r.made.made)
+        (subst (λ (given : List (Option TreeView)). IsHistoryBy d given other other.batch c.history) nothing_too.1 s.made.made)
+
+    betweens : told_between d begun one b.history ≡ told_between d begun_too other c.history
+    betweens =
+        ap (λ (first : List ℕ). first ++ rounds_told one.trace b.history) (none begun nothing ∙ sym (none begun_too nothing_too))
+        ∙ ap (λ (trace : Bool). kept_told d begun_too ++ rounds_told trace b.history) asked.trace
+        ∙ ap (λ (h : List Entry). kept_told d begun_too ++ rounds_told other.trace h) same
 
     chosen : r.chosen ≡ s.chosen
     chosen = same_Some r.chosen s.chosen (sym r.least ∙ ap least_mark same ∙ s.least)
@@ -195,12 +217,12 @@ value-in a (Some (Err e)) = a
 routed-same : (design library : List ℕ) (one other : Options) (shelf again : Reading) (b c : BookView) (hands logs : List HandLog)
     (text report written told : List ℕ) → AskForSameBatches one other → IsTrue shelf.tells → IsTrue again.tells →
     shelf.held Design design ≡ again.held Design design → shelf.held Library library ≡ again.held Library library →
-    IsRouting shelf design library one b hands text report → IsRouting again design library other c logs written told →
+    IsRouting shelf design library None one b hands text report → IsRouting again design library None other c logs written told →
     (text ≡ written) × (report ≡ told)
 routed-same design library one other shelf again b c hands logs text report written told asked tells tells_again designs libraries r s =
-    routings-same s.design s.library one other b c hands logs text report written told asked
-    (subst (λ (l : LibraryView). IsRoutingOf s.design l one b hands text report) same_library
-    (subst (λ (d : DesignView). IsRoutingOf d r.library one b hands text report) same_design r.routed)) s.routed
+    routings-same s.design s.library r.beginning s.beginning one other b c hands logs text report written told asked r.begun s.begun
+    (subst (λ (l : LibraryView). IsRoutingOf s.design l r.beginning one b hands text report) same_library
+    (subst (λ (d : DesignView). IsRoutingOf d r.library r.beginning one b hands text report) same_design r.routed)) s.routed
   where
     same_design : r.design ≡ s.design
     same_design = ap (value-in r.design) (sym (r.said tells) ∙ ap (option_map design_of) designs ∙ s.said tells_again)
@@ -214,8 +236,8 @@ routed-same design library one other shelf again b c hands logs text report writ
 by-kept : (design library : List ℕ) (one other : Options) (shelf again : Reading) (kept kept_again : Option Kept)
     (text report written told : List ℕ) → AskForSameBatches one other → IsTrue shelf.tells → IsTrue again.tells →
     shelf.held Design design ≡ again.held Design design → shelf.held Library library ≡ again.held Library library →
-    IsSomeAnd kept (λ k. IsRouting shelf design library one k.book.state k.hands.items text report) →
-    IsSomeAnd kept_again (λ k. IsRouting again design library other k.book.state k.hands.items written told) →
+    IsSomeAnd kept (λ k. IsRouting shelf design library None one k.book.state k.hands.items text report) →
+    IsSomeAnd kept_again (λ k. IsRouting again design library None other k.book.state k.hands.items written told) →
     (text ≡ written) × (report ≡ told)
 by-kept design library one other shelf again None kept_again text report written told asked tells tells_again designs libraries r s = absurd r
 by-kept design library one other shelf again (Some k) None text report written told asked tells tells_again designs libraries r s = absurd s

@@ -103,9 +103,9 @@ routes-joined d h trees stands same are number net is routed = by (tree_at trees
         (subst (λ (g : Shape). IsJoined g (edges_of t) net.pins) r.shape joined)
 
 -- the loads at the mark of booked routes are the routes'
-pub loads-booked : (d : DesignView) (options : Options) (r : BookedRoutes) (l : LoadsView) → AreBookedRoutes d options r →
+pub loads-booked : (d : DesignView) (given : List (Option TreeView)) (options : Options) (r : BookedRoutes) (l : LoadsView) → AreBookedRoutes d given options r →
     AreLoadsOf r.rounds.book.state.capacity (take r.rounds.chosen r.rounds.book.state.history) l → AreLoadsBy d (route_edges r.routes) l
-loads-booked d options r l are loads =
+loads-booked d given options r l are loads =
     let h = take r.rounds.chosen r.rounds.book.state.history in
     let of : AreLoadsOf (capacity_of d) h l = subst (λ (c : CapacityView). AreLoadsOf c h l) are.rounds.made.capacity loads in
     record {
@@ -115,9 +115,9 @@ loads-booked d options r l are loads =
     }
 
 -- the trees that are booked where a history stands, each of which is one, are a design's routes
-pub chosen-routes : (d : DesignView) (options : Options) (r : BookedRoutes) → AreBookedRoutes d options r →
+pub chosen-routes : (d : DesignView) (given : List (Option TreeView)) (options : Options) (r : BookedRoutes) → AreBookedRoutes d given options r →
     ((net : ℕ) (t : TreeView) → IsTrue (is_routed d net) → tree_at r.routes net ≡ Some t → IsTree t) → AreChosenRoutes d r.rounds.book.state r.rounds.chosen r.routes
-chosen-routes d options r are trees =
+chosen-routes d given options r are trees =
     let h = take r.rounds.chosen r.rounds.book.state.history in
     record {
       least = are.rounds.least;
@@ -136,15 +136,15 @@ number-within e workers some is = by (is_mark e) is
     by false is = omega (arith, is, some)
 
 -- rounds in batches, with their logs
-pub rounds-batched : (d : DesignView) (options : Options) (batch : ℕ) (formula : Formula) (b : Batched) (r : Rounds) → formula ≡ options.rule → options.batch ≡ Some batch → 1 ≤ options.workers →
-    IsMadeInBatches (batches_of d formula options.rounds batch) b → r.book.state ≡ b.state → r.hands.items ≡ map (log_of b.state.history) (range_with_len 0 (options.workers + 1)) →
-    r.chosen ≡ b.chosen → AreRoundsOf d options r
-rounds-batched d options batch formula b r rule asked some made state logs chosen = record {
-  made = subst (λ (s : BookView). IsBookOf d options s r.hands.items) (sym state) (record {
+pub rounds-batched : (d : DesignView) (given : List (Option TreeView)) (options : Options) (batch : ℕ) (formula : Formula) (b : Batched) (r : Rounds) → formula ≡ options.rule → options.batch ≡ Some batch → 1 ≤ options.workers →
+    IsMadeInBatches (batches_of d given formula options.rounds batch) b → r.book.state ≡ b.state → r.hands.items ≡ map (log_of b.state.history) (range_with_len 0 (options.workers + 1)) →
+    r.chosen ≡ b.chosen → AreRoundsOf d given options r
+rounds-batched d given options batch formula b r rule asked some made state logs chosen = record {
+  made = subst (λ (s : BookView). IsBookOf d given options s r.hands.items) (sym state) (record {
     capacity = made.capacity;
     legal = made.legal;
-    made = subst (λ (o : Option ℕ). IsHistoryBy d options o b.state.history) (sym asked) (record {
-      batched = subst (λ (f : Formula). IsBatched (batches_of d f options.rounds batch) b.state.history) rule made.batched;
+    made = subst (λ (o : Option ℕ). IsHistoryBy d given options o b.state.history) (sym asked) (record {
+      batched = subst (λ (f : Formula). IsBatched (batches_of d given f options.rounds batch) b.state.history) rule made.batched;
       numbers = made.numbers;
     });
     parted = record { logs = logs; all = λ place e there. number-within e options.workers some (made.numbers place e there) };
@@ -155,13 +155,14 @@ rounds-batched d options batch formula b r rule asked some made state logs chose
 }
 
 -- rounds by workers
-pub rounds-made : {E : Type 0} (d : DesignView) (options : Options) (r : Result Rounds E) → options.batch ≡ None → IfOk r (IsMade (setting_of d options)) → IfOk r (AreRoundsOf d options)
-rounds-made d options (Err e) none made = tt
-rounds-made d options (Ok r) none made = record {
+pub rounds-made : {E : Type 0} (d : DesignView) (given : List (Option TreeView)) (options : Options) (r : Result Rounds E) → options.batch ≡ None →
+    IfOk r (IsMade (setting_of d given options)) → IfOk r (AreRoundsOf d given options)
+rounds-made d given options (Err e) none made = tt
+rounds-made d given options (Ok r) none made = record {
   made = record {
     capacity = made.capacity;
     legal = made.legal;
-    made = subst (λ (o : Option ℕ). IsHistoryBy d options o r.book.state.history) (sym none) made.run;
+    made = subst (λ (o : Option ℕ). IsHistoryBy d given options o r.book.state.history) (sym none) made.run;
     parted = made.parted;
   };
   least = made.least;

@@ -20,6 +20,8 @@ use Rattle.solution_text.specs.Runs.{LieIn}
 use Rattle.solution_text.specs.WrittenText.{written_text}
 use Rattle.solution_text.proofs.LawLemmas.{written-text-covers}
 use Rattle.gr_io.specs.Devices.{Reading}
+use Rattle.router_top.specs.Beginning.{IsBegunFrom}
+use Rattle.router_top.specs.declared.beginning.Beginning.{Beginning}
 use Rattle.router_top.specs.Booking.{booked_edges, AllJoined, AreTrees}
 use Rattle.router_top.specs.Routing.{IsRoutedDesign, IsRouting, IsRoutingOf}
 use Rattle.rc_library.specs.Libraries.{LibraryView}
@@ -73,9 +75,9 @@ joined-same : (d : DesignView) (sets others : ℕ → Edges) → ((net : ℕ) (e
 joined-same d sets others same joined = subst (λ (s : ℕ → Edges). AllJoined d s) (fun_ext (λ net. fun_ext (λ e. same net e))) joined
 
 -- routes of a design and their report are a routing
-routing-of : (d : DesignView) (lib : LibraryView) (options : Options) (r : RoutedDesign) → IsDesign d → IsRoutedDesign d lib options r →
-    IsRoutingOf d lib options r.rounds.book.state r.rounds.hands.items (written_text d (route_edges r.routes)) r.report
-routing-of d lib options r design is = record {
+routing-of : (d : DesignView) (lib : LibraryView) (b : Beginning) (options : Options) (r : RoutedDesign) → IsDesign d → IsRoutedDesign d lib b options r →
+    IsRoutingOf d lib b options r.rounds.book.state r.rounds.hands.items (written_text d (route_edges r.routes)) r.report
+routing-of d lib b options r design is = record {
   design = design;
   made = is.made;
   chosen = r.rounds.chosen;
@@ -99,14 +101,16 @@ routing-of d lib options r design is = record {
     same = text-same d r.routes design is.trees is.routes.free
 
 -- likewise those of a design that was read
-pub is-routing : (shelf : Reading) (design_name library_name : List ℕ) (d : DesignView) (lib : LibraryView) (options : Options) (r : RoutedDesign) →
+pub is-routing : (shelf : Reading) (design_name library_name : List ℕ) (from : Option (List ℕ)) (d : DesignView) (lib : LibraryView) (b : Beginning) (options : Options) (r : RoutedDesign) →
     (IsTrue shelf.tells → design_said shelf.held design_name ≡ Some (Ok d)) → (IsTrue shelf.tells → library_said shelf.held library_name d ≡ Some (Ok lib)) →
-    IsDesign d → IsRoutedDesign d lib options r →
-    IsRouting shelf design_name library_name options r.rounds.book.state r.rounds.hands.items (written_text d (route_edges r.routes)) r.report
-is-routing shelf design_name library_name d lib options r said read design is = record {
+    IsBegunFrom shelf d from b → IsDesign d → IsRoutedDesign d lib b options r →
+    IsRouting shelf design_name library_name from options r.rounds.book.state r.rounds.hands.items (written_text d (route_edges r.routes)) r.report
+is-routing shelf design_name library_name from d lib b options r said read begun design is = record {
   design = d;
   said = said;
   library = lib;
   read = read;
-  routed = routing-of d lib options r design is;
+  beginning = b;
+  begun = begun;
+  routed = routing-of d lib b options r design is;
 }

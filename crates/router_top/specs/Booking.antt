@@ -48,14 +48,14 @@ goal_of Stopping.Never = 0
 goal_of Stopping.Still = 0
 goal_of (Stopping.Goal overflow) = overflow
 
--- the rounds by workers that the options ask for
-abbrev pub setting_of : DesignView → Options → Setting
-setting_of d options =
-    asked_for d options.rule options.workers options.rounds (watch_of options.stop) (goal_of options.stop)
+-- the rounds by workers that the options ask for, from these given trees
+abbrev pub setting_of : DesignView → (given : List (Option TreeView)) → Options → Setting
+setting_of d given options =
+    asked_for d given options.rule options.workers options.rounds (watch_of options.stop) (goal_of options.stop)
 
 -- the rounds in batches of so many nets that they ask for, in which the number of workers is no part
-abbrev pub batching_of : DesignView → Options → (batch : ℕ) → Batching
-batching_of d options batch = batches_of d options.rule options.rounds batch
+abbrev pub batching_of : DesignView → (given : List (Option TreeView)) → Options → (batch : ℕ) → Batching
+batching_of d given options batch = batches_of d given options.rule options.rounds batch
 
 -- a batched history: the marks are at hand 0, and all other entries at hand 1
 pub record IsInBatches (t : Batching) (h : List Entry) : Type 0 where
@@ -64,21 +64,23 @@ pub record IsInBatches (t : Batching) (h : List Entry) : Type 0 where
 
 -- the history of the rounds that are asked for: in batches where a number of nets is given, else by workers side by
 -- side
-abbrev pub IsHistoryBy : DesignView → Options → (batch : Option ℕ) → List Entry → Type 0
-IsHistoryBy d options None h = IsRunHistory (setting_of d options) h
-IsHistoryBy d options (Some batch) h = IsInBatches (batching_of d options batch) h
+abbrev pub IsHistoryBy : DesignView → (given : List (Option TreeView)) → Options → (batch : Option ℕ) → List Entry →
+    Type 0
+IsHistoryBy d given options None h = IsRunHistory (setting_of d given options) h
+IsHistoryBy d given options (Some batch) h = IsInBatches (batching_of d given options batch) h
 
--- the book of a design's rounds: each entry of its history has the reply that the rules give, the history is one of the
+-- the book of a design's rounds, which begin from given trees: each entry of its history has the reply that the rules give, the history is one of the
 -- rounds that are asked for, and the logs of the hands part it
-pub record IsBookOf (d : DesignView) (options : Options) (book : BookView) (hands : List HandLog) : Type 0 where
+pub record IsBookOf (d : DesignView) (given : List (Option TreeView)) (options : Options) (book : BookView)
+    (hands : List HandLog) : Type 0 where
   pub capacity : book.capacity ≡ capacity_of d
   pub legal : IsLegal book.capacity book.history
-  pub made : IsHistoryBy d options options.batch book.history
+  pub made : IsHistoryBy d given options options.batch book.history
   pub parted : ArePartedTo options.workers book.history hands
 
 -- a design's rounds, at whose first mark of least overflow exactly the routed nets are booked
-pub record AreRoundsOf (d : DesignView) (options : Options) (r : Rounds) : Type 0 where
-  pub made : IsBookOf d options r.book.state r.hands.items
+pub record AreRoundsOf (d : DesignView) (given : List (Option TreeView)) (options : Options) (r : Rounds) : Type 0 where
+  pub made : IsBookOf d given options r.book.state r.hands.items
   pub least : least_mark r.book.state.history ≡ Some r.chosen
   pub within : r.chosen ≤ length r.book.state.history
   pub stands : Stands d (take r.chosen r.book.state.history)
@@ -98,9 +100,14 @@ abbrev pub AreTrees : Shape → List (Option TreeView) → Type 0
 AreTrees g trees = (net : ℕ) → (t : TreeView) → tree_at trees net ≡ Some t → IsTree t × (t.shape ≡ g)
 
 -- a design's rounds, and the trees that are booked at their first mark of least overflow
-pub record AreBookedRoutes (d : DesignView) (options : Options) (r : BookedRoutes) : Type 0 where
-  pub rounds : AreRoundsOf d options r.rounds
+pub record AreBookedRoutes (d : DesignView) (given : List (Option TreeView)) (options : Options) (r : BookedRoutes)
+    : Type 0 where
+  pub rounds : AreRoundsOf d given options r.rounds
   pub booked : (net : ℕ) → tree_at r.routes net ≡ booked (take r.rounds.chosen r.rounds.book.state.history) net
+
+-- likewise, whatever trees the rounds begin from
+abbrev pub HaveBookedRoutes : DesignView → Options → BookedRoutes → Type 0
+HaveBookedRoutes d options r = (given : List (Option TreeView)) × AreBookedRoutes d given options r
 
 -- the verdict on a design's trees
 abbrev pub IsVerdictOn : DesignView → Options → List (Option TreeView) → Verdict → Type 0

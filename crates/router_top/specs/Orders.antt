@@ -13,10 +13,10 @@ use Rattle.word_reader.specs.Orders.{Order, Route, Evaluate, Buffer, Make, Trial
 -- the command that words ask for, if they give an order; none of groute's gives grbound's
 abbrev pub asked_by : Option Order → Asked Kept
 asked_by None = Unasked
-asked_by (Some (Route design library options)) = Asks (routing design library options)
+asked_by (Some (Route design library from options)) = Asks (routing design library from options)
 asked_by (Some (Evaluate design solution via_cost)) = Asks (judging design solution via_cost)
 asked_by (Some (Buffer design library solution)) = Asks (buffering design library solution)
 asked_by (Some (Make made)) = Asks (making made)
 asked_by (Some (Trial made options)) = Asks (trying made options)
 asked_by (Some (Panels design solution)) = Asks (tracking design solution)
-asked_by (Some (Bound design via_cost)) = Unasked
+asked_by (Some (Bound design via_cost steps)) = Unasked

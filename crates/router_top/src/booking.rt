@@ -3,8 +3,9 @@ ghost use Rattle.std.specs.Prelude.{◌≡◌, Some, IfOk, OnOk};
 ghost use Rattle.gr_base.specs.Designs.{IsDesign};
 ghost use Rattle.route_evaluator.specs.NetTrees.{AreTrees};
 ghost use Rattle.ripup_workers.specs.Made.{IsMade};
+ghost use Rattle.run_histories.specs.GivenRoutes.{AreGivenRoutes};
 ghost use Rattle.run_histories.specs.RunHistories.{asked_for};
-ghost use Rattle.router_top.specs.Booking.{setting_of, AreBookedRoutes, AreRoundsOf, IsVerdictOn};
+ghost use Rattle.router_top.specs.Booking.{setting_of, AreBookedRoutes, AreRoundsOf, HaveBookedRoutes, IsVerdictOn};
 ghost use Rattle.word_reader.specs.Orders.{AreInRange};
 
 use crate::means::Means;
@@ -27,18 +28,20 @@ pub(crate) struct BookedRoutes {
     pub routes: Routes,
 }
 
-/// Routes a design, and copies the trees that are booked at the first mark of least overflow. The
+/// Routes a design from given trees, and copies the trees that are booked at the first mark of least overflow. The
 /// only error is want of memory.
 pub(crate) fn booked_routes<R: Threads + Wait + Sync, G: Gate + Sync>(
     means: &Means<R, G>,
     design: &Design,
+    given: &Routes,
     options: Options,
 ) -> Result<BookedRoutes, AllocError>
     requires design { IsDesign design.now }
+    requires given { AreGivenRoutes design.now given.now }
     requires options { AreInRange options }
-    ensures { IfOk result (AreBookedRoutes design.now options) }
+    ensures { IfOk result (AreBookedRoutes design.now given.now options) }
 {
-    let rounds = rounds_of(means, design, options)?;
+    let rounds = rounds_of(means, design, given, options)?;
     let book = rounds.book.state();
     let routes = book.routes_at(rounds.chosen)?;
     Ok(BookedRoutes { rounds, routes })
@@ -49,15 +52,17 @@ pub(crate) fn booked_routes<R: Threads + Wait + Sync, G: Gate + Sync>(
 fn rounds_of<R: Threads + Wait + Sync, G: Gate + Sync>(
     means: &Means<R, G>,
     design: &Design,
+    given: &Routes,
     options: Options,
 ) -> Result<Rounds, AllocError>
     requires design { IsDesign design.now }
+    requires given { AreGivenRoutes design.now given.now }
     requires options { AreInRange options }
-    ensures { IfOk result (AreRoundsOf design.now options) }
+    ensures { IfOk result (AreRoundsOf design.now given.now options) }
 {
     match options.batch {
-        Some(batch) => rounds_in_batches(means, design, options, batch),
-        None => rounds_by_workers(means, design, options),
+        Some(batch) => rounds_in_batches(means, design, given, options, batch),
+        None => rounds_by_workers(means, design, given, options),
     }
 }
 
@@ -65,22 +70,26 @@ fn rounds_of<R: Threads + Wait + Sync, G: Gate + Sync>(
 fn rounds_in_batches<R: Threads + Wait + Sync, G: Gate + Sync>(
     means: &Means<R, G>,
     design: &Design,
+    given: &Routes,
     options: Options,
     batch: u32,
 ) -> Result<Rounds, AllocError>
+    requires given { AreGivenRoutes design.now given.now }
     requires options { AreInRange options }
     requires batch { options.batch ≡ Some batch }
-    ensures { IfOk result (AreRoundsOf design.now options) }
+    ensures { IfOk result (AreRoundsOf design.now given.now options) }
 {
     let rule = means.rules.of(options.rule);
     let batched = batch_rounds(
         means.rt,
         means.alloc,
         design,
+        given,
         rule,
         options.workers,
         options.rounds,
         batch,
+        means.gate,
     )?;
     let hands = hands_of(means.alloc, batched.state.history(), options.workers + 1)?;
     Ok(Rounds {
@@ -95,18 +104,21 @@ fn rounds_in_batches<R: Threads + Wait + Sync, G: Gate + Sync>(
 fn rounds_by_workers<R: Threads + Wait + Sync, G: Gate + Sync>(
     means: &Means<R, G>,
     design: &Design,
+    given: &Routes,
     options: Options,
 ) -> Result<Rounds, AllocError>
     requires design { IsDesign design.now }
+    requires given { AreGivenRoutes design.now given.now }
     requires options { AreInRange options }
-    ensures { IfOk result (IsMade (setting_of design.now options)) }
+    ensures { IfOk result (IsMade (setting_of design.now given.now options)) }
 {
     let rules = means.rules;
     match options.stop {
-        Stopping::Never => rounds_by(means, design, options, rules.never(), 0),
-        Stopping::Still => rounds_by(means, design, options, rules.still(), 0),
+        Stopping::Never => rounds_by(means, design, given, options, rules.never(), 0),
+        Stopping::Still => rounds_by(means, design, given, options, rules.still(), 0),
         Stopping::Goal { overflow } => {
-            rounds_by(means, design, options, rules.goal(), u128::from(overflow))
+            let goal = u128::from(overflow);
+            rounds_by(means, design, given, options, rules.goal(), goal)
         }
     }
 }
@@ -115,19 +127,22 @@ fn rounds_by_workers<R: Threads + Wait + Sync, G: Gate + Sync>(
 fn rounds_by<R: Threads + Wait + Sync, G: Gate + Sync>(
     means: &Means<R, G>,
     design: &Design,
+    given: &Routes,
     options: Options,
     watcher: &Watcher,
     goal: u128,
 ) -> Result<Rounds, AllocError>
     requires design { IsDesign design.now }
+    requires given { AreGivenRoutes design.now given.now }
     requires options { AreInRange options }
     ensures { let o = options in
-        IfOk result (IsMade (asked_for design.now o.rule o.workers o.rounds watcher.now.watch goal)) }
+        IfOk result (IsMade (asked_for design.now given.now o.rule o.workers o.rounds watcher.now.watch goal)) }
 {
     route_rounds(
         means.rt,
         means.alloc,
         design,
+        given,
         means.rules.of(options.rule),
         options.workers,
         options.rounds,
@@ -145,7 +160,7 @@ pub(crate) fn verdict_on(
     booked: &BookedRoutes,
     options: Options,
 ) -> Result<Verdict, AllocError>
-    requires booked { AreBookedRoutes design.now options booked.now }
+    requires booked { HaveBookedRoutes design.now options booked.now }
     requires options { AreInRange options }
     ensures verdict { IfOk result (IsVerdictOn design.now options booked.now.routes) }
     ensures trees { OnOk result (AreTrees design.now booked.now.routes) }

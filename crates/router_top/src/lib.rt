@@ -1,6 +1,7 @@
 //! The router's commands, over any shelf and sinks.
 #![tactic(auto)]
 
+mod beginning;
 mod booking;
 mod kept;
 mod laws;
@@ -8,6 +9,7 @@ mod means;
 mod routing;
 mod rules;
 mod top;
+mod tracing;
 mod trying;
 
 pub use kept::Kept;

@@ -1,5 +1,7 @@
 //! The command `route`.
-ghost use Rattle.std.specs.Prelude.{◌≡◌, ◌<◌, ◌++◌, IfOk, OnOk};
+ghost use Rattle.std.specs.Prelude.{◌≡◌, ◌<◌, ◌++◌, ℕ, List, IfOk, OnOk};
+ghost use Rattle.std.specs.Borrow.{Bor};
+ghost use Rattle.std.specs.Option.{option_map};
 ghost use Rattle.gr_base.specs.Designs.{IsDesign};
 ghost use Rattle.gr_base.specs.Trees.{TreeView, route_edges};
 ghost use Rattle.rc_library.specs.Libraries.{IsLibraryOf};
@@ -12,12 +14,16 @@ ghost use Rattle.buffer_plan.specs.Plans.{AreRoutesOf};
 ghost use Rattle.route_evaluator.specs.NetTrees.{AreTrees};
 ghost use Rattle.text_commands.specs.Buffering.{IsBuffersText};
 ghost use Rattle.text_commands.specs.Judging.{report_of};
-ghost use Rattle.router_top.specs.Booking.{AreBookedRoutes, GivesVerdict, IsVerdictOn};
-ghost use Rattle.router_top.specs.Routing.{IsRoutedDesign, LeavesRouted, routing};
+ghost use Rattle.router_top.specs.Booking.{GivesVerdict, HaveBookedRoutes, IsVerdictOn};
+ghost use Rattle.run_histories.specs.GivenRoutes.{AreGivenRoutes};
+ghost use Rattle.router_top.specs.Routing.{told_between, IsRoutedDesign, LeavesBegun, LeavesRouted, routing};
 
+use crate::beginning::{Beginning, open_beginning, put_kept};
 use crate::booking::{BookedRoutes, booked_routes, verdict_on};
 use crate::kept::Kept;
 use crate::means::Means;
+use crate::tracing::put_rounds;
+use book_state::History;
 use command_form::{Left, Outcome, Spent, Stop, open_design, open_library};
 use gr_base::{Design, Routes};
 use gr_io::{Shelf, Sink, write_whole};
@@ -43,8 +49,9 @@ struct RoutedDesign {
     report: Text,
 }
 
-/// Carries out `route`: reads the design and the library of these names, routes the design, and writes
-/// the routes on out, and the report of them and of their buffers on err.
+/// Carries out `route`: reads the design and the library of these names, and the solution from whose
+/// routes to begin, if one is named; routes the design, and writes the routes on out, and the report of
+/// them and of their buffers on err.
 pub(crate) fn route<R: Threads + Wait + Sync, S: Shelf, O: Sink, E: Sink, G: Gate + Sync>(
     means: &Means<R, G>,
     shelf: &mut S,
@@ -52,10 +59,11 @@ pub(crate) fn route<R: Threads + Wait + Sync, S: Shelf, O: Sink, E: Sink, G: Gat
     err: &mut E,
     design: &str,
     library: &str,
+    from: Option<&str>,
     options: Options,
 ) -> Left<Kept>
     requires { AreInRange options }
-    ensures { Leaves (routing design.now library.now options)
+    ensures { Leaves (routing design.now library.now (option_map (λ (name : Bor (List ℕ)). name.now) from.entry) options)
         (reading_of S.tells S.held S.faults S.misses shelf.old shelf.new)
         (device_of O.tells O.faults O.written out.old out.new)
         (device_of E.tells E.faults E.written err.old err.new)
@@ -69,7 +77,34 @@ pub(crate) fn route<R: Threads + Wait + Sync, S: Shelf, O: Sink, E: Sink, G: Gat
         Ok(library) => library,
         Err(stop) => return Left::with_nothing(Err(stop)),
     };
-    route_opened(means, out, err, design, library, options)
+    route_from(means, shelf, out, err, design, library, from, options)
+}
+
+/// Reads the solution from whose routes to begin, if one is named, for a design and a library; routes the
+/// design, and writes the routes on out, and the report of them and of their buffers on err.
+fn route_from<R: Threads + Wait + Sync, S: Shelf, O: Sink, E: Sink, G: Gate + Sync>(
+    means: &Means<R, G>,
+    shelf: &mut S,
+    out: &mut O,
+    err: &mut E,
+    design: Design,
+    library: Library,
+    from: Option<&str>,
+    options: Options,
+) -> Left<Kept>
+    requires design { IsDesign design }
+    requires library { IsLibraryOf design library }
+    requires options { AreInRange options }
+    ensures { LeavesBegun design library (option_map (λ (name : Bor (List ℕ)). name.now) from.entry) options
+        (reading_of S.tells S.held S.faults S.misses shelf.old shelf.new)
+        (device_of O.tells O.faults O.written out.old out.new)
+        (device_of E.tells E.faults E.written err.old err.new)
+        result.kept result.end }
+{
+    match open_beginning(means.alloc, shelf, &design, from) {
+        Ok(beginning) => route_opened(means, out, err, design, library, beginning, options),
+        Err(stop) => Left::with_nothing(Err(stop)),
+    }
 }
 
 /// Routes a design, and writes the routes on out, and the report of them and of their buffers on err.
@@ -79,17 +114,19 @@ fn route_opened<R: Threads + Wait + Sync, O: Sink, E: Sink, G: Gate + Sync>(
     err: &mut E,
     design: Design,
     library: Library,
+    beginning: Beginning,
     options: Options,
 ) -> Left<Kept>
     requires design { IsDesign design }
     requires library { IsLibraryOf design library }
+    requires given { AreGivenRoutes design beginning.given }
     requires options { AreInRange options }
-    ensures { LeavesRouted design library options
+    ensures { LeavesRouted design library beginning options
         (device_of O.tells O.faults O.written out.old out.new)
         (device_of E.tells E.faults E.written err.old err.new)
         result.kept result.end }
 {
-    let Ok(routed) = route_design(means, &design, &library, options) else {
+    let Ok(routed) = route_design(means, &design, &library, &beginning, options) else {
         return Left::with_nothing(Err(Stop::NoMemory));
     };
     let end = write_routes(
@@ -121,16 +158,20 @@ fn route_design<R: Threads + Wait + Sync, G: Gate + Sync>(
     means: &Means<R, G>,
     design: &Design,
     library: &Library,
+    beginning: &Beginning,
     options: Options,
 ) -> Result<RoutedDesign, AllocError>
     requires design { IsDesign design.now }
     requires library { IsLibraryOf design.now library.now }
+    requires given { AreGivenRoutes design.now beginning.now.given }
     requires options { AreInRange options }
-    ensures { IfOk result (IsRoutedDesign design.now library.now options) }
+    ensures { IfOk result (IsRoutedDesign design.now library.now beginning.now options) }
 {
-    let booked = booked_routes(means, design, options)?;
+    let booked = booked_routes(means, design, &beginning.given, options)?;
     let told = verdict_and_buffers(means.rt, means.alloc, design, library, &booked, options)?;
-    let report = report_with(means.alloc, &told.0, &told.1)?;
+    let history = booked.rounds.book.state().history();
+    let between = text_between(means.alloc, design, beginning, options, history)?;
+    let report = report_with(means.alloc, &told.0, &between, &told.1)?;
     Ok(RoutedDesign {
         rounds: booked.rounds,
         routes: booked.routes,
@@ -149,7 +190,7 @@ fn verdict_and_buffers<R: Threads + Sync>(
     options: Options,
 ) -> Result<(Verdict, Text), AllocError>
     requires library { IsLibraryOf design.now library.now }
-    requires booked { AreBookedRoutes design.now options booked.now }
+    requires booked { HaveBookedRoutes design.now options booked.now }
     requires options { AreInRange options }
     ensures verdict { IfOk result (λ told. IsVerdictOn design.now options booked.now.routes told.0) }
     ensures trees { OnOk result (AreTrees design.now booked.now.routes) }
@@ -174,7 +215,7 @@ fn made_side_by_side<R: Threads + Sync>(
     options: Options,
 ) -> (Result<Verdict, AllocError>, Result<Text, AllocError>)
     requires library { IsLibraryOf design.now library.now }
-    requires booked { AreBookedRoutes design.now options booked.now }
+    requires booked { HaveBookedRoutes design.now options booked.now }
     requires options { AreInRange options }
     ensures verdict { GivesVerdict design.now options booked.now.routes result.0 }
     ensures buffers { IfOk result.1 (IsBuffersText design.now library.now booked.now.routes) }
@@ -183,7 +224,7 @@ fn made_side_by_side<R: Threads + Sync>(
     join(
         rt,
         || -> Result<Verdict, AllocError>
-            requires { AreBookedRoutes design.now options booked.now × AreInRange options }
+            requires { HaveBookedRoutes design.now options booked.now × AreInRange options }
             ensures { GivesVerdict design.entry.now options booked.entry.now.routes result }
         { verdict_on(alloc, design, booked, options) },
         || -> Result<Text, AllocError>
@@ -193,11 +234,33 @@ fn made_side_by_side<R: Threads + Sync>(
     )
 }
 
-/// The report of a verdict, with a text of buffers behind it. The only error is want of memory.
-fn report_with(alloc: Global, verdict: &Verdict, buffers: &Text) -> Result<Text, AllocError>
-    ensures { IfOk result (λ text. text ≡ report_of verdict.now ++ buffers.now) }
+/// What is told between the report and the buffers. The only error is want of memory.
+fn text_between(
+    alloc: Global,
+    design: &Design,
+    beginning: &Beginning,
+    options: Options,
+    history: &History,
+) -> Result<Text, AllocError>
+    ensures { IfOk result (λ text. text ≡ told_between design.now beginning.now options history.now) }
+{
+    let mut text = Text::new(alloc);
+    put_kept(&mut text, design, beginning)?;
+    put_rounds(alloc, &mut text, options.trace, history)?;
+    Ok(text)
+}
+
+/// The report of a verdict, with two texts behind it. The only error is want of memory.
+fn report_with(
+    alloc: Global,
+    verdict: &Verdict,
+    between: &Text,
+    buffers: &Text,
+) -> Result<Text, AllocError>
+    ensures { IfOk result (λ text. text ≡ report_of verdict.now ++ between.now ++ buffers.now) }
 {
     let mut text = report(alloc, verdict)?;
+    text.put(between.bytes())?;
     text.put(buffers.bytes())?;
     Ok(text)
 }

@@ -73,11 +73,15 @@ impl Ended {
 /// one hasn't lowered the total overflow, or once it is at most a number. As many threads as `--workers`
 /// says (1 to 16) do it, each over what it has seen of the others' routes. In the first pass each takes
 /// the nets that can least go another way first, and in the rounds those that most can. Each passes the
-/// gate before it searches a plan, and before it claims a net. Where `--batch` says a number of nets, so
-/// many are planned over one state and then claimed in the design's order; what is written is then the
-/// same for every number of threads, and nobody passes the gate.
-/// It writes the routes of the first round of least overflow on out, and on err their report of
-/// overflow, wirelength and vias, and each routed net's buffers and required time.
+/// gate before it begins with a net, searches a plan, or claims a net, and the end of each round passes
+/// it. Where `--batch` says a number of nets, so many are planned over one state and then claimed in the
+/// design's order; what is written is then the same for every number of threads. Where `--from` names a
+/// solution, it is read after the library, and nets that can be kept begin with the routes that it gives
+/// them: routed nets whose edges are a tree, without the edges on no way from the driver to a pin, where
+/// the others go in usable directions. Only the other nets get a pattern plan. It writes the routes of the
+/// first round of least overflow on out, and on err their report of overflow, wirelength and vias; with
+/// `--from` how many nets are kept; with `--trace` what each round did; and each routed net's buffers and
+/// required time.
 ///
 /// `evaluate DESIGN SOLUTION` reads a design and any router's solution for it, and writes on out
 /// the report, and the routed nets that the solution leaves unjoined. In both reports a via edge
@@ -93,7 +97,7 @@ impl Ended {
 ///
 /// `make SEED X Y L NETS` writes the text of a made design on out, and on err how many nets and pins
 /// it has. `trial SEED X Y L NETS ROUNDS` routes that design as `route` does, and writes the report
-/// of its routes on out. Both leave the shelf as it was.
+/// of its routes on out, and what each round did with `--trace`. Both leave the shelf as it was.
 ///
 /// Status 0: done. 1: done, and a net is left unjoined. 2: the words give no order. 3: the design's
 /// text is at fault. 4: the library's text is at fault. 5: the solution's text is at fault, or, for
@@ -177,8 +181,9 @@ fn carry_out<R: Threads + Wait + Sync, S: Shelf, O: Sink, E: Sink, G: Gate + Syn
         Order::Route {
             design,
             library,
+            from,
             options,
-        } => route(means, shelf, out, err, design, library, options),
+        } => route(means, shelf, out, err, design, library, from, options),
         Order::Evaluate {
             design,
             solution,

@@ -1,6 +1,6 @@
 -- What the entries of attempts are answered, as long as the turns of the workers are apart.
-use Rattle.std.proofs.Common.{◌≡◌, ℕ, suc, zero, ◌+◌, ◌<◌, inl, inr, Bool, true, false, cond, ◌==◌, nat_lt, List, [], ◌∷◌, ◌++◌, Option, Some, None, is_some, if◌then◌else◌, refl, sym, ap, subst, ◌∙◌, arith}
-use Rattle.std.proofs.lemmas.Bool.{cases_Bool, both_ways}
+use Rattle.std.proofs.Common.{◌≡◌, ℕ, suc, zero, ◌+◌, ◌<◌, inl, inr, Bool, true, false, cond, ◌==◌, nat_lt, List, [], ◌∷◌, ◌++◌, Option, Some, None, is_some, is_none, if◌then◌else◌, refl, sym, ap, subst, ◌∙◌, arith}
+use Rattle.std.proofs.lemmas.Bool.{cases_Bool, both_ways, and_parts}
 use Rattle.std.proofs.lemmas.Bool.Decides.{nat_tests}
 use Rattle.gr_base.specs.Designs.{DesignView, is_routed}
 use Rattle.gr_base.specs.Trees.{TreeView}
@@ -140,7 +140,8 @@ module _ (c : CapacityView) (d : DesignView) (before h segment : List Entry) (e 
       record {
         granted = subst (λ (k : Call). IsGranted k e.reply) (sym shape.call_is) (inl claimed);
         apart =
-            entry-apart d 0 before h segment e net first.0 turns (λ other away. booked-claim_other h e claim other shape.call_is claimed away)
+            entry-apart d 0 before h segment e net (and_parts (is_routed d net) (is_none (booked before net)) first.0).0 turns
+            (λ other away. booked-claim_other h e claim other shape.call_is claimed away)
             (λ other away. ap (λ (k : Call). is_claim_of other k) shape.call_is ∙ is-another net other away)
             (record {
               apart = λ other slacks away is. none-begun d 0 before h segment e net turns first.1 other slacks is;

@@ -81,14 +81,14 @@ module _ (later : Bool) (routed due : ℕ → Bool) (held new_held : ℕ → Opt
       routed-both : (b : Bool) → b ≡ true → b ≡ false → ⊥
       routed-both b on off = cc
 
-  now-missing : (other : ℕ) → routed other ≡ true → new_held other ≡ None → ((later ≡ false) × (new_begun other ≡ 0)) ⊎ HasClaimant new_stage other
+  now-missing : (other : ℕ) → routed other ≡ true → new_held other ≡ None → ((due other ≡ true) × (new_begun other ≡ 0)) ⊎ HasClaimant new_stage other
   now-missing other is none = elim (is_same other net) [
     | inl same ↦ inr (subst (HasClaimant new_stage) (sym same) (lone.goes (ap new_held (sym same) ∙ none)))
     | inr apart ↦ still other apart (turns.missing other is (sym (on.holds other apart) ∙ none))
   ]
     where
-      still : (other : ℕ) → (other ≡ net → ⊥) → ((later ≡ false) × (begun other ≡ 0)) ⊎ HasClaimant stage other →
-          ((later ≡ false) × (new_begun other ≡ 0)) ⊎ HasClaimant new_stage other
+      still : (other : ℕ) → (other ≡ net → ⊥) → ((due other ≡ true) × (begun other ≡ 0)) ⊎ HasClaimant stage other →
+          ((due other ≡ true) × (new_begun other ≡ 0)) ⊎ HasClaimant new_stage other
       still other apart (inl none) = inl (none.0, on.counts other apart ∙ none.1)
       still other apart (inr claimant) = elim (is_same claimant.worker worker) [
         | inl same ↦ absurd (apart (lone.was other claimant.slacks (ap stage (sym same) ∙ claimant.claims)))

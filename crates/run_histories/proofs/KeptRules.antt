@@ -6,12 +6,14 @@ use Rattle.grid_demand.specs.Tables.{capacity_of}
 use Rattle.book_state.proofs.LegalHistories.{legal-nothing}
 use Rattle.book_state.specs.Marks.{overflow_in}
 use Rattle.book_state.specs.declared.entry.Entry.{Entry}
+use Rattle.run_histories.proofs.GivenLemmas.{begins-nothing}
 use Rattle.run_histories.specs.RunHistories.{Setting, Overflows, no_overflows, overflows_after, overflows_of, KeepsRules}
 
--- a history without entries keeps all rules
-pub first-rules : (t : Setting) → KeepsRules t []
-first-rules t = record {
+-- a history without entries keeps all rules where no trees are given
+pub first-rules : (t : Setting) → t.given ≡ [] → KeepsRules t []
+first-rules t nothing = record {
   legal = legal-nothing (capacity_of t.design);
+  given = begins-nothing t nothing;
   numbers = λ p e there. absurd (none-some e there);
   plans = λ p e there. absurd (none-some e there);
   granted = λ p e there. absurd (none-some e there);

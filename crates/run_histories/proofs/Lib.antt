@@ -5,6 +5,7 @@ pub mod TurnLemmas
 pub mod PlanLemmas
 pub mod CutSteps
 pub mod StageSteps
+pub mod GivenLemmas
 pub mod ApartSteps
 pub mod Answered
 pub mod JoiningLaw

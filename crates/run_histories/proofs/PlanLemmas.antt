@@ -1,19 +1,21 @@
 -- Plans of nets over loads.
-use Rattle.std.proofs.Common.{◌≡◌, ℕ, List, Result, Ok, Err, Some, slice_get, IfOk, IsTrue, refl, sym, subst, ◌∙◌}
+use Rattle.std.proofs.Common.{◌≡◌, ℕ, List, map, Result, Ok, Err, Some, slice_get, IfOk, IsTrue, refl, sym, subst, ◌∙◌}
 use Rattle.cost_rules.specs.declared.site.Formula.{Formula}
 use Rattle.gr_base.proofs.DesignLemmas.{routed-net}
 use Rattle.gr_base.specs.Designs.{DesignView, is_routed, pins_at}
 use Rattle.gr_base.specs.Plans.{IsRouteOf, IsRouteOfNet}
+use Rattle.gr_base.specs.Sums.{wires_from_cells}
 use Rattle.gr_base.specs.Trees.{TreeView}
 use Rattle.gr_base.specs.declared.frame.Net.{Net}
+use Rattle.grid_demand.proofs.WireLemmas.{table-edge}
 use Rattle.grid_demand.specs.LoadSums.{LoadsView}
 use Rattle.grid_demand.specs.Tables.{CapacityView, capacity_of}
 use Rattle.net_plan.specs.Mazes.{IsMaze}
 use Rattle.net_plan.specs.Patterns.{IsPattern}
-use Rattle.book_state.specs.Books.{AreLoadsOf}
+use Rattle.book_state.specs.Books.{demand, marks, AreLoadsOf}
 use Rattle.book_state.specs.declared.entry.Entry.{Entry}
 use Rattle.book_state.specs.declared.entry.PlanKind.{PlanKind}
-use Rattle.book_state.specs.declared.entry.PlanKind.TheVariants.{Pattern, Maze}
+use Rattle.book_state.specs.declared.entry.PlanKind.TheVariants.{Pattern, Maze, Given}
 use Rattle.run_histories.proofs.TurnLemmas.{plan-after}
 use Rattle.run_histories.specs.Rounds.{IsPlanFor}
 
@@ -41,3 +43,20 @@ pub in-grid : {E : Type 0} (d : DesignView) (net : ℕ) (l : LoadsView) (r : Res
     ((wanted : Net) → slice_get d.nets net ≡ Some wanted → IfOk r (IsRouteOf d.frame.shape wanted)) → IfOk r (λ t. t.shape ≡ l.shape)
 in-grid d net l (Ok t) routed shape routes = let one = routed-net d net routed in (routes one.net one.there).shape ∙ sym shape
 in-grid d net l (Err e) routed shape routes = tt
+
+-- a history has loads
+pub loads-of : (c : CapacityView) (h : List Entry) → (l : LoadsView) × AreLoadsOf c h l
+loads-of c h = (
+  record { shape = c.shape; demands = map (demand c h) (wires_from_cells c.shape); marks = map (marks c h) (wires_from_cells c.shape) },
+  record {
+    shape = refl;
+    demand = λ e edge wire. table-edge c.shape (demand c h) e edge wire;
+    marks = λ e edge wire. table-edge c.shape (marks c h) e edge wire;
+  },
+)
+
+-- for a given tree no plan is made
+pub given-plan : (d : DesignView) (formula : Formula) (h : List Entry) (net : ℕ) (t : TreeView) → IsRouteOfNet d net t → IsPlanFor d formula h net Given t
+given-plan d formula h net t routes =
+    let of = loads-of (capacity_of d) h in
+    record { plan = record { loads = of.0; there = of.1; plan = tt }; routes = routes }

@@ -7,13 +7,13 @@ use Rattle.std.proofs.lemmas.List.{append-nil}
 use Rattle.std.proofs.lemmas.List.Elements.{filter-append}
 use Rattle.std.proofs.lemmas.List.Sums.{fold_push, fold-append, sum_by-append, sum_by_push}
 use Rattle.gr_base.proofs.General.{filter-yes, filter-no}
-use Rattle.book_state.specs.Entries.{calls_of}
+use Rattle.book_state.specs.Entries.{is_given_kind, calls_of}
 use Rattle.book_state.specs.declared.entry.Call.{Call}
 use Rattle.book_state.specs.declared.entry.Call.TheVariants.{Claim as Claims, Release, Mark}
 use Rattle.book_state.specs.declared.entry.Claim.{Claim}
 use Rattle.book_state.specs.declared.entry.Entry.{Entry}
 use Rattle.book_state.specs.declared.entry.PlanKind.{PlanKind}
-use Rattle.book_state.specs.declared.entry.PlanKind.TheVariants.{Pattern, Maze}
+use Rattle.book_state.specs.declared.entry.PlanKind.TheVariants.{Pattern, Maze, Given}
 use Rattle.book_state.specs.declared.entry.Reply.{Reply}
 use Rattle.run_histories.specs.Attempts.{Stage, Rests, Claiming, Broken, kind_of, is_kind, is_slack, is_claim_for, stage_replied, first_stage, later_stage, stage_after, stage_of, begins, attempts_at}
 use Rattle.run_histories.specs.Rounds.{slacks_of_turn}
@@ -82,11 +82,24 @@ first-begun r net es more e due count begun =
     by true is = (refl, omega (arith, is, split))
     by false is = absurd (omega (arith, is, split))
 
+-- no attempt is for a given tree
+pub kind-plain : (r : ℕ) → is_given_kind (kind_of r) ≡ false
+kind-plain zero = refl
+kind-plain (suc r) = refl
+
+pub kind-made : (r : ℕ) (kind : PlanKind) → kind ≡ kind_of r → kind ≡ Given → ⊥
+kind-made r kind is given = both_ways (is_given_kind kind) (ap is_given_kind is ∙ kind-plain r) (ap is_given_kind given)
+
 -- kinds and slacks that pass the tests
 pub kind-same : (a b : PlanKind) → is_kind a b ≡ true → a ≡ b
 kind-same Pattern Pattern is = refl
 kind-same Pattern (Maze other) is = absurd (both_ways false refl is)
+kind-same Pattern Given is = absurd (both_ways false refl is)
 kind-same (Maze margin) Pattern is = absurd (both_ways false refl is)
+kind-same (Maze margin) Given is = absurd (both_ways false refl is)
+kind-same Given Pattern is = absurd (both_ways false refl is)
+kind-same Given (Maze other) is = absurd (both_ways false refl is)
+kind-same Given Given is = refl
 kind-same (Maze margin) (Maze other) is =
     let same : margin ≡ other = grind (arith, nat_tests) in
     ap (λ (n : ℕ). Maze n) same

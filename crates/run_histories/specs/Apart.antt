@@ -17,7 +17,7 @@ pub record HasClaimant (stage : ℕ → Stage) (net : ℕ) : Type 0 where
 
 -- by which tree each net is held, where each worker is, and how often each net was begun in this round: a net that is
 -- claimed is a routed one that isn't held, is claimed by one worker alone, and was begun; a net that is due and wasn't
--- begun is held in later rounds alone; and of the routed nets alone all others are held
+-- begun is held in later rounds alone; and of the routed nets alone all that are neither are held
 pub record InTurns (later : Bool) (routed due : ℕ → Bool) (held : ℕ → Option TreeView) (stage : ℕ → Stage)
     (begun : ℕ → ℕ) : Type 0 where
   pub free : (worker net : ℕ) (slacks : List (Option ℕ)) →
@@ -31,7 +31,7 @@ pub record InTurns (later : Bool) (routed due : ℕ → Bool) (held : ℕ → Op
   pub waiting : (net : ℕ) → due net ≡ true → begun net ≡ 0 → is_some (held net) ≡ later
   pub off : (net : ℕ) → routed net ≡ false → held net ≡ None
   pub missing : (net : ℕ) → routed net ≡ true → held net ≡ None →
-      ((later ≡ false) × (begun net ≡ 0)) ⊎ HasClaimant stage net
+      ((due net ≡ true) × (begun net ≡ 0)) ⊎ HasClaimant stage net
 
 -- the turns in a segment of a round are apart, after the history with that segment
 abbrev pub AreApart : DesignView → ℕ → (before h segment : List Entry) → Type 0

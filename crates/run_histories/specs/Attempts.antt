@@ -6,7 +6,7 @@ use Rattle.book_state.specs.declared.entry.Call.TheVariants.{Claim as Claims, Re
 use Rattle.book_state.specs.declared.entry.Claim.{Claim}
 use Rattle.book_state.specs.declared.entry.Entry.{Entry}
 use Rattle.book_state.specs.declared.entry.PlanKind.{PlanKind}
-use Rattle.book_state.specs.declared.entry.PlanKind.TheVariants.{Pattern, Maze}
+use Rattle.book_state.specs.declared.entry.PlanKind.TheVariants.{Pattern, Maze, Given}
 use Rattle.book_state.specs.declared.entry.Reply.{Reply}
 use Rattle.book_state.specs.declared.entry.Reply.TheVariants.{Claimed, Full, Released}
 use Rattle.run_histories.specs.Rounds.{IsFull, slacks_of_turn}
@@ -26,8 +26,8 @@ kind_of (suc r) = Maze (4 * suc r)
 abbrev pub is_kind : PlanKind → PlanKind → Bool
 is_kind Pattern Pattern = true
 is_kind (Maze margin) (Maze other) = margin == other
-is_kind Pattern (Maze other) = false
-is_kind (Maze margin) Pattern = false
+is_kind Given Given = true
+is_kind _ _ = false
 
 abbrev pub is_slack : Option ℕ → Option ℕ → Bool
 is_slack None None = true

@@ -1,4 +1,5 @@
 pub mod Rounds
+pub mod GivenRoutes
 pub mod Standing
 pub mod Hands
 pub mod Attempts

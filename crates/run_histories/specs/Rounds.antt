@@ -14,17 +14,21 @@ use Rattle.book_state.specs.Entries.{is_full_reply}
 use Rattle.book_state.specs.declared.entry.Claim.{Claim}
 use Rattle.book_state.specs.declared.entry.Entry.{Entry}
 use Rattle.book_state.specs.declared.entry.PlanKind.{PlanKind}
-use Rattle.book_state.specs.declared.entry.PlanKind.TheVariants.{Pattern, Maze}
+use Rattle.book_state.specs.declared.entry.PlanKind.TheVariants.{Pattern, Maze, Given}
 use Rattle.book_state.specs.declared.entry.Reply.{Reply}
 
--- the number of the one who marks
+-- the number of the one who marks, and that of the first worker, who claims the given trees
 abbrev pub marker : ℕ
 marker = 0
 
--- a net's plan of a kind over loads
+abbrev pub first_worker : ℕ
+first_worker = 1
+
+-- a net's plan of a kind over loads; for a given tree none is made
 abbrev pub IsPlan : CapacityView → LoadsView → Formula → ℕ → List ℕ → PlanKind → TreeView → Type 0
 IsPlan c l formula net pins Pattern t = IsPattern c l formula net pins t
 IsPlan c l formula net pins (Maze margin) t = IsMaze c l formula net pins margin t
+IsPlan c l formula net pins Given t = Unit {0}
 
 -- a net's plan of a kind over the demand and the marks of a history
 pub record IsPlanAfter (d : DesignView) (formula : Formula) (h : List Entry) (net : ℕ) (kind : PlanKind)

@@ -2,6 +2,7 @@
 ghost use Rattle.std.specs.Prelude.{◌≡◌, ◌≤◌, List, IfOk, IsTrue};
 ghost use Rattle.book_state.specs.Books.{AreLoadsOf};
 ghost use Rattle.book_state.specs.declared.entry.Entry.{Entry};
+ghost use Rattle.book_state.specs.declared.entry.PlanKind.TheVariants.{Given};
 ghost use Rattle.gr_base.specs.Designs.{is_routed};
 ghost use Rattle.gr_base.specs.Limits.{most_rounds};
 ghost use Rattle.grid_demand.specs.Tables.{capacity_of};
@@ -33,8 +34,8 @@ pub fn kind_of(round: u32) -> PlanKind
     }
 }
 
-/// A routed net's plan of a kind over the loads of a design, in which no wire edge has a demand above
-/// 2^62. The only error is want of memory.
+/// A routed net's plan of a kind, by patterns or a maze search, over the loads of a design, in which no
+/// wire edge has a demand above 2^62. The only error is want of memory.
 pub fn plan_of(
     alloc: Global,
     planner: &mut Planner,
@@ -46,6 +47,7 @@ pub fn plan_of(
     rule: &CostRule,
 ) -> Result<RouteTree, AllocError>
     requires net { IsTrue (is_routed design.now net) }
+    requires kind { kind ≡ Given → ⊥ }
     requires capacity { capacity.now ≡ capacity_of design.now }
     requires loads { loads.now.shape ≡ design.now.frame.shape }
     requires demand { HasBoundedDemand loads.now }
@@ -58,5 +60,6 @@ pub fn plan_of(
         PlanKind::Maze { margin } => {
             maze_plan(alloc, planner, design, capacity, loads, net, margin, rule)
         }
+        PlanKind::Given => unreachable!(),
     }
 }

@@ -1,5 +1,5 @@
 -- What words mean, and the words that mean it.
-use Rattle.std.proofs.Common.{◌≡◌, ℕ, ◌+◌, ◌<◌, ◌≤◌, inl, inr, Bool, true, false, not, ◌&&◌, ◌||◌, cond, nat_lt, take, drop, List, [], ◌∷◌, ◌++◌, length, get_or, Option, Some, None, if◌then◌else◌, codes, refl, sym, ap, ◌∙◌, arith}
+use Rattle.std.proofs.Common.{◌≡◌, ℕ, ◌+◌, ◌<◌, ◌≤◌, ◌⊎◌, inl, inr, Bool, true, false, not, ◌&&◌, ◌||◌, cond, nat_lt, take, drop, List, [], ◌∷◌, ◌++◌, length, get_or, Option, Some, None, if◌then◌else◌, codes, refl, sym, ap, ◌∙◌, arith}
 use Rattle.std.proofs.lemmas.Bool.{cases_Bool}
 use Rattle.std.proofs.lemmas.Bool.Decides.{nat_tests}
 use Rattle.std.proofs.lemmas.List.{take_all, take_at, drop_at, append_assoc, length-append}
@@ -8,8 +8,9 @@ use Rattle.std.proofs.lemmas.List.Sums.{split_at_first, passes_at_first}
 use Rattle.std.proofs.lemmas.Slice.Eq.{bytes_eq-Decides}
 use Rattle.std.specs.List.{list_all, list_any, position_or_len, before_first, after_first}
 use Rattle.std.specs.Str.{bytes_eq}
-use Rattle.word_reader.specs.Forms.{every_option, option_of, option_row}
+use Rattle.word_reader.specs.Forms.{every_option, option_of, option_row, takes_value}
 use Rattle.word_reader.specs.Meanings.{Meaning, Divides, Positional, Awaits, Holds, Unknown, has_hyphen, is_equals, option_meaning, is_positional, meaning_of}
+use Rattle.word_reader.specs.Sorting.{NamesTaker, NamesAlone}
 use Rattle.word_reader.specs.declared.form.OptionKind.{OptionKind}
 use Rattle.word_reader.proofs.TableLemmas.{found}
 
@@ -121,17 +122,35 @@ place-of-equals (byte ∷ rest) value none = by (place-of-equals rest value) (is
     by behind false first h =
         let at = place-behind byte (rest ++ codes "=" ++ value) first in let more = behind h in omega arith
 
-pub awaits-value : (word : List ℕ) (option : OptionKind) → option_of word ≡ Some option → meaning_of word ≡ Awaits option
-awaits-value word option names =
+-- what an option's word means, by whether the option takes a value, and whether the word has one
+abbrev meaning-by : OptionKind → List ℕ → (takes has : Bool) → Meaning
+meaning-by option value takes has =
+    if takes then (if has then Holds option value else Awaits option) else (if has then Unknown else Holds option [])
+
+-- the word of an option, without a value
+pub by-itself : (word : List ℕ) (option : OptionKind) → option_of word ≡ Some option → (takes : Bool) →
+    takes_value (option_row option).takes ≡ takes → meaning_of word ≡ (if takes then Awaits option else Holds option [])
+by-itself word option names takes is_taker =
     let is = name-is word (name-of word option names) in
     let whole = take_all (position_or_len is_equals word) word (place-past word is.1) in
     by-name word option is.0 (ap option_of whole ∙ names) ∙
-    ap (λ (b : Bool). if b then Holds option (after_first is_equals word) else Awaits option) is.1
+    ap (λ (b : Bool). meaning-by option (after_first is_equals word) (takes_value (option_row option).takes) b) is.1 ∙
+    ap (λ (b : Bool). if b then Awaits option else Holds option []) is_taker
 
-pub holds-value : (value : List ℕ) (word : List ℕ) (option : OptionKind) → option_of word ≡ Some option →
+pub awaits-value : (word : List ℕ) (option : OptionKind) → NamesTaker word option → meaning_of word ≡ Awaits option
+awaits-value word option names = by-itself word option names.0 true names.1
+
+not-true : (b : Bool) → not b ≡ true → b ≡ false
+not-true true is = absurd cc
+not-true false is = refl
+
+pub stands-alone : (word : List ℕ) (option : OptionKind) → NamesAlone word option → meaning_of word ≡ Holds option []
+stands-alone word option names = by-itself word option names.0 false (not-true (takes_value (option_row option).takes) names.1)
+
+pub holds-value : (value : List ℕ) (word : List ℕ) (option : OptionKind) → NamesTaker word option →
     meaning_of (word ++ codes "=" ++ value) ≡ Holds option value
 holds-value value word option names =
-    let is = name-is word (name-of word option names) in
+    let is = name-is word (name-of word option names.0) in
     let whole : List ℕ = word ++ codes "=" ++ value in
     let first = place-of-equals word value is.1 in
     let same = append_assoc word (codes "=") value in
@@ -141,8 +160,9 @@ holds-value value word option names =
     ap (λ (n : ℕ). drop (n + 1) whole) first ∙ drop_at (word ++ codes "=") value (length word + 1) (length-append word (codes "=")) in
     let any : list_any is_equals whole ≡ true =
     ap (λ (w : List ℕ). list_any is_equals w) same ∙ list_any-append is_equals word (codes "=" ++ value) ∙ ap (λ (b : Bool). b || true) is.1 in
-    by-name whole option (long-before (word ++ codes "=") value (long-before word (codes "=") is.0)) (ap option_of before ∙ names) ∙
-    ap (λ (b : Bool). if b then Holds option (after_first is_equals whole) else Awaits option) any ∙ ap (Holds option) after
+    by-name whole option (long-before (word ++ codes "=") value (long-before word (codes "=") is.0)) (ap option_of before ∙ names.0) ∙
+    ap (λ (b : Bool). meaning-by option (after_first is_equals whole) (takes_value (option_row option).takes) b) any ∙
+    ap (λ (b : Bool). if b then Holds option (after_first is_equals whole) else Unknown) names.1 ∙ ap (Holds option) after
 
 -- a word round its first `=`
 round-equals : (word : List ℕ) → list_any is_equals word ≡ true → word ≡ before_first is_equals word ++ codes "=" ++ after_first is_equals word
@@ -157,8 +177,9 @@ round-equals word any =
 abbrev pub Means : List ℕ → Meaning → Type 0
 Means word Divides = word ≡ codes "--"
 Means word Positional = is_positional word ≡ true
-Means word (Awaits option) = option_of word ≡ Some option
-Means word (Holds option value) = (name : List ℕ) × (option_of name ≡ Some option) × (word ≡ name ++ codes "=" ++ value)
+Means word (Awaits option) = NamesTaker word option
+Means word (Holds option value) =
+    ((name : List ℕ) × NamesTaker name option × (word ≡ name ++ codes "=" ++ value)) ⊎ (NamesAlone word option × (value ≡ []))
 Means word Unknown = Unit {0}
 
 pub means : (word : List ℕ) → Means word (meaning_of word)
@@ -167,15 +188,21 @@ means word = by (bytes_eq word (codes "--")) refl
     name : List ℕ
     name = before_first is_equals word
 
-    of-option : (option : OptionKind) → option_of name ≡ Some option → (b : Bool) → list_any is_equals word ≡ b →
-        Means word (if b then Holds option (after_first is_equals word) else Awaits option)
-    of-option option names true any = (name, names, round-equals word any)
-    of-option option names false none =
-        ap option_of (sym (take_all (position_or_len is_equals word) word (place-past word none))) ∙ names
+    whole : list_any is_equals word ≡ false → option_of word ≡ option_of name
+    whole none = ap option_of (sym (take_all (position_or_len is_equals word) word (place-past word none)))
+
+    of-option : (option : OptionKind) → option_of name ≡ Some option →
+        (takes : Bool) → takes_value (option_row option).takes ≡ takes → (b : Bool) → list_any is_equals word ≡ b →
+        Means word (meaning-by option (after_first is_equals word) takes b)
+    of-option option names true taker true any = inl (name, (names, taker), round-equals word any)
+    of-option option names true taker false none = (whole none ∙ names, taker)
+    of-option option names false alone true any = tt
+    of-option option names false alone false none = inr ((whole none ∙ names, ap not alone), refl)
 
     of-name : (o : Option OptionKind) → option_of name ≡ o → Means word (option_meaning word o)
     of-name None none = tt
-    of-name (Some option) names = of-option option names (list_any is_equals word) refl
+    of-name (Some option) names =
+        of-option option names (takes_value (option_row option).takes) refl (list_any is_equals word) refl
 
     of-other : (b : Bool) → is_positional word ≡ b → Means word (if b then Positional else option_meaning word (option_of name))
     of-other true is = is

@@ -1,13 +1,12 @@
 -- Words are sorted as the rule says.
-use Rattle.std.proofs.Common.{◌≡◌, ℕ, List, [], ◌∷◌, ◌++◌, Option, Some, None, codes, refl, sym, ap, subst, ◌∙◌}
+use Rattle.std.proofs.Common.{◌≡◌, ℕ, inl, inr, List, [], ◌∷◌, ◌++◌, Option, Some, None, codes, refl, sym, ap, subst, ◌∙◌}
 use Rattle.std.proofs.lemmas.Option.{none-some, same_Some}
 use Rattle.std.specs.Option.{option_map}
-use Rattle.word_reader.specs.Forms.{option_of}
 use Rattle.word_reader.specs.Meanings.{Meaning, Divides, Positional, Awaits, Holds, Unknown, meaning_of}
-use Rattle.word_reader.specs.Sorting.{Sorted, nothing, all_positionals, with_positional, with_value, AreSorted, Ended, Divided, Stands, Apart, Held, sorted, sorted_by, SortsByRule}
+use Rattle.word_reader.specs.Sorting.{Sorted, nothing, all_positionals, with_positional, with_value, AreSorted, Ended, Divided, Stands, Apart, Held, Alone, NamesTaker, sorted, sorted_by, SortsByRule}
 use Rattle.word_reader.specs.declared.sorted.Next.{Next}
 use Rattle.word_reader.specs.declared.sorted.Next.TheVariants.{Any, Value, Positional as Name}
-use Rattle.word_reader.proofs.MeaningLemmas.{Means, means, awaits-value, holds-value, is-positional}
+use Rattle.word_reader.proofs.MeaningLemmas.{Means, means, awaits-value, holds-value, is-positional, stands-alone}
 
 all-names : (words : List (List ℕ)) → sorted Name words ≡ Some (all_positionals words)
 all-names [] = refl
@@ -29,11 +28,14 @@ by-rule words s (Apart {rest = rest} word value option names behind) =
 by-rule words s (Held {rest = rest} word value option names behind) =
     first-means (word ++ codes "=" ++ value) rest (Holds option value) (holds-value value word option names) ∙
     ap (option_map (with_value option value)) (by-rule rest _ behind)
+by-rule words s (Alone {rest = rest} word option names behind) =
+    first-means word rest (Holds option []) (stands-alone word option names) ∙
+    ap (option_map (with_value option [])) (by-rule rest _ behind)
 
 -- what words say that are sorted, by what the first of them is taken for
 abbrev Says : Next → List (List ℕ) → Sorted → Type 0
 Says Any words s = AreSorted words s
-Says (Value option) words s = (word : List ℕ) → option_of word ≡ Some option → AreSorted (word ∷ words) s
+Says (Value option) words s = (word : List ℕ) → NamesTaker word option → AreSorted (word ∷ words) s
 Says Name words s = all_positionals words ≡ s
 
 -- where one more stands before words that are sorted
@@ -51,9 +53,12 @@ module _ (word : List ℕ) (rest : List (List ℕ)) (behind : (next : Next) (t :
   by-meaning Positional is s says =
       with-one (with_positional word) (sorted Any rest) s (AreSorted (word ∷ rest)) says (λ t h. Stands word is (behind Any t h))
   by-meaning (Awaits option) is s says = behind (Value option) s says word is
-  by-meaning (Holds option value) is s says =
+  by-meaning (Holds option value) (inl is) s says =
       with-one (with_value option value) (sorted Any rest) s (AreSorted (word ∷ rest)) says
       (λ t h. subst (λ (w : List ℕ). AreSorted (w ∷ rest) (with_value option value t)) (sym is.2) (Held is.0 value option is.1 (behind Any t h)))
+  by-meaning (Holds option value) (inr is) s says =
+      with-one (with_value option value) (sorted Any rest) s (AreSorted (word ∷ rest)) says
+      (λ t h. subst (λ (v : List ℕ). AreSorted (word ∷ rest) (with_value option v t)) (sym is.1) (Alone word option is.0 (behind Any t h)))
   by-meaning Unknown is s says = absurd (none-some s says)
 
 from-sorted : (next : Next) (words : List (List ℕ)) (s : Sorted) → sorted next words ≡ Some s → Says next words s

@@ -1,5 +1,5 @@
 -- The tables of commands and options.
-use Rattle.std.specs.Prelude.{ℕ, Bool, ◌==◌, List, [], ◌∷◌, Option, Some, None, codes}
+use Rattle.std.specs.Prelude.{ℕ, Bool, true, false, ◌==◌, List, [], ◌∷◌, Option, Some, None, codes}
 use Rattle.std.specs.List.{find, list_any}
 use Rattle.std.specs.Str.{bytes_eq}
 use Rattle.gr_base.specs.Limits.{most_workers}
@@ -7,11 +7,15 @@ use Rattle.word_reader.specs.Numbers.{most_number}
 use Rattle.word_reader.specs.declared.form.Command.{Command}
 use Rattle.word_reader.specs.declared.form.Command.TheVariants.{Route, Evaluate, Buffer, Make, Trial, Panels, Bound}
 use Rattle.word_reader.specs.declared.form.OptionKind.{OptionKind}
-use Rattle.word_reader.specs.declared.form.OptionKind.TheVariants.{Workers, ViaCost, Batch, Rule, Stop}
+use Rattle.word_reader.specs.declared.form.OptionKind.TheVariants.{Workers, ViaCost, Batch, Rule, Stop, From, Trace, Steps}
 
--- the most wire edges as which a via edge may count in a report, and the most nets of a batch
+-- the most wire edges as which a via edge may count in a report, the most steps by which a bound may be raised,
+-- and the most nets of a batch
 abbrev pub most_via_cost : ℕ
 most_via_cost = 1000
+
+abbrev pub most_steps : ℕ
+most_steps = 10000
 
 abbrev pub most_batch : ℕ
 most_batch = 65536
@@ -24,6 +28,18 @@ pub data Takes : Type 0 where
   Word : (words : List (List ℕ)) → Takes
   -- one of these words, or a number from the least to the most
   WordOrNumber : (words : List (List ℕ)) → (least most : ℕ) → Takes
+  -- any word, which is a name
+  Name : Takes
+  -- none: it is given, or it isn't
+  Nothing : Takes
+
+-- whether an option takes a value
+abbrev pub takes_value : Takes → Bool
+takes_value (Number least most) = true
+takes_value (Word words) = true
+takes_value (WordOrNumber words least most) = true
+takes_value Name = true
+takes_value Nothing = false
 
 -- an option's word, what it takes as its value, the value that it has where none is given, if it then has one, and the
 -- option beside which it can't be given, if there is one
@@ -65,10 +81,18 @@ option_row Stop = record {
   default = None;
   excludes = None;
 }
+option_row From = record { word = codes "--from"; takes = Name; default = None; excludes = None }
+option_row Trace = record { word = codes "--trace"; takes = Nothing; default = None; excludes = None }
+option_row Steps = record {
+  word = codes "--steps";
+  takes = Number 0 most_steps;
+  default = Some (codes "0");
+  excludes = None;
+}
 
 -- the options, each once
 abbrev pub every_option : List OptionKind
-every_option = Workers ∷ ViaCost ∷ Batch ∷ Rule ∷ Stop ∷ []
+every_option = Workers ∷ ViaCost ∷ Batch ∷ Rule ∷ Stop ∷ From ∷ Trace ∷ Steps ∷ []
 
 -- the place of an option among them
 abbrev pub place : OptionKind → ℕ
@@ -77,6 +101,9 @@ place ViaCost = 1
 place Batch = 2
 place Rule = 3
 place Stop = 4
+place From = 5
+place Trace = 6
+place Steps = 7
 
 -- two options are one
 abbrev pub is_option : OptionKind → OptionKind → Bool
@@ -97,14 +124,14 @@ abbrev pub command_row : Command → CommandRow
 command_row Route = record {
   word = codes "route";
   positionals = 3;
-  options = Workers ∷ ViaCost ∷ Batch ∷ Rule ∷ Stop ∷ [];
+  options = Workers ∷ ViaCost ∷ Batch ∷ Rule ∷ Stop ∷ From ∷ Trace ∷ [];
 }
 command_row Evaluate = record { word = codes "evaluate"; positionals = 2; options = ViaCost ∷ [] }
 command_row Buffer = record { word = codes "buffer"; positionals = 3; options = [] }
 command_row Make = record { word = codes "make"; positionals = 5; options = [] }
-command_row Trial = record { word = codes "trial"; positionals = 6; options = Workers ∷ Rule ∷ [] }
+command_row Trial = record { word = codes "trial"; positionals = 6; options = Workers ∷ Rule ∷ Trace ∷ [] }
 command_row Panels = record { word = codes "panels"; positionals = 2; options = [] }
-command_row Bound = record { word = []; positionals = 1; options = ViaCost ∷ [] }
+command_row Bound = record { word = []; positionals = 1; options = ViaCost ∷ Steps ∷ [] }
 
 -- the commands that words name, each once
 abbrev pub every_command : List Command

@@ -2,11 +2,11 @@
 use Rattle.std.specs.Prelude.{◌≡◌, ℕ, ◌<◌, ◌≤◌, List, [], ◌∷◌, ◌++◌, map, length, get_or, Option, Some, None, if◌then◌else◌}
 use Rattle.std.specs.Borrow.{Bor}
 use Rattle.std.specs.Option.{option_map, option_and_then, option_to_list}
-use Rattle.word_reader.specs.Forms.{CommandRow, OptionRow, Takes, Number, Word, WordOrNumber, is_option, place}
+use Rattle.word_reader.specs.Forms.{CommandRow, OptionRow, Takes, Number, Word, WordOrNumber, Name, Nothing, is_option, place}
 use Rattle.word_reader.specs.Meanings.{Meaning, Divides, Positional, Awaits, Holds, Unknown}
 use Rattle.word_reader.specs.Orders.{Order, order_by}
 use Rattle.word_reader.specs.Sorting.{Sorted, sorted}
-use Rattle.word_reader.specs.Values.{Value, Absent, Choice, Count}
+use Rattle.word_reader.specs.Values.{Value, Absent, Choice, Count, Named, Present}
 use Rattle.word_reader.specs.declared.form.TheConstants.{MOST_POSITIONALS, OPTION_COUNT}
 use Rattle.word_reader.specs.declared.form.Command.{Command}
 use Rattle.word_reader.specs.declared.form.CommandRow.{CommandRow as KeptCommand}
@@ -34,6 +34,8 @@ abbrev pub takes_seen : KeptTakes → Takes
 takes_seen (KeptTakes.Number least most) = Number least most
 takes_seen (KeptTakes.Word words) = Word (texts_seen words.now)
 takes_seen (KeptTakes.WordOrNumber words least most) = WordOrNumber (texts_seen words.now) least most
+takes_seen KeptTakes.Name = Name
+takes_seen KeptTakes.Nothing = Nothing
 
 abbrev pub option_seen : KeptOption → OptionRow
 option_seen row = record {
@@ -57,6 +59,8 @@ abbrev pub value_seen : KeptValue → Value
 value_seen KeptValue.Absent = Absent
 value_seen (KeptValue.Choice place) = Choice place
 value_seen (KeptValue.Count number) = Count number
+value_seen (KeptValue.Named name) = Named name.now
+value_seen KeptValue.Present = Present
 
 -- the values that stand with an option: one at most is kept, at the option's place
 abbrev pub values_seen : Option (Bor (List ℕ)) → List (List ℕ)

@@ -2,7 +2,7 @@
 use Rattle.std.specs.Prelude.{ℕ, Bool, false, ◌==◌, ◌||◌, not, List, [], ◌∷◌, Option, Some, None, if◌then◌else◌, codes}
 use Rattle.std.specs.List.{list_any, before_first, after_first}
 use Rattle.std.specs.Str.{bytes_eq}
-use Rattle.word_reader.specs.Forms.{option_of}
+use Rattle.word_reader.specs.Forms.{option_of, option_row, takes_value}
 use Rattle.word_reader.specs.declared.form.OptionKind.{OptionKind}
 
 pub data Meaning : Type 0 where
@@ -11,7 +11,7 @@ pub data Meaning : Type 0 where
   Positional : Meaning
   -- an option, with the next word as its value
   Awaits : OptionKind → Meaning
-  -- an option, with its value behind `=`
+  -- an option with its value, which stands behind `=`; the empty word is the value of one that takes none
   Holds : OptionKind → (value : List ℕ) → Meaning
   -- a word that no order has
   Unknown : Meaning
@@ -33,7 +33,9 @@ is_equals byte = byte == 61
 abbrev pub option_meaning : List ℕ → Option OptionKind → Meaning
 option_meaning word None = Unknown
 option_meaning word (Some option) =
-    if list_any is_equals word then Holds option (after_first is_equals word) else Awaits option
+    if takes_value (option_row option).takes
+    then (if list_any is_equals word then Holds option (after_first is_equals word) else Awaits option)
+    else (if list_any is_equals word then Unknown else Holds option [])
 
 -- what a word means by itself
 abbrev pub meaning_of : List ℕ → Meaning

@@ -1,5 +1,6 @@
 -- The order that words give.
-use Rattle.std.specs.Prelude.{◌≡◌, ℕ, ◌≤◌, Bool, ◌&&◌, ◌||◌, ◌==◌, true, nat_le, List, [], ◌∷◌, length, get_or, Option, Some, None, Result, Ok, Err, slice_get, IfSome, if◌then◌else◌}
+use Rattle.std.specs.Prelude.{◌≡◌, ℕ, ◌≤◌, Bool, ◌&&◌, ◌||◌, ◌==◌, true, false, nat_le, List, [], ◌∷◌, length, get_or, Option, Some, None, Result, Ok, Err, slice_get, IfSome, if◌then◌else◌}
+use Rattle.std.specs.Borrow.{Bor}
 use Rattle.std.specs.Option.{option_map, option_map_or, option_and_then}
 use Rattle.std.specs.List.{list_all}
 use Rattle.cost_rules.specs.declared.site.Formula.{Formula}
@@ -9,16 +10,16 @@ use Rattle.design_maker.specs.declared.made.Made.{Made}
 use Rattle.design_maker.specs.Ranges.{most_made_nets, most_side}
 use Rattle.gr_base.specs.Limits.{most_layers, most_rounds, most_workers}
 use Rattle.gr_text.specs.Numbers.{natural_in}
-use Rattle.word_reader.specs.Forms.{command_of, command_row, has, every_option, option_row, most_batch, most_via_cost}
+use Rattle.word_reader.specs.Forms.{command_of, command_row, has, every_option, option_row, most_batch, most_steps, most_via_cost}
 use Rattle.word_reader.specs.Numbers.{most_digits, most_number}
 use Rattle.word_reader.specs.Sorting.{Sorted, sorted}
-use Rattle.word_reader.specs.Values.{Value, Absent, Choice, Count, number_of, value_of}
+use Rattle.word_reader.specs.Values.{Value, Absent, Choice, Count, Named, Present, number_of, value_of}
 use Rattle.word_reader.specs.declared.error.WordError.{WordError}
 use Rattle.word_reader.specs.declared.error.WordError.TheVariants.{Usage}
 use Rattle.word_reader.specs.declared.form.Command.{Command}
 use Rattle.word_reader.specs.declared.form.Command.TheVariants.{Route as Routes, Evaluate as Evaluates, Buffer as Buffers, Make as Makes, Trial as Tries, Panels as Tracks, Bound as Bounds}
 use Rattle.word_reader.specs.declared.form.OptionKind.{OptionKind}
-use Rattle.word_reader.specs.declared.form.OptionKind.TheVariants.{Workers, ViaCost, Batch, Rule, Stop}
+use Rattle.word_reader.specs.declared.form.OptionKind.TheVariants.{Workers, ViaCost, Batch, Rule, Stop, From, Trace, Steps}
 use Rattle.word_reader.specs.declared.order.Options.{Options}
 use Rattle.word_reader.specs.declared.order.Order.{Order as Given}
 use Rattle.word_reader.specs.declared.order.Stopping.{Stopping}
@@ -29,13 +30,13 @@ use Rattle.word_reader.specs.declared.sorted.Next.TheVariants.{Any}
 
 -- what words ask for, with the names of the texts that it needs
 pub data Order : Type 0 where
-  Route : (design library : List ℕ) → Options → Order
+  Route : (design library : List ℕ) → (from : Option (List ℕ)) → Options → Order
   Evaluate : (design solution : List ℕ) → (via_cost : ℕ) → Order
   Buffer : (design library solution : List ℕ) → Order
   Make : Made → Order
   Trial : Made → Options → Order
   Panels : (design solution : List ℕ) → Order
-  Bound : (design : List ℕ) → (via_cost : ℕ) → Order
+  Bound : (design : List ℕ) → (via_cost steps : ℕ) → Order
 
 infixl 10 ◌>>=◌
 abbrev ◌>>=◌ : {A B : Type 0} → Option A → (A → Option B) → Option B
@@ -82,6 +83,8 @@ abbrev pub batch_as : Value → Option ℕ
 batch_as Absent = None
 batch_as (Choice place) = None
 batch_as (Count number) = Some number
+batch_as (Named name) = None
+batch_as Present = None
 
 abbrev pub batch_of : Sorted → Option (Option ℕ)
 batch_of sorted = option_map batch_as (value_of Batch sorted)
@@ -95,6 +98,8 @@ abbrev pub rule_as : Value → Option Formula
 rule_as Absent = None
 rule_as (Choice place) = slice_get every_rule place
 rule_as (Count number) = None
+rule_as (Named name) = None
+rule_as Present = None
 
 abbrev pub rule_of : Sorted → Option Formula
 rule_of sorted = option_and_then rule_as (value_of Rule sorted)
@@ -104,9 +109,33 @@ abbrev pub stop_as : Value → Stopping
 stop_as Absent = Never
 stop_as (Choice place) = Still
 stop_as (Count number) = Goal number
+stop_as (Named name) = Never
+stop_as Present = Never
 
 abbrev pub stop_of : Sorted → Option Stopping
 stop_of sorted = option_map stop_as (value_of Stop sorted)
+
+-- the name of the solution whose routes are begun from, if there is one
+abbrev pub from_as : Value → Option (List ℕ)
+from_as (Named name) = Some name
+from_as Absent = None
+from_as (Choice place) = None
+from_as (Count number) = None
+from_as Present = None
+
+abbrev pub from_of : Sorted → Option (Option (List ℕ))
+from_of sorted = option_map from_as (value_of From sorted)
+
+-- whether what each round did is told
+abbrev pub trace_as : Value → Bool
+trace_as Present = true
+trace_as Absent = false
+trace_as (Choice place) = false
+trace_as (Count number) = false
+trace_as (Named name) = false
+
+abbrev pub trace_of : Sorted → Option Bool
+trace_of sorted = option_map trace_as (value_of Trace sorted)
 
 -- how a design is routed, where ROUNDS is the positional at a place
 unfoldable pub options_of : Sorted → ℕ → Option Options
@@ -117,6 +146,7 @@ options_of sorted place = do
   batch ← batch_of sorted
   rule ← rule_of sorted
   stop ← stop_of sorted
+  trace ← trace_of sorted
   Some (record {
     rounds = rounds;
     workers = workers;
@@ -124,11 +154,19 @@ options_of sorted place = do
     batch = batch;
     rule = rule;
     stop = stop;
+    trace = trace;
   })
 
 -- the numbers, if a design can be made of them
 abbrev pub in_range : Made → Option Made
 in_range made = if is_made made then Some made else None
+
+-- from which solution's routes a design is routed, and how
+unfoldable pub route_of : Sorted → Option Order
+route_of sorted = do
+  from ← from_of sorted
+  options ← options_of sorted 2
+  Some (Route (positional sorted 0) (positional sorted 1) from options)
 
 -- what a design is made of: SEED X Y L NETS
 unfoldable pub made_of : Sorted → Option Made
@@ -147,18 +185,25 @@ trial_of sorted = do
   options ← options_of sorted 5
   Some (Trial made options)
 
+-- what is bounded, and by how many steps
+unfoldable pub bound_of : Sorted → Option Order
+bound_of sorted = do
+  via_cost ← number_of ViaCost sorted
+  steps ← number_of Steps sorted
+  Some (Bound (positional sorted 0) via_cost steps)
+
 -- what each command asks for: `route DESIGN LIBRARY ROUNDS`, `evaluate DESIGN SOLUTION`,
 -- `buffer DESIGN LIBRARY SOLUTION`, `make SEED X Y L NETS`, `trial SEED X Y L NETS ROUNDS`, `panels DESIGN SOLUTION`,
 -- and grbound's one, `DESIGN`
 abbrev pub order_as : Command → Sorted → Option Order
-order_as Routes sorted = option_map (Route (positional sorted 0) (positional sorted 1)) (options_of sorted 2)
+order_as Routes sorted = route_of sorted
 order_as Evaluates sorted =
     option_map (Evaluate (positional sorted 0) (positional sorted 1)) (number_of ViaCost sorted)
 order_as Buffers sorted = Some (Buffer (positional sorted 0) (positional sorted 1) (positional sorted 2))
 order_as Makes sorted = option_map Make (made_of sorted)
 order_as Tries sorted = trial_of sorted
 order_as Tracks sorted = Some (Panels (positional sorted 0) (positional sorted 1))
-order_as Bounds sorted = option_map (Bound (positional sorted 0)) (number_of ViaCost sorted)
+order_as Bounds sorted = bound_of sorted
 
 -- the order of a command by the words behind its own
 abbrev pub order_by : Command → Sorted → Option Order
@@ -182,13 +227,14 @@ order_of Grbound words = order_with Bounds words
 
 -- the order that was read
 abbrev pub named : Given → Order
-named (Given.Route design library options) = Route design.now library.now options
+named (Given.Route design library from options) =
+    Route design.now library.now (option_map (λ (name : Bor (List ℕ)). name.now) from) options
 named (Given.Evaluate design solution via_cost) = Evaluate design.now solution.now via_cost
 named (Given.Buffer design library solution) = Buffer design.now library.now solution.now
 named (Given.Make made) = Make made
 named (Given.Trial made options) = Trial made options
 named (Given.Panels design solution) = Panels design.now solution.now
-named (Given.Bound design via_cost) = Bound design.now via_cost
+named (Given.Bound design via_cost steps) = Bound design.now via_cost steps
 
 -- the order of the words, or that they give none
 abbrev pub Answers : Option Order → Result Given WordError → Type 0
@@ -205,10 +251,10 @@ pub record AreInRange (options : Options) : Type 0 where
 
 -- the numbers of an order are in range
 abbrev pub AsksInRange : Given → Type 0
-AsksInRange (Given.Route design library options) = AreInRange options
+AsksInRange (Given.Route design library from options) = AreInRange options
 AsksInRange (Given.Evaluate design solution via_cost) = via_cost ≤ most_via_cost
 AsksInRange (Given.Buffer design library solution) = Unit {0}
 AsksInRange (Given.Make made) = IsMade made
 AsksInRange (Given.Trial made options) = IsMade made × AreInRange options
 AsksInRange (Given.Panels design solution) = Unit {0}
-AsksInRange (Given.Bound design via_cost) = via_cost ≤ most_via_cost
+AsksInRange (Given.Bound design via_cost steps) = (via_cost ≤ most_via_cost) × (steps ≤ most_steps)

@@ -1,7 +1,7 @@
 -- The words behind a command's, sorted into positionals and options with their values.
-use Rattle.std.specs.Prelude.{◌≡◌, ℕ, ◌↔◌, List, [], ◌∷◌, ◌++◌, Option, Some, None, IsTrue, if◌then◌else◌, codes}
+use Rattle.std.specs.Prelude.{◌≡◌, ℕ, ◌↔◌, not, List, [], ◌∷◌, ◌++◌, Option, Some, None, IsTrue, if◌then◌else◌, codes}
 use Rattle.std.specs.Option.{option_map}
-use Rattle.word_reader.specs.Forms.{is_option, option_of}
+use Rattle.word_reader.specs.Forms.{is_option, option_of, option_row, takes_value}
 use Rattle.word_reader.specs.Meanings.{Meaning, Divides, Positional, Awaits, Holds, Unknown, is_positional, meaning_of}
 use Rattle.word_reader.specs.declared.form.OptionKind.{OptionKind}
 use Rattle.word_reader.specs.declared.sorted.Next.{Next}
@@ -25,6 +25,13 @@ with_value option value sorted = record {
   values = λ other. if is_option option other then value ∷ sorted.values other else sorted.values other;
 }
 
+-- the word is that of an option which takes a value, and of one which takes none
+abbrev pub NamesTaker : List ℕ → OptionKind → Type 0
+NamesTaker word option = (option_of word ≡ Some option) × IsTrue (takes_value (option_row option).takes)
+
+abbrev pub NamesAlone : List ℕ → OptionKind → Type 0
+NamesAlone word option = (option_of word ≡ Some option) × IsTrue (not (takes_value (option_row option).takes))
+
 -- words that all are positionals
 abbrev pub all_positionals : List (List ℕ) → Sorted
 all_positionals words = record { positionals = words; values = λ option. [] }
@@ -37,14 +44,18 @@ pub data AreSorted : List (List ℕ) → Sorted → Type 0 where
   -- a word that doesn't begin with a hyphen, or is one, is a positional
   Stands : {rest : List (List ℕ)} {behind : Sorted} (word : List ℕ) → IsTrue (is_positional word) →
       AreSorted rest behind → AreSorted (word ∷ rest) (with_positional word behind)
-  -- an option's word takes the next word as its value
+  -- the word of an option that takes a value takes the next word as it
   Apart : {rest : List (List ℕ)} {behind : Sorted} (word value : List ℕ) (option : OptionKind) →
-      option_of word ≡ Some option →
+      NamesTaker word option →
       AreSorted rest behind → AreSorted (word ∷ value ∷ rest) (with_value option value behind)
   -- or holds it behind `=`
   Held : {rest : List (List ℕ)} {behind : Sorted} (word value : List ℕ) (option : OptionKind) →
-      option_of word ≡ Some option →
+      NamesTaker word option →
       AreSorted rest behind → AreSorted ((word ++ codes "=" ++ value) ∷ rest) (with_value option value behind)
+  -- the word of one that takes none stands alone
+  Alone : {rest : List (List ℕ)} {behind : Sorted} (word : List ℕ) (option : OptionKind) →
+      NamesAlone word option →
+      AreSorted rest behind → AreSorted (word ∷ rest) (with_value option [] behind)
 
 -- a word and those behind it, by what it means; these are sorted by what their first is taken for
 abbrev pub sorted_by : Meaning → List ℕ → (behind : Next → Option Sorted) → Option Sorted

@@ -1,12 +1,15 @@
 //! The tables of commands and options.
 ghost use Rattle.std.specs.Prelude.{◌≡◌, ◌<◌};
-ghost use Rattle.word_reader.specs.Forms.{command_of, command_row, every_option, has, option_of, option_row, place};
+ghost use Rattle.word_reader.specs.Forms.{command_of, command_row, every_option, has, option_of, option_row, place, takes_value};
 ghost use Rattle.word_reader.specs.Kept.{command_seen, option_count, option_seen};
 
 use gr_base::MOST_WORKERS;
 
 /// The most wire edges as which a via edge may count in a report.
 pub const MOST_VIA_COST: u32 = 1_000;
+
+/// The most steps by which a bound may be raised.
+pub const MOST_STEPS: u32 = 10_000;
 
 /// The most nets that a batch may have.
 pub const MOST_BATCH: u32 = 65_536;
@@ -42,6 +45,9 @@ pub(crate) enum OptionKind {
     Batch,
     Rule,
     Stop,
+    From,
+    Trace,
+    Steps,
 }
 
 /// What words an option takes.
@@ -72,6 +78,10 @@ pub(crate) enum Takes {
         least: u64,
         most: u64,
     },
+    /// Any word, which is a name.
+    Name,
+    /// None: the option is given, or it isn't.
+    Nothing,
 }
 
 /// The most positionals that a command has.
@@ -88,12 +98,15 @@ const EVERY_COMMAND: [Command; 6] = [
 ];
 
 /// The options, each once, in the order in which they are declared.
-pub(crate) const EVERY_OPTION: [OptionKind; 5] = [
+pub(crate) const EVERY_OPTION: [OptionKind; 8] = [
     OptionKind::Workers,
     OptionKind::ViaCost,
     OptionKind::Batch,
     OptionKind::Rule,
     OptionKind::Stop,
+    OptionKind::From,
+    OptionKind::Trace,
+    OptionKind::Steps,
 ];
 
 /// How many options there are.
@@ -134,6 +147,8 @@ impl Command {
                     OptionKind::Batch,
                     OptionKind::Rule,
                     OptionKind::Stop,
+                    OptionKind::From,
+                    OptionKind::Trace,
                 ],
             },
             Command::Evaluate => CommandRow {
@@ -154,7 +169,7 @@ impl Command {
             Command::Trial => CommandRow {
                 word: "trial",
                 positionals: 6,
-                options: &[OptionKind::Workers, OptionKind::Rule],
+                options: &[OptionKind::Workers, OptionKind::Rule, OptionKind::Trace],
             },
             Command::Panels => CommandRow {
                 word: "panels",
@@ -164,7 +179,7 @@ impl Command {
             Command::Bound => CommandRow {
                 word: "",
                 positionals: 1,
-                options: &[OptionKind::ViaCost],
+                options: &[OptionKind::ViaCost, OptionKind::Steps],
             },
         }
     }
@@ -226,7 +241,35 @@ impl OptionKind {
                 default: None,
                 excludes: None,
             },
+            OptionKind::From => OptionRow {
+                word: "--from",
+                takes: Takes::Name,
+                default: None,
+                excludes: None,
+            },
+            OptionKind::Trace => OptionRow {
+                word: "--trace",
+                takes: Takes::Nothing,
+                default: None,
+                excludes: None,
+            },
+            OptionKind::Steps => OptionRow {
+                word: "--steps",
+                takes: Takes::Number {
+                    least: 0,
+                    most: MOST_STEPS as u64,
+                },
+                default: Some("0"),
+                excludes: None,
+            },
         }
+    }
+
+    /// Whether the option takes a value.
+    pub(crate) fn takes_value(self) -> bool
+        ensures { result ≡ takes_value (option_row self).takes }
+    {
+        !matches!(self.row().takes, Takes::Nothing)
     }
 
     /// The place of the option among all.

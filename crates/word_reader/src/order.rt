@@ -1,10 +1,11 @@
 //! What words can ask for, and what each command's ask for.
-ghost use Rattle.std.specs.Prelude.{◌≡◌, ◌<◌, ◌≤◌, Some, length, IfSome};
+ghost use Rattle.std.specs.Prelude.{◌≡◌, ◌<◌, ◌≤◌, ℕ, List, Some, length, IfSome};
+ghost use Rattle.std.specs.Borrow.{Bor};
 ghost use Rattle.std.specs.Option.{option_map};
 ghost use Rattle.design_maker.specs.Ranges.{IsMade};
 ghost use Rattle.word_reader.specs.Forms.{command_row, most_batch};
 ghost use Rattle.word_reader.specs.Kept.{words_seen};
-ghost use Rattle.word_reader.specs.Orders.{named, batch_of, options_of, in_range, made_of, order_as, rule_of, stop_of, trial_of, AreInRange, AsksInRange};
+ghost use Rattle.word_reader.specs.Orders.{named, batch_of, options_of, from_of, in_range, made_of, order_as, route_of, rule_of, stop_of, trace_of, trial_of, AreInRange, AsksInRange};
 ghost use Rattle.word_reader.specs.declared.form.Command.TheVariants.{Route as Routes, Evaluate as Evaluates, Buffer as Buffers, Make as Makes, Trial as Tries, Panels as Tracks, Bound as Bounds};
 
 use crate::form::{Command, OptionKind};
@@ -33,6 +34,8 @@ pub struct Options {
     pub rule: Formula,
     /// When the rounds are to stop early; never where `--stop` isn't given.
     pub stop: Stopping,
+    /// Whether what each round did is told, as it is where `--trace` is given.
+    pub trace: bool,
 }
 
 /// When rounds are to stop early.
@@ -51,12 +54,14 @@ const EVERY_RULE: [Formula; 4] = [Formula::First, Formula::Steep, Formula::Flat,
 /// What the words ask for, with the names of the texts that it needs.
 #[derive(Clone, Copy, Debug)]
 pub enum Order<'w> {
-    /// `route DESIGN LIBRARY ROUNDS [--workers N] [--via-cost V] [--batch B] [--rule NAME] [--stop V]`
-    /// routes the design. The library is that of its wires and buffers. `--batch` and `--stop` can't be
-    /// given both.
+    /// `route DESIGN LIBRARY ROUNDS [--workers N] [--via-cost V] [--batch B] [--rule NAME] [--stop V]
+    /// [--from SOLUTION] [--trace]` routes the design. The library is that of its wires and buffers.
+    /// `--batch` and `--stop` can't be given both.
     Route {
         design: &'w str,
         library: &'w str,
+        /// The solution whose routes are begun from, where `--from` is given.
+        from: Option<&'w str>,
         options: Options,
     },
     /// `evaluate DESIGN SOLUTION [--via-cost V]` judges a solution of the design.
@@ -77,7 +82,7 @@ pub enum Order<'w> {
     Make {
         made: Made,
     },
-    /// `trial SEED X Y L NETS ROUNDS [--workers N] [--rule NAME]` routes a made design.
+    /// `trial SEED X Y L NETS ROUNDS [--workers N] [--rule NAME] [--trace]` routes a made design.
     Trial {
         made: Made,
         options: Options,
@@ -87,11 +92,14 @@ pub enum Order<'w> {
         design: &'w str,
         solution: &'w str,
     },
-    /// grbound's `DESIGN [--via-cost V]` tells what no solution of the design can be better in.
+    /// grbound's `DESIGN [--steps K] [--via-cost V]` tells what no solution of the design can be better
+    /// in.
     Bound {
         design: &'w str,
         /// As for `evaluate`.
         via_cost: u32,
+        /// By how many steps each bound is raised, from 0 to 10,000; 0 where `--steps` isn't given.
+        steps: u32,
     },
 }
 
@@ -112,17 +120,30 @@ pub(crate) fn order_as<'w>(command: Command, sorted: &Sorted<'w>) -> Option<Orde
     }
 }
 
+#[tactic(auto, unfolding(crate::specs::Orders::route_of))]
 fn route<'w>(sorted: &Sorted<'w>) -> Option<Order<'w>>
     requires { 3 ≤ length (words_seen sorted.now).positionals }
     ensures order { option_map named result ≡ order_as Routes (words_seen sorted.now) }
     ensures range { IfSome result AsksInRange }
 {
+    let from = from_of(sorted)?;
     let options = options_of(sorted, 2)?;
     Some(Order::Route {
         design: sorted.positional(0),
         library: sorted.positional(1),
+        from,
         options,
     })
+}
+
+/// The name of the solution whose routes are begun from, if there is one.
+fn from_of<'w>(sorted: &Sorted<'w>) -> Option<Option<&'w str>>
+    ensures { option_map (option_map (λ (name : Bor (List ℕ)). name.now)) result ≡ from_of (words_seen sorted.now) }
+{
+    match value_of(OptionKind::From, sorted)? {
+        Value::Named(name) => Some(Some(name)),
+        Value::Absent | Value::Choice(_) | Value::Count(_) | Value::Present => Some(None),
+    }
 }
 
 /// How a design is routed: ROUNDS is the positional at this place, counted from 0.
@@ -142,6 +163,7 @@ fn options_of(sorted: &Sorted, place: usize) -> Option<Options>
     let batch = batch_of(sorted)?;
     let rule = rule_of(sorted)?;
     let stop = stop_of(sorted)?;
+    let trace = trace_of(sorted)?;
     Some(Options {
         rounds,
         workers: workers as u32,
@@ -149,6 +171,7 @@ fn options_of(sorted: &Sorted, place: usize) -> Option<Options>
         batch,
         rule,
         stop,
+        trace,
     })
 }
 
@@ -158,7 +181,7 @@ fn batch_of(sorted: &Sorted) -> Option<Option<u32>>
     ensures range { IfSome result (λ batch. IfSome batch (λ nets. (1 ≤ nets) × (nets ≤ most_batch))) }
 {
     match value_of(OptionKind::Batch, sorted)? {
-        Value::Absent | Value::Choice(_) => Some(None),
+        Value::Absent | Value::Choice(_) | Value::Named(_) | Value::Present => Some(None),
         Value::Count(nets) => Some(Some(nets as u32)),
     }
 }
@@ -169,7 +192,7 @@ fn rule_of(sorted: &Sorted) -> Option<Formula>
 {
     match value_of(OptionKind::Rule, sorted)? {
         Value::Choice(place) => EVERY_RULE.get(place).copied(),
-        Value::Absent | Value::Count(_) => None,
+        Value::Absent | Value::Count(_) | Value::Named(_) | Value::Present => None,
     }
 }
 
@@ -178,9 +201,19 @@ fn stop_of(sorted: &Sorted) -> Option<Stopping>
     ensures { result ≡ stop_of (words_seen sorted.now) }
 {
     match value_of(OptionKind::Stop, sorted)? {
-        Value::Absent => Some(Stopping::Never),
+        Value::Absent | Value::Named(_) | Value::Present => Some(Stopping::Never),
         Value::Choice(_) => Some(Stopping::Still),
         Value::Count(overflow) => Some(Stopping::Goal { overflow }),
+    }
+}
+
+/// Whether what each round did is told.
+fn trace_of(sorted: &Sorted) -> Option<bool>
+    ensures { result ≡ trace_of (words_seen sorted.now) }
+{
+    match value_of(OptionKind::Trace, sorted)? {
+        Value::Present => Some(true),
+        Value::Absent | Value::Choice(_) | Value::Count(_) | Value::Named(_) => Some(false),
     }
 }
 
@@ -220,15 +253,18 @@ fn panels<'w>(sorted: &Sorted<'w>) -> Order<'w>
     }
 }
 
+#[tactic(auto, unfolding(crate::specs::Orders::bound_of))]
 fn bound<'w>(sorted: &Sorted<'w>) -> Option<Order<'w>>
     requires { 1 ≤ length (words_seen sorted.now).positionals }
     ensures order { option_map named result ≡ order_as Bounds (words_seen sorted.now) }
     ensures range { IfSome result AsksInRange }
 {
     let via_cost = number_of(OptionKind::ViaCost, sorted)?;
+    let steps = number_of(OptionKind::Steps, sorted)?;
     Some(Order::Bound {
         design: sorted.positional(0),
         via_cost: via_cost as u32,
+        steps: steps as u32,
     })
 }
 

@@ -16,9 +16,9 @@ use crate::sorted::{Sorted, sort_words};
 /// and options of its own, each at most once and none beside one that it excludes.
 ///
 /// Each word behind the first one that is exactly `--` is a positional, and that word is dropped.
-/// Before it an option takes the next word as its value, or holds it behind `=`, and no other word
-/// begins with `-` but `-` itself. A number is one to twenty decimal digits. All other words are
-/// `Usage`.
+/// Before it an option takes the next word as its value, whatever word that is, or holds it behind `=`;
+/// one that takes no value stands alone. No other word begins with `-` but `-` itself. A number is one
+/// to twenty decimal digits, and any word is a name. All other words are `Usage`.
 pub fn read_words(program: Program, words: &[String]) -> Result<Order<'_>, WordError>
     ensures order { Answers (order_of program (map string_bytes words.now)) result }
     ensures range { IfOk result AsksInRange }

@@ -3,9 +3,9 @@ ghost use Rattle.std.specs.Prelude.{◌≡◌, map, IfSome};
 ghost use Rattle.std.specs.List.{position};
 ghost use Rattle.std.specs.Option.{option_map};
 ghost use Rattle.std.specs.Str.{bytes_eq};
-ghost use Rattle.word_reader.specs.Forms.{option_row};
+ghost use Rattle.word_reader.specs.Forms.{option_row, Number, Word};
 ghost use Rattle.word_reader.specs.Kept.{option_seen, takes_seen, texts_seen, value_seen, values_seen, words_seen};
-ghost use Rattle.word_reader.specs.Values.{number_of, value_by, value_in, value_of, Count, IsTaken};
+ghost use Rattle.word_reader.specs.Values.{choice_in, count_in, number_of, value_by, value_in, value_of, Count, IsTaken};
 
 use crate::form::{OptionKind, OptionRow, Takes};
 use crate::numbers::number_in;
@@ -13,12 +13,16 @@ use crate::sorted::Sorted;
 
 /// The value of an option.
 #[derive(Clone, Copy)]
-pub(crate) enum Value {
+pub(crate) enum Value<'w> {
     /// The option isn't given, and has no default.
     Absent,
     /// The word at this place of those that the option takes.
     Choice(usize),
     Count(u64),
+    /// A name.
+    Named(&'w str),
+    /// The option is given, and takes no value.
+    Present,
 }
 
 /// The number that an option has as its value.
@@ -28,20 +32,20 @@ pub(crate) fn number_of(option: OptionKind, sorted: &Sorted) -> Option<u64>
 {
     match value_of(option, sorted)? {
         Value::Count(number) => Some(number),
-        Value::Absent | Value::Choice(_) => None,
+        Value::Absent | Value::Choice(_) | Value::Named(_) | Value::Present => None,
     }
 }
 
 /// The value of an option, if it is one that the option takes: what stands with it, else its
 /// default.
-pub(crate) fn value_of(option: OptionKind, sorted: &Sorted) -> Option<Value>
+pub(crate) fn value_of<'w>(option: OptionKind, sorted: &Sorted<'w>) -> Option<Value<'w>>
     ensures value { option_map value_seen result ≡ value_of option (words_seen sorted.now) }
     ensures range { IfSome result (λ value. IsTaken (option_row option).takes (value_seen value)) }
 {
     value_by(option.row(), sorted.given(option))
 }
 
-fn value_by(row: OptionRow, given: Option<&str>) -> Option<Value>
+fn value_by(row: OptionRow, given: Option<&str>) -> Option<Value<'_>>
     ensures value { option_map value_seen result ≡ value_by (option_seen row) (values_seen given.entry) }
     ensures range { IfSome result (λ value. IsTaken (option_seen row).takes (value_seen value)) }
 {
@@ -52,22 +56,41 @@ fn value_by(row: OptionRow, given: Option<&str>) -> Option<Value>
 }
 
 /// The value that a word is, if it is one that is taken.
-fn value_in(takes: Takes, word: &str) -> Option<Value>
+fn value_in(takes: Takes, word: &str) -> Option<Value<'_>>
     ensures value { option_map value_seen result ≡ value_in (takes_seen takes) word.now }
     ensures range { IfSome result (λ value. IsTaken (takes_seen takes) (value_seen value)) }
 {
     match takes {
-        Takes::Number { least, most } => number_in(least, most, word).map(Value::Count),
-        Takes::Word(words) => choice_in(words, word).map(Value::Choice),
-        Takes::WordOrNumber { words, least, most } => match choice_in(words, word) {
-            Some(place) => Some(Value::Choice(place)),
-            None => number_in(least, most, word).map(Value::Count),
-        },
+        Takes::Number { least, most } => count_in(least, most, word),
+        Takes::Word(words) => choice_in(words, word),
+        Takes::WordOrNumber { words, least, most } => {
+            choice_in(words, word).or(count_in(least, most, word))
+        }
+        Takes::Name => Some(Value::Named(word)),
+        Takes::Nothing => Some(Value::Present),
     }
 }
 
+/// The number that a word is, if it is from `least` to `most`.
+fn count_in<'w>(least: u64, most: u64, word: &str) -> Option<Value<'w>>
+    ensures value { option_map value_seen result ≡ count_in least most word.now }
+    ensures range { IfSome result (λ value. IsTaken (Number least most) (value_seen value)) }
+{
+    let number = number_in(least, most, word)?;
+    Some(Value::Count(number))
+}
+
+/// One of the words, if it is among them.
+fn choice_in<'w>(words: &[&str], word: &str) -> Option<Value<'w>>
+    ensures value { option_map value_seen result ≡ choice_in (texts_seen words.now) word.now }
+    ensures range { IfSome result (λ value. IsTaken (Word (texts_seen words.now)) (value_seen value)) }
+{
+    let place = place_in(words, word)?;
+    Some(Value::Choice(place))
+}
+
 /// The place of a word among those that may be chosen.
-fn choice_in(words: &[&str], word: &str) -> Option<usize>
+fn place_in(words: &[&str], word: &str) -> Option<usize>
     ensures { result ≡ position (bytes_eq word.now) (texts_seen words.now) }
 {
     words.iter().position(|other| *other == word)

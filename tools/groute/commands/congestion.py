@@ -21,7 +21,8 @@ from argparse import Namespace
 from typing import Sequence
 
 from groute import frame
-from groute.loads.edges import Counted, counted, totals
+from groute.loads.edges import Counted, counted, totals, totals_object
+from groute.texts import objects
 from groute.texts.designs import EAST, Cell, Netlist
 from groute.texts.files import Fault, Outputs
 from groute.texts.names import Terms, names_beside
@@ -57,6 +58,7 @@ def parser() -> frame.Parser:
     words.add_argument("--buffers", metavar="REPORT", help="draw the buffers that a report tells of")
     words.add_argument("--bound", metavar="BOUNDS", help="draw the fullest walls that grbound tells of")
     words.add_argument("--tracks", metavar="PANELS", help="print the tracks of rows and columns beside what they hold")
+    frame.add_json(words)
     frame.add_names(words)
     return words
 
@@ -70,6 +72,8 @@ def asked_of(words: Sequence[str]) -> Namespace:
     of_tiles = [asked.direction, asked.region, asked.worst, asked.net, asked.buffers, asked.bound]
     if any(of_tiles) and (asked.edges or not asked.output or asked.output.endswith(".csv")):
         reader.error("--direction, --region, --worst, --net, --buffers and --bound are of pictures of tiles")
+    if asked.json and asked.tracks:
+        reader.error("--json has the totals alone, and no --tracks")
     return asked
 
 
@@ -121,7 +125,7 @@ def main(words: Sequence[str]) -> int:
                 write_table(edges, asked.output, outputs, asked.layer, terms)
             else:
                 draw(asked, edges, outputs, terms)
-    sys.stdout.write(totals(edges))
+    sys.stdout.write(objects.text_of("congestion", totals_object(edges)) if asked.json else totals(edges))
     if asked.tracks:
         from groute.loads import tracks
         from groute.show import tables

@@ -22,40 +22,50 @@ and after:
 It stops at the first step that fails, with that tool's message and status; what an earlier run wrote is gone then. Else
 the status is 1 where routes leave nets unjoined, and 0.
 
+--from DIR begins from the routes of an earlier run, of which DIR is the folder: nets are found by their names
+(carry.py), and those whose pins are where they were keep their routes, until rounds need them otherwise. The grid has
+to be the same one. `given.solution` has what was carried over, and the verdict how many nets were kept.
+
 Routes are made by --rule near, if no other is given. Without --rounds there are up to 64 rounds, which end once the
 overflow is 0, but 16 where grbound proves that there is overflow in any routes; with --batch, which takes no --stop, 8.
 """
 import importlib.util
+import json
 import os
 import shutil
 import subprocess
 import sys
+import tempfile
 from argparse import Namespace
-from typing import Any, Iterator, Sequence
+from typing import IO, Any, Iterator, Sequence
 
 from groute import frame, start
-from groute.options import Status, values
+from groute.explained import Ended, explained, program_of
+from groute.options import RANGES, Status, values
 from groute.show import tables
+from groute.texts import objects
 from groute.texts.designs import Netlist
-from groute.texts.figures import NANOSECOND, Figures, rows
+from groute.texts.figures import NANOSECOND, Figures, object_of, read_figures, rows
 from groute.texts.files import Fault, Outputs
-from groute.texts.reports import bounds_in
+from groute.texts.reports import bounds_in, kept_in
 from groute.texts.tokens import Tokens
 from groute.timing import closing
 
 # Passed on to def_to_ispd.py, and how many words stand behind each.
 PASSED = {"--tile": 2, "--layers": 1, "--adjust": 1, "--kinds": 1, "--driver": 1, "--sink": 1, "--kind": 4, "--via": 2,
           "--keep-supply": 0}
-WRITTEN = ("design.ispd", "design.ispd.names", "design.ispd.pins", "design.library", "routes.solution", "report.txt",
-           "routes.guide", "bounds.txt", "hotspots.txt", "index.html", "congestion.csv", "netlist.v", "routes.spef",
-           "slacks.txt", "figures.txt", "timing.library", "buffers.txt", "timing.txt")
+WRITTEN = ("design.ispd", "design.ispd.names", "design.ispd.pins", "design.library", "given.solution",
+           "routes.solution", "report.txt", "routes.guide", "bounds.txt", "hotspots.txt", "index.html",
+           "congestion.csv", "netlist.v", "routes.spef", "slacks.txt", "figures.txt", "timing.library", "buffers.txt",
+           "timing.txt")
 OF_RUN = ("design.ispd", "design.library", "routes.solution", "report.txt")     # of each placement that is routed
 FOLDERS = (closing.BEST, *(f"run{number}" for number in range(1, closing.RUNS + 1)))
-MOST_ROUNDS, MOST_WORKERS, MOST_BATCH, MOST_STOP = 64, 16, 65536, (1 << 64) - 1
+MOST_ROUNDS = RANGES["ROUNDS"][1]
 RULE = "near"           # the one that leaves least overflow
 OVERFULL_ROUNDS = 16    # where no routes are without overflow
 BATCH_ROUNDS = 8
 USAGE = b"groute: usage\n", b"grbound: usage\n"
+TOLD = 4096             # bytes that are looked at of what a program told
 
 
 class Stopped(Exception):
@@ -75,6 +85,23 @@ def tool(name: str, *words: str) -> tuple[int, str]:
     path = os.path.join(frame.TOOLS, name)
     status, written = step(name, [sys.executable, path, *words], (Status.UNJOINED,), stdout=subprocess.PIPE)
     return status, written.decode("utf-8", "surrogateescape")
+
+
+def run_program(path: str, words: Sequence[str], out: IO[bytes], err: IO[bytes] | None = None) -> None:
+    """Runs groute or grbound to its end. Where it fails, what it told is told, and in words what is wrong."""
+    name = program_of(path)
+    with tempfile.NamedTemporaryFile() as own:
+        try:
+            step(name, [path, *words], stdout=out, stderr=err or own)
+        except Stopped as stopped:
+            with open((err or own).name, "rb") as file:
+                told = file.read()
+            sys.stderr.write(told.decode(errors="replace"))
+            ended = Ended(name, words, stopped.args[1], told[:TOLD])
+            streams = {"standard output": out.fileno(), **({"standard error": err.fileno()} if err else {})}
+            for line in explained(ended, streams):
+                print(line, file=sys.stderr)
+            raise
 
 
 def programs(asked: Namespace) -> tuple[str, str | None]:
@@ -109,7 +136,7 @@ def called(program: str) -> bool:
 
 def prepare(asked: Namespace, paths: dict[str, str]) -> None:
     """Checks the inputs, and removes what an earlier run wrote."""
-    inputs = [asked.placed, *asked.lef, *asked.liberty, *filter(None, [asked.verilog, asked.sdc])]
+    inputs = [asked.placed, *asked.lef, *asked.liberty, *filter(None, [asked.verilog, asked.sdc]), *earlier(asked)]
     for path in inputs:
         with open(path, "rb"):
             pass
@@ -124,20 +151,37 @@ def prepare(asked: Namespace, paths: dict[str, str]) -> None:
         shutil.rmtree(os.path.join(asked.output, name), ignore_errors=True)
 
 
+def earlier(asked: Namespace) -> list[str]:
+    """The design and the routes of the earlier run, if there is one."""
+    return [os.path.join(asked.given, name) for name in ("design.ispd", "routes.solution")] if asked.given else []
+
+
 def steps(asked: Namespace) -> tuple[int, str]:
-    """Goes through all steps; the answer is the status and the verdict."""
+    """Goes through all steps; the answer is the status and what is printed."""
     paths = {name: os.path.join(asked.output, name) for name in WRITTEN}
     groute, bounds = programs(asked)
     prepare(asked, paths)
     make_design(asked, asked.placed, paths)
     least = bound(bounds, paths) if bounds else 0
-    route(groute, asked, least, paths)
+    if asked.given:
+        tool("carry.py", *earlier(asked), paths["design.ispd"], paths["given.solution"])
+    route(groute, asked, least, paths, paths["given.solution"] if asked.given else None)
+    kept = kept_in(paths["report.txt"])
     timing = timed(groute, asked, least, paths) if asked.sta else ""
     if bounds and timing:
         bound(bounds, paths)    # of the placement that the page shows
     tool("guides.py", paths["design.ispd"], paths["routes.solution"], paths["routes.guide"])
-    status, verdict = judged(asked, bounds is not None, paths)
-    return status, f"{os.path.basename(asked.placed).split('.')[0]}: {verdict}{timing}"
+    status, verdict, found = judged(asked, bounds is not None, paths)
+    of_kept = "" if kept is None else f"; {kept:,} nets kept"
+    verdict = f"{os.path.basename(asked.placed).split('.')[0]}: {verdict}{of_kept}{timing}"
+    if not asked.json:
+        return status, f"{verdict}\n"
+    if asked.sta:
+        found["timing"] = {name: object_of(read_figures(paths[name])) for name in ("before", "after")}
+    written = sorted(name for name in WRITTEN if os.path.isfile(os.path.join(asked.output, name)))
+    least_words = {"least_overflow_units": least if bounds else None, "kept_nets": kept}
+    return status, objects.text_of("flow", {"verdict": verdict, "status": int(status), "folder": asked.output,
+                                            "files": written, **least_words, **found})
 
 
 def make_design(asked: Namespace, placed: str, paths: dict[str, str]) -> None:
@@ -157,8 +201,8 @@ def timed(groute: str, asked: Namespace, least: int, paths: dict[str, str]) -> s
 
     def buffer(run: closing.Run) -> None:
         with Outputs() as outputs:
-            step("groute", [groute, "buffer", *run.paths("design", "timed", "solution")],
-                 stdout=outputs.binary(run.path("buffers")))
+            run_program(groute, ["buffer", *run.paths("design", "timed", "solution")],
+                        outputs.binary(run.path("buffers")))
 
     netlist = asked.verilog or paths["netlist.v"]
     cells = [word for path in asked.lef for word in ("--lef", path)]
@@ -189,7 +233,7 @@ def timing_lines(before: Figures, best: closing.Run) -> Iterator[str]:
 def bound(program: str, paths: dict[str, str]) -> int:
     """Writes what no routes can be below; the answer is the least overflow."""
     with Outputs() as outputs:
-        step("grbound", [program, paths["design.ispd"]], stdout=outputs.binary(paths["bounds.txt"]))
+        run_program(program, [paths["design.ispd"]], outputs.binary(paths["bounds.txt"]))
     return bounds_in(paths["bounds.txt"])[0]
 
 
@@ -206,34 +250,40 @@ def order(asked: Namespace, least: int) -> list[str]:
     return [str(rounds), *(str(word) for pair in given.items() if pair[1] is not None for word in pair)]
 
 
-def route(groute: str, asked: Namespace, least: int, paths: dict[str, str]) -> None:
+def route(groute: str, asked: Namespace, least: int, paths: dict[str, str], given: str | None = None) -> None:
     """Writes the routes and the report, together or none."""
-    words = [groute, "route", paths["design.ispd"], paths["design.library"], *order(asked, least)]
+    words = ["route", paths["design.ispd"], paths["design.library"], *order(asked, least), "--trace"]
+    words += [f"--from={given}"] if given else []
     with Outputs() as outputs:
         report = outputs.binary(paths["report.txt"])
-        try:
-            step("groute", words, stdout=outputs.binary(paths["routes.solution"]), stderr=report)
-        except Stopped:
-            with open(report.name, encoding="utf-8", errors="replace") as file:
-                sys.stderr.write(file.read())
-            raise
+        run_program(groute, words, outputs.binary(paths["routes.solution"]), report)
 
 
-def judged(asked: Namespace, has_bounds: bool, paths: dict[str, str]) -> tuple[int, str]:
-    """Writes what shows where it is full. The answer is the status and the verdict."""
+def judged(asked: Namespace, has_bounds: bool, paths: dict[str, str]) -> tuple[int, str, dict[str, Any]]:
+    """Writes what shows where it is full. The answer is the status, the verdict, and the answers of the tools."""
     routes = [paths["design.ispd"], paths["routes.solution"]]
     if importlib.util.find_spec("numpy") is None:
         frame.say("flow", f"{start.lacks('numpy')}: a table takes the place of hot spots and page")
         status, totals = tool("congestion.py", *routes, "-o", paths["congestion.csv"])
-        return status, ", ".join(totals.splitlines())
+        found = {"congestion": read_object(tool("congestion.py", *routes, "--json")[1])} if asked.json else {}
+        return status, ", ".join(totals.splitlines()), found
     with Outputs() as outputs:
         outputs.text(paths["hotspots.txt"]).write(tool("hotspots.py", *routes)[1])
     words = ["--bound", paths["bounds.txt"]] if has_bounds else []
     if asked.sta:
         words += ["--slack", paths["slacks.txt"], "--timing", paths["before"], paths["after"]]
     status, verdict = tool("report.py", *routes, paths["design.library"], paths["report.txt"], *words,
-                           "--scale", str(asked.scale), "-o", paths["index.html"])
-    return status, verdict.strip()
+                           "--scale", str(asked.scale), "--json", "-o", paths["index.html"])
+    found = {"report": read_object(verdict)}
+    if asked.json:
+        found["hotspots"] = read_object(tool("hotspots.py", *routes, "--json")[1])
+    return status, found["report"].pop("verdict"), found
+
+
+def read_object(text: str) -> dict[str, Any]:
+    """What a tool printed with --json, but whose it is."""
+    found: dict[str, Any] = json.loads(text)
+    return {name: value for name, value in found.items() if name not in ("version", "tool")}
 
 
 def check_timing(reader: frame.Parser, asked: Namespace) -> None:
@@ -249,7 +299,7 @@ def check_timing(reader: frame.Parser, asked: Namespace) -> None:
 
 def stop(word: str) -> str:
     """The value of --stop."""
-    return word if word in values("--stop") else str(frame.number(0, MOST_STOP)(word))
+    return word if word in values("--stop") else str(frame.number(*RANGES["--stop"])(word))
 
 
 def parser() -> frame.Parser:
@@ -258,13 +308,14 @@ def parser() -> frame.Parser:
     words.add_argument("placed", metavar="PLACED.def", help="a placed design")
     words.add_argument("--lef", action="append", required=True, metavar="FILE", help="the technology, then the cells")
     words.add_argument("--liberty", action="append", default=[], metavar="FILE", help="delays of the cells")
-    words.add_argument("--rounds", type=frame.number(0, MOST_ROUNDS), metavar="N",
+    words.add_argument("--rounds", type=frame.number(*RANGES["ROUNDS"]), metavar="N",
                        help="of rip-up and reroute at most; else as above")
-    words.add_argument("--workers", type=frame.number(1, MOST_WORKERS), default=1, metavar="N",
+    words.add_argument("--workers", type=frame.number(*RANGES["--workers"]), default=1, metavar="N",
                        help="threads that route; else 1")
     words.add_argument("--rule", choices=values("--rule"), help="as of groute route; else near")
     words.add_argument("--stop", type=stop, metavar="still|N", help="as of groute route")
-    words.add_argument("--batch", type=frame.number(1, MOST_BATCH), metavar="B", help="as of groute route")
+    words.add_argument("--batch", type=frame.number(*RANGES["--batch"]), metavar="B", help="as of groute route")
+    words.add_argument("--from", metavar="DIR", dest="given", help="the folder of an earlier run, to keep its routes")
     words.add_argument("--scale", type=frame.number(1), default=100, metavar="N",
                        help="of the library's numbers; else 100")
     words.add_argument("--sta", action="store_true", help="goes on by OpenSTA's slacks")
@@ -273,6 +324,7 @@ def parser() -> frame.Parser:
     words.add_argument("--sdc", metavar="FILE", help="constraints, in the place of a clock")
     words.add_argument("--verilog", metavar="NETLIST", help="a flat netlist of the placement, in the place of its own")
     words.add_argument("--program", metavar="PATH", help="groute, where it is not beside the tools or on PATH")
+    frame.add_json(words)
     words.add_argument("-o", "--output", required=True, metavar="DIR", help="the folder that is written")
     for word, count in PASSED.items():
         if count:
@@ -306,5 +358,5 @@ def main(words: Sequence[str]) -> int:
         name, failed = stopped.args
         frame.say("flow", f"{name} ended with status {failed}")
         return int(failed)
-    print(verdict)
+    sys.stdout.write(verdict)
     return status

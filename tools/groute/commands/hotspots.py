@@ -12,11 +12,12 @@ regions and the overfull edges as a report database of KLayout (.lyrdb); both ar
 import csv
 import os
 import sys
-from typing import TYPE_CHECKING, Iterator, Sequence
+from typing import TYPE_CHECKING, Any, Iterator, Sequence
 
 from groute import frame
-from groute.loads.edges import totals
+from groute.loads.edges import totals, totals_object
 from groute.show import tables
+from groute.texts import objects
 from groute.texts.designs import Netlist
 from groute.texts.files import Outputs
 from groute.texts.names import Terms, chosen, names_beside
@@ -38,6 +39,7 @@ def parser() -> frame.Parser:
     words.add_argument("--csv", metavar="FILE", help="the regions, each with all its nets, as a table")
     words.add_argument("--openroad", metavar="FILE", help="the overfull edges as OpenROAD's congestion report")
     words.add_argument("--klayout", metavar="FILE", help="regions and overfull edges as a report database")
+    frame.add_json(words)
     frame.add_nets(words)
     frame.add_names(words)
     return words
@@ -66,6 +68,24 @@ def printed(loads: "Loads", regions: "Sequence[Region]", design: Netlist, terms:
         names = [f"{design.names[id_]} {count}" for id_, count in region.nets[:SHOWN]]
         more = len(region.nets) - SHOWN
         yield f"{number:>{width}}  {', '.join(names)}" + (f", and {more:,} more" if more > 0 else "")
+
+
+def answer(loads: "Loads", regions: "Sequence[Region]", design: Netlist, terms: Terms) -> dict[str, Any]:
+    """The answer as an object."""
+    from groute.loads.regions import SHARES
+    lines = [{"layer": line.layer, "direction": line.direction or None, "resource_units": line.resource,
+              "demand_units": line.demand, "use_percent": line.use(), "maximum_units": line.maximum,
+              "overflow_units": line.overflow, "overfull_edges": line.over,
+              "overflow_at_capacity_0_units": line.closed} for line in loads.table(terms.layers)]
+    return {
+        "totals": totals_object(loads.edges), "layers": lines[:-1], "all": lines[-1],
+        "ace_percent": dict(zip(map(str, SHARES), loads.fullest())),
+        "regions": [{"low_tile": region.low, "high_tile": region.high,
+                     f"box_{terms.unit}": [float(word) for word in terms.box(region.low, region.high)],
+                     "overflow_units": region.overflow, "overfull_edges": region.over,
+                     "overflow_at_capacity_0_units": region.closed,
+                     "nets": [{**objects.net_of(design, id_), "overfull_edges": count} for id_, count in region.nets]}
+                    for region in regions]}
 
 
 def write_table(regions: "Sequence[Region]", design: Netlist, terms: Terms, path: str, outputs: Outputs) -> None:
@@ -105,5 +125,8 @@ def main(words: Sequence[str]) -> int:
             if asked.klayout:
                 cell = os.path.basename(asked.design)
                 outputs.text(asked.klayout).write(viewers.klayout(found, regions, design, terms, cell))
-    sys.stdout.writelines(f"{line}\n" for line in printed(loads, regions, design, terms))
+    if asked.json:
+        sys.stdout.write(objects.text_of("hotspots", answer(loads, regions, design, terms)))
+    else:
+        sys.stdout.writelines(f"{line}\n" for line in printed(loads, regions, design, terms))
     return frame.tell_unjoined("hotspots", design, loads.edges.unjoined)

@@ -1,12 +1,12 @@
 """Writes a page to look at a design's routes with: one file that a browser opens from disk, without a network.
 
 Its first screen has the verdict in a line, ACE, the table by layer, a map to zoom and pan, and the worst regions with
-their nets; a net is drawn with its pins, layers and buffers. LIBRARY and REPORT add required times and buffers; reports
-of earlier rounds, from round 0 on, add the overflow by round, and a text of grbound the overflow that any routes have,
-and the fullest walls. --slack ranks nets by a timer's slack, where nets that nothing constrains are free, and --timing
-adds its figures before and after buffers, and the nets of the worst paths. What is shown stands in the address, so that
-a link shows it again. Of designs with more than 100,000 nets, or where the page would pass 20 MB, it holds only the
-nets of the worst regions and the slowest ones, and says so.
+their nets; a net is drawn with its pins, layers and buffers. LIBRARY and REPORT add required times and buffers, and a
+REPORT of `route --trace` what each round left, as reports of earlier rounds (--before) do, from round 0 on; a text of
+grbound adds the overflow that any routes have, and the fullest walls. --slack ranks nets by a timer's slack, where nets
+that nothing constrains are free, and --timing adds its figures before and after buffers, and the nets of the worst
+paths. What is shown stands in the address, so that a link shows it again. Of designs with more than 100,000 nets, or
+where the page would pass 20 MB, it holds only the nets of the worst regions and the slowest ones, and says so.
 
 Times are in picoseconds. Of a library that def_to_ispd.py made with --scale N say --scale N here too.
 """
@@ -14,6 +14,7 @@ from argparse import Namespace
 from typing import Sequence
 
 from groute import frame
+from groute.texts import objects
 from groute.texts.files import Outputs
 
 
@@ -30,6 +31,7 @@ def parser() -> frame.Parser:
     words.add_argument("--slack", metavar="TABLE", help="ranks nets by slacks that required.py wrote")
     words.add_argument("--timing", nargs=2, metavar=("BEFORE", "AFTER"), help="figures that required.py wrote")
     frame.add_scale(words)
+    frame.add_json(words)
     words.add_argument("-o", "--output", metavar="FILE", required=True, help="the page, .html")
     frame.add_names(words)
     return words
@@ -56,5 +58,6 @@ def main(words: Sequence[str]) -> int:
               *(asked.timing or ()), *asked.before]
     with Outputs(filter(None, inputs)) as outputs:
         outputs.text(asked.output).write(text)
-    print(routes.verdict(asked.before))
+    before = asked.before
+    print(objects.text_of("report", routes.answer(before)).rstrip() if asked.json else routes.verdict(before))
     return frame.tell_unjoined("report", routes.design, routes.edges.unjoined)

@@ -14,10 +14,11 @@ Times are in picoseconds. Of a library that def_to_ispd.py made with --scale N s
 import sys
 from argparse import Namespace
 from dataclasses import dataclass
-from typing import Iterator, Mapping, Sequence
+from typing import Any, Iterator, Mapping, Sequence
 
 from groute import frame
 from groute.show import tables
+from groute.texts import objects
 from groute.texts.designs import Netlist
 from groute.texts.files import Fault
 from groute.texts.libraries import Library
@@ -39,8 +40,12 @@ class Timed:
 
     def kinds(self) -> str:
         """Its buffers by kind, as a text."""
+        return ", ".join(f"{kind} {count}" for kind, count in self.counts().items())
+
+    def counts(self) -> dict[str, int]:
+        """How many buffers it has of each kind."""
         kinds = self.buffers[1::2]
-        return ", ".join(f"{kind.decode(errors='surrogateescape')} {kinds.count(kind)}" for kind in sorted(set(kinds)))
+        return {kind.decode(errors="surrogateescape"): kinds.count(kind) for kind in sorted(set(kinds))}
 
 
 def parser() -> frame.Parser:
@@ -53,6 +58,7 @@ def parser() -> frame.Parser:
     words.add_argument("--slack", metavar="TABLE", help="slacks of nets, as required.py writes them")
     words.add_argument("--worst", type=frame.number(0), default=10, metavar="N", help="as many nets at most; else 10")
     frame.add_scale(words)
+    frame.add_json(words)
     frame.add_nets(words)
     frame.add_names(words)
     return words
@@ -89,14 +95,20 @@ def slack_words(slacks: Slacks, id_: int) -> str:
     return picoseconds(slacks.times[id_], FEMTOSECONDS) if id_ in slacks.times else "free"
 
 
-def histogram(times: Sequence[float]) -> Iterator[str]:
-    """The lines of a table: how many nets have which time, in picoseconds."""
+def histogram(times: Sequence[float]) -> tuple[list[float], list[int]]:
+    """The borders of steps of time, and how many nets lie in each."""
     low, high = min(times), max(times)
     step = (high - low) / BARS or 1.0
     counts = [0] * BARS
     for time in times:
         counts[min(BARS - 1, int((time - low) / step))] += 1
-    borders = [f"{low + at * step:,.1f}" for at in range(BARS + 1)]
+    return [low + at * step for at in range(BARS + 1)], counts
+
+
+def histogram_lines(times: Sequence[float]) -> Iterator[str]:
+    """The lines of a table: how many nets have which time, in picoseconds."""
+    numbers, counts = histogram(times)
+    borders = [f"{number:,.1f}" for number in numbers]
     bars = ["#" * -(-count * WIDE // max(counts)) for count in counts]
     rows = list(zip(borders, borders[1:], counts, bars))
     yield from tables.lines(["from, ps", "to, ps", "nets", ""], rows)
@@ -121,9 +133,40 @@ def printed(asked: Namespace, nets: Sequence[Timed], design: Netlist, library: L
     yield from tables.lines([*first, "required, ps", "delay, ps", "pins", "wire, tiles", "vias",
                              f"box, {terms.unit}", "buffers"], rows)
     yield ""
-    times = [net.required / half for net in nets] if slacks is None else \
-        [slacks.times[net.id] / FEMTOSECONDS for net in nets if net.id in slacks.times]
-    yield from histogram(times) if times else ()
+    times = ranks(nets, half, slacks)
+    yield from histogram_lines(times) if times else ()
+
+
+def ranks(nets: Sequence[Timed], half: int, slacks: Slacks | None) -> list[float]:
+    """The picoseconds by which nets are ranked, of those that have some."""
+    if slacks is None:
+        return [net.required / half for net in nets]
+    return [slacks.times[net.id] / FEMTOSECONDS for net in nets if net.id in slacks.times]
+
+
+def answer(asked: Namespace, nets: Sequence[Timed], design: Netlist, library: Library,
+           sizes: Mapping[int, tuple[int, int]], terms: Terms, slacks: Slacks | None) -> dict[str, Any]:
+    """The answer as an object."""
+    half = HALVES * asked.scale ** 2
+    shown = []
+    for net in nets[:asked.worst]:
+        found, (wires, vias) = delay(net, design, library), sizes.get(net.id, (0, 0))
+        low, high = box(design, net.id)
+        shown.append({
+            **objects.net_of(design, net.id), "required_ps": net.required / half,
+            "delay_ps": None if found is None else found / half,
+            "slack_ps": slacks.times[net.id] / FEMTOSECONDS if slacks and net.id in slacks.times else None,
+            "pins": len(design.pins(net.id)), "wire_edges": wires, "via_edges": vias,
+            f"box_{terms.unit}": [float(word) for word in terms.box(low, high)], "buffers": net.counts()})
+    late = [net.required for net in nets if net.required < 0] if library.has_times() else None
+    times = ranks(nets, half, slacks)
+    borders, counts = histogram(times) if times else ([], [])
+    return {
+        "ranked_by": "required" if slacks is None else "slack", "ranked_nets": len(nets), "nets": shown,
+        "worst_net_slack_ps": None if late is None else min(late, default=0) / half,
+        "total_negative_net_slack_ps": None if late is None else sum(late) / half,
+        "histogram": [{"from_ps": low, "to_ps": high, "nets": count}
+                      for low, high, count in zip(borders, borders[1:], counts)]}
 
 
 def main(words: Sequence[str]) -> int:
@@ -145,5 +188,9 @@ def main(words: Sequence[str]) -> int:
     edges = Edges(design, asked.solution)
     check_report(asked.report, design.routed, edges.overflow(), edges.vias)
     sizes = dict(zip(edges.ids, zip(*(some.tolist() for some in edges.sizes()))))
-    sys.stdout.writelines(f"{line}\n" for line in printed(asked, nets, design, library, sizes, terms, slacks))
+    said = asked, nets, design, library, sizes, terms, slacks
+    if asked.json:
+        sys.stdout.write(objects.text_of("slowest", answer(*said)))
+    else:
+        sys.stdout.writelines(f"{line}\n" for line in printed(*said))
     return frame.tell_unjoined("slowest", design, edges.unjoined)

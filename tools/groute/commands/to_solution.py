@@ -29,10 +29,8 @@ class Known(Tiled):
         if names is None:
             raise Fault(f"{path}.names isn't there: give --names")
         Tiled.__init__(self, path, names)
-        self.id_of = {name: id_ for id_, name in self.names.items()}
+        self.id_of = self.by_name()
         self.level = {**{name: 0 for name in names.lower}, **{name: at for at, name in enumerate(names.layers)}}
-        if len(self.id_of) != len(self.names):
-            raise Fault(f"{path}: two nets have one name")
 
     def driver(self, id_: int) -> Cell:
         """The cell of a net's driver."""

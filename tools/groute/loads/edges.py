@@ -1,6 +1,7 @@
 """The demand of a solution's wire edges: in arrays of numpy, or where it isn't there in plain Python."""
-from typing import Iterator, Protocol
+from typing import Any, Iterator, Protocol
 
+from groute.texts import objects
 from groute.texts.designs import Netlist
 
 
@@ -34,3 +35,9 @@ def totals(edges: Counted) -> str:
     first = f"unjoined {len(edges.unjoined)}\n" if edges.unjoined else ""
     return (f"{first}routed {edges.design.routed}\noverflow {overflow}\nmaximum {maximum}\n"
             f"wirelength {edges.wires + edges.vias}\nvias {edges.vias}\n")
+
+
+def totals_object(edges: Counted) -> dict[str, Any]:
+    """The same as an object, with the nets that aren't joined."""
+    found = objects.totals(edges.design.routed, edges.overflow(), edges.wires, edges.vias, len(edges.unjoined))
+    return {**found, "unjoined": [objects.net_of(edges.design, id_) for id_ in edges.unjoined]}

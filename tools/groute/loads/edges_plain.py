@@ -21,7 +21,7 @@ class Edges:
         for id_, segments in records(design, solution):
             ids.append(id_)
             try:
-                runs = self.straight(ends.of(segments))
+                runs = straight(design, ends.of(segments))
             except Fault as fault:
                 raise first_fault(design, solution) or fault from None
             self.add(design.widths[id_] or 0, runs)
@@ -30,35 +30,19 @@ class Edges:
         self.unjoined += unjoined_without(design, ids)
         self.unjoined.sort(key=design.places.__getitem__)
 
-    def straight(self, ends: list[tuple[int, ...]]) -> list[range]:
-        """The cells of segments, of which none goes two ways."""
-        for column, row, layer, column2, row2, layer2 in ends:
-            if (column != column2) + (row != row2) + (layer != layer2) > 1:
-                raise Fault("a segment of the solution is not straight")
-        return runs_of(self.design, ends)
-
     def add(self, width: int, runs: list[range]) -> None:
         """The edges of one net."""
         design = self.design
         plane = design.columns * design.rows
         if width not in self.needs:
             self.needs[width] = [design.need(layer, width) for layer in range(design.layers)]
-        needs, edges = self.needs[width], self.lower_cells(runs)
+        needs, edges = self.needs[width], lower_cells(design, runs)
         self.vias += len(edges[UP])
         for way in (EAST, NORTH):
             demand, mine = self.demand[way], edges[way]
             self.wires += len(mine)
             for cell in mine:
                 demand[cell] = demand.get(cell, 0) + needs[cell // plane]
-
-    def lower_cells(self, runs: list[range]) -> list[set[int]]:
-        """By way the lower cells of the edges that runs have."""
-        found: list[set[int]] = [set(), set(), set()]
-        ways = {1: EAST, self.design.columns: NORTH, self.design.columns * self.design.rows: UP}
-        for run in runs:
-            if len(run) > 1:
-                found[ways[run.step]].update(run[:-1])
-        return found
 
     def covered(self, low: Cell, high: Cell) -> Iterator[Edge]:
         """The unit edges between the ends of a run."""
@@ -70,22 +54,46 @@ class Edges:
         """Way, number, capacity and demand of each wire edge that is used."""
         for way in (EAST, NORTH):
             for number, demand in sorted((self.number(way, cell), demand) for cell, demand in self.demand[way].items()):
-                yield way, number, self.capacity_of(way, number), demand
+                yield way, number, capacity_of(self.design, way, number), demand
 
     def number(self, way: int, cell: int) -> int:
         """Of the edge of this way with this lower cell."""
-        if way == EAST:
-            return cell
-        line, column = divmod(cell, self.design.columns)
-        layer, row = divmod(line, self.design.rows)
-        return self.design.number(way, column, row, layer)
-
-    def capacity_of(self, way: int, number: int) -> int:
-        """Of a wire edge."""
-        stated = self.design.capacity[way][self.design.place(way, number)[2]]
-        return self.design.adjusted.get((way, number), stated)
+        return number_of(self.design, way, cell)
 
     def overflow(self) -> tuple[int, int]:
         """The sum and the greatest of what demand has above capacity."""
         over = [demand - capacity for _, _, capacity, demand in self.used() if demand > capacity]
         return sum(over), max(over, default=0)
+
+
+def straight(design: Netlist, ends: list[tuple[int, ...]]) -> list[range]:
+    """The cells of segments, of which none goes two ways."""
+    for column, row, layer, column2, row2, layer2 in ends:
+        if (column != column2) + (row != row2) + (layer != layer2) > 1:
+            raise Fault("a segment of the solution is not straight")
+    return runs_of(design, ends)
+
+
+def lower_cells(design: Netlist, runs: list[range]) -> list[set[int]]:
+    """By way the lower cells of the edges that runs have."""
+    found: list[set[int]] = [set(), set(), set()]
+    ways = {1: EAST, design.columns: NORTH, design.columns * design.rows: UP}
+    for run in runs:
+        if len(run) > 1:
+            found[ways[run.step]].update(run[:-1])
+    return found
+
+
+def number_of(design: Netlist, way: int, cell: int) -> int:
+    """The number of the edge of this way with this lower cell."""
+    if way == EAST:
+        return cell
+    line, column = divmod(cell, design.columns)
+    layer, row = divmod(line, design.rows)
+    return design.number(way, column, row, layer)
+
+
+def capacity_of(design: Netlist, way: int, number: int) -> int:
+    """The capacity of a wire edge."""
+    stated = design.capacity[way][design.place(way, number)[2]]
+    return design.adjusted.get((way, number), stated)

@@ -10,7 +10,7 @@ from typing import Any, Sequence
 
 import numpy
 
-from groute.loads.edges import totals
+from groute.loads.edges import totals, totals_object
 from groute.loads.edges_numpy import Array, Edges, points
 from groute.loads.regions import GRADES, SHARES, WAYS, Loads
 from groute.texts.designs import EAST, NORTH, Netlist
@@ -18,7 +18,7 @@ from groute.texts.libraries import Library
 from groute.texts.figures import read_figures, rows
 from groute.texts.files import Fault
 from groute.texts.names import Terms, names_beside
-from groute.texts.reports import bounds_in, buffered, check_report, overflow_of
+from groute.texts.reports import Round, bounds_in, buffered, check_report, overflow_of, rounds_of, written
 from groute.texts.slacks import read_slacks
 from groute.texts.solutions import unjoined_words
 from groute.texts.tokens import Tokens
@@ -75,25 +75,47 @@ class Routes:
         self.buffers: dict[int, list[bytes]] = {}
         self.slacks = read_slacks(asked.slack) if asked.slack else None
         self.timing = [read_figures(path) for path in asked.timing or ()]
+        self.rounds: list[Round] = []
         if asked.report:
             library = Library(Tokens(asked.library))
             self.kinds, self.has_times = library.kinds, library.has_times()
             check_report(asked.report, self.design.routed, self.edges.overflow(), self.edges.vias)
             for id_, required, buffers in buffered(self.design, asked.report):
                 self.required[id_], self.buffers[id_] = required, buffers
+            self.rounds = rounds_of(asked.report)
+        if asked.before and not self.rounds:
+            self.rounds = [Round(overflow) for overflow in self.by_round(asked.before)]
+
+    def by_round(self, before: Sequence[str]) -> list[int]:
+        """The overflow of earlier rounds, by their reports, and of these routes."""
+        found = [overflow for overflow in map(overflow_of, before) if overflow is not None]
+        if len(found) < len(before):
+            raise Fault("a text of buffers tells no overflow: reports of `groute route` are due before")
+        return [*found, self.edges.overflow()[0]]
+
+    def answer(self, before: Sequence[str]) -> dict[str, Any]:
+        """The verdict as an object."""
+        uses = self.loads.uses
+        worst = min(self.required.values()) / self.half if self.required else None
+        rounds = self.rounds or [Round(self.edges.overflow()[0])]
+        return {"verdict": self.verdict(before), "totals": totals_object(self.edges),
+                "overflow_by_round_units": [some.overflow for some in rounds],
+                "rounds": [{"overflow_units": some.overflow, "routed_nets": some.nets, "refused_plans": some.full}
+                           for some in rounds],
+                "written_round": written(rounds),
+                "least_overflow_units": self.least,
+                "fullest_tile_percent": 100 * float(uses[0]) if len(uses) else None,
+                "worst_net_required_ps": worst if self.has_times else None,
+                "worst_net_delay_ps": None if worst is None or self.has_times else -worst}
 
     def verdict(self, before: Sequence[str]) -> str:
         """The whole in a line."""
-        overflow = self.edges.overflow()[0]
-        words = f"overflow {overflow:,}"
+        words = f"overflow {self.edges.overflow()[0]:,}"
         if self.edges.unjoined:
             words = f"{unjoined_words(len(self.edges.unjoined))}; {words}"
         if before:
-            by_round = [*map(overflow_of, before), overflow]
-            if None in by_round:
-                raise Fault("a text of buffers tells no overflow: reports of `groute route` are due before")
             words += (f" after {len(before)} round{'s' * (len(before) > 1)} "
-                      f"({', '.join(f'{value:,}' for value in by_round)})")
+                      f"({', '.join(f'{value:,}' for value in self.by_round(before))})")
         uses = self.loads.uses
         if len(uses):
             words += f"; fullest tile {100 * uses[0]:,.0f} %"
@@ -146,6 +168,7 @@ def head(routes: Routes, ids: list[int], asked: Namespace) -> dict[str, Any]:
         "bySlack": routes.slacks is not None, "timing": list(rows(*routes.timing)) if routes.timing else [],
         "paths": [[slack / PICOSECOND, [place[id_] for id_ in some if id_ in place]]
                   for slack, some in (routes.timing[1].paths if routes.timing else ())],
+        "rounds": [vars(some) for some in routes.rounds], "written": written(routes.rounds) if routes.rounds else None,
         "least": routes.least, "walls": [vars(wall) for wall in routes.walls],
         "regions": [{"low": region.low, "high": region.high, "overflow": region.overflow, "over": region.over,
                      "closed": region.closed, "nets": [place[id_] for id_, _ in region.nets],

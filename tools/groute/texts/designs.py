@@ -175,6 +175,13 @@ class Netlist(Design):
         """Tells of the first pin that lies outside the chip, and where it stands."""
         Checked(Tokens(self.path))
 
+    def by_name(self) -> dict[str, int]:
+        """The ids of the nets by their names, which are all different."""
+        found = {name: id_ for id_, name in self.names.items()}
+        if len(found) < len(self.names):
+            raise Fault(f"{self.path}: two nets have one name, and nets are told apart by their names")
+        return found
+
     def named(self, name: str) -> int:
         """The id of the first net of this name."""
         for id_, own in self.names.items():

@@ -41,6 +41,13 @@ class Figures:
         yield "end"
 
 
+def object_of(some: Figures) -> dict[str, int]:
+    """Figures as an object."""
+    return {"worst_slack_fs": some.worst, "total_negative_slack_fs": some.total, "worst_hold_slack_fs": some.hold,
+            "nets_over_max_transition": some.transition, "nets_over_max_capacitance": some.capacitance,
+            "buffers": some.buffers, "area_of_buffers_nm2": some.area}
+
+
 def rows(before: Figures, after: Figures) -> Iterator[tuple[str, str, str]]:
     """What is told of a chip before and after, and how it is called."""
     for says, name in (("worst slack, ns", "worst"), ("total negative slack, ns", "total"),

@@ -1,7 +1,7 @@
 """What groute and grbound tell of routes: totals, buffers, walls."""
 import re
 from dataclasses import dataclass
-from typing import Iterator
+from typing import Iterator, Sequence
 
 from groute.texts.designs import MOST_DIGITS, POINT, Cell, Design
 from groute.texts.files import Fault
@@ -41,6 +41,49 @@ def overflow_of(path: str) -> int | None:
 
 
 @dataclass
+class Round:
+    """What a round did: the overflow at its end, how many nets it routed, and how many of their plans found no room.
+    The last two are None where only the overflow is known."""
+    overflow: int
+    nets: int | None = None
+    full: int | None = None
+
+
+def rounds_of(path: str) -> list[Round]:
+    """The rounds that a report tells of, from round 0 on; none, where it has no such lines."""
+    tokens = Tokens(path, SMALL_PIECE)
+    found: list[Round] = []
+    with tokens.file:
+        while not tokens.is_ended() and (word := tokens.take(1)[0]) != b"buffers":
+            if word != b"round":
+                tokens.numbers(1)
+            elif tokens.number() != len(found):
+                raise tokens.fault(f"round {len(found)} is due")
+            else:
+                found.append(Round(*(numbered(tokens, name) for name in (b"overflow", b"nets", b"full"))))
+    return found
+
+
+def numbered(tokens: Tokens, word: bytes) -> int:
+    """The number behind this word."""
+    tokens.words(word)
+    return tokens.number()
+
+
+def kept_in(path: str) -> int | None:
+    """How many nets a report tells to have been kept of given routes; None where it was routed from nothing."""
+    tokens = Tokens(path, SMALL_PIECE)
+    with tokens.file:
+        tokens.take(2 * len(TOTALS))
+        return tokens.number() if not tokens.is_ended() and tokens.take(1) == [b"kept"] else None
+
+
+def written(rounds: Sequence[Round]) -> int:
+    """The round whose routes are written: the first of least overflow."""
+    return min(range(len(rounds)), key=lambda number: rounds[number].overflow)
+
+
+@dataclass
 class Wall:
     """A wall that grbound tells of: `column`, `row` or `box`, its numbers, what is needed of it, and what it holds."""
     kind: str
@@ -54,7 +97,7 @@ def bounds_in(path: str) -> tuple[int, list[Wall]]:
     with open(path, encoding="ascii", errors="replace") as file:
         lines = [line.split() for line in file]
     try:
-        (*words, least), walls = lines[0], lines[6:]
+        (*words, least), walls = lines[0], [line for line in lines[6:] if "needs" in line]
         if words != ["overflow", "at", "least"]:
             raise ValueError
         return int(least), [Wall(kind, [*map(int, numbers)], int(needs), int(holds))
@@ -67,8 +110,11 @@ def buffered(design: Design, path: str) -> Iterator[tuple[int, int, list[bytes]]
     """Of each net in a report's or a buffers' text: its id, its required time in half femtoseconds, and two tokens for
     each of its buffers, which `buffer_of` reads."""
     tokens = Tokens(path)
-    while tokens.take(1)[0] != b"buffers":
-        tokens.numbers(1)
+    while (word := tokens.take(1)[0]) != b"buffers":
+        if word == b"round":
+            tokens.take(7)          # its number, and three words with theirs
+        else:
+            tokens.numbers(1)
     tokens.numbers(1)
     while not tokens.is_ended():
         net, _, _, word, required, word2, count = line = tokens.take(7)

@@ -1,5 +1,5 @@
 """Solutions: the routes of a design's nets, and the nets that they leave unjoined."""
-from typing import Iterable, Iterator
+from typing import Iterable, Iterator, Mapping
 
 from groute.texts.designs import Design, Netlist
 from groute.texts.files import Fault
@@ -26,6 +26,24 @@ def records(design: Design, path: str) -> Iterator[tuple[int, list[bytes]]]:
             del segments[0]     # a number that says nothing
         if widths[id_] is not None:
             yield id_, segments
+
+
+def named_records(path: str, ids: Mapping[str, int] | None = None) -> dict[str, list[bytes]]:
+    """By the name of its net the segments of each record of a solution's text. It may be of any design; where `ids` are
+    given, it is of one with nets of these names and ids."""
+    tokens = Tokens(path)
+    found: dict[str, list[bytes]] = {}
+    while not tokens.is_ended():
+        first, id_ = tokens.take(2)
+        name = first.decode("utf-8", "surrogateescape")
+        if ids is not None and (name not in ids or counted(id_) != ids[name]):
+            raise tokens.fault(f"the design has no net {name} with this id")
+        if name in found:
+            tokens.at -= 1
+            raise tokens.fault("nets are told apart by their names, and an earlier one has this name")
+        segments = tokens.until(b"!")
+        found[name] = segments[1:] if segments and not segments[0].startswith(b"(") else segments
+    return found
 
 
 def first_fault(design: Design, path: str) -> Fault | None:

@@ -341,6 +341,7 @@ async function begin() {
   ["all", ...data.layers].forEach((name, at) => byId("layer").append(new Option(name, at)));
   fillLayers();
   fillRegions();
+  if (data.rounds.length > 1) fillRounds();
   if (data.timing.length) fillTiming();
   if (data.least !== null) fillWalls();
   fillClosed();

@@ -204,6 +204,31 @@ function usesOf() {
   return found;
 }
 
+// What each round left, and which one's routes these are: overflow goes by its logarithm along the curve.
+function fillRounds() {
+  const told = (value) => value === null ? "-" : number(value);
+  const counted = (head, key) => ({ head, value: (row) => data.rounds[row][key] ?? NaN,
+    text: (row) => told(data.rounds[row][key]), isNumber: true });
+  byId("rounds").hidden = byId("curve").hidden = false;
+  const table = new Table(byId("rounds"), `Rounds: the routes are those of round ${data.written}`,
+    [{ head: "round", value: (row) => row, text: (row) => `${row}` }, counted("overflow", "overflow"),
+      counted("nets", "nets"), counted("plans without room", "full")], [...data.rounds.keys()], () => {});
+  table.mark((row) => row === data.written);
+  table.order();
+  const heights = data.rounds.map((round) => Math.log1p(round.overflow)), most = Math.max(...heights, 1);
+  const across = (at) => 4 + 292 * at / Math.max(1, heights.length - 1), up = (height) => 106 - 102 * height / most;
+  const drawing = document.querySelector("#curve svg");
+  const add = (name, given) => {
+    const part = document.createElementNS(drawing.namespaceURI, name);
+    for (const [key, value] of Object.entries(given)) part.setAttribute(key, value);
+    drawing.append(part);
+  };
+  add("polyline", { points: heights.map((height, at) => `${across(at)},${up(height)}`).join(" ") });
+  add("line", { x1: across(data.written), x2: across(data.written), y1: 2, y2: 108 });
+  drawing.setAttribute("aria-label", `Overflow by round: ${data.rounds.map((round) => number(round.overflow)).join(", ")}; `
+    + `round ${data.written} is written`);
+}
+
 // What a timer says before and after buffers, and the nets of the worst paths after.
 function fillTiming() {
   const of = (at) => (row) => data.timing[row][at];

@@ -9,13 +9,13 @@ use Rattle.batch_rounds.proofs.rounds.batch_rounds.Goals as goal
 
 pub unwrap-chosen-requires : goal.unwrap-chosen-requires
 unwrap-chosen-requires g c =
-    let t = batches_of c.args.design.now c.args.rule.now.formula c.args.rounds c.args.batch in
+    let t = batches_of c.args.design.now c.args.given.now c.args.rule.now.formula c.args.rounds c.args.batch in
     let made = c.in_ok-run_rounds.ensures in
     ap is_some c.least_mark.ensures ∙ batched-marked t c.run_rounds.new.book.history made.batched
 
 pub returns : goal.returns
 returns g c =
-    let t = batches_of c.args.design.now c.args.rule.now.formula c.args.rounds c.args.batch in
+    let t = batches_of c.args.design.now c.args.given.now c.args.rule.now.formula c.args.rounds c.args.batch in
     let made = c.in_ok-run_rounds.ensures in
     let h = c.run_rounds.new.book.history in
     let least = sym c.least_mark.ensures ∙ c.unwrap-chosen.ensures in
@@ -23,8 +23,8 @@ returns g c =
       capacity = made.capacity;
       legal = made.legal;
       batched = made.batched;
-      numbers = λ place e there. (batched-sound t h made.batched place e there).0;
+      numbers = λ place e there. (batched-sound t h c.requires.given made.batched place e there).0;
       least = least;
       within = mark-within h c.unwrap-chosen.result least;
-      stands = batched-stands t h c.unwrap-chosen.result made.batched (subst (λ (v : CapacityView). IsLegal v h) made.capacity made.legal) least;
+      stands = batched-stands t h c.unwrap-chosen.result c.requires.given made.batched (subst (λ (v : CapacityView). IsLegal v h) made.capacity made.legal) least;
     }

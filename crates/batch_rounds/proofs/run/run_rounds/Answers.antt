@@ -1,34 +1,34 @@
-use Rattle.std.proofs.Common.{ℕ, List, [], ◌+◌, length, All, IsTrue, refl, sym, subst, ◌∙◌}
+use Rattle.std.proofs.Common.{ℕ, List, ◌+◌, length, All, IsTrue, refl, sym, subst, ◌∙◌}
 use Rattle.gr_base.specs.Designs.{is_routed}
 use Rattle.book_state.specs.declared.entry.Entry.{Entry}
-use Rattle.batch_rounds.specs.BatchedHistories.{IsRound}
+use Rattle.batch_rounds.specs.BatchedHistories.{claims_given, IsRound}
 use Rattle.batch_rounds.specs.Rounds.{batching_of}
 use Rattle.batch_rounds.proofs.HeldNets.{IsReady, ready-first, ready-next, round-stands}
-use Rattle.batch_rounds.proofs.RoundSteps.{few-victims, few-routed, goes-on, stops-last, run-first, run-more}
+use Rattle.batch_rounds.proofs.RoundSteps.{few-victims, few-open, goes-on, stops-last, run-first, run-more}
 use Rattle.batch_rounds.proofs.run.run_rounds.Goals as goal
 use Rattle.run_histories.proofs.KeptRules.{one-more}
 
 pub run_round-requires-clause-nets : goal.run_round-requires-clause-nets
 run_round-requires-clause-nets g c lives in_lives =
     let t = batching_of c.args.asked.now in
-    subst (All (λ (net : ℕ). IsTrue (is_routed t.design net))) (sym (c.deref.ensures.value ∙ c.in_ok-routed.ensures.nets)) (ready-first t).routed
+    subst (All (λ (net : ℕ). IsTrue (is_routed t.design net))) (sym (c.deref.ensures.value ∙ c.in_ok-nets.ensures.nets)) (ready-first t c.args.asked.now.fits).routed
 
 pub run_round-requires-clause-few : goal.run_round-requires-clause-few
 run_round-requires-clause-few g c lives in_lives =
-    few-routed c.args.asked.now.design.now c.deref.result.now (c.deref.ensures.value ∙ c.in_ok-routed.ensures.nets) c.in_ok-routed.ensures.few
+    few-open c.args.asked.now.design.now c.args.asked.now.given.now c.deref.result.now (c.deref.ensures.value ∙ c.in_ok-nets.ensures.nets) c.in_ok-nets.ensures.few
 
 pub loop-done-init : goal.loop-done-init
 loop-done-init g c =
     let t = batching_of c.args.asked.now in
     let new = c.run_round.new.book.history in
     let made = c.in_ok-victims.ensures in
-    let first = subst (λ (h : List Entry). IsRound t 0 h new) c.requires.nothing made.round in
+    let first = subst (λ (h : List Entry). IsRound t 0 h new) c.requires.given made.round in
     record {
       capacity = made.capacity;
       legal = made.legal;
       seats = c.run_round.auto.seats ∙ c.requires.seats;
       victims = made.victims;
-      stands = (round-stands t 0 [] new (ready-first t) first).stands;
+      stands = (round-stands t 0 (claims_given t) new (ready-first t c.args.asked.now.fits) first).stands;
       run = run-first t new first;
     }
 
@@ -40,7 +40,7 @@ run_round-requires-in-loop-done-clause-nets g c lives in_lives =
 
 pub run_round-requires-in-loop-done-clause-few : goal.run_round-requires-in-loop-done-clause-few
 run_round-requires-in-loop-done-clause-few g c lives in_lives =
-    few-victims c.args.asked.now.design.now c.loop-done.book.history c.as_slice-in-loop-done.result.now (c.as_slice-in-loop-done.ensures ∙ c.loop-done.invariant.victims) c.in_ok-routed.ensures.few
+    few-victims c.args.asked.now.design.now c.loop-done.book.history c.as_slice-in-loop-done.result.now (c.as_slice-in-loop-done.ensures ∙ c.loop-done.invariant.victims) c.in_ok-nets.ensures.few
 
 pub loop-done-preserved : goal.loop-done-preserved
 loop-done-preserved g c =

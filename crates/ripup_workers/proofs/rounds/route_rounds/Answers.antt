@@ -16,14 +16,14 @@ pub unwrap-chosen-requires : goal.unwrap-chosen-requires
 unwrap-chosen-requires g c =
     let made = c.in_ok-book.ensures in
     let h = c.in_ok-book.book.state.history in
-    let t : Setting = asked_for c.args.design.now c.args.rule.now.formula c.args.workers c.args.rounds c.args.watcher.now.watch c.args.goal in
+    let t : Setting = asked_for c.args.design.now c.args.given.now c.args.rule.now.formula c.args.workers c.args.rounds c.args.watcher.now.watch c.args.goal in
     ap is_some (c.least_mark.ensures ∙ ap (λ (b : BookView). least_mark b.history) c.state-2.ensures) ∙ run-marked t h made.run
 
 pub returns : goal.returns
 returns g c =
     let made = c.in_ok-book.ensures in
     let h = c.in_ok-book.book.state.history in
-    let t : Setting = asked_for c.args.design.now c.args.rule.now.formula c.args.workers c.args.rounds c.args.watcher.now.watch c.args.goal in
+    let t : Setting = asked_for c.args.design.now c.args.given.now c.args.rule.now.formula c.args.workers c.args.rounds c.args.watcher.now.watch c.args.goal in
     let least = sym (c.least_mark.ensures ∙ ap (λ (b : BookView). least_mark b.history) c.state-2.ensures) ∙ c.unwrap-chosen.ensures in
     record {
       capacity = made.capacity;

@@ -15,7 +15,7 @@ loop-init g c = record {
 }
 
 pub attempt-requires-clause-net : goal.attempt-requires-clause-net
-attempt-requires-clause-net g c κs within = all-of (λ net. IsTrue (is_routed c.args.asked.now.design.now net)) c.args.share.now.nets c.in-Some-take.net c.requires.nets c.in-Some-take.ensures.among
+attempt-requires-clause-net g c κs within = all-of (λ net. IsTrue (is_routed c.args.task.now.design.now net)) c.args.share.now.nets c.in-Some-take.net c.requires.nets c.in-Some-take.ensures.among
 
 pub loop-preserved : goal.loop-preserved
 loop-preserved g c = record {
@@ -29,7 +29,7 @@ prove-unreachable-requires g c =
     let before = c.known-known.ensures.known in
     let after = c.known.ensures.known in
     let less = c.if-prove.true in
-    let longer = worked-longer c.args.asked.now.design.now c.args.asked.now.rule.now.formula c.args.round _ _ _ _ c.loop.invariant.worked in
+    let longer = worked-longer c.args.task.now.design.now c.args.task.now.rule.now.formula c.args.round _ _ _ _ c.loop.invariant.worked in
     omega (arith, before, after, less, longer)
 
 -- what a hand has taken stays where it takes nothing

@@ -9,6 +9,6 @@ abbrev pub invariant-loop : goal.invariant-loop
 invariant-loop g l = record {
   hand : IsHandOf l.share l.hand;
   number : l.hand.number ≡ l.fn.hand.number;
-  worked : (t : Setting) → IsOver l.asked.design.now l.asked.rule.now.formula t →
+  worked : (t : Setting) → IsOver l.task.design.now l.task.rule.now.formula t →
       HasWorked t l.round l.fn.hand.taken l.hand.taken l.fn.worker.pass l.worker.pass;
 }

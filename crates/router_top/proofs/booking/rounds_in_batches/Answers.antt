@@ -1,4 +1,4 @@
-use Rattle.std.proofs.Common.{List, ℕ, ◌+◌, map, refl, ap, ◌∙◌}
+use Rattle.std.proofs.Common.{List, ◌+◌, map, refl, ap, ◌∙◌}
 use Rattle.std.specs.List.{range_with_len}
 use Rattle.book_state.specs.declared.entry.Entry.{Entry}
 use Rattle.run_histories.specs.Hands.{log_of}
@@ -8,6 +8,6 @@ use Rattle.router_top.proofs.booking.rounds_in_batches.Goals as goal
 pub returns : goal.returns
 returns g c =
     let options = c.args.options in
-    rounds-batched c.args.design.now options c.args.batch c.of-rule.result.now.formula c.in_ok-batched.batched _ c.of-rule.ensures c.requires.batch
+    rounds-batched c.args.design.now c.args.given.now options c.args.batch c.of-rule.result.now.formula c.in_ok-batched.batched _ c.of-rule.ensures c.requires.batch
     c.requires.options.worker c.in_ok-batched.ensures c.of.ensures
     (c.in_ok-hands.ensures ∙ ap (λ (h : List Entry). map (log_of h) (range_with_len 0 (options.workers + 1))) c.history.ensures.history) refl

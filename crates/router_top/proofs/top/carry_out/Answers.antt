@@ -2,6 +2,9 @@ use Rattle.std.proofs.Common.{refl}
 use Rattle.router_top.proofs.CommandLaws.{for-order, untouched}
 use Rattle.router_top.proofs.top.carry_out.Goals as goal
 
+pub returns-in-Route-clause-leaves : goal.returns-in-Route-clause-leaves
+returns-in-Route-clause-leaves g c = for-order _ c.args.order _ _ _ _ _ c.in-Route.is c.route.ensures
+
 pub returns-in-Evaluate-clause-leaves : goal.returns-in-Evaluate-clause-leaves
 returns-in-Evaluate-clause-leaves g c =
     for-order _ c.args.order _ _ _ _ _ c.in-Evaluate.is (c.judge.ensures _ (untouched _ g.E.Sink.faults g.E.Sink.written _))

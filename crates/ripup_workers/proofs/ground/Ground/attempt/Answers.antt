@@ -2,11 +2,15 @@ use Rattle.std.proofs.Common.{ℕ, [], ◌∷◌, sym, subst}
 use Rattle.std.proofs.lemmas.Result.{IfOk-weaker}
 use Rattle.run_histories.specs.Attempts.{Rests, Claiming}
 use Rattle.run_histories.specs.Rounds.{slacks_of_turn}
+use Rattle.run_histories.proofs.StageSteps.{kind-made}
 use Rattle.ripup_workers.specs.Working.{HasLed, HasAttempted}
 use Rattle.ripup_workers.proofs.ForeseenPlans.{foreseen-after}
 use Rattle.ripup_workers.proofs.TurningPlans.{answered-begins}
 use Rattle.ripup_workers.proofs.TurningStages.{led-then, freed-so, later}
 use Rattle.ripup_workers.proofs.ground.Ground.attempt.Goals as goal
+
+pub invariant_of-wish : goal.invariant_of-wish
+invariant_of-wish g c = record { routed = c.requires.net; planned = kind-made c.args.round c.kind_of.result c.kind_of.ensures }
 
 pub returns-then-round-eq0 : goal.returns-then-round-eq0
 returns-then-round-eq0 g c = λ t over.

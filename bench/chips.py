@@ -1,0 +1,86 @@
+#!/usr/bin/env python3
+"""Times rounds on chips beside another router: bench/chips.py [--beside PROGRAM] [--runs N] DESIGN ROUNDS [DESIGN ROUNDS ..]
+
+Each design is routed by each rule of --rules and each number of workers of --workers, N times (5 where nothing is said);
+the runs of both routers alternate. Seconds are medians: by processor time with one worker, by the clock with more. With one
+worker both have to write the same bytes. Overflow stands for round 0 and each later one, as --trace tells it.
+"""
+import argparse
+import hashlib
+import os
+import statistics
+import subprocess
+import sys
+import tempfile
+import time
+
+from run import ROUTER, head_of, library
+
+
+def library_for(folder, path):
+    """The path of a library without kinds for a design's layers."""
+    with open(path, encoding="ascii") as text:
+        layers = int(text.read(200).split()[3])
+    name = os.path.join(folder, f"{layers}.library")
+    with open(name, "w", encoding="ascii") as file:
+        file.write(library(layers))
+    return name
+
+
+def once(command, workers):
+    """Seconds, KiB, the sum of what was written on standard output, and the report of a run."""
+    began = time.monotonic()
+    done = subprocess.run(["/usr/bin/time", "-f", "%M %U %S", *command], capture_output=True, check=True)
+    clock = time.monotonic() - began
+    *report, figures = done.stderr.decode().splitlines()
+    most, user, system = figures.split()
+    seconds = clock if workers > 1 else float(user) + float(system)
+    return seconds, int(most), hashlib.sha256(done.stdout).digest(), report
+
+
+def by_round(report):
+    """The overflow after each round."""
+    return [line.split()[3] for line in report if line.startswith("round ")]
+
+
+def row(routers, words, runs, workers, label):
+    """The row of a design by a rule and a number of workers."""
+    done = [[once([router, *words], workers) for router in routers] for _ in range(runs)]
+    of_each = list(zip(*done))
+    if workers == 1 and len({run[2] for run in of_each[0] + of_each[-1]}) != 1:
+        sys.exit(f"{' '.join(words)}: the routers write other bytes")
+    seconds = [statistics.median(run[0] for run in of_one) for of_one in of_each]
+    memory = [statistics.median(run[1] for run in of_one) for of_one in of_each]
+    cells = [label, str(workers), f"{seconds[0]:.2f}", f"{memory[0] / 1024:.0f}"]
+    if len(routers) > 1:
+        cells[3:3] = [f"{seconds[1]:.2f}", f"{seconds[0] / seconds[1]:.2f}"]
+        cells += [f"{memory[1] / 1024:.0f}", f"{memory[0] / memory[1]:.2f}"]
+    return f"| {' | '.join([*cells, ', '.join(by_round(of_each[0][0][3]))])} |\n"
+
+
+def main():
+    parser = argparse.ArgumentParser(description=__doc__, formatter_class=argparse.RawDescriptionHelpFormatter)
+    parser.add_argument("--beside", metavar="PROGRAM", help="another router with the same commands")
+    parser.add_argument("--program", default=ROUTER)
+    parser.add_argument("--runs", type=int, default=5)
+    parser.add_argument("--rules", default="first,near")
+    parser.add_argument("--workers", default="1")
+    parser.add_argument("names", metavar="DESIGN ROUNDS", nargs="+")
+    given = parser.parse_args()
+    if len(given.names) % 2:
+        parser.error("DESIGN and ROUNDS stand together")
+    routers = [given.program, *([given.beside] if given.beside else [])]
+    beside = [["plain router, s", "ratio"], ["plain router, MiB", "ratio"]] if given.beside else [[], []]
+    columns = ["chip, rounds, rule", "workers", "seconds", *beside[0], "MiB", *beside[1], "overflow by round"]
+    sys.stdout.writelines(head_of(columns))
+    with tempfile.TemporaryDirectory() as folder:
+        for path, rounds in zip(given.names[::2], given.names[1::2]):
+            name, rc = os.path.basename(path).split(".")[0], library_for(folder, path)
+            for rule in given.rules.split(","):
+                for workers in map(int, given.workers.split(",")):
+                    words = ["route", path, rc, rounds, "--rule", rule, "--workers", str(workers), "--trace"]
+                    print(row(routers, words, given.runs, workers, f"{name}, {rounds}, `{rule}`"), end="", flush=True)
+
+
+if __name__ == "__main__":
+    main()

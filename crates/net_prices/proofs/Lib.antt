@@ -1,0 +1,3 @@
+pub mod ArcLemmas
+pub mod PricedLemmas
+pub mod PaymentLemmas

@@ -1,0 +1,11 @@
+use Rattle.std.proofs.Common.{◌≡◌, ℕ, take, IsTrue}
+use Rattle.gr_base.specs.Trees.{is_among}
+use Rattle.net_prices.specs.Arcs.{level_at, AreLower, IsPaidAt}
+use Rattle.net_prices.proofs.arcs.pay_cells.Given as goal
+
+abbrev pub invariant-loop-cell : goal.invariant-loop-cell
+invariant-loop-cell l = record {
+  lower : AreLower l.fn.left.items l.left.items;
+  done : (cell : ℕ) → IsTrue (is_among (take l.cell-index l.cells) cell) →
+      IsPaidAt l.shape (level_at l.labels l.bound) l.fn.left.items l.left.items cell;
+}

@@ -1,0 +1,16 @@
+//! What a net pays at least for any set of edges that joins its pins, at prices on edges.
+#![tactic(auto)]
+
+mod arcs;
+mod finder;
+mod groups;
+mod labels;
+mod net_pricer;
+mod payment;
+mod price_table;
+mod rates;
+mod search;
+mod tree_demand;
+
+pub use net_pricer::NetPricer;
+pub use rates::Rates;

@@ -1,0 +1,47 @@
+-- What nets cost, net by net, and what edges hold, edge by edge.
+use Rattle.std.proofs.Common.{◌≡◌, ℕ, ◌+◌, ◌-◌, ◌*◌, ◌<◌, ◌≤◌, inl, inr, cond, Bool, true, false, List, [], ◌∷◌, ◌++◌, filter, length, slice_index, sum_by, map, zero, suc, Option, Some, None, slice_get, unwrap_or, if◌then◌else◌, IsTrue, refl, sym, ap, subst, ◌∙◌, arith}
+use Rattle.std.specs.List.{range_with_len}
+use Rattle.std.proofs.lemmas.List.Sums.{sum_by_push}
+use Rattle.gr_base.proofs.General.{range-more}
+use Rattle.gr_base.specs.Designs.{DesignView, is_routed}
+use Rattle.gr_base.specs.EdgeSets.{Edges}
+use Rattle.gr_base.specs.Grid.{cells_of, has_edge, is_wire}
+use Rattle.gr_base.specs.Sums.{wire_at, wire_number, wires_from_cells}
+use Rattle.gr_base.specs.declared.grid.Edge.{Edge}
+use Rattle.grid_demand.proofs.RangeFilters.{filter-passes, filter-fails}
+use Rattle.price_bounds.specs.Costs.{AreJoined, cost_of, cost_before, held_of, held_numbered, IsCostBound}
+use Rattle.price_laws.specs.Prices.{Prices, IsNetBound, held_price}
+use Rattle.wall_laws.proofs.SumLemmas.{sum-filter, sum-map}
+
+pub more-costs : (d : DesignView) (p : Prices) (allowed : Edges) (net cost more sum : ℕ) → is_routed d net ≡ true → IsCostBound d p allowed net cost →
+    IsNetBound d p allowed net more → sum ≤ cost + more → IsCostBound d p allowed (net + 1) sum
+more-costs d p allowed net cost more sum routed is one few sets joined =
+    let before : List ℕ = filter (is_routed d) (range_with_len 0 net) in
+    let all = ap (sum_by (cost_of d p sets)) (filter-passes (is_routed d) net before (before ++ net ∷ []) refl routed refl) in
+    let push = sum_by_push (cost_of d p sets) before net in
+    let low = is sets joined in
+    let here = one (sets net) (joined net routed) in
+    omega (arith, all, push, low, here, few)
+
+pub same-costs : (d : DesignView) (p : Prices) (allowed : Edges) (net cost : ℕ) → is_routed d net ≡ false → IsCostBound d p allowed net cost →
+    IsCostBound d p allowed (net + 1) cost
+same-costs d p allowed net cost skipped is sets joined =
+    let low = is sets joined in
+    let all = ap (sum_by (cost_of d p sets)) (filter-fails (is_routed d) net (filter (is_routed d) (range_with_len 0 net)) refl skipped) in
+    omega (arith, low, all)
+
+-- ---- what edges hold
+
+pub more-held : (f : ℕ → ℕ) (n held more : ℕ) → held ≡ sum_by f (range_with_len 0 n) → more ≡ f n → held + more ≡ sum_by f (range_with_len 0 (n + 1))
+more-held f n held more is one =
+    let all = ap (sum_by f) (range-more 0 n) in
+    let push = sum_by_push f (range_with_len 0 n) (0 + n) in
+    let last : f (0 + n) ≡ f n = ap f (omega arith) in
+    omega (arith, is, one, all, push, last)
+
+pub all-held : (d : DesignView) (p : Prices) (allowed : Edges) → sum_by (held_numbered d p allowed) (range_with_len 0 (2 * cells_of d.frame.shape)) ≡ held_price d p allowed
+all-held d p allowed =
+    let f : Edge → ℕ = held_of d p allowed in
+    let kept : Edge → Bool = has_edge d.frame.shape in
+    let term : Edge → ℕ = λ e. cond (kept e) (f e) 0 in
+    sym (sum-filter f kept (wires_from_cells d.frame.shape) ∙ sum-map term wire_at (range_with_len 0 (2 * cells_of d.frame.shape)))

@@ -1,0 +1,4 @@
+pub mod Costs
+pub mod Figures
+pub mod Priced
+pub mod Texts

@@ -1,0 +1,4 @@
+pub mod EdgeSums
+pub mod RankLemmas
+pub mod PayLemmas
+pub mod PriceLemmas

@@ -1,0 +1,3 @@
+pub mod RoundLines
+pub mod Traces
+pub mod Counts
