@@ -44,7 +44,7 @@ It routes a design.
   DESIGN                        a design in the form of the ISPD 2008 contest
   LIBRARY                       of the design'\''s wires and of buffers
   ROUNDS                        the most rounds of rip-up and reroute, 0 to 64
-  --workers N                   how many threads route, 1 to 16; else 1
+  --workers N                   how many threads there are at most, 1 to 16; else 1
   --via-cost V                  as how many wire edges a via counts in wirelength, 0 to 1000; else 1
   --batch B                     nets are planned B at a time, so that threads change no byte, 1 to 65536
   --rule first|steep|flat|near  how costs of edges rise with demand; else first
@@ -88,7 +88,7 @@ It makes a design and routes it.
   L                             layers, 2 to 16
   NETS                          how many nets, 0 to 1000000
   ROUNDS                        the most rounds of rip-up and reroute, 0 to 64
-  --workers N                   how many threads route, 1 to 16; else 1
+  --workers N                   how many threads there are at most, 1 to 16; else 1
   --rule first|steep|flat|near  how costs of edges rise with demand; else first
   --trace                       what each round did is told behind the report' ;;
     '2 groute panels --help')

@@ -53,7 +53,7 @@ MEANS = {
     "Y": "rows of tiles",
     "L": "layers",
     "NETS": "how many nets",
-    "--workers": "how many threads route",
+    "--workers": "how many threads there are at most",
     "--via-cost": "as how many wire edges a via counts in wirelength",
     "--batch": "nets are planned B at a time, so that threads change no byte",
     "--rule": "how costs of edges rise with demand",

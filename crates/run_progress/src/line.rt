@@ -23,7 +23,10 @@ pub(crate) enum Stage {
         due: u64,
     },
     /// Behind the last round.
-    Over { round: u32, overflow: u128 },
+    Over {
+        round: u32,
+        overflow: u128,
+    },
 }
 
 /// What rewrites the line: where the run is, of how many rounds at most, how many nets of the round were
@@ -44,10 +47,7 @@ fn put_stage(
     seconds: u64,
 ) -> std::fmt::Result {
     match stage {
-        Stage::First => write!(
-            text,
-            "round 0 of {rounds}: {begun} nets begun, {seconds} s"
-        ),
+        Stage::First => write!(text, "round 0 of {rounds}: {begun} nets begun, {seconds} s"),
         Stage::Later {
             round,
             overflow,
@@ -57,10 +57,7 @@ fn put_stage(
             write!(text, ", {begun} of {due} nets begun, {seconds} s")
         }
         Stage::Over { round, overflow } => {
-            write!(
-                text,
-                "round {round} of {rounds} ended: overflow {overflow}"
-            )?;
+            write!(text, "round {round} of {rounds} ended: overflow {overflow}")?;
             write!(text, "; buffers and texts, {seconds} s")
         }
     }
