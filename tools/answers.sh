@@ -25,12 +25,13 @@ docs/FORMATS.md, or man groute, has all words, ranges, texts and faults.' ;;
     '1 groute --version')
         text='groute 0.1.0' ;;
     '1 grbound --help')
-        text='grbound DESIGN [--steps K] [--via-cost V]
+        text='grbound DESIGN [--steps K] [--workers N] [--via-cost V]
 
 It says what overflow and wirelength no routes of a design can be below.
 
   DESIGN        a design in the form of the ISPD 2008 contest
   --steps K     how many steps of prices look for better bounds, 0 to 10000; else 0
+  --workers N   how many threads there are at most, 1 to 16; else 1
   --via-cost V  as how many wire edges a via counts in wirelength, 0 to 1000; else 1
 
 docs/FORMATS.md, or man grbound, has all words, ranges, texts and faults.' ;;
