@@ -167,11 +167,7 @@ fn put_chase<R: AllocGlobal + Threads + Wait + Sync>(
     let words = words_of(rt.alloc(), rest)?;
     let gate = ChasingGate::new(times);
     let left = bench.run(rt, &gate, rules, bench.devices, None, &words)?;
-    let (t, c, m) = gate.counts();
-    told.put_number(t)?;
-    told.put(b" ")?;
-    told.put_number(c)?;
-    told::put_chase(told, &left, !m)
+    told::put_chase(told, &left, gate.is_passed())
 }
 
 /// Whether a run's stops are those of its history.
