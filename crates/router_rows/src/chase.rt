@@ -14,8 +14,10 @@ struct Seen {
     later: bool,
     /// The worker that is chased: the first that comes to a search behind round 0.
     chased: Option<u32>,
-    /// Whether one of the others may go on with a search.
+    /// Whether one of the others may go on.
     free: bool,
+    /// The one that goes on.
+    runner: Option<u32>,
     /// How often the chased one waited.
     times: u64,
     /// How many claims the others have come to.
@@ -27,7 +29,7 @@ struct Seen {
 }
 
 /// Behind round 0 one worker waits at each of its first searches until another comes to one more claim. Each
-/// time that it waits one of the others goes on with one search: so each of its plans is overtaken.
+/// time that it waits one of the others goes on up to its claim: so each of its plans is overtaken.
 #[derive(Drop)]
 pub(crate) struct ChasingGate {
     times: u64,
@@ -43,6 +45,7 @@ impl ChasingGate {
                 later: false,
                 chased: None,
                 free: false,
+                runner: None,
                 times: 0,
                 claims: 0,
                 missed: false,
@@ -102,9 +105,9 @@ impl ChasingGate {
     }
 
     /// Waits until it may go on with a search.
-    fn wait_for_chased<R: Wait>(&self, rt: &R) {
+    fn wait_for_chased<R: Wait>(&self, rt: &R, worker: u32) {
         for _ in 0..MOST_TURNS {
-            if self.takes_turn(rt) {
+            if self.takes_turn(rt, worker) {
                 return;
             }
             thread::yield_now();
@@ -112,14 +115,13 @@ impl ChasingGate {
     }
 
     /// Whether one of the others goes on with its search.
-    fn takes_turn<R: Wait>(&self, rt: &R) -> bool {
+    fn takes_turn<R: Wait>(&self, rt: &R, worker: u32) -> bool {
         let mut seen = self.seen.lock(rt);
-        if !seen.later || seen.over {
-            return true;
+        if seen.free {
+            seen.free = false;
+            seen.runner = Some(worker);
         }
-        let free = seen.free;
-        seen.free = false;
-        free
+        !seen.later || seen.over || seen.runner == Some(worker)
     }
 
     /// Counts a claim of another worker than the chased one.
@@ -127,6 +129,7 @@ impl ChasingGate {
         let mut seen = self.seen.lock(rt);
         if seen.chased.is_some() && seen.chased != Some(worker) {
             seen.claims = seen.claims.saturating_add(1);
+            seen.runner = None;
         }
     }
 }
@@ -139,7 +142,7 @@ impl Gate for ChasingGate {
             Stop::Claim { .. } => self.count(rt, worker),
             Stop::Search { .. } => match self.begin_wait(rt, worker) {
                 Some(claims) => self.wait_for_claim(rt, claims),
-                None => self.wait_for_chased(rt),
+                None => self.wait_for_chased(rt, worker),
             },
         }
     }
