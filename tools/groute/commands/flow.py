@@ -329,7 +329,8 @@ def parser() -> frame.Parser:
     words.add_argument("--rule", choices=values("--rule"), help="as of groute route; else near")
     words.add_argument("--stop", type=stop, metavar="still|N", help="as of groute route")
     words.add_argument("--batch", type=frame.number(*RANGES["--batch"]), metavar="B", help="as of groute route")
-    words.add_argument("--steps", type=frame.number(*RANGES["--steps"]), metavar="K", help="as of grbound; else as above")
+    words.add_argument("--steps", type=frame.number(*RANGES["--steps"]), metavar="K",
+                       help="of prices, as of grbound; else as above")
     words.add_argument("--from", metavar="DIR", dest="given", help="the folder of an earlier run, to keep its routes")
     words.add_argument("--scale", type=frame.number(1), default=100, metavar="N",
                        help="of the library's numbers; else 100")

@@ -24,10 +24,14 @@ class Proof:
         """By how many tenths of a per cent it is above that at most."""
         return -(-1000 * (self.reached - self.least) // self.least)
 
+    def within(self) -> str:
+        """The same in words."""
+        whole, tenth = divmod(self.tenths(), 10)
+        return f"{whole:,}.{tenth} %"
+
     def words(self) -> str:
         """How near it is, behind the figure, in a verdict."""
-        whole, tenth = divmod(self.tenths(), 10)
-        return f"at least {self.least:,} by proof: within {whole:,}.{tenth} %"
+        return f"at least {self.least:,} by proof: within {self.within()}"
 
 
 def wirelength_of(edges: Counted, via_cost: int, told: int | None) -> int | None:
