@@ -183,7 +183,8 @@ def steps(asked: Namespace) -> tuple[int, str]:
     if asked.sta:
         found["timing"] = {name: object_of(read_figures(paths[name])) for name in ("before", "after")}
     written = sorted(name for name in WRITTEN if os.path.isfile(os.path.join(asked.output, name)))
-    least_words = {"least_overflow_units": least if bounds else None, "kept_nets": kept}
+    least_words = {"least_overflow_units": least if bounds else None, "kept_nets": kept,
+                   "price_steps": price_steps(asked, paths["design.ispd"]) if bounds else None}
     return status, objects.text_of("flow", {"verdict": verdict, "status": int(status), "folder": asked.output,
                                             "files": written, **least_words, **found})
 
