@@ -14,7 +14,7 @@ import sys
 import tempfile
 
 from bounds import priced, via_edges, wire_edges
-from design import capacity, cell, need, read_design, usable, way
+from design import capacity, cell, need, read_design, usable
 
 STEPS = 200
 SHARE = 85      # per cent
@@ -39,8 +39,8 @@ def crowded(rng):
 
 
 class Program:
-    """A linear program: of fractional routes that join each net, along all edges of the grid with overflow at a price of
-    1, or along usable ones without."""
+    """Of fractional routes that join each net, along all edges of the grid the overflow, or along usable ones without
+    overflow the wirelength."""
 
     def __init__(self, d, with_overflow):
         self.d, self.rows, self.costs = d, [], []
