@@ -44,7 +44,7 @@ abbrev IsUnmarked : Entry → Type 0
 IsUnmarked e = is_mark e ≡ false
 
 module _ (d : DesignView) (given : List (Option TreeView)) (rounds : ℕ) (h : List Entry) (begins : BeginsOpen d given rounds h) where
-  before : List Entry
+  abbrev before : List Entry
   before = given_claims d given ++ begins.firsts
 
   unmarked : All IsUnmarked before
@@ -161,10 +161,10 @@ module _ (c : CapacityView) (h : List Entry) (legal : IsLegal c h) where
       (fun_ext (λ edge. mark-demand c (take p h) e edge (λ net. booked-mark (take p h) e net call)))
 
   module _ (chosen : ℕ) (least : least_mark h ≡ Some chosen) where
-    place : ℕ
+    abbrev place : ℕ
     place = (chosen-place h chosen least).0
 
-    mark : Entry
+    abbrev mark : Entry
     mark = (chosen-place h chosen least).1
 
     chosen_is : chosen ≡ place + 1

@@ -87,13 +87,13 @@ module _ (d : DesignView) (sets : ℕ → Edges) (given : List (Option TreeView)
 
 module _ (d : DesignView) (lib : LibraryView) (b : Beginning) (options : Options) (book : BookView) (hands : List HandLog) (text report : List ℕ)
     (r : IsRoutingOf d lib b options book hands text report) where
-  c : CapacityView
+  abbrev c : CapacityView
   c = capacity_of d
 
-  h : List Entry
+  abbrev h : List Entry
   h = book.history
 
-  last : List Entry
+  abbrev last : List Entry
   last = take r.chosen h
 
   legal : IsLegal c h
@@ -102,7 +102,7 @@ module _ (d : DesignView) (lib : LibraryView) (b : Beginning) (options : Options
   first : (place : ℕ) × IsFirstMark d b.given options.rounds h place
   first = first-mark d b.given options.rounds h (begins-by d b.given options options.batch h r.made.made)
 
-  early : List Entry
+  abbrev early : List Entry
   early = take first.0 h
 
   -- what the text covers: the edges of the routed nets' trees
@@ -144,7 +144,7 @@ module _ (d : DesignView) (lib : LibraryView) (b : Beginning) (options : Options
         (λ has. edges.0 (sym covered ∙ has), λ needed. covered ∙ edges.1 needed)
 
     module _ (all : AreAllKept d sets) where
-      given_edges : ℕ → Edges
+      abbrev given_edges : ℕ → Edges
       given_edges net = edges_or_none (given_to d b.given net)
 
       begun : (net : ℕ) → booked early net ≡ given_to d b.given net

@@ -42,13 +42,13 @@ split-at : (rest : List Entry) → marked_last false rest ≡ true → SplitsAtM
 split-at [] ends = absurd (false≢true ends)
 split-at (e ∷ es) ends = elim (cases_Bool (is_mark e)) [
   | inl mark ↦ record {
-      firsts = [];
-      mark = e;
-      after = es;
-      rest_is = refl;
-      marked = mark;
-      unmarked = All-nil (λ (x : Entry). is_mark x ≡ false);
-    }
+    firsts = [];
+    mark = e;
+    after = es;
+    rest_is = refl;
+    marked = mark;
+    unmarked = All-nil (λ (x : Entry). is_mark x ≡ false);
+  }
   | inr other ↦
       let later = split-at es (ap (λ (b : Bool). marked_last b es) (sym other) ∙ ends) in
       record {
@@ -124,10 +124,13 @@ due-if false n is some = absurd (omega (arith, is, some))
 round-after : (s : Cut) (e : Entry) → s.round ≤ (cut_after s e).round
 round-after s e = by (ends_segment e)
   where
-    by : (b : Bool) →
-        s.round ≤ (if b
-            then record { round = s.round + (if is_mark e then 1 else 0); before = s.before ++ s.segment ++ e ∷ []; segment = [] }
-            else record { round = s.round; before = s.before; segment = s.segment ++ e ∷ [] }).round
+    next : Bool → Cut
+    next b =
+        if b
+        then record { round = s.round + (if is_mark e then 1 else 0); before = s.before ++ s.segment ++ e ∷ []; segment = [] }
+        else record { round = s.round; before = s.before; segment = s.segment ++ e ∷ [] }
+
+    by : (b : Bool) → s.round ≤ (next b).round
     by true = omega arith
     by false = omega arith
 
@@ -154,10 +157,10 @@ none-after t h (e ∷ es) none past asked =
     ]
 
 module _ (t : Setting) (h : List Entry) (run : IsRunHistory t h) where
-  d : DesignView
+  abbrev d : DesignView
   d = t.design
 
-  begun : List Entry
+  abbrev begun : List Entry
   begun = claims_given t
 
   begins_so : BeginsGiven t h
