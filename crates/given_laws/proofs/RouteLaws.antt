@@ -25,14 +25,11 @@ use Rattle.ispd_reader.specs.declared.fault.DesignFault.{DesignFault}
 use Rattle.kept_routes.proofs.ChainLemmas.{path-edges}
 use Rattle.kept_routes.proofs.KeptLemmas.{whole-shape}
 use Rattle.kept_routes.specs.Kept.{AreKept, CanBeKept, IsNeeded, driver_of}
-use Rattle.rc_library.specs.Libraries.{LibraryView}
 use Rattle.route_evaluator.specs.Verdicts.{IsVerdict}
 use Rattle.route_evaluator.specs.declared.verdict.Verdict.{Verdict}
 use Rattle.router_top.proofs.DemandLemmas.{booked-demand}
 use Rattle.router_top.specs.Booking.{batching_of, booked_edges, setting_of, IsHistoryBy}
 use Rattle.router_top.specs.Routing.{IsRouting, IsRoutingOf}
-use Rattle.router_top.specs.declared.beginning.Beginning.{Beginning}
-use Rattle.router_top.specs.declared.kept.Kept.{Kept}
 use Rattle.run_histories.specs.GivenRoutes.{given_to, is_open}
 use Rattle.run_histories.specs.declared.hands.HandLog.{HandLog}
 use Rattle.solution_text.proofs.LawLemmas.{written-text-covers}
@@ -85,8 +82,17 @@ module _ (d : DesignView) (sets : ℕ → Edges) (given : List (Option TreeView)
       by None there nothing = absurd (false≢true nothing)
       by (Some t) there edge = needed-in net e (((are.kept net t there).1.edges e).0 edge)
 
-module _ (d : DesignView) (lib : LibraryView) (b : Beginning) (options : Options) (book : BookView) (hands : List HandLog) (text report : List ℕ)
-    (r : IsRoutingOf d lib b options book hands text report) where
+module _ (shelf : Reading) (design library : List ℕ) (from : Option (List ℕ)) (options : Options) (book : BookView) (hands : List HandLog) (text report : List ℕ)
+    (is : IsRouting shelf design library from options book hands text report) where
+  abbrev d : DesignView
+  d = is.design
+
+  abbrev given : List (Option TreeView)
+  given = is.beginning.given
+
+  abbrev r : IsRoutingOf d is.library is.beginning options book hands text report
+  r = is.routed
+
   abbrev c : CapacityView
   c = capacity_of d
 
@@ -99,8 +105,8 @@ module _ (d : DesignView) (lib : LibraryView) (b : Beginning) (options : Options
   legal : IsLegal c h
   legal = subst (λ (v : CapacityView). IsLegal v h) r.made.capacity r.made.legal
 
-  first : (place : ℕ) × IsFirstMark d b.given options.rounds h place
-  first = first-mark d b.given options.rounds h (begins-by d b.given options options.batch h r.made.made)
+  first : (place : ℕ) × IsFirstMark d given options.rounds h place
+  first = first-mark d given options.rounds h (begins-by d given options options.batch h r.made.made)
 
   abbrev early : List Entry
   early = take first.0 h
@@ -126,17 +132,17 @@ module _ (d : DesignView) (lib : LibraryView) (b : Beginning) (options : Options
       (λ e edge wire. ap (λ (v : CapacityView). demand v last e) (sym r.made.capacity) ∙ r.demand e edge wire)
       (λ e edge wire. capacity-table d e edge wire))
 
-  module _ (sets : ℕ → Edges) (are : AreKept d sets b.given) where
+  module _ (sets : ℕ → Edges) (are : AreKept d sets given) where
     grid-at : ((net : ℕ) → booked last net ≡ booked early net) → (net : ℕ) (t : TreeView) → booked last net ≡ Some t → IsGridTree d t
-    grid-at same net t is = first.1.trees (kept-grid d sets b.given are) net t (sym (same net) ∙ is)
+    grid-at same net t is = first.1.trees (kept-grid d sets given are) net t (sym (same net) ∙ is)
 
     -- in no rounds each kept net has the tree that it was given
     pub as-given : options.rounds ≡ 0 → (net : ℕ) → CanBeKept d sets net → (e : Edge) → IsTrue (cover d text net e) ↔ IsNeeded d sets net e
     as-given none net kept e =
         let same = only-chosen c h legal r.chosen r.least first.0 (first.1.alone none) in
-        let tree = kept-tree d sets b.given are net kept in
+        let tree = kept-tree d sets given are net kept in
         let there : booked last net ≡ Some tree.0 =
-        same net ∙ first.1.kept net (kept-shut d sets b.given are net kept) ∙ kept-to d sets b.given are net kept in
+        same net ∙ first.1.kept net (kept-shut d sets given are net kept) ∙ kept-to d sets given are net kept in
         let covered : cover d text net e ≡ edges_of tree.0 e =
         text-edges (grid-at same) net e ∙ ap (λ (routed : Bool). routed && edges_or_none (booked last net) e) kept.routed
         ∙ ap (λ (o : Option TreeView). edges_or_none o e) there in
@@ -145,17 +151,17 @@ module _ (d : DesignView) (lib : LibraryView) (b : Beginning) (options : Options
 
     module _ (all : AreAllKept d sets) where
       abbrev given_edges : ℕ → Edges
-      given_edges net = edges_or_none (given_to d b.given net)
+      given_edges net = edges_or_none (given_to d given net)
 
-      begun : (net : ℕ) → booked early net ≡ given_to d b.given net
-      begun net = first.1.kept net (all-shut d sets b.given are all net)
+      begun : (net : ℕ) → booked early net ≡ given_to d given net
+      begun net = first.1.kept net (all-shut d sets given are all net)
 
       -- overflow at the first mark is that of the given trees
       early-overflow : overflow_after c early ≡ total_over d given_edges
       early-overflow =
           total_overflow-same d.frame.shape (demand c early) (demand_by d given_edges) (capacity_at c) (capacity d)
           (λ e edge wire. booked-demand d early given_edges
-          (λ net unrouted. begun net ∙ ap (λ (routed : Bool). if routed then tree_at b.given net else None) unrouted)
+          (λ net unrouted. begun net ∙ ap (λ (routed : Bool). if routed then tree_at given net else None) unrouted)
           (λ net routed f. ap (λ (o : Option TreeView). edges_or_none o f) (sym (begun net))) e)
           (λ e edge wire. capacity-table d e edge wire)
 
@@ -164,14 +170,14 @@ module _ (d : DesignView) (lib : LibraryView) (b : Beginning) (options : Options
 
       given-most : overflow_after c early ≤ total_over d sets
       given-most =
-          let most = total-most d given_edges sets (given-parts d sets b.given are) in
+          let most = total-most d given_edges sets (given-parts d sets given are) in
           let is = early-overflow in
           omega (arith, most, is)
 
       -- where overflow is as much, the text covers parts of these sets
       parts : overflow_after c last ≡ overflow_after c early → ArePartsOf d (cover d text) sets
       parts level net routed e has =
-          given-parts d sets b.given are net routed e
+          given-parts d sets given are net routed e
           (ap (λ (o : Option TreeView). edges_or_none o e) (sym (begun net) ∙ sym (same net))
           ∙ sym (text-edges (grid-at same) net e ∙ ap (λ (b : Bool). b && edges_or_none (booked last net) e) routed) ∙ has)
         where
@@ -179,20 +185,20 @@ module _ (d : DesignView) (lib : LibraryView) (b : Beginning) (options : Options
           same = no_more.same level
 
       pub none-worse : (other : Verdict) → IsVerdict d options.via_cost sets other → IsNoWorse r.verdict other
-      none-worse other is = record {
+      none-worse other judged = record {
         total =
             let most = no_more.total in
             let least = given-most in
-            omega (arith, text-overflow, most, least, is.total);
-        max = λ equal. let most = max-most d (cover d text) sets (parts (level equal)) in omega (arith, most, r.judged.max, is.max);
+            omega (arith, text-overflow, most, least, judged.total);
+        max = λ equal. let most = max-most d (cover d text) sets (parts (level equal)) in omega (arith, most, r.judged.max, judged.max);
         wirelength = λ equal.
             let most = length-most d (cover d text) sets (parts (level equal)) options.via_cost in
-            omega (arith, most, r.judged.wirelength, is.wirelength);
-        vias = λ equal. let most = vias-most d (cover d text) sets (parts (level equal)) in omega (arith, most, r.judged.vias, is.vias);
+            omega (arith, most, r.judged.wirelength, judged.wirelength);
+        vias = λ equal. let most = vias-most d (cover d text) sets (parts (level equal)) in omega (arith, most, r.judged.vias, judged.vias);
       }
         where
           level : r.verdict.total ≡ other.total → overflow_after c last ≡ overflow_after c early
           level equal =
               let most = no_more.total in
               let least = given-most in
-              omega (arith, text-overflow, most, least, is.total, equal)
+              omega (arith, text-overflow, most, least, judged.total, equal)

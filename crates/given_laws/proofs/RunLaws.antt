@@ -1,5 +1,5 @@
 -- Runs that begin from a solution's routes.
-use Rattle.std.proofs.Common.{◌≡◌, ℕ, List, ◌++◌, Option, Some, None, IsSomeAnd, IsTrue, Ok, refl, sym, ap, subst, ◌∙◌, append_assoc}
+use Rattle.std.proofs.Common.{◌≡◌, ℕ, List, ◌++◌, Option, Some, None, IsSomeAnd, IsTrue, Result, Ok, Err, refl, sym, ap, subst, ◌∙◌, append_assoc}
 use Rattle.gr_base.proofs.General.{and-some}
 use Rattle.gr_base.specs.Designs.{DesignView}
 use Rattle.command_form.specs.Said.{design_said}
@@ -9,7 +9,6 @@ use Rattle.kept_routes.specs.Kept.{AreKept}
 use Rattle.report_text.specs.BufferTexts.{buffers_text}
 use Rattle.route_evaluator.specs.Verdicts.{IsVerdict}
 use Rattle.route_evaluator.specs.declared.verdict.Verdict.{Verdict}
-use Rattle.router_top.proofs.RepeatingLemmas.{value-in}
 use Rattle.router_top.specs.Routing.{told_between, IsRouting}
 use Rattle.router_top.specs.declared.kept.Kept.{Kept}
 use Rattle.solution_text.specs.Cover.{cover}
@@ -17,6 +16,11 @@ use Rattle.text_commands.specs.Judging.{report_of}
 use Rattle.word_reader.specs.declared.order.Options.{Options}
 use Rattle.given_laws.proofs.RouteLaws.{as-given, none-worse}
 use Rattle.given_laws.specs.Laws.{AreAllKept, KeptAsGiven, NeverWorse, ReportsNoWorse, WritesAsGiven}
+
+abbrev value-in : {A E : Type 0} → A → Option (Result A E) → A
+value-in a None = a
+value-in a (Some (Ok b)) = b
+value-in a (Some (Err e)) = a
 
 module _ (design library solution : List ℕ) (options : Options) (shelf : Reading) (d : DesignView) (bytes : List ℕ) (tells : IsTrue shelf.tells)
     (said : design_said shelf.held design ≡ Some (Ok d)) (held : shelf.held Solution solution ≡ Some bytes) where
@@ -37,7 +41,7 @@ module _ (design library solution : List ℕ) (options : Options) (shelf : Readi
       let same = same-design k text report r in
       record {
         own = r.routed.verdict;
-        no_worse = none-worse r.design r.library r.beginning options k.book.state k.hands.items text report r.routed (cover r.design bytes) (kept-by k text report r)
+        no_worse = none-worse shelf design library (Some solution) options k.book.state k.hands.items text report r (cover r.design bytes) (kept-by k text report r)
             (subst (λ (x : DesignView). AreAllKept x (cover x bytes)) (sym same) all) other
             (subst (λ (x : DesignView). IsVerdict x options.via_cost (cover x bytes) other) (sym same) is);
         more = told_between r.design r.beginning options k.book.state.history ++ buffers_text r.design r.library r.routed.trees r.routed.plans;
@@ -53,7 +57,7 @@ module _ (design library solution : List ℕ) (options : Options) (shelf : Readi
       subst (λ (x : DesignView). WritesAsGiven out x (cover x bytes)) (same-design k text report r) (record {
         text = text;
         gains = gains;
-        as_given = as-given r.design r.library r.beginning options k.book.state k.hands.items text report r.routed (cover r.design bytes) (kept-by k text report r) none;
+        as_given = as-given shelf design library (Some solution) options k.book.state k.hands.items text report r (cover r.design bytes) (kept-by k text report r) none;
       })
 
 pub never-worse : NeverWorse
