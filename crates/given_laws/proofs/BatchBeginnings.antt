@@ -1,11 +1,9 @@
 -- A batched history begins with the claims of the given trees, then with claims of open nets up to its first mark.
-use Rattle.std.proofs.Common.{◌≡◌, ℕ, zero, suc, ◌+◌, ◌≤◌, Bool, true, false, List, [], ◌∷◌, ◌++◌, length, take, drop, All, Option, Some, None, refl, sym, ap, subst, ◌∙◌, arith, append_assoc}
+use Rattle.std.proofs.Common.{◌≡◌, ℕ, zero, suc, ◌+◌, true, false, List, [], ◌∷◌, ◌++◌, length, take, drop, All, None, refl, sym, ap, subst, ◌∙◌, arith, append_assoc}
 use Rattle.std.specs.List.{range_with_len}
 use Rattle.std.proofs.lemmas.Bool.{both_ways}
 use Rattle.std.proofs.lemmas.List.{append-nil}
 use Rattle.std.proofs.lemmas.List.Elements.{All-nil, All-cons, All-append, All-head, All-tail, All-take, All-drop, filter_passes}
-use Rattle.gr_base.specs.Designs.{DesignView}
-use Rattle.gr_base.specs.Trees.{TreeView}
 use Rattle.book_state.specs.Books.{reply_to}
 use Rattle.book_state.specs.Entries.{is_mark}
 use Rattle.book_state.specs.Views.{entry_of}
@@ -13,10 +11,10 @@ use Rattle.book_state.specs.declared.entry.Call.TheVariants.{Claim as Claims, Re
 use Rattle.book_state.specs.declared.entry.Claim.{Claim}
 use Rattle.book_state.specs.declared.entry.Entry.{Entry}
 use Rattle.run_histories.specs.GivenRoutes.{is_open, open_nets}
-use Rattle.run_histories.specs.Rounds.{marker, claim_of, IsPlanFor}
+use Rattle.run_histories.specs.Rounds.{marker}
 use Rattle.batch_rounds.proofs.HeldNets.{forced-fits}
 use Rattle.batch_rounds.proofs.RoundSteps.{stops-last}
-use Rattle.batch_rounds.specs.BatchedHistories.{Batching, capacity_in, claims_given, claimant, after_call, after_claim, after_mark, after_releases, at_any_demand, is_refused, IsClaimOver, IsClaimedAlone, IsTurn, AreTurns, opened, AreBatches, nets_due, IsRound, goes_on, AreRounds, IsBatched}
+use Rattle.batch_rounds.specs.BatchedHistories.{Batching, capacity_in, claims_given, claimant, after_call, after_claim, after_mark, after_releases, is_refused, IsClaimOver, IsClaimedAlone, IsTurn, AreTurns, opened, AreBatches, nets_due, IsRound, goes_on, AreRounds, IsBatched}
 use Rattle.batch_rounds.specs.BatchedHistories.IsClaimedAlone.{Fits, Is_forced}
 use Rattle.batch_rounds.specs.BatchedHistories.IsTurn.{Is_first, Goes_on}
 use Rattle.batch_rounds.specs.BatchedHistories.AreTurns.{No_turns, Next_turn}

@@ -1,5 +1,5 @@
 -- What parts of sets of edges take is at most what the sets take.
-use Rattle.std.proofs.Common.{◌≡◌, ℕ, ◌+◌, ◌-◌, ◌*◌, ◌≤◌, max, inl, inr, Bool, true, false, cond, List, [], ◌∷◌, map, filter, fold, length, count_by, sum_by, if◌then◌else◌, IsTrue, refl, ap, ◌∙◌, arith}
+use Rattle.std.proofs.Common.{◌≡◌, ℕ, ◌+◌, ◌≤◌, max, inl, inr, Bool, true, false, cond, List, [], ◌∷◌, map, filter, fold, length, count_by, sum_by, if◌then◌else◌, IsTrue, refl, ap, ◌∙◌, arith}
 use Rattle.std.proofs.Math.Nat.{mul-le-mul_left}
 use Rattle.std.proofs.lemmas.Bool.{cases_Bool, false≢true}
 use Rattle.std.proofs.lemmas.List.Sums.{sum_by-cons, sum_by-le-sum_by}

@@ -1,14 +1,13 @@
 -- Routings that begin from a solution's routes.
-use Rattle.std.proofs.Common.{◌≡◌, ℕ, ◌+◌, ◌≤◌, ◌&&◌, ◌↔◌, Bool, true, false, inl, inr, List, ◌++◌, take, Option, Some, None, is_none, is_some, IsSomeAnd, IsTrue, Result, Ok, Err, if◌then◌else◌, refl, sym, ap, subst, ◌∙◌, arith}
+use Rattle.std.proofs.Common.{◌≡◌, ℕ, ◌≤◌, ◌&&◌, ◌↔◌, Bool, true, false, inl, inr, List, take, Option, Some, None, is_none, IsTrue, if◌then◌else◌, refl, sym, ap, subst, ◌∙◌, arith}
 use Rattle.std.proofs.lemmas.Bool.{cases_Bool, false≢true}
-use Rattle.std.proofs.lemmas.Option.{none-some, same_Some}
-use Rattle.gr_base.proofs.General.{and-some, is-some}
+use Rattle.gr_base.proofs.General.{is-some}
 use Rattle.gr_base.proofs.TreeEdges.{tree-grid_edges}
 use Rattle.gr_base.specs.Capacities.{capacity}
 use Rattle.gr_base.specs.Designs.{DesignView, is_routed, pins_at}
 use Rattle.gr_base.specs.EdgeSets.{Edges}
-use Rattle.gr_base.specs.Grid.{has_edge, is_wire}
-use Rattle.gr_base.specs.Sums.{demand as demand_by, total_over, total_overflow}
+use Rattle.gr_base.specs.Grid.{has_edge}
+use Rattle.gr_base.specs.Sums.{demand as demand_by, total_over}
 use Rattle.gr_base.specs.Trees.{TreeView, edges_of, edges_or_none, tree_at, tree_edges}
 use Rattle.gr_base.specs.declared.grid.Edge.{Edge}
 use Rattle.gr_base.specs.declared.grid.Shape.{Shape}
@@ -18,10 +17,7 @@ use Rattle.grid_demand.specs.Tables.{CapacityView, capacity_at, capacity_of}
 use Rattle.book_state.specs.Books.{booked, demand, overflow_after, IsLegal}
 use Rattle.book_state.specs.Views.{BookView}
 use Rattle.book_state.specs.declared.entry.Entry.{Entry}
-use Rattle.command_form.specs.Said.{design_said}
 use Rattle.gr_io.specs.Devices.{Reading}
-use Rattle.gr_io.specs.declared.shelf.Slot.TheVariants.{Solution}
-use Rattle.ispd_reader.specs.declared.fault.DesignFault.{DesignFault}
 use Rattle.kept_routes.proofs.ChainLemmas.{path-edges}
 use Rattle.kept_routes.proofs.KeptLemmas.{whole-shape}
 use Rattle.kept_routes.specs.Kept.{AreKept, CanBeKept, IsNeeded, driver_of}

@@ -1,7 +1,7 @@
 -- A run history begins with the claims of the given trees, then with claims of open nets up to its first mark.
-use Rattle.std.proofs.Common.{◌≡◌, ℕ, zero, suc, ◌+◌, ◌<◌, ◌≤◌, inl, inr, Bool, true, false, cond, ◌==◌, List, [], ◌∷◌, ◌++◌, length, get_or, All, Option, Some, None, slice_get, filter, if◌then◌else◌, refl, sym, ap, subst, ◌∙◌, arith, append_assoc, length-append}
+use Rattle.std.proofs.Common.{◌≡◌, ℕ, ◌+◌, ◌<◌, ◌≤◌, inl, inr, Bool, true, false, cond, ◌==◌, List, [], ◌∷◌, ◌++◌, length, get_or, All, Some, slice_get, if◌then◌else◌, refl, sym, ap, subst, ◌∙◌, arith, append_assoc, length-append}
 use Rattle.std.specs.List.{fold}
-use Rattle.std.proofs.lemmas.Bool.{cases_Bool, both_ways, false≢true}
+use Rattle.std.proofs.lemmas.Bool.{cases_Bool, false≢true}
 use Rattle.std.proofs.lemmas.Bool.Decides.{nat_tests}
 use Rattle.std.proofs.lemmas.List.{append-nil, get_or_append_left}
 use Rattle.std.proofs.lemmas.List.Elements.{All-nil, All-cons, All-head, All-tail}
@@ -13,20 +13,18 @@ use Rattle.gr_base.specs.Trees.{TreeView}
 use Rattle.book_state.proofs.BookingLaws.{cut-push}
 use Rattle.book_state.proofs.HistoryLists.{slice_get-left, slice_get-right}
 use Rattle.book_state.specs.Cuts.{Cut, ends_segment, cut_after, cut, AtMarks}
-use Rattle.book_state.specs.Entries.{AtEach, is_mark, is_given, calls_of}
-use Rattle.book_state.specs.declared.entry.Call.{Call}
+use Rattle.book_state.specs.Entries.{is_mark, is_given, calls_of}
 use Rattle.book_state.specs.declared.entry.Call.TheVariants.{Claim as Claims}
 use Rattle.book_state.specs.declared.entry.Claim.{Claim}
 use Rattle.book_state.specs.declared.entry.Entry.{Entry}
 use Rattle.book_state.specs.declared.entry.PlanKind.{PlanKind}
 use Rattle.book_state.specs.declared.entry.PlanKind.TheVariants.{Pattern}
-use Rattle.run_histories.proofs.CutSteps.{with_segment, grown, closed, cut-other, cut-mark, unended, marked_last, each-next}
+use Rattle.run_histories.proofs.CutSteps.{with_segment, grown, cut-other, cut-mark, unended, marked_last, each-next}
 use Rattle.run_histories.proofs.GivenLemmas.{among-cut, among-unended, open-due}
 use Rattle.run_histories.proofs.StageSteps.{broken-stays, rests-broken, first-shape}
-use Rattle.run_histories.specs.Attempts.{Stage, Rests, first_stage, stage_after, stage_of, begins, is_claim_of, attempts_at}
-use Rattle.run_histories.specs.GivenRoutes.{given_claims, is_open}
+use Rattle.run_histories.specs.Attempts.{Stage, Rests, stage_after, begins, is_claim_of, attempts_at}
 use Rattle.run_histories.specs.Rounds.{IsPlanFor}
-use Rattle.run_histories.specs.RunHistories.{Setting, claims_given, is_due, ends_with_mark, AreWhole, AreOfDue, BeginsGiven, IsAsked, IsPlanned, IsPlanOver, AreAttempts, IsRunHistory}
+use Rattle.run_histories.specs.RunHistories.{Setting, claims_given, is_due, ends_with_mark, AreWhole, AreOfDue, BeginsGiven, IsAsked, IsRunHistory}
 use Rattle.given_laws.proofs.OpenClaims.{BeginsOpen, IsGridTree, IsOpenClaim}
 
 -- a list up to its first mark
