@@ -37,7 +37,7 @@ USAGE = {
 # The same of grbound, which has one command without a word.
 BOUNDS = {
     "DESIGN [--steps K] [--workers N] [--via-cost V]":
-    "says what overflow and wirelength no routes of a design can be below"}
+        "says what overflow and wirelength no routes of a design can be below"}
 # The ranges of numbers, by the word or the option that takes them.
 RANGES = {
     "ROUNDS": (0, 64), "SEED": (0, (1 << 64) - 1), "X": (2, 2048), "Y": (2, 2048), "L": (2, 16), "NETS": (0, 1_000_000),
