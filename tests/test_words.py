@@ -80,7 +80,7 @@ class Tables(unittest.TestCase):
         for words in (("--rule", ""), ("--rule", "=", ""), ("--rule", "=")):
             self.assertEqual(self.completed("groute", "route", *words), ["first", "steep", "flat", "near"])
         self.assertEqual(self.completed("groute", "trial", "--rule", "st"), ["steep"])
-        self.assertEqual(self.completed("grbound", "--"), ["--steps", "--via-cost", "--help", "--version"])
+        self.assertEqual(self.completed("grbound", "--"), ["--steps", "--workers", "--via-cost", "--help", "--version"])
         self.assertEqual(self.completed("/usr/bin/groute-slowest", "--w"), ["--worst"])
         self.assertEqual(self.completed("groute-flow", "--rule", "f"), ["first", "flat"])
         self.assertEqual(self.completed("groute-slowest", "--nets", ""), ["clocks", "signals"])
