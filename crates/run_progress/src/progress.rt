@@ -15,6 +15,9 @@ const QUIET: u64 = 1_000;
 /// How many milliseconds lie at least between two times that the line is written: three a second.
 const PAUSE: u64 = 334;
 
+/// At each how many nets the clock is looked at, since that takes longer than to count a net.
+const TURNS_A_LOOK: u64 = 16;
+
 /// Tells on a terminal how far a run has come.
 #[derive(Drop)]
 pub struct Progress<'a, C: Clock> {
@@ -77,6 +80,14 @@ impl<C: Clock> Progress<'_, C> {
         }
     }
 
+    /// Writes the line anew, where it is time.
+    fn tell_if_due<R: Wait>(&self, rt: &R, start: Instant) {
+        let now = self.elapsed(start);
+        if self.takes_turn(now) {
+            self.tell(rt, now);
+        }
+    }
+
     /// Writes the line anew, so many milliseconds after the start.
     fn tell<R: Wait>(&self, rt: &R, now: u64) {
         let stage = *self.stage.lock(rt);
@@ -117,10 +128,9 @@ impl<C: Clock + Sync> Gate for Progress<'_, C> {
         };
         match stop {
             Stop::Turn { .. } => {
-                self.begun.fetch_add(1, Ordering::SeqCst);
-                let now = self.elapsed(start);
-                if self.takes_turn(now) {
-                    self.tell(rt, now);
+                let begun = self.begun.fetch_add(1, Ordering::SeqCst);
+                if begun % TURNS_A_LOOK == 0 {
+                    self.tell_if_due(rt, start);
                 }
             }
             Stop::Marked {
