@@ -86,13 +86,13 @@ asked-lawful (Some (Buffer design library solution)) = tt
 asked-lawful (Some (Make made)) = tt
 asked-lawful (Some (Trial made options)) = tt
 asked-lawful (Some (Panels design solution)) = tt
-asked-lawful (Some (Bound design via_cost steps)) = bounding-lawful design via_cost steps
+asked-lawful (Some (Bound design via_cost steps workers)) = bounding-lawful design via_cost steps
 
 -- what the command of an order leaves, by the words that gave it
-pub bound-leaves : (order : Option Order) (design : List ℕ) (via_cost steps : ℕ) (shelf : Reading) (out : Device) (end : Result Outcome Stop) →
-    order ≡ Some (Bound design via_cost steps) → LeavesOut (bounding design via_cost steps) shelf out None end →
+pub bound-leaves : (order : Option Order) (design : List ℕ) (via_cost steps workers : ℕ) (shelf : Reading) (out : Device) (end : Result Outcome Stop) →
+    order ≡ Some (Bound design via_cost steps workers) → LeavesOut (bounding design via_cost steps) shelf out None end →
     (err : Device) → IsUntouched err → LeavesFor (asked_by order) shelf out err None end
-bound-leaves order design via_cost steps shelf out end is leaves err untouched =
+bound-leaves order design via_cost steps workers shelf out end is leaves err untouched =
     subst (λ (o : Option Order). LeavesFor (asked_by o) shelf out err None end) (sym is) (leaves err untouched)
 
 -- a sink that isn't given

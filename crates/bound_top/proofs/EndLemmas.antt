@@ -69,4 +69,4 @@ module _ (program : Program) (shelf : Reading) (out err told_err : Device) where
   no-part (Some (Make made)) end status leaves unwritten is = by-usage end status leaves.0 leaves.1 is
   no-part (Some (Trial made options)) end status leaves unwritten is = by-usage end status leaves.0 leaves.1 is
   no-part (Some (Panels design solution)) end status leaves unwritten is = by-usage end status leaves.0 leaves.1 is
-  no-part (Some (Bound design via_cost steps)) end status leaves unwritten is = by-end design via_cost steps end status leaves unwritten is
+  no-part (Some (Bound design via_cost steps workers)) end status leaves unwritten is = by-end design via_cost steps end status leaves unwritten is

@@ -71,7 +71,7 @@ bounding design via_cost steps = record {
 
 -- the command that words ask for, if they give its order
 abbrev pub asked_by : Option Order → Asked (Unit {0})
-asked_by (Some (Bound design via_cost steps)) = Asks (bounding design via_cost steps)
+asked_by (Some (Bound design via_cost steps workers)) = Asks (bounding design via_cost steps)
 asked_by order = Unasked
 
 -- where memory was wanting, out gained nothing

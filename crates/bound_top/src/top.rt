@@ -58,6 +58,7 @@ fn carry_out<S: Shelf, O: Sink>(
                 design,
                 via_cost,
                 steps,
+                ..
             },
         ) => { read_and_bound(alloc, shelf, out, design, via_cost, steps) }
         _ => Err(Stop::Usage),

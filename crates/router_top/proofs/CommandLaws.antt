@@ -75,7 +75,7 @@ asked-lawful (Some (Buffer design library solution)) = buffering-lawful design l
 asked-lawful (Some (Make made)) = making-lawful made
 asked-lawful (Some (Trial made options)) = trying-lawful made options
 asked-lawful (Some (Panels design solution)) = tracking-lawful design solution
-asked-lawful (Some (Bound design via_cost steps)) = tt
+asked-lawful (Some (Bound design via_cost steps workers)) = tt
 
 -- what the command of an order leaves, where it is given these devices
 pub for-order : (given order : Given) (shelf : Reading) (out err : Device) (kept : Option Kept) (end : Result Outcome Stop) → order ≡ given →

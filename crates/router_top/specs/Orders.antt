@@ -19,4 +19,4 @@ asked_by (Some (Buffer design library solution)) = Asks (buffering design librar
 asked_by (Some (Make made)) = Asks (making made)
 asked_by (Some (Trial made options)) = Asks (trying made options)
 asked_by (Some (Panels design solution)) = Asks (tracking design solution)
-asked_by (Some (Bound design via_cost steps)) = Unasked
+asked_by (Some (Bound design via_cost steps workers)) = Unasked

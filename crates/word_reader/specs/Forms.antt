@@ -131,7 +131,7 @@ command_row Buffer = record { word = codes "buffer"; positionals = 3; options = 
 command_row Make = record { word = codes "make"; positionals = 5; options = [] }
 command_row Trial = record { word = codes "trial"; positionals = 6; options = Workers ∷ Rule ∷ Trace ∷ [] }
 command_row Panels = record { word = codes "panels"; positionals = 2; options = [] }
-command_row Bound = record { word = []; positionals = 1; options = ViaCost ∷ Steps ∷ [] }
+command_row Bound = record { word = []; positionals = 1; options = ViaCost ∷ Steps ∷ Workers ∷ [] }
 
 -- the commands that words name, each once
 abbrev pub every_command : List Command

@@ -36,7 +36,7 @@ pub data Order : Type 0 where
   Make : Made → Order
   Trial : Made → Options → Order
   Panels : (design solution : List ℕ) → Order
-  Bound : (design : List ℕ) → (via_cost steps : ℕ) → Order
+  Bound : (design : List ℕ) → (via_cost steps workers : ℕ) → Order
 
 infixl 10 ◌>>=◌
 abbrev ◌>>=◌ : {A B : Type 0} → Option A → (A → Option B) → Option B
@@ -185,12 +185,13 @@ trial_of sorted = do
   options ← options_of sorted 5
   Some (Trial made options)
 
--- what is bounded, and by how many steps
+-- what is bounded, by how many steps, and by how many workers
 unfoldable pub bound_of : Sorted → Option Order
 bound_of sorted = do
   via_cost ← number_of ViaCost sorted
   steps ← number_of Steps sorted
-  Some (Bound (positional sorted 0) via_cost steps)
+  workers ← number_of Workers sorted
+  Some (Bound (positional sorted 0) via_cost steps workers)
 
 -- what each command asks for: `route DESIGN LIBRARY ROUNDS`, `evaluate DESIGN SOLUTION`,
 -- `buffer DESIGN LIBRARY SOLUTION`, `make SEED X Y L NETS`, `trial SEED X Y L NETS ROUNDS`, `panels DESIGN SOLUTION`,
@@ -234,7 +235,7 @@ named (Given.Buffer design library solution) = Buffer design.now library.now sol
 named (Given.Make made) = Make made
 named (Given.Trial made options) = Trial made options
 named (Given.Panels design solution) = Panels design.now solution.now
-named (Given.Bound design via_cost steps) = Bound design.now via_cost steps
+named (Given.Bound design via_cost steps workers) = Bound design.now via_cost steps workers
 
 -- the order of the words, or that they give none
 abbrev pub Answers : Option Order → Result Given WordError → Type 0
@@ -257,4 +258,5 @@ AsksInRange (Given.Buffer design library solution) = Unit {0}
 AsksInRange (Given.Make made) = IsMade made
 AsksInRange (Given.Trial made options) = IsMade made × AreInRange options
 AsksInRange (Given.Panels design solution) = Unit {0}
-AsksInRange (Given.Bound design via_cost steps) = (via_cost ≤ most_via_cost) × (steps ≤ most_steps)
+AsksInRange (Given.Bound design via_cost steps workers) =
+    (via_cost ≤ most_via_cost) × (steps ≤ most_steps) × (1 ≤ workers) × (workers ≤ most_workers)

@@ -179,7 +179,7 @@ impl Command {
             Command::Bound => CommandRow {
                 word: "",
                 positionals: 1,
-                options: &[OptionKind::ViaCost, OptionKind::Steps],
+                options: &[OptionKind::ViaCost, OptionKind::Steps, OptionKind::Workers],
             },
         }
     }

@@ -92,14 +92,16 @@ pub enum Order<'w> {
         design: &'w str,
         solution: &'w str,
     },
-    /// grbound's `DESIGN [--steps K] [--via-cost V]` tells what no solution of the design can be better
-    /// in.
+    /// grbound's `DESIGN [--steps K] [--workers N] [--via-cost V]` tells what no solution of the design can be
+    /// better in.
     Bound {
         design: &'w str,
         /// As for `evaluate`.
         via_cost: u32,
         /// By how many steps each bound is raised, from 0 to 10,000; 0 where `--steps` isn't given.
         steps: u32,
+        /// How many workers raise them, from 1 to 16; 1 where `--workers` isn't given.
+        workers: u32,
     },
 }
 
@@ -261,10 +263,12 @@ fn bound<'w>(sorted: &Sorted<'w>) -> Option<Order<'w>>
 {
     let via_cost = number_of(OptionKind::ViaCost, sorted)?;
     let steps = number_of(OptionKind::Steps, sorted)?;
+    let workers = number_of(OptionKind::Workers, sorted)?;
     Some(Order::Bound {
         design: sorted.positional(0),
         via_cost: via_cost as u32,
         steps: steps as u32,
+        workers: workers as u32,
     })
 }
 
