@@ -20,7 +20,7 @@ _groute() {
     'groute make') options="--help" ;;
     'groute trial') options="--workers --rule --trace --help" ;;
     'groute panels') options="--help" ;;
-    grbound) options="--steps --via-cost --help --version" ;;
+    grbound) options="--steps --workers --via-cost --help --version" ;;
     groute-adjust) options="--help --layer --region --direction --output --names" ;;
     groute-carry) options="--help" ;;
     groute-congestion) options="--help --output --layer --edges --direction --region --worst --net --buffers --bound --tracks --json --names" ;;

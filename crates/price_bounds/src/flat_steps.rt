@@ -120,9 +120,10 @@ impl FlatSteps {
         let mut over = 0_u64;
         for number in 0..self.wires.len() {
             let taken = u64::from(taken_at(seats, number.min(MOST_WIRES) as u32));
-            let wire = &mut self.wires[number];
-            over = over.saturating_add(taken.saturating_sub(wire.held));
-            wire.trend = turned(wire.trend, excess(taken, wire.held), self.begun);
+            if let Some(wire) = self.wires.get_mut(number) {
+                over = over.saturating_add(taken.saturating_sub(wire.held));
+                wire.trend = turned(wire.trend, excess(taken, wire.held), self.begun);
+            }
         }
         self.begun = true;
         over
@@ -145,14 +146,15 @@ impl FlatSteps {
     /// Moves each weight by its trend.
     fn shift(&mut self, pace: u64) {
         for number in 0..self.wires.len() {
-            let wire = &mut self.wires[number];
-            let more = pace.saturating_mul(wire.trend.unsigned_abs()) >> 8;
-            let more = more.min(u64::from(MOST)) as u32;
-            wire.weight = if wire.trend < 0 {
-                wire.weight.saturating_sub(more)
-            } else {
-                wire.weight.saturating_add(more).min(MOST)
-            };
+            if let Some(wire) = self.wires.get_mut(number) {
+                let more = pace.saturating_mul(wire.trend.unsigned_abs()) >> 8;
+                let more = more.min(u64::from(MOST)) as u32;
+                wire.weight = if wire.trend < 0 {
+                    wire.weight.saturating_sub(more)
+                } else {
+                    wire.weight.saturating_add(more).min(MOST)
+                };
+            }
         }
     }
 }
