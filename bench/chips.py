@@ -1,9 +1,14 @@
 #!/usr/bin/env python3
-"""Times rounds on chips beside another router: bench/chips.py [--beside PROGRAM] [--runs N] DESIGN ROUNDS [DESIGN ROUNDS ..]
+"""Times rounds on chips beside another router, or sets routes beside what is proved:
+bench/chips.py [--beside PROGRAM] [--runs N] [--steps K] DESIGN ROUNDS [DESIGN ROUNDS ..]
 
-Each design is routed by each rule of --rules and each number of workers of --workers, N times (5 where nothing is said);
-the runs of both routers alternate. Seconds are medians: by processor time with one worker, by the clock with more. With one
-worker both have to write the same bytes. Overflow stands for round 0 and each later one, as --trace tells it.
+Each design is routed by each rule of --rules and each number of workers of --workers, N times (5 where nothing is
+said); the runs of both routers alternate. Seconds are medians: by processor time with one worker, by the clock with
+more. With one worker both have to write the same bytes. Overflow stands for round 0 and each later one, as --trace
+tells it.
+
+With --steps each design is routed once, by the first rule and one worker, until there is no overflow or the rounds are
+done; the table says how near its routes are to what `grbound` proves by K steps, in how many seconds of processor time.
 """
 import argparse
 import hashlib
@@ -14,7 +19,16 @@ import sys
 import tempfile
 import time
 
-from run import ROUTER, head_of, library
+from run import CRATES, ROUTER, head_of, library
+
+sys.path.insert(0, os.path.join(os.path.dirname(os.path.abspath(__file__)), "..", "tools"))
+from groute.loads.edges import counted  # noqa: E402
+from groute.loads.proofs import proofs  # noqa: E402
+from groute.texts.bounds import bounds_of  # noqa: E402
+from groute.texts.designs import Netlist  # noqa: E402
+from groute.texts.tokens import Tokens  # noqa: E402
+
+BOUNDS = os.path.join(CRATES, "grbound", "out", "grbound")
 
 
 def library_for(folder, path):
@@ -58,10 +72,37 @@ def row(routers, words, runs, workers, label):
     return f"| {' | '.join([*cells, ', '.join(by_round(of_each[0][0][3]))])} |\n"
 
 
+def timed(given, folder, path, rounds):
+    """The rows of a design by each rule and each number of workers."""
+    routers = [given.program, *([given.beside] if given.beside else [])]
+    name, rc = os.path.basename(path).split(".")[0], library_for(folder, path)
+    for rule in given.rules.split(","):
+        for workers in map(int, given.workers.split(",")):
+            words = ["route", path, rc, rounds, "--rule", rule, "--workers", str(workers), "--trace"]
+            yield row(routers, words, given.runs, workers, f"{name}, {rounds}, `{rule}`")
+
+
+def proved(given, folder, path, rounds):
+    """A row for each figure of a design's routes of which something is proved."""
+    solution = os.path.join(folder, "solution")
+    words = [path, library_for(folder, path), rounds, "--rule", given.rules.split(",")[0], "--stop", "0"]
+    with open(solution, "wb") as file:
+        subprocess.run([given.program, "route", *words], stdout=file, stderr=subprocess.DEVNULL, check=True)
+    edges = counted(Netlist(Tokens(path)), solution)
+    done = subprocess.run(["/usr/bin/time", "-f", "%M %U %S", given.bounds, path, "--steps", given.steps],
+                          capture_output=True, check=True)
+    most, user, system = map(float, done.stderr.split())
+    for proof in proofs(bounds_of(done.stdout.decode()), edges, edges.wires + edges.vias):
+        yield (f"| {os.path.basename(path).split('.')[0]} | {proof.figure} | {proof.reached:,} | {proof.least:,} | "
+               f"{proof.within()} | {given.steps} | {user + system:.0f} | {most / 1024:.0f} |\n")
+
+
 def main():
     parser = argparse.ArgumentParser(description=__doc__, formatter_class=argparse.RawDescriptionHelpFormatter)
     parser.add_argument("--beside", metavar="PROGRAM", help="another router with the same commands")
+    parser.add_argument("--steps", metavar="K", help="of prices, by which grbound proves")
     parser.add_argument("--program", default=ROUTER)
+    parser.add_argument("--bounds", default=BOUNDS)
     parser.add_argument("--runs", type=int, default=5)
     parser.add_argument("--rules", default="first,near")
     parser.add_argument("--workers", default="1")
@@ -69,17 +110,15 @@ def main():
     given = parser.parse_args()
     if len(given.names) % 2:
         parser.error("DESIGN and ROUNDS stand together")
-    routers = [given.program, *([given.beside] if given.beside else [])]
     beside = [["plain router, s", "ratio"], ["plain router, MiB", "ratio"]] if given.beside else [[], []]
     columns = ["chip, rounds, rule", "workers", "seconds", *beside[0], "MiB", *beside[1], "overflow by round"]
+    if given.steps:
+        columns = ["chip", "figure", "reached", "proved", "within", "steps", "seconds", "MiB"]
     sys.stdout.writelines(head_of(columns))
     with tempfile.TemporaryDirectory() as folder:
         for path, rounds in zip(given.names[::2], given.names[1::2]):
-            name, rc = os.path.basename(path).split(".")[0], library_for(folder, path)
-            for rule in given.rules.split(","):
-                for workers in map(int, given.workers.split(",")):
-                    words = ["route", path, rc, rounds, "--rule", rule, "--workers", str(workers), "--trace"]
-                    print(row(routers, words, given.runs, workers, f"{name}, {rounds}, `{rule}`"), end="", flush=True)
+            for line in (proved if given.steps else timed)(given, folder, path, rounds):
+                print(line, end="", flush=True)
 
 
 if __name__ == "__main__":

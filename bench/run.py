@@ -4,7 +4,7 @@
 Each command is run five times, and the median counts. Beside the files named, designs are made: nets of 2, 3 or
 12 pins near one another, on layers that go one way each. They are routed without rounds, and their routes are judged;
 some are routed and buffered with kinds of buffers; crowded ones are routed with rounds, also by several workers, by
-the clock. A library or a solution with a wrong last token is read whole, and nothing is done with it: that tells what
+the clock; two begin from routes that were made before. A library or a solution with a wrong last token is read whole, and nothing is done with it: that tells what
 reading it costs.
 
 What stands in RESULTS.md from its heading "Rounds by workers" on is written by hand, and kept. README's rows of the
@@ -233,6 +233,33 @@ def crowded(size):
     return f"{named(*size)} (crowded)"
 
 
+def moved(text):
+    """A design in which the last pin of each hundredth net lies a tile farther to one side."""
+    lines = text.splitlines()
+    for at, words in enumerate(line.split() for line in text.splitlines()):
+        if len(words) == 4 and words[0].startswith("n") and int(words[1]) % 100 == 0:
+            last = at + int(words[2])
+            x, rest = lines[last].split(" ", 1)
+            lines[last] = f"{int(x) - 10 if int(x) > 10 else int(x) + 10} {rest}"
+    return "".join(f"{line}\n" for line in lines)
+
+
+def begun(bench):
+    """Designs, routed from routes that were made before: of the same design, and of one that was changed a little."""
+    rows = []
+    for name, size, rounds, changed in ((named(*SIZES[-1]), SIZES[-1], 0, lambda text: text),
+                                        (crowded(CROWDED[-1]), CROWDED[-1], ROUNDS[-1], moved)):
+        text = made(*size)
+        path = bench.put("before", text)
+        rc = bench.library_of(path)
+        solution = bench.put("routes", bench.outputs("route", path, rc, str(rounds))[0].decode())
+        words = ["route", bench.put("after", changed(text)), rc, str(rounds), "--from", solution]
+        bench.outputs(*words)
+        label = f"{name}, {rounds} rounds, from routes of {'it' if rounds == 0 else 'all but 1 net of 100'}"
+        rows.append(bench.timed(f"`route`, {label}", *words)[0])
+    return rows
+
+
 def long_read(bench):
     """A long library and its design, read and not routed."""
     design, text = made(*LONG_LIBRARY), long_library(*LONG_LIBRARY)
@@ -257,6 +284,7 @@ def runs(bench, designs):
     table += buffers(bench)
     for size in CROWDED:
         table += rerouted(bench, crowded(size), bench.put("design", made(*size)), [*ROUNDS, MANY_ROUNDS])
+    table += begun(bench)
     table += rerouted(bench, named(*LARGE), bench.put("design", made(*LARGE)), [1])
     return table + long_read(bench)
 

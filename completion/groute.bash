@@ -26,13 +26,13 @@ _groute() {
     groute-congestion) options="--help --output --layer --edges --direction --region --worst --net --buffers --bound --tracks --json --names" ;;
     groute-def-to-ispd) options="--help --lef --tile --layers --adjust --via --driver --sink --liberty --kinds --kind --scale --keep-supply" ;;
     groute-differ) options="--help --worst --json" ;;
-    groute-flow) options="--help --lef --liberty --rounds --workers --rule --stop --batch --from --scale --sta --period --clock --sdc --verilog --program --json --output --tile --layers --adjust --kinds --driver --sink --kind --via --keep-supply" ;;
+    groute-flow) options="--help --lef --liberty --rounds --workers --rule --stop --batch --steps --from --scale --sta --period --clock --sdc --verilog --program --json --output --tile --layers --adjust --kinds --driver --sink --kind --via --keep-supply" ;;
     groute-guides) options="--help --names" ;;
     groute-hotspots) options="--help --worst --csv --openroad --klayout --json --nets --names" ;;
     groute-insert) options="--help --output --lef --liberty --slack --below --keep --verilog --eco --pins --names" ;;
     groute-liberty) options="--help" ;;
     groute-netlist) options="--help --lef --liberty --output" ;;
-    groute-report) options="--help --before --bound --slack --timing --scale --json --output --names" ;;
+    groute-report) options="--help --before --bound --via-cost --slack --timing --scale --json --output --names" ;;
     groute-required) options="--help --liberty --period --clock --sdc --output --library --figures --pins --names --scale" ;;
     groute-slowest) options="--help --slack --worst --scale --json --nets --names" ;;
     groute-spef) options="--help --output --verilog --pins --scale" ;;

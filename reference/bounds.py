@@ -1,19 +1,28 @@
 #!/usr/bin/env python3
-"""Compares `grbound` with a slow count: reference/bounds.py PROGRAM [SEED [COUNT]]
+"""Compares `grbound` with a slow count: reference/bounds.py PROGRAM [--chips | SEED [COUNT]]
 
 For each seed the walls of a random design are counted tile by tile and edge by edge, and the bounds are added up from
-them. On grids of a few edges with two nets at most, all sets of edges for each net are tried besides: none that join
-the nets' pins may have less overflow or wirelength than the bounds, those by prices too. Designs on which something
-differs are kept under the names of their seed.
+them. More steps of prices may never give less. On grids of a few edges with two nets at most, all sets of edges for
+each net are tried besides: none that join the nets' pins may have less overflow or wirelength than the bounds, those by
+prices too. Designs on which something differs are kept under the names of their seed.
+
+--chips tells what 10 and 100 steps prove of the chips of examples/, and what 100 have to reach.
 """
 import itertools
+import lzma
 import os
 import random
 import subprocess
 import sys
+import tempfile
 
 import compare
 from design import capacity, cell, edge, place, read_design, usable, way
+
+EXAMPLES = os.path.join(os.path.dirname(os.path.abspath(__file__)), "..", "examples")
+STEPS = ("1", "2", "6", "25")
+# The wirelength without overflow that steps have to prove of chips.
+CHIPS = {"c7552_osu035": 22_300, "grom_osu035": 16_600, "grom_osu018": 16_600}
 
 
 def wire_edges(d):
@@ -259,28 +268,47 @@ def tried(program, seed):
 
 def priced_right(words, d, figures, via_cost, wanted):
     """Whether the bounds by prices are at least the others, and no routes of a tiny design are below them."""
-    before = None
-    for steps in ("1", "6"):
+    before = [figures[0], figures[2], figures[0] + figures[2]]
+    for steps in STEPS:
         done = subprocess.run([*words, "--steps", steps], capture_output=True, check=False)
         prices, others = priced(done.stdout.decode().splitlines())
         if prices is None or others != wanted.splitlines():
             print("differs:", *words[1:], "--steps", steps)
             return False
-        floors = before or [figures[0], figures[2], figures[0] + figures[2]]
-        if any(price < floor for price, floor in zip(prices, floors)):
+        if any(price < floor for price, floor in zip(prices, before)):
             print("prices fall:", *words[1:], "--steps", steps)
             return False
-        if is_tiny(d) and beaten_by_prices(d, prices, via_cost):
-            print("routes are below the prices:", *words[1:], "--steps", steps)
-            return False
         before = prices
+    if is_tiny(d) and beaten_by_prices(d, before, via_cost):
+        print("routes are below the prices:", *words[1:], "--steps", STEPS[-1])
+        return False
     return True
+
+
+def proved_of(program, path, steps):
+    """The wirelength that routes of a design have at least along usable edges, without overflow."""
+    done = subprocess.run([program, path, "--steps", str(steps)], capture_output=True, check=True, text=True)
+    return priced(done.stdout.splitlines())[0][1]
+
+
+def has_reached(program, chip, floor):
+    """Whether 100 steps prove of a chip what they have to, and 10 no more than these."""
+    with tempfile.NamedTemporaryFile() as file, lzma.open(os.path.join(EXAMPLES, f"{chip}.ispd.xz")) as packed:
+        file.write(packed.read())
+        file.flush()
+        few, many = (proved_of(program, file.name, steps) for steps in (10, 100))
+    print(f"{chip}: {few} by 10 steps, {many} by 100, of {floor}", flush=True)
+    return few <= many >= floor
 
 
 def main():
     if not 2 <= len(sys.argv) <= 4:
         sys.exit(__doc__)
     program = os.path.abspath(sys.argv[1])
+    if sys.argv[2:] == ["--chips"]:
+        agree = sum(has_reached(program, *chip) for chip in CHIPS.items())
+        print(f"{agree} of {len(CHIPS)}")
+        return 0 if agree == len(CHIPS) else 1
     first = int(sys.argv[2]) if len(sys.argv) > 2 else 1
     count = int(sys.argv[3]) if len(sys.argv) > 3 else 300
     agree = sum(tried(program, seed) for seed in range(first, first + count))

@@ -59,9 +59,15 @@ class Calls(InFolder):
 
     @unittest.skipUnless(bounds(), "grbound is not named")
     def test_bound(self) -> None:
-        out = run(str(bounds()), DESIGN)[1].splitlines()
-        self.assertEqual([int(line.split()[-1]) for line in out[:3]],
-                         [*vars(groute.bound(DESIGN, program=bounds())).values()])
+        for words, options in (((), {}), (("--steps=3", "--via-cost=2"), {"steps": 3, "via_cost": 2})):
+            lines = run(str(bounds()), DESIGN, *words)[1].splitlines()
+            found = groute.bound(DESIGN, program=bounds(), **options)
+            figures = [found.overflow, found.wirelength, found.usable_wirelength]
+            figures += [*vars(found.prices).values()] if found.prices else []
+            walls = [" ".join(map(str, [wall.kind, *wall.numbers, "needs", wall.needs, "holds", wall.holds]))
+                     for wall in found.walls]
+            self.assertEqual([int(line.split()[-1]) for line in lines[:len(figures)]], figures)
+            self.assertEqual((len(figures), lines[len(figures) + 3:]), (6 if options else 3, walls))
 
     def test_faults(self) -> None:
         design = self.put("-design", "grid 3 2\nx")

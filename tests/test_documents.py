@@ -39,7 +39,7 @@ class Samples(unittest.TestCase):
             for document in DOCUMENTS:
                 for command, wanted in samples(document):
                     with self.subTest(document=document, command=command):
-                        if "./grbound" in command and not bounds():
+                        if re.search(r"\./grbound|tools/flow\.py", command) and not bounds():
                             self.skipTest("grbound is not named")
                         if "--sta" in command and not shutil.which("sta"):
                             self.skipTest("sta is not there")
@@ -82,12 +82,13 @@ class Documents(unittest.TestCase):
                 self.assertIsNone(re.search(r"\b(axiom|assume)\b|(^|\s)\?(\s|$)", code), path)
 
     def test_times(self) -> None:
-        """README's times are rows of bench/RESULTS.md."""
-        table = text_of("README.md").split("| run |", 1)[1].split("\n\n", 1)[0].splitlines()
-        self.assertEqual(len(table), 7)
+        """The rows of README's tables begin rows of bench/RESULTS.md."""
         results = text_of("bench/RESULTS.md").splitlines()
-        for line in [f"| run |{table[0]}", *table[2:]]:
-            self.assertIn(line, results)
+        for head in ("| run |", "| chip |"):
+            table = text_of("README.md").split(head, 1)[1].split("\n\n", 1)[0].splitlines()
+            self.assertGreater(len(table), 4)
+            for line in [head + table[0], *table[2:]]:
+                self.assertTrue(any(line == found[:len(line)] for found in results), line)
 
     def test_names_of_contracts(self) -> None:
         """The names in docs/PROVED.md are those of definitions or of code."""

@@ -99,10 +99,10 @@ class Report(InFolder):
         """What grbound wrote is in the data, and nothing of it where it isn't given."""
         words = f"{ROOT}/examples/small.ispd", f"{ROOT}/examples/small.solution"
         head, _ = self.data(self.page(*words, "--bound", self.put("bounds", testing.BOUNDS))[1])
-        self.assertEqual((head["least"], [list(wall.values()) for wall in head["walls"]]), (
-            1, [["box", [0, 0, 0, 0], 3, 2], ["column", [1], 2, 8]]))
+        self.assertEqual([list(wall.values()) for wall in head["walls"]],
+                         [["box", [0, 0, 0, 0], 3, 2], ["column", [1], 2, 8]])
         head, _ = self.data(self.page(*words)[1])
-        self.assertEqual((head["least"], head["walls"]), (None, []))
+        self.assertEqual(head["walls"], [])
         status, _, err = tool("report.py", *words, "--bound", words[0], "-o", self.put("page", ""))
         self.assertEqual((status, err), (3, f"report: {words[0]}: it isn't what grbound writes\n"))
 
@@ -246,11 +246,12 @@ class Page(InFolder):
         return set(page.value("[...runsOf(shown.net)].filter((run) => !run[3]).map((run) => run[2])"))
 
     def test_walls(self) -> None:
-        """The fullest walls are listed, and the overflow that any routes have; a click shows a wall."""
+        """The fullest walls are listed, and the first line says what is proved; a click shows a wall."""
         address, _ = self.grom("--bound", self.put("bounds", testing.BOUNDS))
         with browser.Browser() as page:
             self.opened(page, address)
-            self.assertEqual(page.text("#bound"), "Overflow: at least 1 in any routes, 348 in these")
+            says = "overflow 348, at least 1 by proof: within 34,700.0 %; wirelength and overflow "
+            self.assertTrue(page.text("h1").startswith(says))
             first = "#walls tbody tr:nth-child(1) button"
             self.assertEqual(page.text(first), "box 0 0 0 0")
             whole = self.changed(page, None)[1]

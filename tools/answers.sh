@@ -31,7 +31,7 @@ It says what overflow and wirelength no routes of a design can be below.
 
   DESIGN        a design in the form of the ISPD 2008 contest
   --steps K     how many steps of prices look for better bounds, 0 to 10000; else 0
-  --workers N   how many threads route, or look for bounds, 1 to 16; else 1
+  --workers N   how many threads there are at most, 1 to 16; else 1
   --via-cost V  as how many wire edges a via counts in wirelength, 0 to 1000; else 1
 
 docs/FORMATS.md, or man grbound, has all words, ranges, texts and faults.' ;;
@@ -45,7 +45,7 @@ It routes a design.
   DESIGN                        a design in the form of the ISPD 2008 contest
   LIBRARY                       of the design'\''s wires and of buffers
   ROUNDS                        the most rounds of rip-up and reroute, 0 to 64
-  --workers N                   how many threads route, or look for bounds, 1 to 16; else 1
+  --workers N                   how many threads there are at most, 1 to 16; else 1
   --via-cost V                  as how many wire edges a via counts in wirelength, 0 to 1000; else 1
   --batch B                     nets are planned B at a time, so that threads change no byte, 1 to 65536
   --rule first|steep|flat|near  how costs of edges rise with demand; else first
@@ -89,7 +89,7 @@ It makes a design and routes it.
   L                             layers, 2 to 16
   NETS                          how many nets, 0 to 1000000
   ROUNDS                        the most rounds of rip-up and reroute, 0 to 64
-  --workers N                   how many threads route, or look for bounds, 1 to 16; else 1
+  --workers N                   how many threads there are at most, 1 to 16; else 1
   --rule first|steep|flat|near  how costs of edges rise with demand; else first
   --trace                       what each round did is told behind the report' ;;
     '2 groute panels --help')

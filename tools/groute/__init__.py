@@ -1,10 +1,12 @@
 """groute from Python: `help(groute.calls)` says what each call does and raises. Older pythons can read this file."""
 TYPE_CHECKING = False       # as checkers of types have it
 if TYPE_CHECKING:
-    from groute.calls import (Bound, Buffer, DesignFault, Failed, Judged, LibraryFault, Net, NoMemory, ReadFailed,
-                              Report, Round, Routed, SolutionFault, Usage, WriteFailed, bound, buffer, evaluate, route)
-__all__ = ["Bound", "Buffer", "DesignFault", "Failed", "Judged", "LibraryFault", "Net", "NoMemory", "ReadFailed",
-           "Report", "Round", "Routed", "SolutionFault", "Usage", "WriteFailed", "bound", "buffer", "evaluate", "route"]
+    from groute.calls import (Bounds, Buffer, DesignFault, Failed, Judged, LibraryFault, Net, NoMemory, Prices,
+                              ReadFailed, Report, Round, Routed, SolutionFault, Usage, Wall, WriteFailed, bound, buffer,
+                              evaluate, route)
+__all__ = ["Bounds", "Buffer", "DesignFault", "Failed", "Judged", "LibraryFault", "Net", "NoMemory", "Prices",
+           "ReadFailed", "Report", "Round", "Routed", "SolutionFault", "Usage", "Wall", "WriteFailed", "bound",
+           "buffer", "evaluate", "route"]
 
 
 def __getattr__(name):      # type: ignore[no-untyped-def]

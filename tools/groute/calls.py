@@ -14,6 +14,7 @@ from dataclasses import dataclass
 from typing import Iterator, Sequence
 
 from groute.explained import Ended, explained, fault_of, tree_of
+from groute.texts.bounds import Bounds as Bounds, Prices as Prices, Wall as Wall, bounds_of  # noqa: F401
 
 TOOLS = os.path.dirname(os.path.dirname(os.path.realpath(__file__)))
 Path = str | os.PathLike[str]
@@ -128,14 +129,6 @@ class Judged:
     unjoined: tuple[tuple[str, int], ...]
 
 
-@dataclass(frozen=True)
-class Bound:
-    """What no routes are below: overflow and wirelength of any, and wirelength of those along usable edges."""
-    overflow: int
-    wirelength: int
-    usable_wirelength: int
-
-
 def route(design: Path, library: Path, rounds: int, *, workers: int = 1, via_cost: int = 1, batch: int | None = None,
           rule: str = "first", stop: str | int | None = None, given: Path | None = None, program: Path | None = None,
           timeout: float | None = None) -> Routed:
@@ -171,11 +164,11 @@ def buffer(design: Path, library: Path, solution: Path, *, program: Path | None 
     return tuple(nets_in(iter(out.decode("utf-8", "surrogateescape").split("\n"))))
 
 
-def bound(design: Path, *, via_cost: int = 1, program: Path | None = None, timeout: float | None = None) -> Bound:
-    """Says what no routes of a design can be below."""
-    out, _ = run("grbound", [*options(via_cost=via_cost), "--", text(design)], program, timeout)
-    lines = out.decode("ascii").split("\n")
-    return Bound(*(int(line.split(" ")[-1]) for line in lines[:3]))
+def bound(design: Path, *, steps: int = 0, via_cost: int = 1, program: Path | None = None,
+          timeout: float | None = None) -> Bounds:
+    """Says what no routes of a design can be below; more by so many steps of prices."""
+    out, _ = run("grbound", [*options(steps=steps, via_cost=via_cost), "--", text(design)], program, timeout)
+    return bounds_of(out.decode("ascii"))
 
 
 def text(path: Path) -> str:

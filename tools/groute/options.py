@@ -37,8 +37,7 @@ USAGE = {
 # The same of grbound, which has one command without a word.
 BOUNDS = {
     "DESIGN [--steps K] [--workers N] [--via-cost V]":
-        "says what overflow and wirelength no routes of a design can be below",
-}
+        "says what overflow and wirelength no routes of a design can be below"}
 # The ranges of numbers, by the word or the option that takes them.
 RANGES = {
     "ROUNDS": (0, 64), "SEED": (0, (1 << 64) - 1), "X": (2, 2048), "Y": (2, 2048), "L": (2, 16), "NETS": (0, 1_000_000),
@@ -56,7 +55,7 @@ MEANS = {
     "Y": "rows of tiles",
     "L": "layers",
     "NETS": "how many nets",
-    "--workers": "how many threads route, or look for bounds",
+    "--workers": "how many threads there are at most",
     "--via-cost": "as how many wire edges a via counts in wirelength",
     "--batch": "nets are planned B at a time, so that threads change no byte",
     "--rule": "how costs of edges rise with demand",

@@ -1,7 +1,9 @@
 //! The lines of standard input, and what each asks for.
 use crate::bench::{Bench, Left};
+use crate::chase::ChasingGate;
 use crate::devices::Devices;
 use crate::gates::{HoldingGate, Whom};
+use crate::recorder::RecordingGate;
 use crate::{entries, told};
 use cost_rules::Rules;
 use gr_text::Text;
@@ -34,7 +36,7 @@ pub(crate) fn carry_out<R: AllocGlobal + Threads + Wait + Sync>(
             bench.devices = Devices::ample();
             Ok(())
         }
-        "run" | "brief" | "entries" | "hold" | "keep" | "each" | "cut" => {
+        "run" | "brief" | "entries" | "hold" | "keep" | "chase" | "stops" | "each" | "cut" => {
             put_line(told, line)?;
             put_runs(rt, bench, rules, command, rest, told)
         }
@@ -111,6 +113,8 @@ fn put_runs<R: AllocGlobal + Threads + Wait + Sync>(
             let (search, rest) = number_in(rest);
             put_held(rt, bench, rules, Whom::Search(search), rest, told)
         }
+        "chase" => put_chase(rt, bench, rules, rest, told),
+        "stops" => put_stops(rt, bench, rules, rest, told),
         _ => {
             let words = words_of(rt.alloc(), rest)?;
             put_run(rt, bench, rules, &words, command, told)
@@ -149,6 +153,40 @@ fn put_held<R: AllocGlobal + Threads + Wait + Sync>(
     let gate = HoldingGate::new(whom, claims);
     let left = bench.run(rt, &gate, rules, bench.devices, None, &words)?;
     told::put_meeting(rt.alloc(), told, &left, gate.is_passed())
+}
+
+/// What is told of a run in which a worker's plans are overtaken at so many searches.
+fn put_chase<R: AllocGlobal + Threads + Wait + Sync>(
+    rt: &R,
+    bench: &Bench,
+    rules: &Rules,
+    rest: &str,
+    told: &mut Text,
+) -> Result<(), AllocError> {
+    let (times, rest) = number_in(rest);
+    let words = words_of(rt.alloc(), rest)?;
+    let gate = ChasingGate::new(times);
+    let left = bench.run(rt, &gate, rules, bench.devices, None, &words)?;
+    told::put_chase(told, &left, gate.is_passed())
+}
+
+/// Whether a run's stops are those of its history.
+fn put_stops<R: AllocGlobal + Threads + Wait + Sync>(
+    rt: &R,
+    bench: &Bench,
+    rules: &Rules,
+    rest: &str,
+    told: &mut Text,
+) -> Result<(), AllocError> {
+    let words = words_of(rt.alloc(), rest)?;
+    let gate = RecordingGate::new(rt.alloc());
+    let left = bench.run(rt, &gate, rules, bench.devices, None, &words)?;
+    let callers = left.ended.hands.len() as u32;
+    let agrees = match &left.ended.book {
+        Some(book) => gate.agrees(book.state().history(), callers),
+        None => false,
+    };
+    told::put_stops(told, &left, agrees)
 }
 
 /// What changes from run to run: the call of a device that fails, or how much is left of a text.

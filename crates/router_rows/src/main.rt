@@ -15,16 +15,22 @@
 //! - `hold WORKER CLAIMS WORD ..` does so while the worker of that number waits at its first search until
 //!   the others have come to so many claims;
 //! - `keep SEARCH CLAIMS WORD ..` likewise for whoever comes to that search of all, from 0;
+//! - `chase TIMES WORD ..` runs it while behind round 0 a worker waits at each of its first searches, so many
+//!   in all, until another has come to one more claim, and the others at theirs until it waits again;
+//! - `stops WORD ..` runs it, and prints whether the gate was told the claims and marks of the history, and each
+//!   search by the net of the claim behind it;
 //! - `each DEVICE N WORD ..` runs it with each call from 1 to N of that device failing, and prints
 //!   a line for each;
 //! - `cut NAME WORD ..` runs it with each first part of that text in its place, likewise.
 #![tactic(auto)]
 
 mod bench;
+mod chase;
 mod devices;
 mod entries;
 mod gates;
 mod lines;
+mod recorder;
 mod told;
 
 use crate::bench::Bench;

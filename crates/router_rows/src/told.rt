@@ -85,12 +85,33 @@ pub(crate) fn put_meeting(
     passed: bool,
 ) -> Result<(), AllocError> {
     put_brief(alloc, told, left)?;
+    put_passed(told, passed)
+}
+
+fn put_passed(told: &mut Text, passed: bool) -> Result<(), AllocError> {
     let met: &[u8] = if passed {
         b"the others came to their claims\n"
     } else {
         b"the others didn't come to their claims\n"
     };
     told.put(met)
+}
+
+/// How a run ended, and whether the others came to the claims for which a worker waits.
+pub(crate) fn put_chase(told: &mut Text, left: &Left, passed: bool) -> Result<(), AllocError> {
+    put_status(told, left)?;
+    put_passed(told, passed)
+}
+
+/// How a run ended, and whether its stops are those of its history.
+pub(crate) fn put_stops(told: &mut Text, left: &Left, agrees: bool) -> Result<(), AllocError> {
+    put_status(told, left)?;
+    let line: &[u8] = if agrees {
+        b"the stops are the history's\n"
+    } else {
+        b"the stops aren't the history's\n"
+    };
+    told.put(line)
 }
 
 /// A line on what a run left, beside what one that was done leaves.

@@ -28,7 +28,6 @@ use command_form::{Left, Outcome, Spent, Stop, open_design, open_library};
 use gr_base::{Design, Routes};
 use gr_io::{Shelf, Sink, write_whole};
 use gr_text::Text;
-use net_order::parts_for;
 use rc_library::Library;
 use report_text::report;
 use ripup_workers::{Gate, Rounds};
@@ -220,7 +219,8 @@ fn made_side_by_side<R: Threads + Sync>(
     ensures verdict { GivesVerdict design.now options booked.now.routes result.0 }
     ensures buffers { IfOk result.1 (IsBuffersText design.now library.now booked.now.routes) }
 {
-    let parts = parts_for(options.workers);
+    // The caller's thread judges.
+    let threads = options.workers.saturating_sub(1).max(1);
     join(
         rt,
         || -> Result<Verdict, AllocError>
@@ -228,9 +228,9 @@ fn made_side_by_side<R: Threads + Sync>(
             ensures { GivesVerdict design.entry.now options booked.entry.now.routes result }
         { verdict_on(alloc, design, booked, options) },
         || -> Result<Text, AllocError>
-            requires { IsLibraryOf design.now library.now × AreRoutesOf design.now booked.now.routes × (0 < parts) }
+            requires { IsLibraryOf design.now library.now × AreRoutesOf design.now booked.now.routes × (0 < threads) }
             ensures { IfOk result (IsBuffersText design.entry.now library.entry.now booked.entry.now.routes) }
-        { buffers_on(rt, alloc, design, library, &booked.routes, parts) },
+        { buffers_on(rt, alloc, design, library, &booked.routes, threads) },
     )
 }
 
@@ -282,8 +282,7 @@ fn write_routes<R: Threads + Sync, O: Sink, E: Sink>(
         (device_of E.tells E.faults E.written err.old err.new)
         result }
 {
-    let parts = parts_for(workers);
-    match write_solution_by(rt, alloc, out, design, &routed.routes, parts) {
+    match write_solution_by(rt, alloc, out, design, &routed.routes, workers) {
         Ok(()) => {}
         Err(WriteError::Failed) => return Err(Stop::WriteFailed),
         Err(WriteError::NoMemory) => return Err(Stop::NoMemory),

@@ -23,10 +23,11 @@ from typing import Sequence
 from groute import frame
 from groute.loads.edges import Counted, counted, totals, totals_object
 from groute.texts import objects
+from groute.texts.bounds import bounds_in
 from groute.texts.designs import EAST, Cell, Netlist
 from groute.texts.files import Fault, Outputs
 from groute.texts.names import Terms, names_beside
-from groute.texts.reports import bounds_in, buffer_of, buffered, check_report
+from groute.texts.reports import buffer_of, buffered, check_report
 from groute.texts.tokens import Tokens
 
 
@@ -104,7 +105,7 @@ def draw(asked: Namespace, edges: Counted, outputs: Outputs, terms: Terms) -> No
     if asked.edges:
         edge_map.write_picture(edges, asked.output, outputs, asked.layer, name, terms)
         return
-    asked.bound = bounds_in(asked.bound)[1] if asked.bound else []
+    asked.bound = bounds_in(asked.bound).walls if asked.bound else ()
     found = buffers(asked, edges.design) if asked.buffers else None
     tile_map.write_picture(edges, asked.output, outputs, asked, name, terms, found)
 

@@ -28,6 +28,8 @@ to be the same one. `given.solution` has what was carried over, and the verdict 
 
 Routes are made by --rule near, if no other is given. Without --rounds there are up to 64 rounds, which end once the
 overflow is 0, but 16 where grbound proves that there is overflow in any routes; with --batch, which takes no --stop, 8.
+The verdict says how near the routes are to what grbound proves by --steps of prices; without it these are 20,000 by the
+number of nets, at most 100, which takes seconds.
 """
 import importlib.util
 import json
@@ -44,10 +46,11 @@ from groute.explained import Ended, explained, program_of
 from groute.options import RANGES, Status, values
 from groute.show import tables
 from groute.texts import objects
+from groute.texts.bounds import bounds_in
 from groute.texts.designs import Netlist
 from groute.texts.figures import NANOSECOND, Figures, object_of, read_figures, rows
 from groute.texts.files import Fault, Outputs
-from groute.texts.reports import bounds_in, kept_in
+from groute.texts.reports import kept_in
 from groute.texts.tokens import Tokens
 from groute.timing import closing
 
@@ -64,6 +67,7 @@ MOST_ROUNDS = RANGES["ROUNDS"][1]
 RULE = "near"           # the one that leaves least overflow
 OVERFULL_ROUNDS = 16    # where no routes are without overflow
 BATCH_ROUNDS = 8
+MOST_STEPS, STEPS_OF_NETS = 100, 20_000     # of prices: at most, and of all nets together
 USAGE = b"groute: usage\n", b"grbound: usage\n"
 TOLD = 4096             # bytes that are looked at of what a program told
 
@@ -162,14 +166,14 @@ def steps(asked: Namespace) -> tuple[int, str]:
     groute, bounds = programs(asked)
     prepare(asked, paths)
     make_design(asked, asked.placed, paths)
-    least = bound(bounds, paths) if bounds else 0
+    least = bound(bounds, asked, paths) if bounds else 0
     if asked.given:
         tool("carry.py", *earlier(asked), paths["design.ispd"], paths["given.solution"])
     route(groute, asked, least, paths, paths["given.solution"] if asked.given else None)
     kept = kept_in(paths["report.txt"])
     timing = timed(groute, asked, least, paths) if asked.sta else ""
     if bounds and timing:
-        bound(bounds, paths)    # of the placement that the page shows
+        bound(bounds, asked, paths)     # of the placement that the page shows
     tool("guides.py", paths["design.ispd"], paths["routes.solution"], paths["routes.guide"])
     status, verdict, found = judged(asked, bounds is not None, paths)
     of_kept = "" if kept is None else f"; {kept:,} nets kept"
@@ -179,7 +183,8 @@ def steps(asked: Namespace) -> tuple[int, str]:
     if asked.sta:
         found["timing"] = {name: object_of(read_figures(paths[name])) for name in ("before", "after")}
     written = sorted(name for name in WRITTEN if os.path.isfile(os.path.join(asked.output, name)))
-    least_words = {"least_overflow_units": least if bounds else None, "kept_nets": kept}
+    least_words = {"least_overflow_units": least if bounds else None, "kept_nets": kept,
+                   "price_steps": price_steps(asked, paths["design.ispd"]) if bounds else None}
     return status, objects.text_of("flow", {"verdict": verdict, "status": int(status), "folder": asked.output,
                                             "files": written, **least_words, **found})
 
@@ -230,11 +235,21 @@ def timing_lines(before: Figures, best: closing.Run) -> Iterator[str]:
         yield f"path of slack {slack / NANOSECOND:.3f} ns: {', '.join(names[id_] for id_ in ids)}"
 
 
-def bound(program: str, paths: dict[str, str]) -> int:
+def price_steps(asked: Namespace, design: str) -> int:
+    """How many steps of prices grbound takes."""
+    if asked.steps is not None:
+        return int(asked.steps)
+    with open(design, encoding="utf-8", errors="replace") as file:
+        nets = next(int(line.split()[2]) for line in file if line.startswith("num net "))
+    return min(MOST_STEPS, STEPS_OF_NETS // nets)
+
+
+def bound(program: str, asked: Namespace, paths: dict[str, str]) -> int:
     """Writes what no routes can be below; the answer is the least overflow."""
+    design = paths["design.ispd"]
     with Outputs() as outputs:
-        run_program(program, [paths["design.ispd"]], outputs.binary(paths["bounds.txt"]))
-    return bounds_in(paths["bounds.txt"])[0]
+        run_program(program, [design, "--steps", str(price_steps(asked, design))], outputs.binary(paths["bounds.txt"]))
+    return bounds_in(paths["bounds.txt"]).least().overflow
 
 
 def order(asked: Namespace, least: int) -> list[str]:
@@ -315,6 +330,8 @@ def parser() -> frame.Parser:
     words.add_argument("--rule", choices=values("--rule"), help="as of groute route; else near")
     words.add_argument("--stop", type=stop, metavar="still|N", help="as of groute route")
     words.add_argument("--batch", type=frame.number(*RANGES["--batch"]), metavar="B", help="as of groute route")
+    words.add_argument("--steps", type=frame.number(*RANGES["--steps"]), metavar="K",
+                       help="of prices, as of grbound; else as above")
     words.add_argument("--from", metavar="DIR", dest="given", help="the folder of an earlier run, to keep its routes")
     words.add_argument("--scale", type=frame.number(1), default=100, metavar="N",
                        help="of the library's numbers; else 100")

@@ -3,10 +3,11 @@
 Its first screen has the verdict in a line, ACE, the table by layer, a map to zoom and pan, and the worst regions with
 their nets; a net is drawn with its pins, layers and buffers. LIBRARY and REPORT add required times and buffers, and a
 REPORT of `route --trace` what each round left, as reports of earlier rounds (--before) do, from round 0 on; a text of
-grbound adds the overflow that any routes have, and the fullest walls. --slack ranks nets by a timer's slack, where nets
-that nothing constrains are free, and --timing adds its figures before and after buffers, and the nets of the worst
-paths. What is shown stands in the address, so that a link shows it again. Of designs with more than 100,000 nets, or
-where the page would pass 20 MB, it holds only the nets of the worst regions and the slowest ones, and says so.
+grbound adds what it proves that these routes can't be below, and the fullest walls. --slack ranks nets by a timer's
+slack, where nets that nothing constrains are free, and --timing adds its figures before and after buffers, and the nets
+of the worst paths. What is shown stands in the address, so that a link shows it again. Of designs with more than
+100,000 nets, or where the page would pass 20 MB, it holds only the nets of the worst regions and the slowest ones, and
+says so.
 
 Times are in picoseconds. Of a library that def_to_ispd.py made with --scale N say --scale N here too.
 """
@@ -14,6 +15,7 @@ from argparse import Namespace
 from typing import Sequence
 
 from groute import frame
+from groute.options import RANGES
 from groute.texts import objects
 from groute.texts.files import Outputs
 
@@ -28,6 +30,8 @@ def parser() -> frame.Parser:
                        help="what `route` wrote on standard error, or `buffer` on output")
     words.add_argument("--before", nargs="+", default=[], metavar="REPORT", help="reports of earlier rounds, from 0 on")
     words.add_argument("--bound", metavar="BOUNDS", help="what grbound wrote of the design")
+    words.add_argument("--via-cost", type=frame.number(*RANGES["--via-cost"]), default=1, metavar="V",
+                       help="by which it did; else 1")
     words.add_argument("--slack", metavar="TABLE", help="ranks nets by slacks that required.py wrote")
     words.add_argument("--timing", nargs=2, metavar=("BEFORE", "AFTER"), help="figures that required.py wrote")
     frame.add_scale(words)

@@ -18,6 +18,9 @@ class Counted(Protocol):
     def overflow(self) -> tuple[int, int]:
         """The sum and the greatest of what demand has above capacity."""
 
+    def are_usable(self) -> bool:
+        """Whether each wire edge lies on a layer whose capacity that way is stated to be above 0."""
+
 
 def counted(design: Netlist, solution: str) -> Counted:
     """The demand of a solution's wire edges."""

@@ -205,6 +205,11 @@ class Edges:
         over = [numpy.maximum(self.demand[way] - self.capacity[way], 0) for way in (EAST, NORTH)]
         return sum(int(some.sum()) for some in over), max(int(some.max()) for some in over)
 
+    def are_usable(self) -> bool:
+        """Whether each wire edge lies on a layer whose capacity that way is stated to be above 0."""
+        layer = self.number // (self.design.columns * self.design.rows)
+        return all(numpy.array(self.design.capacity[way])[layer[self.way == way]].all() for way in (EAST, NORTH))
+
 
 def capacities(design: Design, way: int) -> Array:
     """Capacity by number; numbers at the border, where there is no edge, have none."""

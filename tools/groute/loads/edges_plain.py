@@ -65,6 +65,11 @@ class Edges:
         over = [demand - capacity for _, _, capacity, demand in self.used() if demand > capacity]
         return sum(over), max(over, default=0)
 
+    def are_usable(self) -> bool:
+        """Whether each wire edge lies on a layer whose capacity that way is stated to be above 0."""
+        plane = self.design.columns * self.design.rows
+        return all(self.design.capacity[way][cell // plane] for way in (EAST, NORTH) for cell in self.demand[way])
+
 
 def straight(design: Netlist, ends: list[tuple[int, ...]]) -> list[range]:
     """The cells of segments, of which none goes two ways."""

@@ -12,13 +12,15 @@ import numpy
 
 from groute.loads.edges import totals, totals_object
 from groute.loads.edges_numpy import Array, Edges, points
+from groute.loads.proofs import OVERFLOW, Proof, object_of, proofs, wirelength_of
 from groute.loads.regions import GRADES, SHARES, WAYS, Loads
+from groute.texts.bounds import bounds_in
 from groute.texts.designs import EAST, NORTH, Netlist
 from groute.texts.libraries import Library
 from groute.texts.figures import read_figures, rows
 from groute.texts.files import Fault
 from groute.texts.names import Terms, names_beside
-from groute.texts.reports import Round, bounds_in, buffered, check_report, overflow_of, rounds_of, written
+from groute.texts.reports import Round, buffered, check_report, rounds_of, total_of, written
 from groute.texts.slacks import read_slacks
 from groute.texts.solutions import unjoined_words
 from groute.texts.tokens import Tokens
@@ -68,7 +70,7 @@ class Routes:
         self.loads = Loads(self.edges)
         self.regions = self.loads.regions(REGIONS)
         self.half = HALVES * asked.scale ** 2
-        self.least, self.walls = bounds_in(asked.bound) if asked.bound else (None, [])
+        self.bounds = bounds_in(asked.bound) if asked.bound else None
         self.kinds: list[str] = []
         self.has_times = False
         self.required: dict[int, int] = {}
@@ -85,10 +87,18 @@ class Routes:
             self.rounds = rounds_of(asked.report)
         if asked.before and not self.rounds:
             self.rounds = [Round(overflow) for overflow in self.by_round(asked.before)]
+        self.proofs = self.proved(asked)
+
+    def proved(self, asked: Namespace) -> list[Proof]:
+        """What the bounds prove of the routes."""
+        if self.bounds is None:
+            return []
+        told = total_of(asked.report, "wirelength") if asked.report else None
+        return proofs(self.bounds, self.edges, wirelength_of(self.edges, asked.via_cost, told))
 
     def by_round(self, before: Sequence[str]) -> list[int]:
         """The overflow of earlier rounds, by their reports, and of these routes."""
-        found = [overflow for overflow in map(overflow_of, before) if overflow is not None]
+        found = [overflow for path in before if (overflow := total_of(path, "overflow")) is not None]
         if len(found) < len(before):
             raise Fault("a text of buffers tells no overflow: reports of `groute route` are due before")
         return [*found, self.edges.overflow()[0]]
@@ -103,7 +113,8 @@ class Routes:
                 "rounds": [{"overflow_units": some.overflow, "routed_nets": some.nets, "refused_plans": some.full}
                            for some in rounds],
                 "written_round": written(rounds),
-                "least_overflow_units": self.least,
+                "least_overflow_units": self.bounds.least().overflow if self.bounds else None,
+                "proved": object_of(self.proofs),
                 "fullest_tile_percent": 100 * float(uses[0]) if len(uses) else None,
                 "worst_net_required_ps": worst if self.has_times else None,
                 "worst_net_delay_ps": None if worst is None or self.has_times else -worst}
@@ -116,6 +127,9 @@ class Routes:
         if before:
             words += (f" after {len(before)} round{'s' * (len(before) > 1)} "
                       f"({', '.join(f'{value:,}' for value in self.by_round(before))})")
+        for proof in self.proofs:
+            own = "" if proof.figure == OVERFLOW else f"; {proof.figure} {proof.reached:,}"
+            words += f"{own}, {proof.words()}"
         uses = self.loads.uses
         if len(uses):
             words += f"; fullest tile {100 * uses[0]:,.0f} %"
@@ -169,7 +183,7 @@ def head(routes: Routes, ids: list[int], asked: Namespace) -> dict[str, Any]:
         "paths": [[slack / PICOSECOND, [place[id_] for id_ in some if id_ in place]]
                   for slack, some in (routes.timing[1].paths if routes.timing else ())],
         "rounds": [vars(some) for some in routes.rounds], "written": written(routes.rounds) if routes.rounds else None,
-        "least": routes.least, "walls": [vars(wall) for wall in routes.walls],
+        "walls": [vars(wall) for wall in routes.bounds.walls] if routes.bounds else [],
         "regions": [{"low": region.low, "high": region.high, "overflow": region.overflow, "over": region.over,
                      "closed": region.closed, "nets": [place[id_] for id_, _ in region.nets],
                      "counts": [count for _, count in region.nets]} for region in routes.regions],

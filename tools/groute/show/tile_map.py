@@ -12,10 +12,10 @@ from matplotlib.patches import Patch, Rectangle
 from groute.loads.edges_numpy import Array, Edges
 from groute.loads.regions import GRADES, WAYS, Loads
 from groute.show.figures import DOTS, LARGE, LARGE_DOTS, SMALL, SMALL_DOTS, Axes, layer_words, maps, said
+from groute.texts.bounds import Wall
 from groute.texts.designs import Cell
 from groute.texts.files import Outputs
 from groute.texts.names import Terms
-from groute.texts.reports import Wall
 
 Point = tuple[float, float]
 

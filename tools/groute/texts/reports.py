@@ -1,4 +1,4 @@
-"""What groute and grbound tell of routes: totals, buffers, walls."""
+"""What groute tells of routes: totals, rounds, buffers."""
 import re
 from dataclasses import dataclass
 from typing import Iterator, Sequence
@@ -34,10 +34,10 @@ def check_report(path: str, routed: int, overflow: tuple[int, int], vias: int) -
             raise Fault(f"{path}: it is of other routes: it tells {word} {found[word]:,}, the solution has {value:,}")
 
 
-def overflow_of(path: str) -> int | None:
-    """The overflow that a report tells, or None of a text of `groute buffer`."""
+def total_of(path: str, word: str) -> int | None:
+    """One of the totals that a report tells, or None of a text of `groute buffer`."""
     found = totals_of(path)
-    return None if found is None else found["overflow"]
+    return None if found is None else found[word]
 
 
 @dataclass
@@ -81,29 +81,6 @@ def kept_in(path: str) -> int | None:
 def written(rounds: Sequence[Round]) -> int:
     """The round whose routes are written: the first of least overflow."""
     return min(range(len(rounds)), key=lambda number: rounds[number].overflow)
-
-
-@dataclass
-class Wall:
-    """A wall that grbound tells of: `column`, `row` or `box`, its numbers, what is needed of it, and what it holds."""
-    kind: str
-    numbers: list[int]
-    needs: int
-    holds: int
-
-
-def bounds_in(path: str) -> tuple[int, list[Wall]]:
-    """What overflow is at least, by what grbound wrote of a design, and the fullest walls."""
-    with open(path, encoding="ascii", errors="replace") as file:
-        lines = [line.split() for line in file]
-    try:
-        (*words, least), walls = lines[0], [line for line in lines[6:] if "needs" in line]
-        if words != ["overflow", "at", "least"]:
-            raise ValueError
-        return int(least), [Wall(kind, [*map(int, numbers)], int(needs), int(holds))
-                            for kind, *numbers, _, needs, _, holds in walls]
-    except (IndexError, ValueError):
-        raise Fault(f"{path}: it isn't what grbound writes") from None
 
 
 def buffered(design: Design, path: str) -> Iterator[tuple[int, int, list[bytes]]]:

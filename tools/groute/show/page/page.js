@@ -343,7 +343,7 @@ async function begin() {
   fillRegions();
   if (data.rounds.length > 1) fillRounds();
   if (data.timing.length) fillTiming();
-  if (data.least !== null) fillWalls();
+  if (data.walls.length) fillWalls();
   fillClosed();
   fillNets();
   picture = new Picture(byId("map"));

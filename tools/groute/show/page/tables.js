@@ -152,7 +152,7 @@ function fillRegions() {
   regionsTable.order();
 }
 
-// The fullest walls, if a text of bounds was given.
+// The fullest walls, if a text of bounds has some.
 function fillWalls() {
   const of = (key) => (row) => data.walls[row][key];
   const counted = (head) => ({ head, value: of(head), isNumber: true });
@@ -161,9 +161,7 @@ function fillWalls() {
   const columns = [{ head: "wall", value: (row) => row, text: (row) => place(data.walls[row]) },
     counted("needs"), counted("holds"), { head: "needs, %", value: (row) => use(data.walls[row]),
       text: (row) => of("holds")(row) ? fixed(use(data.walls[row]), 1) : "-", isNumber: true }];
-  byId("walls").hidden = byId("bound").hidden = false;
-  byId("bound").textContent = `Overflow: at least ${number(data.least)} in any routes, `
-    + `${number(data.totals.overflow)} in these`;
+  byId("walls").hidden = false;
   wallsTable = new Table(byId("walls"), "Fullest walls", columns, [...data.walls.keys()], toWall);
   wallsTable.order();
 }

@@ -1,0 +1,7 @@
+mod PartLemmas
+mod OpenClaims
+mod RunBeginnings
+mod BatchBeginnings
+mod FirstMarks
+mod RouteLaws
+mod RunLaws
