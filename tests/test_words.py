@@ -254,7 +254,7 @@ class Terminal(InFolder):
         design = self.put("design", "grid 3 2\nx")
         for words, status, told, says in (
                 (("a", "b"), 2, "usage",
-                 "b: nothing more is due behind DESIGN\ngrbound DESIGN [--steps K] [--via-cost V]\n"),
+                 "b: nothing more is due behind DESIGN\ngrbound DESIGN [--steps K] [--workers N] [--via-cost V]\n"),
                 (("--via-cost", "1001", "a"), 2, "usage", "1001: --via-cost is 0 to 1000: 1000 is the nearest\n"),
                 (("--", "missing"), 6, "a read failed", "missing: No such file or directory (DESIGN)\n"),
                 ((design,), 3, "design fault 3 at token 4", f"{design}:2:1: a whole number in its range is due: x\n")):

@@ -11,16 +11,19 @@ use crate::bounding::read_and_bound;
 use command_form::{Outcome, Stop, finish};
 use gr_io::{Shelf, Sink};
 use std::alloc::Global;
+use std::thread::Threads;
 use word_reader::{Order, Program, read_words};
 
-/// Carries out `DESIGN [--steps K] [--via-cost V]`: reads the design of that name, and writes on out what
-/// no edge sets that join its routed nets can be below, in overflow and in wirelength, and the fullest
-/// walls. With steps, also what they can't be below by prices, which are moved K times for each figure.
+/// Carries out `DESIGN [--steps K] [--workers N] [--via-cost V]`: reads the design of that name, and writes on
+/// out what no edge sets that join its routed nets can be below, in overflow and in wirelength, and the
+/// fullest walls. With steps, also what they can't be below by prices, which are moved K times for each
+/// figure; N workers price nets side by side, and write the same for every N.
 ///
 /// Status 0: done. 2: the words ask for nothing. 3: the design's text is at fault. 6: a read failed,
 /// or the name is missing. 7: a write failed. 8: out of memory. At 2 to 6 and at 8 a line on err tells
 /// it.
-pub fn bound<S: Shelf, O: Sink, E: Sink>(
+pub fn bound<R: Threads + Sync, S: Shelf, O: Sink, E: Sink>(
+    rt: &R,
     alloc: Global,
     words: &[String],
     shelf: &mut S,
@@ -34,12 +37,13 @@ pub fn bound<S: Shelf, O: Sink, E: Sink>(
         None result }
     ensures no_part { LeavesNoPart (device_of O.tells O.faults O.written out.old out.new) result }
 {
-    let end = carry_out(alloc, words, shelf, out);
+    let end = carry_out(rt, alloc, words, shelf, out);
     finish(alloc, Program::Grbound, err, end)
 }
 
 /// Carries out what the words ask for, and tells no stop.
-fn carry_out<S: Shelf, O: Sink>(
+fn carry_out<R: Threads + Sync, S: Shelf, O: Sink>(
+    rt: &R,
     alloc: Global,
     words: &[String],
     shelf: &mut S,
@@ -58,9 +62,9 @@ fn carry_out<S: Shelf, O: Sink>(
                 design,
                 via_cost,
                 steps,
-                ..
+                workers,
             },
-        ) => { read_and_bound(alloc, shelf, out, design, via_cost, steps) }
+        ) => { read_and_bound(rt, alloc, shelf, out, design, via_cost, steps, workers) }
         _ => Err(Stop::Usage),
     }
 }

@@ -21,5 +21,5 @@ fn main(rt: HostRuntime) -> ExitCode {
         // Words that are no text ask for nothing.
         Err(_) => Vec::new(rt.alloc()),
     };
-    ExitCode::from(bound(rt.alloc(), &words, &mut shelf, &mut out, &mut err))
+    ExitCode::from(bound(&rt, rt.alloc(), &words, &mut shelf, &mut out, &mut err))
 }

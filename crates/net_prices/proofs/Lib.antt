@@ -1,3 +1,4 @@
+pub mod FoldLemmas
 pub mod ArcLemmas
 pub mod PricedLemmas
 pub mod PaymentLemmas

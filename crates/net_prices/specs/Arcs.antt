@@ -1,9 +1,10 @@
 -- The arcs of a grid by number: each edge has two, one into either end.
-use Rattle.std.specs.Prelude.{◌≡◌, ℕ, ◌+◌, ◌-◌, ◌*◌, ◌<◌, ◌≤◌, min, Bool, true, false, List, length, slice_index}
-use Rattle.gr_base.specs.Grid.{cells_of, stride, high_of}
+use Rattle.std.specs.Prelude.{◌≡◌, ℕ, ◌+◌, ◌-◌, ◌*◌, ◌<◌, ◌≤◌, min, Bool, true, false, List, length, slice_index, if◌then◌else◌}
+use Rattle.gr_base.specs.Grid.{cells_of, edge_at, stride, high_of, is_wire}
 use Rattle.gr_base.specs.declared.grid.Edge.{Edge}
 use Rattle.gr_base.specs.declared.grid.Shape.{Shape}
 use Rattle.gr_base.specs.declared.grid.Way.{Way}
+use Rattle.net_prices.specs.Folds.{tile_of}
 use Rattle.price_laws.specs.Ranks.{Arcs}
 use Rattle.route_evaluator.specs.EdgeNumbers.{way_number}
 
@@ -19,9 +20,12 @@ abbrev pub arc_of : Shape → Edge → Bool → ℕ
 arc_of g e true = arc_up (high_of g e) e.way
 arc_of g e false = arc_down e.low e.way
 
--- what a table has for arcs
-abbrev pub arcs_in : Shape → List ℕ → Arcs
-arcs_in g table e up = slice_index table (arc_of g e up)
+-- what a table has for arcs, where it is one for the grid as it is, or with its layers as one: then nothing is asked
+-- for vias
+abbrev pub arcs_in : (flat : Bool) → (g small : Shape) → List ℕ → Arcs
+arcs_in true g small table e up =
+    if is_wire e then slice_index table (arc_of small (edge_at (tile_of g e.low) e.way) up) else 0
+arcs_in false g small table e up = slice_index table (arc_of small e up)
 
 -- what stands in tables for no arc, and for no label
 abbrev pub nothing : ℕ

@@ -1,5 +1,5 @@
 -- How what was paid for a net rises.
-use Rattle.std.specs.Prelude.{◌≡◌, ℕ, ◌+◌, ◌<◌, ◌≤◌, Bool, List, slice_index, IsTrue}
+use Rattle.std.specs.Prelude.{◌≡◌, ℕ, ◌+◌, ◌<◌, ◌≤◌, Bool, List, map, slice_index, IsTrue}
 use Rattle.gr_base.specs.Designs.{DesignView, pins_at}
 use Rattle.gr_base.specs.EdgeSets.{Edges}
 use Rattle.gr_base.specs.Grid.{has_edge}
@@ -7,21 +7,25 @@ use Rattle.gr_base.specs.Trees.{is_among}
 use Rattle.gr_base.specs.declared.grid.Edge.{Edge}
 use Rattle.gr_base.specs.declared.grid.Shape.{Shape}
 use Rattle.net_prices.specs.Arcs.{arcs_in, nothing}
+use Rattle.net_prices.specs.Folds.{folded, IsFoldOf}
 use Rattle.price_laws.specs.Prices.{Prices}
 use Rattle.price_laws.specs.Ranks.{IsPaid}
 
 -- a table has something for each arc of the edges that may be used
-abbrev pub HasArcs : DesignView → (allowed : Edges) → (table : List ℕ) → Type 0
-HasArcs d allowed table =
+abbrev pub HasArcs : DesignView → (allowed : Edges) → (flat : Bool) → (small : Shape) → (table : List ℕ) → Type 0
+HasArcs d allowed flat small table =
     (e : Edge) → (up : Bool) → IsTrue (has_edge d.frame.shape e) → IsTrue (allowed e) →
-    arcs_in d.frame.shape table e up < nothing
+    arcs_in flat d.frame.shape small table e up < nothing
 
--- what was paid for any net with these pins, by what was left, rises by so much, by what is left now
+-- what was paid for any net, by what was left for the arcs of a grid, rises by so much, by what is left now: its pins
+-- stand in these cells of that grid, and the driver in this one
 abbrev pub IsRaised : Shape → (driver : ℕ) → (pins : List ℕ) → (old new : List ℕ) → (more : ℕ) → Type 0
-IsRaised g driver pins old new more =
-    (d : DesignView) → (p : Prices) → (allowed : Edges) → (net paid : ℕ) → d.frame.shape ≡ g → pins_at d net ≡ pins →
-    HasArcs d allowed old → IsPaid d p allowed net driver (arcs_in d.frame.shape old) paid →
-    IsPaid d p allowed net driver (arcs_in d.frame.shape new) (paid + more)
+IsRaised small driver pins old new more =
+    (d : DesignView) → (p : Prices) → (allowed : Edges) → (flat : Bool) → (net first paid : ℕ) →
+    IsFoldOf flat d.frame.shape small → map (folded flat d.frame.shape) (pins_at d net) ≡ pins →
+    folded flat d.frame.shape first ≡ driver → HasArcs d allowed flat small old →
+    IsPaid d p allowed net first (arcs_in flat d.frame.shape small old) paid →
+    IsPaid d p allowed net first (arcs_in flat d.frame.shape small new) (paid + more)
 
 -- labels by a table allow to pay a distance for a pin
 pub record MayPay (table : List ℕ) (driver : ℕ) (pins : List ℕ) (pin distance : ℕ) : Type 0 where

@@ -6,7 +6,8 @@ use Rattle.gr_base.specs.EdgeSets.{Edges}
 use Rattle.gr_base.specs.Grid.{cells_of, has_edge}
 use Rattle.gr_base.specs.Sums.{wire_number}
 use Rattle.gr_base.specs.declared.grid.Edge.{Edge}
-use Rattle.net_prices.specs.Arcs.{arc_of, nothing}
+use Rattle.net_prices.specs.Arcs.{arcs_in, nothing}
+use Rattle.net_prices.specs.Pricers.{PricerView}
 use Rattle.net_prices.specs.declared.rates.Rates.{Rates}
 use Rattle.price_laws.specs.Prices.{Prices, price}
 
@@ -23,13 +24,13 @@ abbrev pub allowed_by : DesignView → Bool → Edges
 allowed_by d usable_only e = if usable_only then usable d e else true
 
 -- what an edge costs at most by a table, in either direction
-abbrev pub IsPriced : DesignView → Rates → (weights : List ℕ) → (net : ℕ) → (table : List ℕ) → Edge → Type 0
-IsPriced d rates weights net table e =
+abbrev pub IsPriced : DesignView → Rates → (weights : List ℕ) → (net : ℕ) → PricerView → Edge → Type 0
+IsPriced d rates weights net p e =
     (up : Bool) → IsTrue (allowed_by d rates.usable_only e) →
-    (slice_index table (arc_of d.frame.shape e up) ≤ price d (prices_by rates weights) net e) ×
-    (slice_index table (arc_of d.frame.shape e up) < nothing)
+    (arcs_in p.flat d.frame.shape p.small p.table e up ≤ price d (prices_by rates weights) net e) ×
+    (arcs_in p.flat d.frame.shape p.small p.table e up < nothing)
 
 -- a table has for both arcs of each edge that may be used at most its price
-pub record ArePrices (d : DesignView) (rates : Rates) (weights : List ℕ) (net : ℕ) (table : List ℕ) : Type 0 where
-  pub long : length table ≡ 6 * cells_of d.frame.shape
-  pub each : (e : Edge) → IsTrue (has_edge d.frame.shape e) → IsPriced d rates weights net table e
+pub record ArePrices (d : DesignView) (rates : Rates) (weights : List ℕ) (net : ℕ) (p : PricerView) : Type 0 where
+  pub long : length p.table ≡ 6 * cells_of p.small
+  pub each : (e : Edge) → IsTrue (has_edge d.frame.shape e) → IsPriced d rates weights net p e

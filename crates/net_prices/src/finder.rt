@@ -70,17 +70,18 @@ impl Finder {
         &mut self,
         labels: &Labels,
         frame: &Frame,
+        small: Shape,
         width: u32,
         found: Found,
     ) -> Result<(), AllocError> {
         self.touched.extend_from_slice(labels.cells())?;
         let mut cell = found.reached.cell;
-        for _ in 0..frame.shape.cells() {
+        for _ in 0..small.cells() {
             if cell == found.start {
                 break;
             }
             let next = self.search.next(cell);
-            self.demand.add(frame, width, cell, next);
+            self.demand.add(frame, small, width, cell, next);
             self.groups.add_cell(found.group, next)?;
             cell = next;
         }

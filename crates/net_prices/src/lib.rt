@@ -3,6 +3,7 @@
 
 mod arcs;
 mod finder;
+mod fold;
 mod groups;
 mod labels;
 mod net_pricer;
@@ -11,6 +12,7 @@ mod price_table;
 mod rates;
 mod search;
 mod tree_demand;
+mod waiting;
 
 pub use net_pricer::NetPricer;
 pub use rates::Rates;

@@ -10,6 +10,7 @@ ghost use Rattle.net_prices.specs.PriceTables.{allowed_by, prices_by, ArePrices}
 ghost use Rattle.net_prices.specs.declared.rates.Rates.{Rates as RatesOf};
 
 use crate::finder::Finder;
+use crate::fold::{Fold, fold_of, fold_pins};
 use crate::labels::{Labels, NOTHING};
 use crate::payment::pay;
 use crate::price_table::fill_prices;
@@ -22,11 +23,13 @@ use std::marker::Model;
 /// What bounds of nets are found with, one after another: what arcs cost, and what is left for them.
 #[derive(Drop)]
 pub struct NetPricer {
-    shape: Shape,
+    fold: Fold,
     table: Vec<u32>,
     left: Vec<u32>,
     labels: Labels,
     finder: Finder,
+    /// Where the pins of the last net stand.
+    pins: Vec<u32>,
 }
 
 impl Model for NetPricer {
@@ -42,17 +45,21 @@ impl Model for NetPricer {
 }
 
 impl NetPricer {
-    /// A pricer for nets on a grid, at no prices. The only error is want of memory.
-    pub fn new(alloc: Global, shape: Shape) -> Result<NetPricer, AllocError>
+    /// A pricer for nets on a grid, at no prices. Where it is `flat`, nothing is asked for vias, and layers
+    /// are taken as one. The only error is want of memory.
+    pub fn new(alloc: Global, shape: Shape, flat: bool) -> Result<NetPricer, AllocError>
         ensures { IfOk result (λ p. p.shape ≡ shape) }
     {
-        let arcs = 6 * shape.cells() as usize;
+        let fold = fold_of(shape, flat);
+        let cells = fold.small.cells();
+        let arcs = 6 * cells as usize;
         Ok(NetPricer {
-            shape,
+            fold,
             table: vec![in alloc; 0; arcs]?,
             left: vec![in alloc; 0; arcs]?,
-            labels: Labels::new(alloc, shape.cells())?,
-            finder: Finder::new(alloc, shape)?,
+            labels: Labels::new(alloc, cells)?,
+            finder: Finder::new(alloc, fold.small)?,
+            pins: Vec::new(alloc),
         })
     }
 
@@ -62,9 +69,9 @@ impl NetPricer {
         requires weights { length weights.now ≡ 2 * cells_of capacity.now.shape }
         ensures shape { self.new.shape ≡ self.old.shape }
         ensures prices { (d : DesignView) → capacity.now ≡ capacity_of d →
-            ArePrices d rates weights.now net self.new.table }
+            ArePrices d rates weights.now net self.new }
     {
-        fill_prices(&mut self.table, capacity, rates, weights, net);
+        fill_prices(&mut self.table, capacity, self.fold, rates, weights, net);
         restore_all(&self.table, &mut self.left);
     }
 
@@ -76,18 +83,21 @@ impl NetPricer {
         requires routed { IsTrue (is_routed design.now net) }
         ensures same { self.new ≡ self.old }
         ensures bound { IfOk result (λ paid. (rates : RatesOf) (weights : List ℕ) →
-            ArePrices design.now rates weights net self.old.table →
+            ArePrices design.now rates weights net self.old →
             IsNetBound design.now (prices_by rates weights) (allowed_by design.now rates.usable_only) net paid) }
     {
+        let frame = design.frame();
         let value = design.net(net);
-        self.finder.begin(value.pins.as_slice())?;
+        fold_pins(&mut self.pins, self.fold, value.pins.as_slice())?;
+        self.finder.begin(&self.pins)?;
         let paid = pay_net(
             &mut self.left,
             &mut self.labels,
             &mut self.finder,
-            design.frame(),
+            frame,
+            self.fold.small,
             value.width,
-            value.pins.as_slice(),
+            &self.pins,
         )?;
         restore(&self.table, &mut self.left, self.finder.touched());
         Ok(paid)
@@ -112,17 +122,18 @@ fn pay_net(
     labels: &mut Labels,
     finder: &mut Finder,
     frame: &Frame,
+    small: Shape,
     width: u32,
     pins: &[u32],
 ) -> Result<u64, AllocError>
     requires some { 0 < length pins.now }
-    requires pins { All (λ pin. pin < cells_of frame.now.shape) pins.now }
-    requires labels { length labels.old.table ≡ cells_of frame.now.shape }
-    requires left { length left.old.items ≡ 6 * cells_of frame.now.shape }
-    ensures labels { length labels.new.table ≡ cells_of frame.now.shape }
+    requires pins { All (λ pin. pin < cells_of small) pins.now }
+    requires labels { length labels.old.table ≡ cells_of small }
+    requires left { length left.old.items ≡ 6 * cells_of small }
+    ensures labels { length labels.new.table ≡ cells_of small }
     ensures lower { AreLower left.old.items left.new.items }
     ensures raised { IfOk result (λ paid.
-        IsRaised frame.now.shape (slice_index pins.now 0) pins.now left.old.items left.new.items paid) }
+        IsRaised small (slice_index pins.now 0) pins.now left.old.items left.new.items paid) }
 {
     let driver = pins[0];
     let mut paid = 0_u64;
@@ -131,17 +142,9 @@ fn pay_net(
             break;
         };
         let distance = found.reached.distance;
-        let more = pay(
-            left,
-            labels,
-            frame.shape,
-            driver,
-            pins,
-            found.start,
-            distance,
-        );
+        let more = pay(left, labels, small, driver, pins, found.start, distance);
         paid = paid.saturating_add(u64::from(more));
-        finder.join(labels, frame, width, found)?;
+        finder.join(labels, frame, small, width, found)?;
     }
     Ok(paid)
 }

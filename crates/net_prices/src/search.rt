@@ -5,10 +5,9 @@ ghost use Rattle.gr_base.specs.Grid.{cells_of};
 use crate::arcs::way_number;
 use crate::groups::{Groups, at, put};
 use crate::labels::{Labels, NOTHING};
+use crate::waiting::Waiting;
 use gr_base::{Shape, Way};
 use std::alloc::{AllocError, Global};
-use std::cmp::Reverse;
-use std::collections::BinaryHeap;
 
 /// What a search finds: the first cell of another group, that group, and how far it is.
 #[derive(Clone, Copy, Debug)]
@@ -18,11 +17,18 @@ pub(crate) struct Reached {
     pub(crate) distance: u32,
 }
 
+/// What stands for none.
+const NOT_REACHED: Reached = Reached {
+    cell: 0,
+    group: 0,
+    distance: NOTHING,
+};
+
 /// Searches on one grid, one after another.
 #[derive(Drop)]
 pub(crate) struct Search {
     shape: Shape,
-    waiting: BinaryHeap<Reverse<(u32, u32)>>,
+    waiting: Waiting,
     /// By cell: the next one on the way to where the search began.
     next: Vec<u32>,
 }
@@ -32,7 +38,7 @@ impl Search {
     pub(crate) fn new(alloc: Global, shape: Shape) -> Result<Search, AllocError> {
         Ok(Search {
             shape,
-            waiting: BinaryHeap::new(alloc),
+            waiting: Waiting::new(alloc)?,
             next: vec![in alloc; 0; shape.cells() as usize]?,
         })
     }
@@ -42,8 +48,8 @@ impl Search {
         at(&self.next, cell)
     }
 
-    /// Labels cells with how far it is from them to a cell of a group, until one of another group is
-    /// reached. None where there is no way. The only error is want of memory.
+    /// Labels cells with how far it is from them to a cell of a group, until it is known which one of another
+    /// group is nearest. None where there is no way. The only error is want of memory.
     pub(crate) fn reach(
         &mut self,
         left: &[u32],
@@ -56,23 +62,47 @@ impl Search {
     {
         self.waiting.clear();
         self.offer(labels, start, start, 0)?;
+        let mut found = NOT_REACHED;
         for _ in 0..u64::MAX {
-            let Some(Reverse((distance, cell))) = self.waiting.pop() else {
+            if let Some((distance, cell)) = self.waiting.take() {
+                found = self.settle(left, labels, groups, group, found, distance, cell)?;
+            } else if found.distance != NOTHING || !self.waiting.advance()? {
                 break;
-            };
-            if at(labels.table(), cell) != distance {
-                continue;
             }
-            if let Some(other) = groups.other(group, cell) {
-                return Ok(Some(Reached {
-                    cell,
-                    group: other,
-                    distance,
-                }));
-            }
-            self.spread(left, labels, cell, distance)?;
         }
-        Ok(None)
+        Ok(if found.distance == NOTHING {
+            None
+        } else {
+            Some(found)
+        })
+    }
+
+    /// Goes on from a cell at a distance, unless it is one of another group. Gives the nearest one of another
+    /// group so far. The only error is want of memory.
+    fn settle(
+        &mut self,
+        left: &[u32],
+        labels: &mut Labels,
+        groups: &Groups,
+        group: u32,
+        found: Reached,
+        distance: u32,
+        cell: u32,
+    ) -> Result<Reached, AllocError>
+        ensures { length labels.new.table ≡ length labels.old.table }
+    {
+        if found.distance <= distance || at(labels.table(), cell) != distance {
+            return Ok(found);
+        }
+        if let Some(group) = groups.other(group, cell) {
+            return Ok(Reached {
+                cell,
+                group,
+                distance,
+            });
+        }
+        self.spread(left, labels, cell, distance)?;
+        Ok(found)
     }
 
     /// Labels the cells from which arcs lead into a cell.
@@ -131,7 +161,7 @@ impl Search {
         if (cell as usize) < labels.table().len() && distance < labels.table()[cell as usize] {
             labels.set(cell, distance)?;
             put(&mut self.next, cell, next);
-            self.waiting.push(Reverse((distance, cell)))?;
+            self.waiting.push(distance, cell)?;
         }
         Ok(())
     }

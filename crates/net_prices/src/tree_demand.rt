@@ -31,8 +31,7 @@ impl TreeDemand {
     }
 
     /// Adds what a wire of a width takes of the edge between two neighbouring cells.
-    pub(crate) fn add(&mut self, frame: &Frame, width: u32, a: u32, b: u32) {
-        let shape = frame.shape;
+    pub(crate) fn add(&mut self, frame: &Frame, shape: Shape, width: u32, a: u32, b: u32) {
         let low = a.min(b);
         let gap = a.max(b) - low;
         if gap == shape.stride(Way::Up) {
@@ -44,7 +43,12 @@ impl TreeDemand {
             return;
         }
         put(&mut self.last, number, self.tree);
-        let taken = at(&self.taken, number).saturating_add(need_on(frame, width, low));
+        let need = if shape.layers() == frame.shape.layers() {
+            need_on(frame, width, low / shape.stride(Way::Up).max(1))
+        } else {
+            least_need(frame, width)
+        };
+        let taken = at(&self.taken, number).saturating_add(need);
         put(&mut self.taken, number, taken);
     }
 
@@ -61,11 +65,19 @@ impl TreeDemand {
     }
 }
 
-/// What a wire of a width takes of an edge on the layer of a cell.
-fn need_on(frame: &Frame, width: u32, cell: u32) -> u32 {
-    let layer = cell / frame.shape.stride(Way::Up).max(1);
+/// What a wire of a width takes of an edge on a layer.
+fn need_on(frame: &Frame, width: u32, layer: u32) -> u32 {
     match frame.layers.get(layer as usize) {
         Some(layer) => width.max(layer.width).saturating_add(layer.spacing),
         None => 0,
     }
+}
+
+/// The least that a wire of a width takes of an edge, over the layers.
+fn least_need(frame: &Frame, width: u32) -> u32 {
+    let mut least = u32::MAX;
+    for layer in 0..frame.shape.layers() {
+        least = least.min(need_on(frame, width, layer));
+    }
+    least
 }

@@ -9,13 +9,13 @@ use Rattle.gr_base.specs.Grid.{cells_of, has_edge, is_wire}
 use Rattle.gr_base.specs.Sums.{wire_at, wire_number, wires_from_cells}
 use Rattle.gr_base.specs.declared.grid.Edge.{Edge}
 use Rattle.grid_demand.proofs.RangeFilters.{filter-passes, filter-fails}
-use Rattle.price_bounds.specs.Costs.{AreJoined, cost_of, cost_before, held_of, held_numbered, IsCostBound}
+use Rattle.price_bounds.specs.Costs.{AreJoined, cost_of, cost_before, held_of, held_numbered, IsCostBound, IsCostOf}
 use Rattle.price_laws.specs.Prices.{Prices, IsNetBound, held_price}
 use Rattle.wall_laws.proofs.SumLemmas.{sum-filter, sum-map}
 
-pub more-costs : (d : DesignView) (p : Prices) (allowed : Edges) (net cost more sum : ℕ) → is_routed d net ≡ true → IsCostBound d p allowed net cost →
-    IsNetBound d p allowed net more → sum ≤ cost + more → IsCostBound d p allowed (net + 1) sum
-more-costs d p allowed net cost more sum routed is one few sets joined =
+pub more-costs : (d : DesignView) (p : Prices) (allowed : Edges) (from net cost more sum : ℕ) → is_routed d net ≡ true → IsCostOf d p allowed from net cost →
+    IsNetBound d p allowed net more → sum ≤ cost + more → IsCostOf d p allowed from (net + 1) sum
+more-costs d p allowed from net cost more sum routed is one few sets joined =
     let before : List ℕ = filter (is_routed d) (range_with_len 0 net) in
     let all = ap (sum_by (cost_of d p sets)) (filter-passes (is_routed d) net before (before ++ net ∷ []) refl routed refl) in
     let push = sum_by_push (cost_of d p sets) before net in
@@ -23,12 +23,31 @@ more-costs d p allowed net cost more sum routed is one few sets joined =
     let here = one (sets net) (joined net routed) in
     omega (arith, all, push, low, here, few)
 
-pub same-costs : (d : DesignView) (p : Prices) (allowed : Edges) (net cost : ℕ) → is_routed d net ≡ false → IsCostBound d p allowed net cost →
-    IsCostBound d p allowed (net + 1) cost
-same-costs d p allowed net cost skipped is sets joined =
+pub same-costs : (d : DesignView) (p : Prices) (allowed : Edges) (from net cost : ℕ) → is_routed d net ≡ false → IsCostOf d p allowed from net cost →
+    IsCostOf d p allowed from (net + 1) cost
+same-costs d p allowed from net cost skipped is sets joined =
     let low = is sets joined in
     let all = ap (sum_by (cost_of d p sets)) (filter-fails (is_routed d) net (filter (is_routed d) (range_with_len 0 net)) refl skipped) in
     omega (arith, low, all)
+
+-- no nets cost nothing
+pub no-costs : (d : DesignView) (p : Prices) (allowed : Edges) (from to : ℕ) → from ≡ to → IsCostOf d p allowed from to 0
+no-costs d p allowed from to same sets joined = let e = ap (cost_before d p sets) same in omega (arith, e)
+
+-- nets and those behind them cost the sum, or more
+pub costs-then : (d : DesignView) (p : Prices) (allowed : Edges) (from mid to cost more sum : ℕ) → IsCostOf d p allowed from mid cost →
+    IsCostOf d p allowed mid to more → sum ≤ cost + more → IsCostOf d p allowed from to sum
+costs-then d p allowed from mid to cost more sum is next few sets joined =
+    let one = is sets joined in
+    let two = next sets joined in
+    omega (arith, one, two, few)
+
+-- what nets cost up to the last one
+pub costs-to-last : (d : DesignView) (p : Prices) (allowed : Edges) (to count cost : ℕ) → to ≡ count → IsCostOf d p allowed 0 to cost → IsCostBound d p allowed count cost
+costs-to-last d p allowed to count cost same is sets joined =
+    let low = is sets joined in
+    let e = ap (cost_before d p sets) same in
+    omega (arith, low, e)
 
 -- ---- what edges hold
 

@@ -1,2 +1,3 @@
 pub mod CostLemmas
 pub mod FigureLemmas
+pub mod SeatLemmas

@@ -26,6 +26,11 @@ abbrev pub IsCostBound : DesignView → Prices → (allowed : Edges) → (count 
 IsCostBound d p allowed count bound =
     (sets : ℕ → Edges) → AreJoined d allowed sets → bound ≤ cost_before d p sets count
 
+-- such sets of the routed nets from one number up to another cost no less
+abbrev pub IsCostOf : DesignView → Prices → (allowed : Edges) → (from to cost : ℕ) → Type 0
+IsCostOf d p allowed from to cost =
+    (sets : ℕ → Edges) → AreJoined d allowed sets → cost_before d p sets from + cost ≤ cost_before d p sets to
+
 -- what the weights ask for what an edge holds, if it may be used, and for the one with a number, if it is the grid's
 abbrev pub held_of : DesignView → Prices → (allowed : Edges) → Edge → ℕ
 held_of d p allowed e = if allowed e then p.weight e * capacity d e else 0

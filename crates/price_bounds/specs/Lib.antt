@@ -1,4 +1,5 @@
 pub mod Costs
 pub mod Figures
 pub mod Priced
+pub mod Seats
 pub mod Texts

@@ -5,17 +5,18 @@ ghost use Rattle.grid_demand.specs.Tables.{capacity_of};
 ghost use Rattle.price_laws.specs.Laws.{ArePriceBounds};
 ghost use Rattle.gr_base.specs.Designs.{DesignView};
 ghost use Rattle.price_bounds.specs.Figures.{divisor_of, IsFigure};
+ghost use Rattle.price_bounds.specs.Seats.{AreFor};
 ghost use Rattle.price_bounds.specs.Texts.{AreAtLeast, IsFloor};
 ghost use Rattle.price_bounds.specs.declared.figure.Figure.TheVariants.{Overflow, Length, Both};
 
-use crate::costs::least_cost;
 use crate::figure::{Figure, SCALE, rates_of};
 use crate::held::held_price_of;
-use crate::weights::{first_weight, move_weights};
+use crate::seats::{Seat, least_cost, seats_for};
+use crate::steps::Steps;
 use gr_base::Design;
 use grid_demand::Capacity;
-use net_prices::NetPricer;
 use std::alloc::{AllocError, Global};
+use std::thread::Threads;
 
 /// What no edge sets that join the routed nets of a design are below.
 #[derive(Clone, Copy, Debug, PartialEq, Eq)]
@@ -28,6 +29,23 @@ pub struct PriceBounds {
     pub both: u128,
 }
 
+/// What is asked for: as how many wire edges a via edge counts, how often weights are moved, and by how many
+/// workers nets are priced.
+#[derive(Clone, Copy, Debug, PartialEq, Eq)]
+struct Asked {
+    via_cost: u32,
+    steps: u32,
+    workers: u32,
+}
+
+/// The bound that weights give, what the nets cost at least at them, and what the edges hold.
+#[derive(Clone, Copy, Debug)]
+pub(crate) struct Bound {
+    pub most: u128,
+    pub cost: u128,
+    pub held: u128,
+}
+
 /// What is known of overflow and of wirelength along usable edges.
 #[derive(Clone, Copy, Debug, PartialEq, Eq)]
 pub struct Floor {
@@ -38,51 +56,34 @@ pub struct Floor {
 }
 
 /// The bounds of a design after so many steps for each figure, and at least those that are known. A via
-/// edge counts as `via_cost` wire edges, at most 1,000. More steps give no lower bounds. The only error is
-/// want of memory.
-pub fn price_bounds(
+/// edge counts as `via_cost` wire edges, at most 1,000. More steps give no lower bounds, and the workers,
+/// who price nets side by side, give the same however many there are. The only error is want of memory.
+pub fn price_bounds<R: Threads + Sync>(
+    rt: &R,
     alloc: Global,
     design: &Design,
     via_cost: u32,
     steps: u32,
+    workers: u32,
     floor: Floor,
 ) -> Result<PriceBounds, AllocError>
     requires via_cost { via_cost ≤ 1000 }
+    requires workers { 0 < workers }
     requires floor { IsFloor design.now via_cost floor.overflow floor.usable_wirelength }
     ensures bounds { IfOk result (λ bounds.
         ArePriceBounds design.now via_cost bounds.overflow bounds.length bounds.both) }
     ensures least { IfOk result (λ bounds.
         AreAtLeast floor.overflow floor.usable_wirelength bounds.overflow bounds.length bounds.both) }
 {
+    let asked = Asked {
+        via_cost,
+        steps,
+        workers,
+    };
     let capacity = Capacity::of(alloc, design)?;
-    let mut pricer = NetPricer::new(alloc, design.frame().shape)?;
-    let overflow = best_bound(
-        alloc,
-        design,
-        &capacity,
-        &mut pricer,
-        Figure::Overflow,
-        via_cost,
-        steps,
-    )?;
-    let length = best_bound(
-        alloc,
-        design,
-        &capacity,
-        &mut pricer,
-        Figure::Length,
-        via_cost,
-        steps,
-    )?;
-    let both = best_bound(
-        alloc,
-        design,
-        &capacity,
-        &mut pricer,
-        Figure::Both,
-        via_cost,
-        steps,
-    )?;
+    let overflow = best_bound(rt, alloc, design, &capacity, Figure::Overflow, asked)?;
+    let length = best_bound(rt, alloc, design, &capacity, Figure::Length, asked)?;
+    let both = best_bound(rt, alloc, design, &capacity, Figure::Both, asked)?;
     Ok(raised(overflow, length, both, floor))
 }
 
@@ -105,51 +106,60 @@ fn raised(overflow: u128, length: u128, both: u128, floor: Floor) -> PriceBounds
 }
 
 /// The greatest bound of a figure of those that the steps give. The only error is want of memory.
-fn best_bound(
+fn best_bound<R: Threads + Sync>(
+    rt: &R,
     alloc: Global,
     design: &Design,
     capacity: &Capacity,
-    pricer: &mut NetPricer,
     figure: Figure,
-    via_cost: u32,
-    steps: u32,
+    asked: Asked,
 ) -> Result<u128, AllocError>
     requires capacity { capacity.now ≡ capacity_of design.now }
-    requires shape { pricer.old.shape ≡ design.now.frame.shape }
-    ensures shape { pricer.new.shape ≡ design.now.frame.shape }
-    ensures bound { IfOk result (IsFigure design.now via_cost figure) }
+    requires workers { 0 < asked.workers }
+    ensures bound { IfOk result (IsFigure design.now asked.via_cost figure) }
 {
-    let wires = 2 * capacity.shape().cells() as usize;
-    let mut weights = vec![in alloc; first_weight(figure); wires]?;
+    let shape = design.frame().shape;
+    let mut seats = seats_for(alloc, shape, figure == Figure::Overflow, asked.workers)?;
+    let mut weights = vec![in alloc; 0; 2 * capacity.shape().cells() as usize]?;
+    let mut moves = Steps::new(alloc, design, capacity, figure)?;
+    moves.begin(&mut weights);
     let mut best = 0;
-    for step in 0..steps {
-        pricer.clear();
-        let bound = bound_at(design, capacity, pricer, figure, via_cost, &weights)?;
-        best = bound.max(best);
-        move_weights(&mut weights, capacity, pricer, figure, step);
+    for _ in 0..asked.steps {
+        let bound = bound_at(rt, design, capacity, &mut seats, figure, asked, &weights)?;
+        best = bound.most.max(best);
+        moves.step(&mut weights, capacity, &seats, bound);
     }
     Ok(best)
 }
 
 /// The bound of a figure that weights give. The only error is want of memory.
-fn bound_at(
+fn bound_at<R: Threads + Sync>(
+    rt: &R,
     design: &Design,
     capacity: &Capacity,
-    pricer: &mut NetPricer,
+    seats: &mut Vec<Seat>,
     figure: Figure,
-    via_cost: u32,
+    asked: Asked,
     weights: &[u32],
-) -> Result<u128, AllocError>
+) -> Result<Bound, AllocError>
     requires capacity { capacity.now ≡ capacity_of design.now }
-    requires shape { pricer.old.shape ≡ design.now.frame.shape }
+    requires workers { 0 < asked.workers }
+    requires seats { length seats.old.items ≡ asked.workers }
+    requires shape { AreFor design.now.frame.shape seats.old.items }
     requires weights { length weights.now ≡ 2 * cells_of capacity.now.shape }
-    ensures shape { pricer.new.shape ≡ design.now.frame.shape }
-    ensures bound { IfOk result (IsFigure design.now via_cost figure) }
+    ensures seats { length seats.new.items ≡ asked.workers }
+    ensures shape { AreFor design.now.frame.shape seats.new.items }
+    ensures bound { IfOk result (λ bound. IsFigure design.now asked.via_cost figure bound.most) }
 {
-    let rates = rates_of(figure, via_cost);
-    let cost = least_cost(design, capacity, pricer, rates, weights)?;
-    let surplus = cost.saturating_sub(held_price_of(capacity, rates, weights));
-    Ok(bound_by(surplus, figure, most_weight(weights)))
+    let rates = rates_of(figure, asked.via_cost);
+    let cost = least_cost(rt, design, capacity, seats, asked.workers, rates, weights)?;
+    let held = held_price_of(capacity, rates, weights);
+    let surplus = cost.saturating_sub(held);
+    Ok(Bound {
+        most: bound_by(surplus, figure, most_weight(weights)),
+        cost,
+        held,
+    })
 }
 
 /// The bound that a surplus proves, where no weight is above a number.

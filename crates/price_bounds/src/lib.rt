@@ -4,8 +4,12 @@
 
 mod bounding;
 mod costs;
+mod cuts;
 mod figure;
+mod flat_steps;
 mod held;
+mod seats;
+mod steps;
 mod text;
 mod weights;
 

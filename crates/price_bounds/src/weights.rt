@@ -2,9 +2,9 @@
 ghost use Rattle.std.specs.Prelude.{◌≡◌, ◌≤◌, length};
 
 use crate::figure::{Figure, SCALE};
+use crate::seats::{Seat, taken_at};
 use gr_base::{Edge, Way};
 use grid_demand::Capacity;
-use net_prices::NetPricer;
 
 /// The greatest weight.
 pub(crate) const MOST_WEIGHT: u32 = 1 << 20;
@@ -17,7 +17,7 @@ const MOST_WIRES: usize = 1 << 25;
 pub(crate) fn move_weights(
     weights: &mut Vec<u32>,
     capacity: &Capacity,
-    pricer: &NetPricer,
+    seats: &[Seat],
     figure: Figure,
     step: u32,
 )
@@ -27,17 +27,8 @@ pub(crate) fn move_weights(
     for number in 0..weights.len() {
         let place = number.min(MOST_WIRES) as u32;
         let held = held_of(capacity, place);
-        let taken = pricer.taken(place);
+        let taken = taken_at(seats, place);
         weights[number] = moved(weights[number], taken, held, pace).min(most_of(figure));
-    }
-}
-
-/// The weight of each wire edge at the first step: where wirelength doesn't count, the first trees are short
-/// by it.
-pub(crate) fn first_weight(figure: Figure) -> u32 {
-    match figure {
-        Figure::Overflow => SCALE / 8,
-        Figure::Length | Figure::Both => 0,
     }
 }
 
@@ -65,7 +56,7 @@ fn moved(weight: u32, taken: u32, held: u32, pace: u32) -> u32 {
 }
 
 /// What the wire edge with a number holds, or nothing where it isn't one of the grid's.
-fn held_of(capacity: &Capacity, number: u32) -> u32 {
+pub(crate) fn held_of(capacity: &Capacity, number: u32) -> u32 {
     let shape = capacity.shape();
     let low = number / 2;
     let way = if number % 2 == 0 {

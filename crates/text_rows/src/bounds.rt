@@ -4,6 +4,7 @@ use bound_top::bound;
 use gr_io::{MemoryShelf, MemorySink};
 use gr_text::Text;
 use std::alloc::{AllocError, Global};
+use std::thread::Threads;
 
 /// Three nets that leave one tile, which two wires lead from.
 const DESIGN: &str = "grid 4 4 2\nvertical capacity 0 2\nhorizontal capacity 2 0\n\
@@ -59,14 +60,19 @@ struct Left {
 }
 
 /// Runs these words over a shelf that holds the design under `design` and its cut text under `cut`.
-fn run(alloc: Global, faults: Faults, words: &[String]) -> Result<Left, AllocError> {
+fn run<R: Threads + Sync>(
+    rt: &R,
+    alloc: Global,
+    faults: Faults,
+    words: &[String],
+) -> Result<Left, AllocError> {
     let mut shelf = MemoryShelf::new(alloc, vec![in alloc; faults.shelf]?);
     hold(alloc, &mut shelf, "design", DESIGN)?;
     hold(alloc, &mut shelf, "cut", CUT)?;
     shelf.piece(PIECE);
     let mut out = MemorySink::new(alloc, faults.room, PIECE, vec![in alloc; faults.out]?)?;
     let mut err = MemorySink::new(alloc, ROOM, PIECE, vec![in alloc; faults.err]?)?;
-    let status = bound(alloc, words, &mut shelf, &mut out, &mut err);
+    let status = bound(rt, alloc, words, &mut shelf, &mut out, &mut err);
     Ok(Left { status, out, err })
 }
 
@@ -89,7 +95,12 @@ fn words_of(alloc: Global, line: &str) -> Result<Vec<String>, AllocError> {
 
 /// The status of a run, and what out and err gained, where these calls of the shelf, of out and of err
 /// fail.
-pub(crate) fn put_bound(alloc: Global, rest: &str, told: &mut Text) -> Result<(), AllocError> {
+pub(crate) fn put_bound<R: Threads + Sync>(
+    rt: &R,
+    alloc: Global,
+    rest: &str,
+    told: &mut Text,
+) -> Result<(), AllocError> {
     let (shelf, rest) = number_in(rest);
     let (out, rest) = number_in(rest);
     let (err, rest) = number_in(rest);
@@ -100,7 +111,7 @@ pub(crate) fn put_bound(alloc: Global, rest: &str, told: &mut Text) -> Result<()
         room: ROOM,
     };
     let words = words_of(alloc, rest)?;
-    let left = run(alloc, faults, &words)?;
+    let left = run(rt, alloc, faults, &words)?;
     told.put(b"status ")?;
     put_number_line(left.status, told)?;
     put_gained(b"out ", left.out.bytes(), told)?;
@@ -118,14 +129,19 @@ fn put_gained(name: &[u8], bytes: &[u8], told: &mut Text) -> Result<(), AllocErr
 }
 
 /// A line for each call of a device that fails, up to a number.
-pub(crate) fn put_calls(alloc: Global, rest: &str, told: &mut Text) -> Result<(), AllocError> {
+pub(crate) fn put_calls<R: Threads + Sync>(
+    rt: &R,
+    alloc: Global,
+    rest: &str,
+    told: &mut Text,
+) -> Result<(), AllocError> {
     let (device, rest) = rest.split_once(' ').unwrap_or((rest, ""));
     let (most, rest) = number_in(rest);
     let words = words_of(alloc, rest)?;
-    let sound = run(alloc, SOUND, &words)?;
+    let sound = run(rt, alloc, SOUND, &words)?;
     for call in 0..most {
         let call = call + 1;
-        let left = run(alloc, Faults::at_call(device, call), &words)?;
+        let left = run(rt, alloc, Faults::at_call(device, call), &words)?;
         put_call(call, &left, &sound, told)?;
     }
     Ok(())
@@ -156,11 +172,16 @@ fn put_share(name: &[u8], gained: &[u8], text: &[u8], told: &mut Text) -> Result
 
 /// How many bytes of room on out are too few, from 0 on: a write fails, out has the text's first bytes,
 /// as many as there is room for, and err has none.
-pub(crate) fn put_rooms(alloc: Global, rest: &str, told: &mut Text) -> Result<(), AllocError> {
+pub(crate) fn put_rooms<R: Threads + Sync>(
+    rt: &R,
+    alloc: Global,
+    rest: &str,
+    told: &mut Text,
+) -> Result<(), AllocError> {
     let words = words_of(alloc, rest)?;
-    let sound = run(alloc, SOUND, &words)?;
+    let sound = run(rt, alloc, SOUND, &words)?;
     for room in 0..ROOM {
-        let left = run(alloc, Faults { room, ..SOUND }, &words)?;
+        let left = run(rt, alloc, Faults { room, ..SOUND }, &words)?;
         if !is_full(&left, room, sound.out.bytes()) {
             return put_number_line(room, told);
         }

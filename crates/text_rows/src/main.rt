@@ -54,9 +54,14 @@ use std::alloc::AllocError;
 use std::io;
 use std::io::ErrorKind;
 use std::rt::Files;
+use std::thread::Threads;
 
 /// Puts a line and its answer at the end of the text.
-fn put_row<R: AllocGlobal + Files>(rt: &R, line: &str, told: &mut Text) -> Result<(), AllocError> {
+fn put_row<R: AllocGlobal + Files + Threads + Sync>(
+    rt: &R,
+    line: &str,
+    told: &mut Text,
+) -> Result<(), AllocError> {
     tellings::put_line(line.as_bytes(), told)?;
     let (command, rest) = line.split_once(' ').unwrap_or((line, ""));
     let alloc = rt.alloc();
@@ -77,9 +82,9 @@ fn put_row<R: AllocGlobal + Files>(rt: &R, line: &str, told: &mut Text) -> Resul
         "tree" => edges::put_edges(alloc, Asked::Tree, rest, told),
         "runs" => edges::put_edges(alloc, Asked::Runs, rest, told),
         "greatest" => texts::put_greatest(alloc, told),
-        "bound" => bounds::put_bound(alloc, rest, told),
-        "calls" => bounds::put_calls(alloc, rest, told),
-        "rooms" => bounds::put_rooms(alloc, rest, told),
+        "bound" => bounds::put_bound(rt, alloc, rest, told),
+        "calls" => bounds::put_calls(rt, alloc, rest, told),
+        "rooms" => bounds::put_rooms(rt, alloc, rest, told),
         _ => Ok(()),
     }
 }

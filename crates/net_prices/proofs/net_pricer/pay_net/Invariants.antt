@@ -6,7 +6,7 @@ use Rattle.net_prices.proofs.net_pricer.pay_net.Given as goal
 
 abbrev pub invariant-loop : goal.invariant-loop
 invariant-loop l = record {
-  labels : length l.labels.table ≡ cells_of l.frame.shape;
+  labels : length l.labels.table ≡ cells_of l.small;
   lower : AreLower l.fn.left.items l.left.items;
-  raised : IsRaised l.frame.shape (slice_index l.pins 0) l.pins l.fn.left.items l.left.items l.paid;
+  raised : IsRaised l.small (slice_index l.pins 0) l.pins l.fn.left.items l.left.items l.paid;
 }

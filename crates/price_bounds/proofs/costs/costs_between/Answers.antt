@@ -3,7 +3,7 @@ use Rattle.net_prices.specs.PriceTables.{allowed_by, prices_by, ArePrices}
 use Rattle.net_prices.specs.Pricers.{PricerView}
 use Rattle.price_laws.specs.Prices.{IsNetBound}
 use Rattle.price_bounds.proofs.CostLemmas.{more-costs, same-costs}
-use Rattle.price_bounds.proofs.costs.least_cost.Goals as goal
+use Rattle.price_bounds.proofs.costs.costs_between.Goals as goal
 
 pub loop-net-preserved-then-not-routed : goal.loop-net-preserved-then-not-routed
 loop-net-preserved-then-not-routed c =
@@ -11,7 +11,7 @@ loop-net-preserved-then-not-routed c =
     let l = c.loop-net in
     record {
       shape = l.invariant.shape;
-      bound = same-costs d (prices_by c.args.rates c.args.weights.now) (allowed_by d c.args.rates.usable_only) l.net l.cost
+      bound = same-costs d (prices_by c.args.rates c.args.weights.now) (allowed_by d c.args.rates.usable_only) c.args.from l.net l.cost
           (sym c.routed.ensures ∙ c.if-not-routed.true) l.invariant.bound;
       priced = l.invariant.priced;
     }
@@ -25,10 +25,10 @@ loop-net-preserved c =
     let one = c.in_ok-bound.ensures.bound c.args.rates c.args.weights.now c.set_prices.ensures.prices in
     record {
       shape = ap (λ (v : PricerView). v.shape) c.bound.ensures.same ∙ c.set_prices.ensures.shape;
-      bound = more-costs d p allowed l.net l.cost c.in_ok-bound.field-0 c.saturating_add-cost.result (sym c.routed.ensures ∙ c.if-not-routed.false)
+      bound = more-costs d p allowed c.args.from l.net l.cost c.in_ok-bound.field-0 c.saturating_add-cost.result (sym c.routed.ensures ∙ c.if-not-routed.false)
           l.invariant.bound one (omega (arith, c.saturating_add-cost.ensures, c.from.ensures));
       priced = (
-        omega (arith, c.loop-net-test.true, c.nets-net-end.ensures.nets),
-        subst (λ (v : PricerView). ArePrices d c.args.rates c.args.weights.now l.net v.table) (sym c.bound.ensures.same) c.set_prices.ensures.prices,
+        omega (arith, c.loop-net-test.true, c.requires.to),
+        subst (λ (v : PricerView). ArePrices d c.args.rates c.args.weights.now l.net v) (sym c.bound.ensures.same) c.set_prices.ensures.prices,
       );
     }
