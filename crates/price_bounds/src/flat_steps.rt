@@ -17,11 +17,14 @@ const MOST: u32 = SCALE * PARTS;
 /// What weights have at first beside full cuts, in parts: enough that the first trees are short.
 const FIRST: u32 = MOST / 64;
 
-/// By how much more than the best is aimed for at first, in parts of 4,096 of it.
-const FIRST_AIM: u64 = 205;
+/// How far the first step goes, in parts of 1,024.
+const FIRST_STRIDE: u64 = 1_024;
+
+/// The farthest that a step goes.
+const MOST_STRIDE: u64 = 1 << 20;
 
 /// How many steps without a gain make the next ones shorter.
-const PATIENCE: u32 = 6;
+const PATIENCE: u32 = 2;
 
 /// More than the wire edges of a grid.
 const MOST_WIRES: usize = 1 << 25;
@@ -33,21 +36,25 @@ struct Wire {
     held: u64,
     /// Its weight, in parts.
     weight: u32,
-    /// What was taken of it beyond what it holds, in sixteenths: the last step counts for three tenths, those
+    /// The weight that it had when most was proved.
+    kept: u32,
+    /// What was taken of it beyond what it holds, in sixteenths: the last step counts for a fifth, those
     /// before it for the others.
     trend: i64,
 }
 
-/// The weights of all layers over a tile as one, and how the steps went.
+/// The weights of all layers over a tile as one, and how the steps went: each begins where most was proved.
 #[derive(Debug, Drop)]
 pub(crate) struct FlatSteps {
     /// By number.
     wires: Vec<Wire>,
     /// By layer: the least need over the layers by its own, in parts. So nets ask for the same price on each.
     ratios: Vec<u32>,
-    best: u128,
-    /// By how much more than the best is aimed for, in parts of 4,096.
-    aim: u64,
+    /// What nets cost, and what edges held, where most was proved.
+    cost: u128,
+    held: u128,
+    /// How far the next step goes, in parts of 1,024.
+    stride: u64,
     /// Steps since the last gain.
     since: u32,
     begun: bool,
@@ -66,8 +73,9 @@ impl FlatSteps {
         Ok(FlatSteps {
             wires: wires_of(alloc, frame.shape, &cuts, capacity)?,
             ratios: ratios_of(alloc, frame)?,
-            best: 0,
-            aim: FIRST_AIM,
+            cost: 0,
+            held: 0,
+            stride: FIRST_STRIDE,
             since: 0,
             begun: false,
         })
@@ -87,31 +95,33 @@ impl FlatSteps {
 
     /// Moves the weights after a step at which nets cost so much, and what edges hold so much.
     pub(crate) fn step(&mut self, seats: &[Seat], cost: u128, held: u128) {
-        self.note(cost.saturating_sub(held));
         let over = self.turn(seats);
-        let gain = self
-            .best
-            .saturating_add(u128::from(over).saturating_mul(u128::from(SCALE / 8)));
-        let target = self
-            .best
-            .saturating_add(gain.saturating_mul(u128::from(self.aim)) / 4096);
-        let gap = target.saturating_add(held).saturating_sub(cost);
-        let norm = self.norm().max(1);
-        let pace = gap.saturating_mul(1 << 20) / u128::from(norm);
+        self.note(cost, held);
+        self.begun = true;
+        let gain = self.cost.saturating_sub(self.held) / 20
+            + u128::from(over).saturating_mul(u128::from(SCALE)) / 100;
+        let far = gain
+            .saturating_mul(u128::from(self.stride))
+            .saturating_mul(1 << 20);
+        let pace = far / u128::from(self.norm().max(1));
         self.shift(pace.min(u128::from(u64::MAX)) as u64);
     }
 
-    /// Notes what a step proved. Where there is no gain for some steps, less is aimed for.
-    fn note(&mut self, surplus: u128) {
-        if surplus > self.best.saturating_add(self.best / 2048) {
+    /// Notes what a step proved. Where that is more than before, the next step goes farther, and begins here;
+    /// where it isn't for some steps, they go less far.
+    fn note(&mut self, cost: u128, held: u128) {
+        if !self.begun || self.cost.saturating_add(held) < cost.saturating_add(self.held) {
+            self.cost = cost;
+            self.held = held;
             self.since = 0;
-        } else {
-            self.since = self.since.saturating_add(1);
+            self.stride = (self.stride.saturating_mul(13) / 10).min(MOST_STRIDE);
+            self.keep();
+            return;
         }
-        self.best = self.best.max(surplus);
+        self.since = self.since.saturating_add(1);
         if self.since >= PATIENCE {
             self.since = 0;
-            self.aim = self.aim.saturating_mul(3) / 5;
+            self.stride = self.stride.saturating_mul(3) / 5;
         }
     }
 
@@ -125,16 +135,23 @@ impl FlatSteps {
                 wire.trend = turned(wire.trend, excess(taken, wire.held), self.begun);
             }
         }
-        self.begun = true;
         over
+    }
+
+    /// Keeps the weights as those that proved most.
+    fn keep(&mut self) {
+        for number in 0..self.wires.len() {
+            if let Some(wire) = self.wires.get_mut(number) {
+                wire.kept = wire.weight;
+            }
+        }
     }
 
     /// The sum of the squares by which weights can move.
     fn norm(&self) -> u64 {
         let mut norm = 0_u64;
         for wire in self.wires.iter() {
-            let stays = (wire.weight == 0 && wire.trend < 0)
-                || (wire.weight == MOST && wire.trend > 0);
+            let stays = (wire.kept == 0 && wire.trend < 0) || (wire.kept == MOST && wire.trend > 0);
             if !stays {
                 let size = wire.trend.unsigned_abs();
                 norm = norm.saturating_add(size.saturating_mul(size));
@@ -143,16 +160,16 @@ impl FlatSteps {
         norm
     }
 
-    /// Moves each weight by its trend.
+    /// Moves each weight by its trend, from where most was proved.
     fn shift(&mut self, pace: u64) {
         for number in 0..self.wires.len() {
             if let Some(wire) = self.wires.get_mut(number) {
-                let more = pace.saturating_mul(wire.trend.unsigned_abs()) >> 8;
+                let more = pace.saturating_mul(wire.trend.unsigned_abs()) >> 18;
                 let more = more.min(u64::from(MOST)) as u32;
                 wire.weight = if wire.trend < 0 {
-                    wire.weight.saturating_sub(more)
+                    wire.kept.saturating_sub(more)
                 } else {
-                    wire.weight.saturating_add(more).min(MOST)
+                    wire.kept.saturating_add(more).min(MOST)
                 };
             }
         }
@@ -170,10 +187,7 @@ fn turned(trend: i64, excess: i64, begun: bool) -> i64 {
     if !begun {
         return excess;
     }
-    trend
-        .saturating_mul(7)
-        .saturating_add(excess.saturating_mul(3))
-        / 10
+    trend.saturating_mul(4).saturating_add(excess) / 5
 }
 
 /// The wire edges of the grid with its layers as one, with their first weights. The only error is want of
@@ -188,9 +202,11 @@ fn wires_of(
     for number in 0..flat_wires(shape) {
         let held = held_over(shape, capacity, number);
         let full = held == 0 || cuts.is_full(shape, number);
+        let weight = if full { MOST } else { FIRST };
         wires.push(Wire {
             held,
-            weight: if full { MOST } else { FIRST },
+            weight,
+            kept: weight,
             trend: 0,
         })?;
     }
