@@ -6,12 +6,15 @@ Each design (made ones where none is named) is routed by 1, 2, 4, 8 and 16 worke
 said). What each run wrote is judged by `evaluate`: no net may be left unjoined, and the five numbers of its report must
 be those that the run told. The runs by one worker must give the same bytes each time, and in batches of B nets the runs
 by any number of workers. The least and the greatest overflow of each number of workers are printed.
+
+A longer run is watched besides: it may have no more threads at once than workers.
 """
 import argparse
 import os
 import subprocess
 import sys
 import tempfile
+import time
 
 HERE = os.path.dirname(os.path.abspath(__file__))
 ROUTER = os.path.join(HERE, "..", "crates", "groute", "out", "groute")
@@ -19,6 +22,9 @@ WORKERS = (1, 2, 4, 8, 16)
 # The words of made designs, and the rounds of each: the first has room, the second is crowded.
 MADE = (("7 32 32 6 2000", 3), ("11 24 24 4 6000", 8))
 NUMBERS = 5
+# The words of the made design whose run is watched, and its rounds.
+LONGER = "1 128 128 6 100000", 1
+PAUSE = 0.0005      # seconds between two looks
 
 
 def run(program, *words):
@@ -62,6 +68,35 @@ def fault(program, design, solution, route):
     return None, int(told[1].split()[1])
 
 
+def most_threads(words):
+    """The most threads that a program had at two looks in a row: one that has ended may still be listed at one."""
+    most, before = 0, 0
+    with subprocess.Popen(words, stdout=subprocess.DEVNULL, stderr=subprocess.DEVNULL) as process:
+        while process.poll() is None:
+            now = len(os.listdir(f"/proc/{process.pid}/task"))
+            most, before = max(most, min(now, before)), now
+            time.sleep(PAUSE)
+    return most
+
+
+def watched(asked, folder):
+    """Counts the threads of a run by each number of workers. The answer is the count of faults."""
+    words, rounds = LONGER
+    design = os.path.join(folder, "longer")
+    with open(design, "wb") as file:
+        file.write(run(asked.program, "make", *words.split())[1])
+    with open(design + ".library", "w", encoding="ascii") as file:
+        file.write(library(int(words.split()[3])))
+    batches = [] if asked.batch is None else ["--batch", asked.batch]
+    faults = 0
+    for workers in WORKERS:
+        most = most_threads([asked.program, "route", design, design + ".library", str(rounds), "--workers",
+                             str(workers), *batches])
+        faults += most > workers
+        print(f"a longer run, {workers} workers: 1 runs, {most} threads")
+    return faults
+
+
 def tried(asked, folder, design, paths, rounds):
     """Routes a design by each number of workers, and prints what came of it. The answer is the count of faults."""
     faults, first = 0, None
@@ -98,6 +133,7 @@ def main():
         named = [tuple(asked.names[at : at + 3]) for at in range(0, len(asked.names), 3)]
         for design, paths, rounds in named or made(asked.program, folder):
             faults += tried(asked, folder, design, paths, rounds)
+        faults += watched(asked, folder)
     print(f"{faults} faults")
     return 1 if faults else 0
 
