@@ -17,6 +17,8 @@ from unittest import mock
 
 from groute import frame, start
 from groute.texts.files import MOST_LETTERS
+from chips import OnChip, placed
+from test_insertion import CELLS, NETS, PORTS, REPORT, SOLUTION
 from testing import PICTURES, ROOT, TOOLS, InFolder, program, run, tool
 
 SMALL = [f"{ROOT}/examples/small.{kind}" for kind in ("ispd", "library", "solution")]
@@ -83,23 +85,16 @@ def interrupted(child: "subprocess.Popen[bytes]", number: int) -> tuple[bytes, b
     return child.communicate(timeout=1)
 
 
-class BadInputs(InFolder):
-    """Inputs that are drawn, and those that were once found."""
+class Drawn(OnChip):
+    """Inputs that are drawn."""
 
-    def assert_told(self, found: tuple[int, str, str], *says: str) -> None:
-        """That a tool ended with a fault's line that says this."""
-        status, _, err = found
-        self.assertEqual(status, 3, err)
-        self.assertEqual(len(err.splitlines()), 1, err)
-        self.assertLessEqual(len(err), MOST_LETTERS + 1)
-        self.assertTrue(err.rstrip("\n").isprintable(), err)
-        for word in says:
-            self.assertIn(word, err)
+    def setUp(self) -> None:
+        OnChip.setUp(self)
+        os.mkdir(self.path("out"))
 
-    def calls(self) -> list[tuple[str, list[str], list[str]]]:
-        """Of each tool, the words behind its texts, and the texts, of which some are changed."""
-        path = os.path.join(self.folder.name, "out")
-        os.makedirs(path, exist_ok=True)
+    def calls(self) -> list[tuple[str, list[str]]]:
+        """Of each tool, its words; the files among them are its inputs, of which one is changed."""
+        path = self.path("out")
         out, err = run(program(), "route", *SMALL[:2], "1")[1:]
         solution, report = self.put("base.solution", out), self.put("base.report", err)
         names = self.put("base.names", "names 2\nunits 100\norigin 0 0\ntile 10 10\nlayer 1 m1\nlayer 2 m2\n"
@@ -107,18 +102,44 @@ class BadInputs(InFolder):
         panels = self.put("base.panels", run(program(), "panels", SMALL[0], solution)[1])
         guide = self.put("base.guide", "a\n(\n0 0 10 10 m1\n0 0 30 20 m2\n)\n")
         return [
-            ("adjust", ["--layer", "1", "0.5", "-o", f"{path}/a"], [SMALL[0]]),
-            ("congestion", ["--tracks", panels], [SMALL[0], solution]),
-            ("congestion", ["-o", f"{path}/c.csv"], [SMALL[0], solution]),
-            ("hotspots", ["--csv", f"{path}/h", "--klayout", f"{path}/k", "--names", names], [SMALL[0], solution]),
-            ("slowest", [], [SMALL[0], SMALL[1], solution, report]),
-            ("report", ["-o", f"{path}/r"], [SMALL[0], solution, SMALL[1], report]),
-            ("guides", [f"{path}/g", "--names", names], [SMALL[0], solution]),
-            ("to_solution", [f"{path}/t", "--names", names], [SMALL[0], guide]),
-            ("where", ["3"], [SMALL[0]]),
-            ("liberty", [], [SKY[3]]),
-            ("def_to_ispd", [f"{path}/d", f"{path}/l", "--lef", SKY[2], "--liberty", SKY[3], "--layers", "met1-met5"],
-             SKY[:2]),
+            ("adjust", [SMALL[0], "--layer", "1", "0.5", "-o", f"{path}/a"]),
+            ("congestion", [SMALL[0], solution, "--tracks", panels]),
+            ("congestion", [SMALL[0], solution, "-o", f"{path}/c.csv"]),
+            ("hotspots", [SMALL[0], solution, "--csv", f"{path}/h", "--klayout", f"{path}/k", "--names", names]),
+            ("slowest", [SMALL[0], SMALL[1], solution, report]),
+            ("report", [SMALL[0], solution, SMALL[1], report, "-o", f"{path}/r"]),
+            ("guides", [SMALL[0], solution, f"{path}/g", "--names", names]),
+            ("to_solution", [SMALL[0], guide, f"{path}/t", "--names", names]),
+            ("where", [SMALL[0], "3"]),
+            ("liberty", [SKY[3]]),
+            ("def_to_ispd", [*SKY[:2], f"{path}/d", f"{path}/l", "--lef", SKY[2], "--liberty", SKY[3], "--layers",
+                             "met1-met5"]),
+            ("carry", [SMALL[0], solution, SMALL[0], f"{path}/s"]),
+            ("differ", [SMALL[0], solution, solution]),
+        ]
+
+    def calls_of_timing(self) -> list[tuple[str, list[str]]]:
+        """The same of the tools of timing, on a small chip."""
+        self.design(placed(8, 4, CELLS, PORTS, NETS))
+        self.spef()
+        out, (a_def, design, library, netlist, parasitics) = self.path("out"), (
+            self.path(f"a.{kind}") for kind in ("def", "ispd", "library", "v", "spef"))
+        solution, report = self.put("b.solution", SOLUTION), self.put("b.report", REPORT)
+        slacks = self.put("slacks", "slacks 1\nslack 1 -5000\nslack 3 -5000\nfree 5\nclock 4\nend\n")
+        sdc = self.put("sdc", "create_clock -name c -period 2 [get_ports ck]\n")
+        cells, liberty = ["--lef", self.lef], ["--liberty", self.lib]
+        beside = ["--pins", f"{design}.pins", "--names", f"{design}.names"]
+        constraints = ["--period", "2"], ["--sdc", sdc]
+        return [
+            ("netlist", [a_def, *cells, *liberty, "-o", f"{out}/v"]),
+            ("spef", [design, library, self.path("a.solution"), "-o", f"{out}/s", "--verilog", netlist, *beside[:2]]),
+            ("insert", [a_def, design, solution, report, "-o", f"{out}/d", *cells, *liberty, "--verilog", netlist,
+                        f"{out}/v", "--eco", f"{out}/e", *beside]),
+            ("insert", [a_def, design, solution, report, "-o", f"{out}/d", *cells, *liberty, *beside, "--slack", slacks,
+                        "--below", "3", "--keep", self.put("keep", "pair\n")]),
+            *(("required", [design, library, self.path("a.solution"), netlist, parasitics, *liberty, *words, *beside,
+                            "-o", f"{out}/t", "--library", f"{out}/l", "--figures", f"{out}/f"])
+              for words in constraints),
         ]
 
     def changed(self, rng: random.Random, path: str) -> str:
@@ -142,33 +163,32 @@ class BadInputs(InFolder):
                 at = rng.randrange(len(words))
                 words[at] = rng.choice([*WORDS, rng.choice(words), words[at] + "\n" + words[at]])
             data = " ".join(words).encode("utf-8", "surrogateescape")
-        copy = os.path.join(self.folder.name, "changed")
+        copy = self.path("changed")
         with open(copy, "wb") as file:
             file.write(data)
         return copy
 
     def in_folder_of_its_own(self) -> str:
         """Goes to a folder, in which a word that was drawn for an output's name may be written."""
-        folder, before = os.path.join(self.folder.name, "here"), os.getcwd()
+        folder, before = self.path("here"), os.getcwd()
         os.mkdir(folder)
         os.chdir(folder)
         self.addCleanup(os.chdir, before)
         return folder
 
-    def test_drawn(self) -> None:
+    def draw(self, calls: list[tuple[str, list[str]]], seed: int) -> None:
         """Whatever comes, a tool ends soon with a status of its own, in lines that can be shown; one that fails leaves
         no file."""
-        rng = random.Random(75)
-        calls = self.calls()
-        folders = [self.folder.name, os.path.join(self.folder.name, "out"), self.in_folder_of_its_own()]
+        rng = random.Random(seed)
+        folders = [self.folder.name, self.path("out"), self.in_folder_of_its_own()]
         self.changed(rng, SMALL[0])
         before = sorted(os.listdir(self.folder.name))
         begun = time.monotonic()
         for number in range(INPUTS):
-            name, words, texts = calls[number % len(calls)]
-            at = rng.randrange(len(texts))
-            changed = [*texts[:at], self.changed(rng, texts[at]), *texts[at + 1:]]
-            given = [*changed, *words]
+            name, words = calls[number % len(calls)]
+            given = list(words)
+            at = rng.choice([at for at, word in enumerate(words) if os.path.isfile(word)])
+            given[at] = self.changed(rng, words[at])
             if rng.randrange(8) == 0:
                 given[rng.randrange(len(given))] = rng.choice([word for word in WORDS if "\0" not in word])
             status, _, err = in_process(name, given)
@@ -185,6 +205,26 @@ class BadInputs(InFolder):
                 os.unlink(path)
             self.assertEqual(sorted(os.listdir(self.folder.name)), before)
         self.assertLess(time.monotonic() - begun, 60 if os.getloadavg()[0] < (os.cpu_count() or 1) else 240)
+
+    def test_tools(self) -> None:
+        self.draw(self.calls(), 75)
+
+    def test_tools_of_timing(self) -> None:
+        self.draw(self.calls_of_timing(), 73)
+
+
+class BadInputs(InFolder):
+    """Inputs that were once found."""
+
+    def assert_told(self, found: tuple[int, str, str], *says: str) -> None:
+        """That a tool ended with a fault's line that says this."""
+        status, _, err = found
+        self.assertEqual(status, 3, err)
+        self.assertEqual(len(err.splitlines()), 1, err)
+        self.assertLessEqual(len(err), MOST_LETTERS + 1)
+        self.assertTrue(err.rstrip("\n").isprintable(), err)
+        for word in says:
+            self.assertIn(word, err)
 
     def test_numbers(self) -> None:
         for name, texts in (("congestion", [f"grid {DIGITS} 2 1"]), ("adjust", ["grid 3 3 2\nvertical capacity 0 x"]),

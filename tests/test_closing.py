@@ -50,7 +50,7 @@ class Runs(unittest.TestCase):
                 return new
 
         with tempfile.TemporaryDirectory() as folder:
-            steps = Made(lambda *_: "", lambda _: None, lambda _: None, [], [], [], 1)
+            steps = Made(lambda *_: "", lambda *_: None, lambda _: None, [], [], [], 1)
             best = closing.closed(closing.Run(folder, "", ""), steps)
             self.assertEqual(os.listdir(folder), ["timed"] if best.buffers else [])
             return closing.total(best), len(totals) - len(made)
@@ -96,6 +96,7 @@ class Flow(OnChip):
         self.assertRegex(text, r"(?m)^path of slack 0\.\d+ ns: in, long, long_buf1_net, .*back_buf1_net$")
         self.assertIn("long_buf1", self.text("out/timed/placed.def"))
         self.assertIn("design.ispd.pins", os.listdir(self.path("out/timed")))
+        self.assertRegex(self.text("out/timed/report.txt"), r"(?m)^kept [3-9]$")     # the routes before are begun from
         if PICTURES:
             head = head_of(self.text("out/index.html"))
             self.assertEqual(head["timing"][5], ["buffers", "0", re.findall(r"(?m)^buffers +0 +(\d)$", text)[0]])

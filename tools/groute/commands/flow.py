@@ -10,9 +10,9 @@ congested (hotspots.py) and a page to look at (report.py):
   hotspots.txt, index.html                          where it is full; congestion.csv instead, without numpy
 
 With --sta it goes on by OpenSTA's slacks, at a clock of --period nanoseconds or by --sdc (required.py says how):
-buffers of late nets go into the placement (insert.py), which is routed and timed again, at most three times, while the
-total negative slack improves. The best is kept, or none; page and guides are of it, and the verdict has slacks before
-and after:
+buffers of late nets go into the placement (insert.py), which is routed again from the routes before (carry.py) and
+timed, at most three times, while the total negative slack improves. The best is kept, or none; page and guides are of
+it, and the verdict has slacks before and after:
 
   netlist.v, routes.spef, slacks.txt, figures.txt   of the placement as it was; --verilog gives another netlist
   timing.library, buffers.txt                       the library by its slacks, and the buffers that groute finds by it
@@ -61,7 +61,8 @@ WRITTEN = ("design.ispd", "design.ispd.names", "design.ispd.pins", "design.libra
            "routes.solution", "report.txt", "routes.guide", "bounds.txt", "hotspots.txt", "index.html",
            "congestion.csv", "netlist.v", "routes.spef", "slacks.txt", "figures.txt", "timing.library", "buffers.txt",
            "timing.txt")
-OF_RUN = ("design.ispd", "design.library", "routes.solution", "report.txt")     # of each placement that is routed
+# Of each placement that is routed.
+OF_RUN = ("design.ispd", "design.library", "given.solution", "routes.solution", "report.txt")
 FOLDERS = (closing.BEST, *(f"run{number}" for number in range(1, closing.RUNS + 1)))
 MOST_ROUNDS = RANGES["ROUNDS"][1]
 RULE = "near"           # the one that leaves least overflow
@@ -167,9 +168,7 @@ def steps(asked: Namespace) -> tuple[int, str]:
     prepare(asked, paths)
     make_design(asked, asked.placed, paths)
     least = bound(bounds, asked, paths) if bounds else 0
-    if asked.given:
-        tool("carry.py", *earlier(asked), paths["design.ispd"], paths["given.solution"])
-    route(groute, asked, least, paths, paths["given.solution"] if asked.given else None)
+    route(groute, asked, least, paths, earlier(asked))
     kept = kept_in(paths["report.txt"])
     timing = timed(groute, asked, least, paths) if asked.sta else ""
     if bounds and timing:
@@ -199,10 +198,10 @@ def make_design(asked: Namespace, placed: str, paths: dict[str, str]) -> None:
 
 def timed(groute: str, asked: Namespace, least: int, paths: dict[str, str]) -> str:
     """Puts buffers in by OpenSTA's slacks. The answer is for the verdict; the paths are those of what came of it."""
-    def again(run: closing.Run) -> None:
+    def again(run: closing.Run, before: closing.Run) -> None:
         mine = {**paths, **{name: os.path.join(run.folder, name) for name in OF_RUN}}
         make_design(asked, run.placed, mine)
-        route(groute, asked, least, mine)
+        route(groute, asked, least, mine, before.paths("design", "solution"))
 
     def buffer(run: closing.Run) -> None:
         with Outputs() as outputs:
@@ -265,10 +264,13 @@ def order(asked: Namespace, least: int) -> list[str]:
     return [str(rounds), *(str(word) for pair in given.items() if pair[1] is not None for word in pair)]
 
 
-def route(groute: str, asked: Namespace, least: int, paths: dict[str, str], given: str | None = None) -> None:
-    """Writes the routes and the report, together or none."""
+def route(groute: str, asked: Namespace, least: int, paths: dict[str, str], before: Sequence[str]) -> None:
+    """Writes the routes and the report, together or none; `before` has a design with the routes to begin from, or
+    nothing."""
     words = ["route", paths["design.ispd"], paths["design.library"], *order(asked, least), "--trace"]
-    words += [f"--from={given}"] if given else []
+    if before:
+        tool("carry.py", *before, paths["design.ispd"], paths["given.solution"])
+        words.append(f"--from={paths['given.solution']}")
     with Outputs() as outputs:
         report = outputs.binary(paths["report.txt"])
         run_program(groute, words, outputs.binary(paths["routes.solution"]), report)

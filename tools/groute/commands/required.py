@@ -22,7 +22,7 @@ from groute.texts.designs import Netlist
 from groute.texts.files import Fault, Outputs
 from groute.texts.names import names_beside
 from groute.texts.pins import Pins, pins_beside
-from groute.texts.solutions import records
+from groute.texts.solutions import routes
 from groute.texts.tokens import Tokens
 from groute.timing import sta
 from groute.timing.delays import MOST_TIME, Model
@@ -90,8 +90,8 @@ def times(model: Model, design: Netlist, solution: str, sinks: dict[int, list[Ti
           ) -> dict[tuple[int, int], int]:
     """The times of all sinks, by net's id and pin."""
     found = {(id_, pin): MOST_TIME for id_, some in sinks.items() for pin in range(1, len(some))}
-    for id_, segments in records(design, solution):
-        halves = model.halves(id_, Tree(design, id_, segments))
+    for id_, runs in routes(design, solution):
+        halves = model.halves(id_, Tree(design, id_, runs))
         for pin, (half, timed) in enumerate(zip(halves, sinks[id_][1:]), 1):
             if half is not None and timed.slack is not None:
                 found[id_, pin] = (2 * timed.slack * scale ** 2 + half) // 2

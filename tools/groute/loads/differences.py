@@ -3,10 +3,10 @@ the same grid, so that nets are told apart by their names."""
 from dataclasses import dataclass, field
 from typing import Iterator, NamedTuple
 
-from groute.loads.edges_plain import capacity_of, lower_cells, number_of, straight
+from groute.loads.edges_plain import capacity_of, lower_cells, number_of
 from groute.texts.designs import EAST, NORTH, UP, Netlist
 from groute.texts.files import Fault
-from groute.texts.solutions import Ends, has_joined, named_records
+from groute.texts.solutions import Ends, has_joined, named_records, straight
 
 GROUPS = ("new", "gone", "same", "other")
 BEFORE, AFTER = range(2)

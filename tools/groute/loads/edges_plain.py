@@ -3,8 +3,7 @@ from itertools import repeat
 from typing import Iterator
 
 from groute.texts.designs import EAST, NORTH, UP, Cell, Edge, Netlist
-from groute.texts.files import Fault
-from groute.texts.solutions import Ends, first_fault, has_joined, records, runs_of, unjoined_without
+from groute.texts.solutions import has_joined, routes, unjoined_without
 
 
 class Edges:
@@ -17,13 +16,9 @@ class Edges:
         self.wires = self.vias = 0
         self.unjoined: list[int] = []
         self.needs: dict[int, list[int]] = {}       # by width: what is needed on each layer
-        ids, ends = [], Ends(design)
-        for id_, segments in records(design, solution):
+        ids = []
+        for id_, runs in routes(design, solution):
             ids.append(id_)
-            try:
-                runs = straight(design, ends.of(segments))
-            except Fault as fault:
-                raise first_fault(design, solution) or fault from None
             self.add(design.widths[id_] or 0, runs)
             if not has_joined(design.pin_cells(id_), runs):
                 self.unjoined.append(id_)
@@ -69,14 +64,6 @@ class Edges:
         """Whether each wire edge lies on a layer whose capacity that way is stated to be above 0."""
         plane = self.design.columns * self.design.rows
         return all(self.design.capacity[way][cell // plane] for way in (EAST, NORTH) for cell in self.demand[way])
-
-
-def straight(design: Netlist, ends: list[tuple[int, ...]]) -> list[range]:
-    """The cells of segments, of which none goes two ways."""
-    for column, row, layer, column2, row2, layer2 in ends:
-        if (column != column2) + (row != row2) + (layer != layer2) > 1:
-            raise Fault("a segment of the solution is not straight")
-    return runs_of(design, ends)
 
 
 def lower_cells(design: Netlist, runs: list[range]) -> list[set[int]]:

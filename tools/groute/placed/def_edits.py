@@ -6,8 +6,9 @@ from typing import NamedTuple, Sequence
 from groute.placed.def_text import WIRED
 from groute.placed.statements import split_at
 from groute.texts.files import Fault
+from groute.texts.places import words_of
 
-WORD = re.compile(r'"[^"]*(?:"|$)|#[^\n]*|[^\s]+', re.DOTALL)
+WORD = re.compile(r'((?:\s+|#[^\n]*)*)("[^"]*"?|[^\s"#]\S*|\Z)')
 SECTIONS = ("COMPONENTS", "NETS")
 
 
@@ -28,12 +29,8 @@ class Section:
 
 def sections(text: str, path: str) -> dict[str, Section]:
     """The sections of components and of nets."""
-    words: list[str] = []
-    firsts: list[int] = []
-    for match in WORD.finditer(text):
-        if (word := match[0])[0] != "#":
-            words.append(word)
-            firsts.append(match.start())
+    words, firsts = words_of(WORD, text)
+    del words[-1]       # which is empty
     found: dict[str, Section] = {}
     section: Section | None = None
     at = 0

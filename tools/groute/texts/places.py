@@ -1,7 +1,9 @@
 """Where tokens stand in a text."""
 import mmap
 import os
+import re
 import stat
+from itertools import accumulate, chain
 
 from groute.texts.tokens import TOKEN
 
@@ -25,6 +27,16 @@ def place_of(data: Text, number: int) -> tuple[int | None, bytes, int]:
         if count == number:
             return match.start(), match.group(), count
     return None, b"", count
+
+
+def words_of(form: "re.Pattern[str]", text: str) -> tuple[list[str], list[int]]:
+    """The words of a text, of which the last is empty, and where each begins. The form, which matches anywhere, has two
+    groups: what stands before a word, and the word, which is empty at the text's end."""
+    pairs = form.findall(text)
+    if len(pairs) > 1 and not pairs[-2][1]:
+        del pairs[-1]       # the end is found a second time
+    ends = list(accumulate(map(len, chain.from_iterable(pairs))))
+    return [word for _, word in pairs], ends[::2]
 
 
 def line_and_column(data: Text, at: int) -> tuple[int, int]:

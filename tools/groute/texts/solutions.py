@@ -1,5 +1,5 @@
 """Solutions: the routes of a design's nets, and the nets that they leave unjoined."""
-from typing import Iterable, Iterator, Mapping
+from typing import Container, Iterable, Iterator, Mapping
 
 from groute.texts.designs import Design, Netlist
 from groute.texts.files import Fault
@@ -112,6 +112,28 @@ def runs_of(design: Design, ends: Iterable[tuple[int, ...]]) -> list[range]:
         step = 1 if column != column2 else columns if row != row2 else plane
         found.append(range(one, other + 1, step) if one <= other else range(other, one + 1, step))
     return found
+
+
+def straight(design: Design, ends: list[tuple[int, ...]]) -> list[range]:
+    """The cells of segments, of which none goes two ways."""
+    for column, row, layer, column2, row2, layer2 in ends:
+        if (column != column2) + (row != row2) + (layer != layer2) > 1:
+            raise Fault("a segment of the solution is not straight")
+    return runs_of(design, ends)
+
+
+def routes(design: Design, path: str, ids: Container[int] | None = None) -> Iterator[tuple[int, list[range]]]:
+    """Of each record of a solution's text whose net is routed, and is one of these where some are given: its net's id
+    and its segments' cells."""
+    ends = Ends(design)
+    for id_, segments in records(design, path):
+        if ids is not None and id_ not in ids:
+            continue
+        try:
+            runs = straight(design, ends.of(segments))
+        except Fault as fault:
+            raise first_fault(design, path) or fault from None
+        yield id_, runs
 
 
 def has_joined(pins: set[int], runs: list[range]) -> bool:

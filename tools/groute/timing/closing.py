@@ -37,9 +37,9 @@ class Run:
 @dataclass
 class Steps:
     """What a run is made by: tools by name and words, which give what they print, and two steps of the flow: design and
-    routes of a run, and buffers by a library."""
+    routes of a run, from those of the one before it, and buffers by a library."""
     tool: Callable[..., str]
-    route: Callable[[Run], None]
+    route: Callable[[Run, Run], None]
     buffer: Callable[[Run], None]
     lef: Sequence[str]
     liberty: Sequence[str]
@@ -76,7 +76,7 @@ class Steps:
         if said["buffers"] == "0":
             return None
         new.buffers, new.area = run.buffers + int(said["buffers"]), run.area + float(said["area"])
-        self.route(new)
+        self.route(new, run)
         self.time(new)
         return new
 

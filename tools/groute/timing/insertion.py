@@ -8,7 +8,7 @@ from groute.texts.designs import Cell, Netlist
 from groute.texts.files import Fault
 from groute.texts.pins import Pin
 from groute.texts.reports import buffer_of, buffered
-from groute.texts.solutions import records
+from groute.texts.solutions import routes
 from groute.timing.trees import Tree
 
 ODD = re.compile(r"[^A-Za-z0-9_]")
@@ -77,11 +77,10 @@ class Insertion:
     def read(self, solution: str, report: str, without: Container[int]) -> None:
         """Parts the nets of a report at their buffers, but some."""
         found = {id_: tokens for id_, _, tokens in buffered(self.design, report) if tokens and id_ not in without}
-        for id_, segments in records(self.design, solution):
-            if id_ in found:
-                tokens = found.pop(id_)
-                buffers = [buffer_of(self.design, *pair) for pair in zip(tokens[::2], tokens[1::2])]
-                self.part(id_, Tree(self.design, id_, segments), buffers)
+        for id_, runs in routes(self.design, solution, found):
+            tokens = found.pop(id_)
+            buffers = [buffer_of(self.design, *pair) for pair in zip(tokens[::2], tokens[1::2])]
+            self.part(id_, Tree(self.design, id_, runs), buffers)
         if found:
             raise Fault(f"{report}: it isn't of these routes: the net {self.design.names[next(iter(found))]} has none")
 

@@ -7,7 +7,7 @@ from groute.texts.designs import Netlist
 from groute.texts.files import Fault
 from groute.texts.libraries import Library
 from groute.texts.pins import Pin, Pins
-from groute.texts.solutions import records
+from groute.texts.solutions import routes
 from groute.timing.naming import BIT, Called, Name, own, pin_in_spef, plain
 from groute.timing.trees import Tree
 from groute.timing.verilog import Joined, Signal, Verilog, pin_signals
@@ -96,9 +96,9 @@ class Parasitics:
         now = time.gmtime(int(os.environ.get("SOURCE_DATE_EPOCH", time.time())))
         yield HEAD.format(self.names.name, time.strftime(DATE, now))
         told = set()
-        for id_, segments in records(self.design, solution):
+        for id_, runs in routes(self.design, solution):
             told.add(id_)
-            yield self.net(id_, Tree(self.design, id_, segments))
+            yield self.net(id_, Tree(self.design, id_, runs))
         for id_ in self.design.ids:
             if id_ not in told:
                 tree = Tree(self.design, id_, [])

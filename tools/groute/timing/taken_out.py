@@ -5,7 +5,7 @@ from groute.texts.files import Fault
 from groute.texts.pins import CHIP
 from groute.timing.insertion import Kind
 from groute.timing.naming import Name
-from groute.timing.verilog import Joined, Verilog, pin_signals
+from groute.timing.verilog import Joined, Signal, Verilog, pin_signals
 
 N = TypeVar("N", bound=Hashable)
 Pin = tuple[str, str]       # of an instance, or of CHIP, and its name
@@ -14,9 +14,7 @@ Nets = Mapping[N, Sequence[Pin]]
 
 def check(given: Nets[N], found: Nets[N], cells: Mapping[str, Kind]) -> None:
     """That a netlist, where each of some cells joins the nets at its two pins, has the given nets, and inverts none."""
-    ends: dict[Pin, N] = {}
-    for name, pins in found.items():
-        ends.update((pin, name) for pin in pins if pin[0] in cells)
+    ends = {pin: name for name, pins in found.items() for pin in pins if pin[0] in cells}
     before: dict[N, tuple[N, bool]] = {}
     for instance, kind in cells.items():
         if (instance, kind.input) not in ends or (instance, kind.output) not in ends:
@@ -35,9 +33,16 @@ def check(given: Nets[N], found: Nets[N], cells: Mapping[str, Kind]) -> None:
         groups.setdefault(first, []).extend(mine)
         if name in given and names.setdefault(first, name) != name:
             raise differs(name)
-    if {names.get(first): sorted(pins) for first, pins in groups.items()} != \
-            {name: sorted(pins) for name, pins in given.items()}:
-        raise differs(next((name for first, name in names.items() if sorted(groups[first]) != sorted(given[name])), ""))
+    for first, mine in groups.items():
+        if first not in names or not same(mine, given[names[first]]):
+            raise differs(names.get(first, first))
+    if len(groups) < len(given):
+        raise differs(next(iter(given.keys() - set(names.values()))))
+
+
+def same(some: Sequence[Pin], others: Sequence[Pin]) -> bool:
+    """Whether these are the same pins, in any order."""
+    return some == others or sorted(some) == sorted(others)
 
 
 def root(name: N, before: Mapping[N, tuple[N, bool]]) -> tuple[N, bool]:
@@ -53,27 +58,22 @@ def root(name: N, before: Mapping[N, tuple[N, bool]]) -> tuple[N, bool]:
 
 def differs(name: object) -> Fault:
     """That a netlist isn't the given one."""
-    return Fault(f"an error of this tool: without the new cells the netlist isn't the given one, at {name}")
+    says = name.verilog() if isinstance(name, Name) else name
+    return Fault(f"an error of this tool: without the new cells the netlist isn't the given one, at {says}")
 
 
-def nets_of(netlist: Verilog) -> dict[str, list[Pin]]:
-    """The nets of a netlist, of those that `assign` joins one name, with their pins."""
+def nets_of(netlist: Verilog) -> dict[Signal, list[Pin]]:
+    """The nets of a netlist, of those that `assign` joins one, with their pins."""
     joined = Joined(netlist)
-    found: dict[str, list[Pin]] = {}
+    found: dict[Signal, list[Pin]] = {}
     for name, instance in netlist.instances.items():
         for pin, signal in pin_signals(instance):
-            found.setdefault(word(joined, signal), []).append((name, pin))
+            found.setdefault(joined.first(signal), []).append((name, pin))
     for base in netlist.directions:
         first, last = netlist.ranges.get(base, (None, None))
         bits: Iterable[int | None] = [None] if first is None or last is None else \
             range(min(first, last), max(first, last) + 1)
         for bit in bits:
-            name = Name(base, bit).verilog()
-            found.setdefault(word(joined, Name(base, bit)), []).append((CHIP, name))
+            signal = Name(base, bit)
+            found.setdefault(joined.first(signal), []).append((CHIP, signal.verilog()))
     return found
-
-
-def word(joined: Joined, signal: object) -> str:
-    """A name for what a signal is joined with."""
-    first = joined.first(signal)        # type: ignore[arg-type]
-    return first.verilog() if isinstance(first, Name) else f" {first}"

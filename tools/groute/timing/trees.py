@@ -1,7 +1,7 @@
 """The routes of a net as a tree from its driver."""
-from typing import Iterator, Sequence
+from typing import Iterable, Iterator
 
-from groute.texts.designs import EAST, NORTH, UP, Cell, Netlist
+from groute.texts.designs import NORTH, UP, Cell, Netlist
 from groute.texts.files import Fault
 
 
@@ -10,11 +10,13 @@ class Tree:
     parent and the layer of the wire to it from 1, 0 of a via. `pins` has the place of each pin's cell, or None where
     no route leads there."""
 
-    def __init__(self, design: Netlist, id_: int, segments: Sequence[bytes]) -> None:
+    def __init__(self, design: Netlist, id_: int, runs: Iterable[range]) -> None:
         self.steps = 1, design.columns, design.columns * design.rows
-        near: dict[int, list[int]] = {}
-        for low, high in map(design.run, segments):
-            self.add(near, low, high)
+        near: dict[int, list[int]] = {}     # by cell: those beside it
+        for run in runs:
+            for cell, other in zip(run, run[1:]):
+                near.setdefault(cell, []).append(other)
+                near.setdefault(other, []).append(cell)
         cells = [self.number(design.cell(*pin)) for pin in design.pins(id_)]
         self.cells, self.parents, self.layers = [cells[0]], [-1], [0]
         self.walk(near)
@@ -26,14 +28,6 @@ class Tree:
     def number(self, cell: Cell) -> int:
         """Of a cell."""
         return cell[0] + cell[1] * self.steps[NORTH] + cell[2] * self.steps[UP]
-
-    def add(self, near: dict[int, list[int]], low: Cell, high: Cell) -> None:
-        """A straight run: which cells lie beside which."""
-        step = self.steps[EAST if low[0] != high[0] else NORTH if low[1] != high[1] else UP]
-        first, last = self.number(low), self.number(high)
-        for cell in range(first, last, step):
-            near.setdefault(cell, []).append(cell + step)
-            near.setdefault(cell + step, []).append(cell)
 
     def walk(self, near: dict[int, list[int]]) -> None:
         """From the driver's cell on; where two ways lead to a cell, it comes twice, and the walk ends there."""

@@ -1,17 +1,20 @@
 """Structural Verilog of one flat module, as synthesis writes it."""
 import re
+import string
 from dataclasses import dataclass, field
 from typing import Iterator, NamedTuple, Sequence
 
 from groute.texts.files import Fault, text_of
+from groute.texts.places import words_of
 from groute.timing.naming import Name
 
-# A word with the blanks and comments before it, or what stands behind the last word.
-TOKEN = re.compile(r"(?:\s+|//[^\n]*|/\*.*?\*/|\(\*.*?\*\)|`[^\n]*)*(\\\S+|[A-Za-z_][\w$]*|"
-                   r"[0-9]*\s*'[sS]?[bBoOdDhH]\s*[0-9a-fA-FxXzZ_?]+|[0-9]+|[()\[\]{},;:=.#]|\Z)", re.DOTALL)
+# The blanks and comments before a word, and the word: any other letter is one too, and the parser's to refuse.
+TOKEN = re.compile(r"((?:\s+|//[^\n]*|/\*.*?(?:\*/|\Z)|\(\*.*?(?:\*\)|\Z)|`[^\n]*)*)(\\\S+|[A-Za-z_][\w$]*|"
+                   r"[0-9]*\s*'[sS]?[bBoOdDhH]\s*[0-9a-fA-FxXzZ_?]+|[0-9]+|\Z|.)", re.DOTALL)
+FIRST = {*string.ascii_letters, "_", "\\"}    # how names begin
 DIRECTIONS = ("input", "output", "inout")
 NETS = ("wire", "tri", "wand", "wor", "supply0", "supply1")
-CONSTANT = re.compile(r"1'[sS]?[bBoOdDhH]([01])")
+MOST_BITS = 1 << 16     # of a bus, and of a constant
 REFUSED = ("parameter", "defparam", "always", "initial", "generate", "function", "task", "reg", "specify", "localparam")
 
 
@@ -48,7 +51,7 @@ class Verilog:
 
     def __init__(self, path: str) -> None:
         self.path, self.text = path, text_of(path)
-        self.words, self.firsts = words_of(path, self.text)
+        self.words, self.firsts = words_of(TOKEN, self.text)
         self.at = 0
         self.name = ""
         self.header: list[str] = []                     # the names of the ports, in the module's order
@@ -59,7 +62,7 @@ class Verilog:
         self.assigns: list[tuple[Signal, Signal]] = []
         self.body = self.end = 0                        # where the head ends, and where `endmodule` stands
         self.read_module()
-        if self.at < len(self.words):
+        if self.peek():
             raise self.fault("a second module, or what is behind the first, isn't read: the netlist is to be flat")
         for instance in self.instances.values():
             if instance.cell == self.name:
@@ -75,14 +78,14 @@ class Verilog:
 
     def fault(self, what: str) -> Fault:
         """Of the word that was taken last."""
-        place = self.firsts[min(self.at, len(self.words)) - 1] if self.words else 0
-        return Fault(f"{self.path}:{1 + self.text.count(chr(10), 0, place)}: {what}")
+        line = 1 + self.text.count("\n", 0, self.firsts[max(self.at - 1, 0)])
+        return Fault(f"{self.path}:{line}: {what}")
 
     def take(self, *wanted: str) -> str:
         """The next word, which is one of these where some are named."""
-        if self.at == len(self.words):
-            raise self.fault("the text ends within a module")
         word = self.words[self.at]
+        if not word:
+            raise self.fault("the text ends within a module")
         self.at += 1
         if wanted and word not in wanted:
             raise self.fault(f"{' or '.join(wanted)} is due, and here is {word}")
@@ -90,7 +93,7 @@ class Verilog:
 
     def peek(self) -> str:
         """The next word, which isn't taken."""
-        return self.words[self.at] if self.at < len(self.words) else ""
+        return self.words[self.at]
 
     def end_before(self) -> int:
         """Where the word ends that was taken last."""
@@ -98,8 +101,11 @@ class Verilog:
 
     def identifier(self) -> str:
         """The next word as a name."""
-        word = self.take()
-        if not (word[0] in "\\_" or word[0].isalpha()):
+        return self.named(self.take())
+
+    def named(self, word: str) -> str:
+        """The word that was taken last, as a name."""
+        if not is_name(word):
             raise self.fault(f"a name is due, and here is {word}")
         return word.removeprefix("\\")
 
@@ -119,7 +125,7 @@ class Verilog:
             elif word in REFUSED:
                 raise self.fault(f"{word} isn't read: a netlist has instances of cells, and assign")
             elif word != ";":
-                self.read_instances(word.removeprefix("\\"))
+                self.read_instances(self.named(word))
         self.end = self.firsts[self.at - 1]
 
     def read_header(self) -> None:
@@ -148,12 +154,16 @@ class Verilog:
         """`[FIRST:LAST]`, where it stands."""
         if self.peek() != "[":
             return None
+        return self.read_bits(":")
+
+    def read_bits(self, *marks: str) -> tuple[int, int]:
+        """`[FIRST:LAST]`, or `[BIT]` where the first may end with `]`."""
         self.take("[")
-        first = self.number()
-        self.take(":")
-        last = self.number()
-        self.take("]")
-        if abs(first - last) > 1 << 20:
+        first = last = self.number()
+        if self.take(*marks) == ":":
+            last = self.number()
+            self.take("]")
+        if abs(first - last) >= MOST_BITS:
             raise self.fault("a bus has more bits than are read here")
         return first, last
 
@@ -222,8 +232,13 @@ class Verilog:
 
     def connection(self) -> Connection:
         """`(SIGNAL)` behind a pin."""
+        words = self.words[self.at:self.at + 3]
+        if words[::2] == ["(", ")"] and is_name(words[1]) and words[1].removeprefix("\\") not in self.ranges:
+            self.at += 3        # a name alone, as most are: the same in less time
+            first = self.firsts[self.at - 2]
+            return Connection([Name(words[1].removeprefix("\\"))], Place(first, first + len(words[1])))
         self.take("(")
-        first = self.firsts[self.at] if self.at < len(self.words) else 0
+        first = self.firsts[self.at]
         signals: list[Signal] = [None] if self.peek() == ")" else self.expression()
         end = first if self.words[self.at - 1] == "(" else self.end_before()
         self.take(")")
@@ -231,31 +246,36 @@ class Verilog:
 
     def expression(self) -> list[Signal]:
         """A name, a bit or bits of one, a constant, or several in braces: its bits, the highest first."""
+        found: list[Signal] = []
+        depth = 0
+        while not found or depth:
+            while self.peek() == "{":
+                self.take()
+                depth += 1
+            found += self.operand()
+            while depth and self.take(",", "}") == "}":
+                depth -= 1
+        return found
+
+    def operand(self) -> list[Signal]:
+        """The same without braces."""
         word = self.take()
-        if word == "{":
-            found = self.expression()
-            while self.take(",", "}") == ",":
-                found += self.expression()
-            return found
         if word[0] in "0123456789'":
             return self.constants(word)
-        self.at -= 1
-        name = self.identifier()
+        name = self.named(word)
         if self.peek() != "[":
             return self.bits(name, self.ranges[name]) if name in self.ranges else [Name(name)]
-        self.take("[")
-        first = last = self.number()
-        if self.take(":", "]") == ":":
-            last = self.number()
-            self.take("]")
-        return self.bits(name, (first, last))
+        return self.bits(name, self.read_bits(":", "]"))
 
     def constants(self, word: str) -> list[Signal]:
         """The bits of a constant of 0 and 1."""
-        form = re.fullmatch(r"([0-9]+)\s*'([bBhHdD])\s*([0-9a-fA-F_]+)", word)
-        if form is None:
-            raise self.fault(f"the constant {word} is not read here")
-        value = int(form[3].replace("_", ""), {"b": 2, "h": 16, "d": 10}[form[2].lower()])
+        form = re.fullmatch(r"([0-9]{1,5})\s*'([bBhHdD])\s*([0-9a-fA-F_]+)", word)
+        try:
+            if form is None or not 1 <= int(form[1]) <= MOST_BITS:
+                raise ValueError(word)
+            value = int(form[3].replace("_", ""), {"b": 2, "h": 16, "d": 10}[form[2].lower()])
+        except ValueError:
+            raise self.fault(f"the constant {word} is not read here") from None
         return [Constant(value >> at & 1) for at in reversed(range(int(form[1])))]
 
     def bits(self, name: str, bits: tuple[int, int]) -> list[Signal]:
@@ -265,23 +285,9 @@ class Verilog:
         return [Name(name, bit) for bit in range(first, last + step, step)]
 
 
-def words_of(path: str, text: str) -> tuple[list[str], list[int]]:
-    """The words of a text, and where each begins."""
-    words: list[str] = []
-    firsts: list[int] = []
-    at = 0
-    for match in TOKEN.finditer(text):
-        if match.start() != at:
-            break
-        at = match.end()
-        words.append(match[1])
-        firsts.append(match.start(1))
-    if at < len(text):
-        letter = re.sub(r"\s+", "", text[at:])[:1]
-        raise Fault(f"{path}:{1 + text.count(chr(10), 0, at)}: a letter has no meaning in a netlist: {letter}")
-    while words and not words[-1]:
-        del words[-1], firsts[-1]
-    return words, firsts
+def is_name(word: str) -> bool:
+    """Whether a word may be a name."""
+    return word[0] in FIRST and word != "\\"
 
 
 def written(signal: Signal) -> str:
@@ -313,6 +319,9 @@ class Joined:
 
     def first(self, signal: Signal) -> Signal:
         """One of a group of joined names: the same of all of them."""
-        while signal in self.parent:
-            signal = self.parent[signal]
-        return signal
+        found = signal
+        while found in self.parent:
+            found = self.parent[found]
+        while signal != found:
+            self.parent[signal], signal = found, self.parent[signal]
+        return found
