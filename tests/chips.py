@@ -3,9 +3,10 @@ import os
 import shutil
 from typing import Mapping, Sequence
 
-from testing import InFolder, program, run, tool
+from groute.placed.def_edits import sections
+from testing import HERE, InFolder, program, run, tool
 
-STA, YOSYS = bool(shutil.which("sta")), bool(shutil.which("yosys"))
+STA, YOSYS, KLAYOUT = (bool(shutil.which(name)) for name in ("sta", "yosys", "klayout"))
 UNITS, SITE, ROW = 100, 200, 1000       # database units to a micrometre, of a site and of a row of cells
 WIDTHS = {"BUF": 4, "INV": 3, "INV2": 4, "AND": 5, "DFF": 8, "FILL": 1, "FILL2": 2}     # in sites
 PINS: dict[str, dict[str, str]] = {
@@ -147,6 +148,20 @@ class OnChip(InFolder):
         self.assertEqual(status, 0, err)
         self.put(f"{name}.solution", out)
         self.put(f"{name}.report", err)
+
+    def route_again(self, name: str) -> None:
+        """Makes the design of a placement that a tool wrote, and routes it."""
+        paths = [self.path(f"{name}.def"), self.lef, self.path(f"{name}.ispd"), self.path(f"{name}.library")]
+        self.done("def_to_ispd.py", *paths, "--scale", "100", "--liberty", self.lib)
+        self.route(name)
+
+    def check_cells(self, name: str) -> None:
+        """KLayout finds the cells of a placement that a tool wrote."""
+        placed = self.path(f"{name}.def")
+        status, out, err = run("klayout", "-b", "-r", f"{HERE}/klayout_cells.py", "-rd", f"placed={placed}", "-rd",
+                               f"lef={self.lef}")
+        self.assertEqual((status, err), (0, ""))
+        self.assertEqual(int(out), len(sections(self.text(f"{name}.def"), placed)["COMPONENTS"].items))
 
     def spef(self, *words: str) -> str:
         """The text of a.spef, which is written."""

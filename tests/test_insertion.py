@@ -2,16 +2,15 @@
 import lzma
 import os
 import re
-import shutil
 import unittest
 
-from chips import STA, YOSYS, OnChip, equivalent, placed
+from chips import KLAYOUT, STA, YOSYS, OnChip, equivalent, placed
 from groute.placed.def_edits import connections_of, sections
 from groute.texts.files import Fault
 from groute.timing import sta, taken_out
 from groute.timing.insertion import Kind
 from groute.timing.verilog import Verilog
-from testing import HERE, ROOT, run, tool
+from testing import ROOT, tool
 
 OSU = "/usr/share/qflow/tech/osu035/osu035_stdcells"
 OSU_THERE = os.path.exists(f"{OSU}.lib")
@@ -107,6 +106,12 @@ class ByHand(OnChip):
         one, other = (Verilog(self.path(name)) for name in ("b.v", "c.v"))
         self.assertEqual({name: sorted(pins) for name, pins in taken_out.nets_of(one).items()},
                          {name: sorted(pins) for name, pins in taken_out.nets_of(other).items()})
+        self.route_again("b")
+
+    @unittest.skipUnless(KLAYOUT, "klayout is not there")
+    def test_klayout(self) -> None:
+        self.inserted()
+        self.check_cells("b")
 
     def test_which_nets(self) -> None:
         self.put("keep", "series pair\n")
@@ -223,8 +228,9 @@ class Grom(OnChip):
         out = self.done("insert.py", *paths, "-o", self.path("b.def"), "--lef", self.lef, "--liberty", self.lib,
                         "--verilog", self.path("a.v"), self.path("b.v"), "--eco", self.path("b.tcl"))
         self.assertGreater(int(out.split()[1]), 40)
+        self.route_again("b")
         for is_there, name, check in ((YOSYS, "yosys", self.check_equivalent), (STA, "sta", self.check_slack),
-                                      (bool(shutil.which("klayout")), "klayout", self.check_cells)):
+                                      (KLAYOUT, "klayout", lambda: self.check_cells("b"))):
             with self.subTest(by=name):
                 if not is_there:
                     self.skipTest(f"{name} is not there")
@@ -242,8 +248,6 @@ class Grom(OnChip):
     def check_slack(self) -> None:
         """The script and the netlist give one slack, by the parasitics of what came of it."""
         paths = [self.path(f"b.{kind}") for kind in ("ispd", "library", "solution", "spef")]
-        self.done("def_to_ispd.py", self.path("b.def"), self.lef, *paths[:2], "--scale", "100", "--liberty", self.lib)
-        self.route("b")
         self.done("spef.py", *paths[:3], "-o", paths[3], "--scale", "100")
         self.spef()
         asks = ["create_clock -name c -period 5 [get_ports clk]", 'puts "groute: [worst_slack] [total_negative_slack]"']
@@ -254,11 +258,3 @@ class Grom(OnChip):
         one, two, three = (sta.answer([*lines, *asks])[0].split() for lines in (before, after, by_script))
         self.assertEqual(two, three)
         self.assertGreater(float(two[0]) - float(one[0]), 1)
-
-    def check_cells(self) -> None:
-        """KLayout finds those of the text."""
-        status, out, err = run("klayout", "-b", "-r", f"{HERE}/klayout_cells.py", "-rd", f"placed={self.path('b.def')}",
-                               "-rd", f"lef={self.lef}")
-        self.assertEqual((status, err), (0, ""))
-        items = sections(self.text("b.def"), "b.def")["COMPONENTS"].items
-        self.assertEqual(int(out), len(items))

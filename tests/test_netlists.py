@@ -6,11 +6,18 @@ import re
 import unittest
 
 from chips import STA, YOSYS, OnChip, equivalent, placed
-from groute.timing import sta
-from groute.timing.naming import Name, doubled, own
-from groute.timing.verilog import Verilog
+from groute.placed.def_edits import sections
+from groute.texts.designs import Netlist
 from groute.texts.files import Fault
 from groute.texts.pins import Pins
+from groute.texts.tokens import Tokens
+from groute.timing import sta
+from groute.timing.delays import Model
+from groute.timing.naming import Name, doubled, own
+from groute.timing.slacks import timer_pin
+from groute.timing.spef import Names
+from groute.timing.taken_out import nets_of
+from groute.timing.verilog import Verilog
 from testing import ROOT, program, run, tool
 
 OSU = "/usr/share/qflow/tech/osu035/osu035_stdcells"
@@ -63,7 +70,23 @@ BRANCH = """*D_NET a\\$b 50
 """
 
 
-class ByHand(OnChip):
+class Elmore(OnChip):
+    """Tests that ask OpenSTA for delays of wires."""
+
+    def elmore(self, top: str, pairs: list[tuple[str, str]], load: float) -> list[float]:
+        """Between two pins of each pair, by a.v and a.spef, in picoseconds; output ports load so many femtofarads."""
+        *lines, parasitics = sta.reading([self.lib], self.path("a.v"), top, self.path("a.spef"))
+        lines += ["set_cmd_units -capacitance fF", f"set_load -pin_load {load} [all_outputs]", parasitics]
+        lines += ["set all [::sta::vertex_iterator]", "while {[$all has_next]} {", "  set one [[$all next] pin]",
+                  "  set pins([get_full_name $one]) $one", "}", "$all finish"]
+        for pair in pairs:
+            one, other = (f"$pins({sta.word(pin)})" for pin in pair)
+            lines.append(f'puts "groute: [::sta::find_elmore {one} {other} rise max] '
+                         f'[::sta::find_elmore {one} {other} fall max]"')
+        return [max(map(float, line.split())) * 1e12 for line in sta.answer(lines)]
+
+
+class ByHand(Elmore):
     """A small chip."""
 
     def setUp(self) -> None:
@@ -96,6 +119,31 @@ class ByHand(OnChip):
             status, _, err = tool("spef.py", *words)
             self.assertEqual(status, 3)
             self.assertIn(says, err)
+
+    @unittest.skipUnless(STA, "sta is not there")
+    def test_elmore(self) -> None:
+        """Of a net of two pins and of a branch, whose wires are heavier than their pins: ohms times femtofarads."""
+        self.put("a.solution", SOLUTION)
+        tool("spef.py", *(self.path(f"a.{kind}") for kind in ("ispd", "library", "solution")), "-o",
+             self.path("a.spef"), "--scale", "100")
+        found = self.elmore("top", [("in", "one/A"), ("one/Y", "two/A"), ("one/Y", "three/D")], 0)
+        wanted = [50 * (10 + 10) + 4 * 10, 100 * (65 + 25 + 15), 100 * 65 + 4 * 30 + 50 * 20 + 4 * 10]
+        for one, other in zip(found, wanted):
+            self.assertAlmostEqual(one, other / 1000, delta=0.001)
+
+    def test_bad_netlists(self) -> None:
+        """What no netlist has is told, in time that goes with the text's length."""
+        head = "module top (a); input a;\nB b (.A("
+        for text, says in (("?", ":1: module is due, and here is ?"), (f"{head}a{' ' * 50000}?", ":2: ) is due"),
+                           (f"module top (a); {'/* ' * 50000}", "ends within a module"),
+                           (f"{head}{'{' * 50000}", "ends within a module"), (f"{head}\\ ", "a name is due"),
+                           (f"{head}1000000000'b0", "the constant 1000000000'b0"), (f"{head}2'b2", "the constant 2'b2"),
+                           (f"{head}0'b0", "the constant 0'b0"), (f"{head}4'd{'9' * 5000}", ":2: the constant"),
+                           (f"{head}a[0:99999999]", "more bits"), ("module top (); 1 b", "a name is due")):
+            path = self.put("b.v", text)
+            self.assertRaisesRegex(Fault, re.escape(says), Verilog, path)
+        self.put("b.v", f"{head}{'{' * 50000}a{'}' * 50000})); endmodule")
+        self.assertEqual(Verilog(self.path("b.v")).instances["b"].pins["A"].signals, [Name("a")])
 
     def test_names_of_a_netlist(self) -> None:
         other = NETLIST.replace("a$b", "\\a/b ").replace("input in;\n  input clk", "input in, clk")
@@ -157,20 +205,59 @@ class Odd(OnChip):
     def test_names_survive(self) -> None:
         self.design(self.chip(500))
         self.spef()
-        lines = sta.reading([self.lib], self.path("a.v"), "top", self.path("a.spef"))
-        lines += ["foreach one [get_cells *] { puts \"groute: [get_full_name $one]\" }",
-                  "foreach one [get_nets *] { puts \"groute: [get_full_name $one]\" }"]
-        wanted = []
-        netlist = Verilog(self.path("a.v"))
-        for name, instance in netlist.instances.items():
-            signals = instance.pins["A"].signals
-            wanted += [doubled(name), *(signal.timer() for signal in signals if isinstance(signal, Name))]
-        wanted.append("b[1]")
-        self.assertGreater(len(wanted), 950)
-        self.assertEqual(sorted(sta.answer(lines)), sorted(wanted))
+        found = self.names_in(sta.reading([self.lib], self.path("a.v"), "top", self.path("a.spef")))
+        self.assertGreater(len(found), 950)
+        self.assertEqual(found, self.names_of("a.v"))
         text = self.text("a.spef")
         self.put("a.v", self.text("a.v").replace("module top", "module other"))
         self.assertEqual(self.spef("--verilog", self.path("a.v")), text.replace('"top"', '"other"'))
+
+    @unittest.skipUnless(STA, "sta is not there")
+    def test_names_survive_insertion(self) -> None:
+        """With a buffer in each net that goes to another tile; the script does what the new netlist says."""
+        self.design(self.chip(500))
+        count = self.put_report()
+        self.assertGreater(count, 450)
+        out = self.done("insert.py", *(self.path(f"a.{kind}") for kind in ("def", "ispd", "solution", "report")), "-o",
+                        self.path("b.def"), "--lef", self.lef, "--liberty", self.lib, "--verilog", self.path("a.v"),
+                        self.path("b.v"), "--eco", self.path("b.tcl"))
+        self.assertIn(f"buffers {count}\nnets {count}\n", out)
+        found = self.names_in(sta.reading([self.lib], self.path("b.v"), "top", None))
+        self.assertEqual(found, self.names_of("b.v"))
+        self.assertEqual(len(found), len(self.names_of("a.v")) + 2 * count)
+        lines = [*sta.reading([self.lib], self.path("a.v"), "top", None), *self.text("b.tcl").splitlines()]
+        self.assertEqual(self.names_in(lines), found)
+        before, after = (sections(self.text(name), name) for name in ("a.def", "b.def"))
+        for section in ("COMPONENTS", "NETS"):
+            self.assertEqual(before[section].items.keys() - after[section].items.keys(), set())
+        self.done("netlist.py", self.path("b.def"), "--lef", self.lef, "-o", self.path("c.v"))
+        one, other = (nets_of(Verilog(self.path(name))) for name in ("b.v", "c.v"))
+        self.assertEqual({name: sorted(pins) for name, pins in one.items()},
+                         {name: sorted(pins) for name, pins in other.items()})
+
+    def put_report(self) -> int:
+        """Writes a.report, with a buffer at the sink of each net that goes to another tile; how many there are."""
+        design, lines = Netlist(Tokens(self.path("a.ispd"))), []
+        for id_ in design.ids:
+            driver, sink = design.pins(id_)
+            if design.cell(*driver) != design.cell(*sink):
+                point = ",".join(map(str, sink))
+                lines.append(f"net {design.names[id_]} {id_} required 0 buffers 1\n({point}) BUF\n")
+        self.put("a.report", f"buffers {len(lines)}\n{''.join(lines)}")
+        return len(lines)
+
+    def names_in(self, lines: list[str]) -> list[str]:
+        """The cells and the nets that OpenSTA has behind a script."""
+        asks = (f'foreach one [get_{kind} *] {{ puts "groute: [get_full_name $one]" }}' for kind in ("cells", "nets"))
+        return sorted(sta.answer([*lines, *asks]))
+
+    def names_of(self, name: str) -> list[str]:
+        """The same of a netlist."""
+        found = ["b[1]"]
+        for name, instance in Verilog(self.path(name)).instances.items():
+            signals = instance.pins["A"].signals
+            found += [doubled(name), *(signal.timer() for signal in signals if isinstance(signal, Name))]
+        return sorted(found)
 
     @unittest.skipUnless(YOSYS, "yosys is not there")
     def test_yosys_reads_them(self) -> None:
@@ -178,7 +265,7 @@ class Odd(OnChip):
         self.assertEqual(equivalent(self.folder.name, self.lib, self.path("a.v"), self.path("a.v"), "top"), "")
 
 
-class Grom(OnChip):
+class Grom(Elmore):
     """A processor of 2,000 nets."""
 
     @unittest.skipUnless(STA and OSU_THERE, "sta and qflow-tech-osu035 are not there")
@@ -195,26 +282,14 @@ class Grom(OnChip):
         self.assertEqual(status, 0, err)
         delays = {name: -int(time) / 2e7 for name, time in re.findall(r"^net (\S+) \d+ required (-?\d+)", out, re.M)}
         self.spef()
-        found = self.elmore()
+        design, pins = Netlist(Tokens(self.path("a.ispd"))), Pins(self.path("a.ispd.pins"))
+        names = Names(design, pins, None)
+        pairs = [(id_, timer_pin(driver, names), timer_pin(sink, names))
+                 for id_, (driver, *sinks) in pins.nets.items() for sink in sinks]
+        real = dict.fromkeys(design.ids, 0.0)
+        load = Model(self.path("a.library")).load / 100
+        for (id_, _, _), delay in zip(pairs, self.elmore("grom_cpu", [pair[1:] for pair in pairs], load)):
+            real[id_] = max(real[id_], delay)
         self.assertEqual(len(delays), 1999)
-        worst = 0.0
-        for id_, pins in Pins(self.path("a.ispd.pins")).nets.items():
-            name = self.names[id_]
-            if len(pins) > 1 and all(pin.component != "PIN" for pin in pins):
-                real = max(found[pins[0][:2], pin[:2]] for pin in pins[1:])
-                worst = max(worst, abs(delays[name] - real) / max(real, 0.01))
+        worst = max(abs(delays[design.names[id_]] - delay) / max(delay, 0.01) for id_, delay in real.items())
         self.assertLess(worst, 0.01)
-
-    def elmore(self) -> dict[tuple[tuple[str, str], tuple[str, str]], float]:
-        """OpenSTA's delay of each net from its driver to each sink, in picoseconds."""
-        lines = sta.reading([self.lib], self.path("a.v"), "grom_cpu", self.path("a.spef"))
-        lines += ["set all [::sta::vertex_iterator]", "while {[$all has_next]} {", "  set one [[$all next] pin]",
-                  "  set pins([get_full_name $one]) $one", "}", "$all finish"]
-        self.names = re.findall(r"(?m)^(\S+) \d+ \d+ 1$", self.text("a.ispd"))
-        pairs = []
-        for pins in Pins(self.path("a.ispd.pins")).nets.values():
-            pairs += [(pins[0][:2], pin[:2]) for pin in pins[1:] if "PIN" not in (pins[0][0], pin[0])]
-        for one, other in pairs:
-            words = f"$pins({'/'.join(one)}) $pins({'/'.join(other)})"
-            lines.append(f'puts "groute: [::sta::find_elmore {words} rise max] [::sta::find_elmore {words} fall max]"')
-        return dict(zip(pairs, (max(map(float, line.split())) * 1e12 for line in sta.answer(lines))))

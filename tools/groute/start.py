@@ -5,7 +5,7 @@ import sys
 OLDEST = (3, 10)
 OTHER = "/usr/bin/python3"      # Debian's, which finds Debian's numpy and matplotlib
 AGAIN = "GROUTE_AGAIN"          # stands in the environment of a script that runs a second time
-CONTAINERS = 1 << 20            # that come before Python looks for cycles: texts make many, and hardly a cycle
+CONTAINERS = 1 << 24            # that come before Python looks for cycles: texts make many, and hardly a cycle
 PACKAGES = {"numpy": "python3-numpy", "matplotlib": "python3-matplotlib"}
 is_again = os.environ.pop(AGAIN, None) is not None
 

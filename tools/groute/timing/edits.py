@@ -73,12 +73,17 @@ def script(named: Named, liberty: Liberty) -> Iterator[str]:
     for instance, kind, _, _ in named.cells():
         yield f"make_instance {instance} {word(f'{liberty.cell(kind.name).library}/{kind.name}')}"
     for instance, pin, before, name in named.moved():
-        path = word(f"{in_path(instance)}/{pin}")
-        yield f"disconnect_pin {word(before.path())} {path}"
-        yield f"connect_pin {word(name.path())} {path}"
+        path = one("pin", f"{in_path(instance)}/{pin}")
+        yield f"disconnect_pin {one('net', before.path())} {path}"
+        yield f"connect_pin {one('net', name.path())} {path}"
     for instance, kind, before, name in named.cells():
-        yield f"connect_pin {word(before.path())} {instance}/{kind.input}"
-        yield f"connect_pin {word(name.path())} {instance}/{kind.output}"
+        yield f"connect_pin {one('net', before.path())} {instance}/{kind.input}"
+        yield f"connect_pin {one('net', name.path())} {instance}/{kind.output}"
+
+
+def one(kind: str, path: str) -> str:
+    """A net or a pin in a script, whose commands take a word for a list, which one that begins so isn't."""
+    return f"[::sta::find_{kind} {word(path)}]" if path[0] in '{"' else word(path)
 
 
 def def_items(changes: Iterable[tuple[Change, str, Sequence[tuple[str, str]]]]
