@@ -2,9 +2,10 @@
 """Compares `grbound` with a slow count: reference/bounds.py PROGRAM [--chips | SEED [COUNT]]
 
 For each seed the walls of a random design are counted tile by tile and edge by edge, and the bounds are added up from
-them. More steps of prices may never give less. On grids of a few edges with two nets at most, all sets of edges for
-each net are tried besides: none that join the nets' pins may have less overflow or wirelength than the bounds, those by
-prices too. Designs on which something differs are kept under the names of their seed.
+them. More steps of prices may never give less, and more workers write the same. On grids of a few edges with two nets
+at most, all sets of edges for each net are tried besides: none that join the nets' pins may have less overflow or
+wirelength than the bounds, those by prices too. Designs on which something differs are kept under the names of their
+seed.
 
 --chips tells what 10 and 100 steps prove of the chips of examples/, and what 100 have to reach.
 """
@@ -263,11 +264,13 @@ def tried(program, seed):
     if (done.returncode, done.stdout, done.stderr) != (0, wanted.encode(), b""):
         print("differs:", *words[1:])
         return False
-    return priced_right(words, d, figures, via_cost, wanted) and not os.remove(path)
+    workers = rng.randrange(2, 17)
+    return priced_right(words, workers, d, figures, via_cost, wanted) and not os.remove(path)
 
 
-def priced_right(words, d, figures, via_cost, wanted):
-    """Whether the bounds by prices are at least the others, and no routes of a tiny design are below them."""
+def priced_right(words, workers, d, figures, via_cost, wanted):
+    """Whether the bounds by prices are at least the others, so many workers find the same, and no routes of a tiny
+    design are below them."""
     before = [figures[0], figures[2], figures[0] + figures[2]]
     for steps in STEPS:
         done = subprocess.run([*words, "--steps", steps], capture_output=True, check=False)
@@ -279,6 +282,10 @@ def priced_right(words, d, figures, via_cost, wanted):
             print("prices fall:", *words[1:], "--steps", steps)
             return False
         before = prices
+    beside = [*words, "--steps", steps, "--workers", str(workers)]
+    if subprocess.run(beside, capture_output=True, check=False).stdout != done.stdout:
+        print("differs:", *beside[1:])
+        return False
     if is_tiny(d) and beaten_by_prices(d, before, via_cost):
         print("routes are below the prices:", *words[1:], "--steps", STEPS[-1])
         return False

@@ -10,7 +10,7 @@ const BUCKETS: u32 = 1_024;
 
 /// Over how many distances a bucket goes, as a power of 2. Within a bucket cells come in any order, so that
 /// some are looked at again; between them there is none to look for.
-const WIDTH: u32 = 8;
+const WIDTH: u32 = 2;
 
 /// What stands for no entry.
 const NONE: u32 = u32::MAX;

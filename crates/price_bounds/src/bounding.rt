@@ -122,12 +122,13 @@ fn best_bound<R: Threads + Sync>(
     let mut seats = seats_for(alloc, shape, figure == Figure::Overflow, asked.workers)?;
     let mut weights = vec![in alloc; 0; 2 * capacity.shape().cells() as usize]?;
     let mut moves = Steps::new(alloc, design, capacity, figure)?;
-    moves.begin(&mut weights);
+    moves.put(&mut weights);
     let mut best = 0;
     for _ in 0..asked.steps {
         let bound = bound_at(rt, design, capacity, &mut seats, figure, asked, &weights)?;
         best = bound.most.max(best);
-        moves.step(&mut weights, capacity, &seats, bound);
+        moves.step(&seats, bound);
+        moves.put(&mut weights);
     }
     Ok(best)
 }

@@ -1,8 +1,7 @@
 //! The straight cuts of a design: what nets need of them, and what they hold. None of it is relied on.
 ghost use Rattle.std.specs.Prelude.{◌≡◌};
 
-use crate::weights::held_of;
-use gr_base::{Design, Frame, Shape};
+use gr_base::{Design, Edge, Frame, Shape, Way};
 use grid_demand::Capacity;
 use std::alloc::{AllocError, Global};
 
@@ -142,4 +141,19 @@ fn need_between(cuts: &mut Vec<Cut>, from: u32, to: u32, more: u64) {
             cuts[at as usize].needs = needed.saturating_add(more);
         }
     }
+}
+
+/// What the wire edge with a number holds, or nothing where it isn't one of the grid's.
+pub(crate) fn held_of(capacity: &Capacity, number: u32) -> u32 {
+    let shape = capacity.shape();
+    let low = number / 2;
+    let way = if number % 2 == 0 {
+        Way::East
+    } else {
+        Way::North
+    };
+    if low >= shape.cells() || !shape.has_room(shape.place_of(low), way) {
+        return 0;
+    }
+    capacity.at(Edge { low, way }) as u32
 }

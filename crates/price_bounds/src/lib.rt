@@ -6,12 +6,10 @@ mod bounding;
 mod costs;
 mod cuts;
 mod figure;
-mod flat_steps;
 mod held;
 mod seats;
 mod steps;
 mod text;
-mod weights;
 
 pub use bounding::{Floor, PriceBounds, price_bounds};
 pub use text::prices_text;

@@ -2,7 +2,7 @@ use Rattle.bound_top.proofs.BoundingLemmas.{floor-said, lines-said}
 use Rattle.bound_top.proofs.bounding.price_lines.Goals as goal
 
 pub price_bounds-requires-clause-floor : goal.price_bounds-requires-clause-floor
-price_bounds-requires-clause-floor g c lives in_lives =
+price_bounds-requires-clause-floor g c κs within =
     floor-said c.args.design.now c.args.via_cost c.args.bounds.now c.overflow.result c.usable_wirelength.result c.requires.bounds c.overflow.ensures
     c.usable_wirelength.ensures
 
