@@ -89,14 +89,6 @@ fn put_row<R: AllocGlobal + Files + Threads + Sync>(
     }
 }
 
-/// Puts each line of standard input and its answer at the end of the text.
-fn put_rows(rt: &HostRuntime, told: &mut Text) -> io::Result<()> {
-    for line in rt.lines(rt.alloc()) {
-        put_row(rt, &line?, told)?;
-    }
-    Ok(())
-}
-
 /// Writes a line in one call, and puts how many bytes that took at the end of the text.
 fn put_written<K: Sink>(out: &mut K, told: &mut Text) -> Result<(), AllocError> {
     let count = out.write(b"written\n").unwrap_or(0);
@@ -108,7 +100,9 @@ fn main(rt: HostRuntime) -> io::Result<()> {
     let mut told = Text::new(rt.alloc());
     let mut out = HostSink::new(rt.stdout());
     put_written(&mut out, &mut told)?;
-    put_rows(&rt, &mut told)?;
+    for line in rt.lines(rt.alloc()) {
+        put_row(&rt, &line?, &mut told)?;
+    }
     if write_whole(&mut out, told.bytes()).is_err() {
         return Err(io::Error::from(ErrorKind::BrokenPipe));
     }
