@@ -78,6 +78,7 @@ module _ (d : DesignView) (sets : ℕ → Edges) (given : List (Option TreeView)
       by None there nothing = absurd (false≢true nothing)
       by (Some t) there edge = needed-in net e (((are.kept net t there).1.edges e).0 edge)
 
+-- a routing, by its first mark and the chosen one
 module _ (shelf : Reading) (design library : List ℕ) (from : Option (List ℕ)) (options : Options) (book : BookView) (hands : List HandLog) (text report : List ℕ)
     (is : IsRouting shelf design library from options book hands text report) where
   abbrev d : DesignView

@@ -17,11 +17,13 @@ use Rattle.word_reader.specs.declared.order.Options.{Options}
 use Rattle.given_laws.proofs.RouteLaws.{as-given, none-worse}
 use Rattle.given_laws.specs.Laws.{AreAllKept, KeptAsGiven, NeverWorse, ReportsNoWorse, WritesAsGiven}
 
+-- the value that a text says, or another where it says none
 abbrev value-in : {A E : Type 0} → A → Option (Result A E) → A
 value-in a None = a
 value-in a (Some (Ok b)) = b
 value-in a (Some (Err e)) = a
 
+-- what a run read and made that begins from a solution, by the texts that the shelf held
 module _ (design library solution : List ℕ) (options : Options) (shelf : Reading) (d : DesignView) (bytes : List ℕ) (tells : IsTrue shelf.tells)
     (said : design_said shelf.held design ≡ Some (Ok d)) (held : shelf.held Solution solution ≡ Some bytes) where
   abbrev Routes : Kept → (text report : List ℕ) → Type 0

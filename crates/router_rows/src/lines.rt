@@ -181,7 +181,7 @@ fn put_stops<R: AllocGlobal + Threads + Wait + Sync>(
     let words = words_of(rt.alloc(), rest)?;
     let gate = RecordingGate::new(rt.alloc());
     let left = bench.run(rt, &gate, rules, bench.devices, None, &words)?;
-    let callers = left.ended.hands.len() as u32;
+    let callers = u32::try_from(left.ended.hands.len()).unwrap_or(u32::MAX);
     let agrees = match &left.ended.book {
         Some(book) => gate.agrees(book.state().history(), callers),
         None => false,

@@ -1,5 +1,5 @@
 //! A gate that keeps what it is told.
-use book_state::{Call, History, Reply};
+use book_state::{Call, Entry, History, Reply};
 use ripup_workers::{Gate, Stop};
 use std::alloc::Global;
 use std::sync::{Mutex, Wait};
@@ -47,25 +47,28 @@ fn agrees_with(told: &[Told], history: &History, number: u32) -> bool {
         if matches!(one.stop, Stop::Turn { .. } | Stop::Search { .. }) {
             continue;
         }
-        match next_of(history, number, place) {
-            Some(at) if is_entry(history, at, one.stop) => place = at + 1,
-            _ => return false,
+        let at = next_of(history, number, place);
+        if at >= history.len() || !is_entry(history.entry(at), one.stop) {
+            return false;
+        }
+        place = at.saturating_add(1);
+    }
+    next_of(history, number, place) >= history.len()
+}
+
+/// The place of a caller's next claim or mark, from a place on; behind the last, where there is none.
+fn next_of(history: &History, number: u32, from: u64) -> u64 {
+    for place in from..history.len() {
+        let entry = history.entry(place);
+        if entry.number == number && !matches!(entry.call, Call::Release { .. }) {
+            return place;
         }
     }
-    next_of(history, number, place).is_none()
+    u64::MAX
 }
 
-/// The place of a caller's next claim or mark, from a place on.
-fn next_of(history: &History, number: u32, from: u64) -> Option<u64> {
-    (from..history.len()).find(|&place| {
-        let entry = history.entry(place);
-        entry.number == number && !matches!(entry.call, Call::Release { .. })
-    })
-}
-
-/// Whether the entry at a place is the claim or the mark that was told.
-fn is_entry(history: &History, place: u64, stop: Stop) -> bool {
-    let entry = history.entry(place);
+/// Whether an entry is the claim or the mark that was told.
+fn is_entry(entry: &Entry, stop: Stop) -> bool {
     match (&entry.call, entry.reply, stop) {
         (Call::Claim(claim), _, Stop::Claim { net }) => claim.net == net,
         (Call::Mark, Reply::Marked { overflow }, Stop::Marked { overflow: told, .. }) => {
