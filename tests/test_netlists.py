@@ -206,10 +206,10 @@ class Odd(OnChip):
 
     @unittest.skipUnless(STA, "sta is not there")
     def test_names_survive(self) -> None:
-        self.design(self.chip(500))
+        self.design(self.chip(520))
         self.spef()
         found = self.names_in(sta.reading([self.lib], self.path("a.v"), "top", self.path("a.spef")))
-        self.assertGreater(len(found), 950)
+        self.assertGreater(len(found), 1000)
         self.assertEqual(found, self.names_of("a.v"))
         text = self.text("a.spef")
         self.put("a.v", self.text("a.v").replace("module top", "module other"))
@@ -218,7 +218,7 @@ class Odd(OnChip):
     @unittest.skipUnless(STA, "sta is not there")
     def test_names_survive_insertion(self) -> None:
         """With a buffer in each net that goes to another tile; the script does what the new netlist says."""
-        self.design(self.chip(500))
+        self.design(self.chip(520))
         count = self.put_report()
         self.assertGreater(count, 450)
         out = self.done("insert.py", *(self.path(f"a.{kind}") for kind in ("def", "ispd", "solution", "report")), "-o",
