@@ -124,6 +124,11 @@ class ByHand(OnChip):
             self.assertEqual((status, out.splitlines()[1]), (0, f"nets {nets}"), (words, err))
         if not nets:
             self.assertEqual(self.text("b.v"), self.text("a.v"))
+        # A clock's net stays without a table too, by liberty.
+        self.given(f"{SOLUTION}ck 4 (2500,2500,1)-(3500,2500,1) (3500,2500,1)-(3500,2500,2) !\n",
+                   f"{REPORT}net ck 4 required -1 buffers 1\n(2500,2500,1) BUF\n")
+        self.assertEqual(self.inserted()[1].splitlines()[1], "nets 4")
+        self.assertNotIn("ck_buf", self.text("b.v"))
         self.put("keep", "none")
         for words, says in ((("--keep", self.path("keep")), "has no net none"), (("--below", "1"), "wants --slack"),
                             (("--slack", self.path("slacks"), "--below", "x"), "no number of picoseconds")):

@@ -74,6 +74,16 @@ class Cells(InFolder):
             self.assertIn(status, (2, 3))
             self.assertIn(says, err)
 
+    def test_pads(self) -> None:
+        """A pad that buffers is a kind only where it is named."""
+        with open(SKY[3], encoding="ascii") as file:
+            text = file.read()
+        self.assertIn('cell ("sk_buf") {', text)
+        path = self.put("lib", text.replace('cell ("sk_buf") {', 'cell ("sk_buf") { pad_cell : true ;'))
+        for words, kinds in (((), []), (("--kinds", "sk_buf"), ["sk_buf"])):
+            lines = self.library("--liberty", path, "--scale", "10", "--driver", "sk_inv", *words)[1]
+            self.assertEqual([line.split()[1] for line in lines if line.startswith("kind ")], kinds)
+
     def test_faults(self) -> None:
         with open(SKY[3], encoding="ascii") as file:
             text = file.read()

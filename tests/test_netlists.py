@@ -7,9 +7,11 @@ import unittest
 
 from chips import STA, YOSYS, OnChip, equivalent, placed
 from groute.placed.def_edits import sections
+from groute.placed.liberty import Liberty
 from groute.texts.designs import Netlist
 from groute.texts.files import Fault
 from groute.texts.pins import Pins
+from groute.texts.solutions import routes
 from groute.texts.tokens import Tokens
 from groute.timing import sta
 from groute.timing.delays import Model
@@ -17,8 +19,9 @@ from groute.timing.naming import Name, doubled, own
 from groute.timing.slacks import timer_pin
 from groute.timing.spef import Names
 from groute.timing.taken_out import nets_of
+from groute.timing.trees import Tree
 from groute.timing.verilog import Verilog
-from testing import ROOT, program, run, tool
+from testing import ROOT, program, run, text_of, tool
 
 OSU = "/usr/share/qflow/tech/osu035/osu035_stdcells"
 OSU_THERE = os.path.exists(f"{OSU}.lib")
@@ -203,10 +206,10 @@ class Odd(OnChip):
 
     @unittest.skipUnless(STA, "sta is not there")
     def test_names_survive(self) -> None:
-        self.design(self.chip(500))
+        self.design(self.chip(520))
         self.spef()
         found = self.names_in(sta.reading([self.lib], self.path("a.v"), "top", self.path("a.spef")))
-        self.assertGreater(len(found), 950)
+        self.assertGreater(len(found), 1000)
         self.assertEqual(found, self.names_of("a.v"))
         text = self.text("a.spef")
         self.put("a.v", self.text("a.v").replace("module top", "module other"))
@@ -215,7 +218,7 @@ class Odd(OnChip):
     @unittest.skipUnless(STA, "sta is not there")
     def test_names_survive_insertion(self) -> None:
         """With a buffer in each net that goes to another tile; the script does what the new netlist says."""
-        self.design(self.chip(500))
+        self.design(self.chip(520))
         count = self.put_report()
         self.assertGreater(count, 450)
         out = self.done("insert.py", *(self.path(f"a.{kind}") for kind in ("def", "ispd", "solution", "report")), "-o",
@@ -265,16 +268,62 @@ class Odd(OnChip):
         self.assertEqual(equivalent(self.folder.name, self.lib, self.path("a.v"), self.path("a.v"), "top"), "")
 
 
+# The greatest delay of the arcs of some edges, in seconds; an arc that a cell lacks has one beyond all.
+MOST = """proc most {edges} {
+  set most 0
+  while {[$edges has_next]} {
+    set edge [$edges next]
+    set arcs [$edge timing_arc_iterator]
+    while {[$arcs has_next]} {
+      foreach delay [$edge arc_delays [$arcs next]] { if {$delay < 1e20} { set most [expr {max($most, $delay)}] } }
+    }
+    $arcs finish
+  }
+  $edges finish
+  return $most
+}"""
+
+
+@unittest.skipUnless(STA and OSU_THERE, "sta and qflow-tech-osu035 are not there")
 class Grom(Elmore):
     """A processor of 2,000 nets."""
 
-    @unittest.skipUnless(STA and OSU_THERE, "sta and qflow-tech-osu035 are not there")
-    def test_delays(self) -> None:
-        """With drivers of 0 ohms groute's delay of each net is the greatest that OpenSTA finds, to 1 %."""
+    def setUp(self) -> None:
+        Elmore.setUp(self)
         with lzma.open(f"{ROOT}/examples/grom_osu035.def.xz", "rt") as file:
             placed_text = file.read()
         self.lef, self.lib = f"{OSU}.lef", f"{OSU}.lib"
         self.design(placed_text, "--kinds", "BUFX2")
+
+    def test_model(self) -> None:
+        """FLOW has groute's delay of the slowest nets, through driver and wire, and OpenSTA's."""
+        self.spef()
+        design, pins = Netlist(Tokens(self.path("a.ispd"))), Pins(self.path("a.ispd.pins"))
+        cells, liberty = Verilog(self.path("a.v")).instances, Liberty([self.lib])
+        model, mine = Model(self.path("a.library")), {}
+        for id_, runs in routes(design, self.path("a.solution")):
+            driver = pins.nets[id_][0]
+            if not driver.is_port():
+                cell = liberty.cell(cells[driver.component].cell)
+                halves = [half for half in model.halves(id_, Tree(design, id_, runs)) if half is not None]
+                mine[id_] = cell.lines[driver.name].delay / 1000 + max(halves, default=0) / 2e7
+        slowest = sorted(mine, key=lambda id_: -mine[id_])[:20]
+        lines = sta.reading([self.lib], self.path("a.v"), "grom_cpu", self.path("a.spef"))
+        lines += ["::sta::find_delays", MOST, "set all [::sta::vertex_iterator]", "while {[$all has_next]} {",
+                  "  set one [$all next]", "  set vertices([get_full_name [$one pin]]) $one", "}", "$all finish"]
+        names = Names(design, pins, None)
+        for id_ in slowest:
+            one = f"$vertices({sta.word(timer_pin(pins.nets[id_][0], names))})"
+            lines.append(f'puts "groute: [most [{one} in_edge_iterator]] [most [{one} out_edge_iterator]]"')
+        found = {}
+        for id_, line in zip(slowest, sta.answer(lines)):
+            theirs = sum(map(float, line.split())) * 1e12
+            found[design.names[id_]] = round(mine[id_]), round(theirs), round(100 * (mine[id_] / theirs - 1))
+        told = re.findall(r"`(\S+)` \| ([0-9]+) \| ([0-9]+) \| (-?[0-9]+) %", text_of("docs/FLOW.md"))
+        self.assertEqual({name: tuple(map(int, words)) for name, *words in told}, found)
+
+    def test_delays(self) -> None:
+        """With drivers of 0 ohms groute's delay of each net is the greatest that OpenSTA finds, to 1 %."""
         library = re.sub(r"(?m)^(drive \d+|driver) \d+$", r"\1 0", self.text("a.library"))
         self.put("a.library", re.sub(r"(?m)^kind .*\n", "", library))
         status, out, err = run(program(), "buffer", *(self.path(f"a.{name}")

@@ -36,8 +36,8 @@ class Speed(OnChip):
         for name, *words in (
                 ("netlist", placement, "--lef", self.lef, "-o", netlist),
                 ("spef", design, library, solution, "-o", spef, "--verilog", netlist),
-                ("insert", placement, design, solution, report, "-o", self.path("b.def"), "--lef", self.lef,
-                 "--liberty", self.lib, "--verilog", netlist, self.path("b.v"), "--eco", self.path("b.tcl"))):
+                ("insert", placement, design, solution, report, "--lef", self.lef, "--liberty", self.lib, "-o",
+                 self.path("b.def"), "--verilog", netlist, self.path("b.v"), "--eco", self.path("b.tcl"))):
             before = resource.getrusage(resource.RUSAGE_CHILDREN)
             self.done(f"{name}.py", *words)
             after = resource.getrusage(resource.RUSAGE_CHILDREN)
