@@ -59,7 +59,9 @@ class Calls(InFolder):
 
     @unittest.skipUnless(bounds(), "grbound is not named")
     def test_bound(self) -> None:
-        for words, options in (((), {}), (("--steps=3", "--via-cost=2"), {"steps": 3, "via_cost": 2})):
+        given: tuple[dict[str, int], ...] = ({}, {"steps": 3, "via_cost": 2})
+        for options in given:
+            words = [f"--{name.replace('_', '-')}={value}" for name, value in options.items()]
             lines = run(str(bounds()), DESIGN, *words)[1].splitlines()
             found = groute.bound(DESIGN, program=bounds(), **options)
             figures = [found.overflow, found.wirelength, found.usable_wirelength]

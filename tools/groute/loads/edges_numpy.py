@@ -207,7 +207,7 @@ class Edges:
 
     def are_usable(self) -> bool:
         """Whether each wire edge lies on a layer whose capacity that way is stated to be above 0."""
-        layer = self.number // (self.design.columns * self.design.rows)
+        layer = numpy.floor_divide(self.number, self.design.columns * self.design.rows)
         return all(numpy.array(self.design.capacity[way])[layer[self.way == way]].all() for way in (EAST, NORTH))
 
 

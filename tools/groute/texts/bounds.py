@@ -51,7 +51,8 @@ def bounds_of(text: str) -> Bounds:
         raise ValueError("lines are missing")
     figures = [figure(*pair) for pair in zip(lines, words)]
     prices = Prices(*figures[len(FIGURES):len(FIGURES + BY_PRICES)]) if with_prices else None
-    return Bounds(*figures[:len(FIGURES)], prices, tuple(map(wall, lines[len(words):])))
+    overflow, wirelength, usable_wirelength = figures[:len(FIGURES)]
+    return Bounds(overflow, wirelength, usable_wirelength, prices, tuple(map(wall, lines[len(words):])))
 
 
 def figure(line: str, words: str) -> int:
