@@ -25,6 +25,7 @@ NUMBERS = 5
 # The words of the made design whose run is watched, and its rounds.
 LONGER = "1 128 128 6 100000", 1
 PAUSE = 0.0005      # seconds between two looks
+ENDS = 0x4          # the system's flag of a thread that ends
 
 
 def run(program, *words):
@@ -68,13 +69,25 @@ def fault(program, design, solution, route):
     return None, int(told[1].split()[1])
 
 
+def threads(process):
+    """How many threads a process has, but for those that end: they are listed a little longer."""
+    count = 0
+    for task in os.listdir(f"/proc/{process}/task"):
+        try:
+            with open(f"/proc/{process}/task/{task}/stat", encoding="utf-8", errors="replace") as file:
+                flags = file.read().rpartition(")")[2].split()[6]
+        except OSError:     # it has ended
+            continue
+        count += not int(flags) & ENDS
+    return count
+
+
 def most_threads(words):
-    """The most threads that a program had at two looks in a row: one that has ended may still be listed at one."""
-    most, before = 0, 0
+    """The most threads that a program had at a look."""
+    most = 0
     with subprocess.Popen(words, stdout=subprocess.DEVNULL, stderr=subprocess.DEVNULL) as process:
         while process.poll() is None:
-            now = len(os.listdir(f"/proc/{process.pid}/task"))
-            most, before = max(most, min(now, before)), now
+            most = max(most, threads(process.pid))
             time.sleep(PAUSE)
     return most
 
