@@ -274,6 +274,8 @@ class Verilog:
             if form is None or not 1 <= int(form[1]) <= MOST_BITS:
                 raise ValueError(word)
             value = int(form[3].replace("_", ""), {"b": 2, "h": 16, "d": 10}[form[2].lower()])
+            if value >> int(form[1]):
+                raise ValueError(word)
         except ValueError:
             raise self.fault(f"the constant {word} is not read here") from None
         return [Constant(value >> at & 1) for at in reversed(range(int(form[1])))]
