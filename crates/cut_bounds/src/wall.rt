@@ -1,3 +1,5 @@
+//! The walls as callers are told of them: plain values, with what the nets need of each and what it holds.
+
 /// The tiles from column `x0` to column `x1`, in the rows from `y0` to `y1`: these four too. Columns and
 /// rows count from 0.
 #[derive(Clone, Copy, Debug, PartialEq, Eq)]

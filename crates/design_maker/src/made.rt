@@ -1,3 +1,4 @@
+//! The few numbers that a made design follows from, and the ranges in which they have to lie.
 ghost use Rattle.std.specs.Prelude.{◌≡◌};
 ghost use Rattle.design_maker.specs.Ranges.{is_between, is_made};
 

@@ -1,3 +1,4 @@
+//! Counts the calls of a device over memory and makes listed ones fail, so that errors can be tried at will.
 ghost use Rattle.std.specs.Prelude.{◌≡◌, ◌≤◌, is_err, OnErr, OnOk};
 ghost use Rattle.gr_io.specs.Calls.{no_calls, next_fails, with_fault, after_call};
 ghost use Rattle.gr_io.specs.Counts.{Rose};

@@ -1,3 +1,4 @@
+//! Copies bytes between slices of any lengths, for devices that hold their texts in memory.
 ghost use Rattle.std.specs.Prelude.{◌≡◌, length, min, take};
 
 /// Copies the first bytes, as many as fit and no more than `most`, and says how many.

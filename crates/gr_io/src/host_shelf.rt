@@ -1,3 +1,4 @@
+//! The shelf of a running program: it reads files, and touches them only through the runtime that it is given.
 ghost use Rattle.std.specs.Prelude.{◌≡◌, ℕ, ◌<◌, ◌≤◌, Bool, false, List, [], None, length, IsTrue, OnOk, OnErr, IfOk};
 ghost use Rattle.std.specs.Io.KnownBytes.{ReadConsumes};
 ghost use Rattle.gr_io.specs.Counts.{Rose, one_more};

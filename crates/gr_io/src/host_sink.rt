@@ -1,3 +1,4 @@
+//! The sink of a running program: it touches the one stream that it is given, and counts the writes that fail.
 ghost use Rattle.std.specs.Prelude.{◌≡◌, ◌<◌, ◌≤◌, false, [], length, OnOk, OnErr, IfOk};
 ghost use Rattle.std.specs.Io.KnownBytes.{WriteAppends};
 ghost use Rattle.gr_io.specs.Counts.{Rose, one_more};

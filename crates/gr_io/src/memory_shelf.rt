@@ -1,3 +1,4 @@
+//! The shelf for trying readers without files: texts are put into memory, and listed calls fail.
 ghost use Rattle.std.specs.Prelude.{◌≡◌, ℕ, ◌<◌, ◌≤◌, ◌↔◌, ◌++◌, ◌∷◌, [], true, List, Some, None, Ok, Err, take, length, is_some, IsTrue, IsErr, OnOk, OnErr, IfOk};
 ghost use Rattle.gr_io.specs.Calls.{next_fails};
 ghost use Rattle.gr_io.specs.Counts.{Rose};

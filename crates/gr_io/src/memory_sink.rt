@@ -1,3 +1,4 @@
+//! The sink for trying writers without a stream: what it took can be looked at, and listed calls fail.
 ghost use Rattle.std.specs.Prelude.{◌≡◌, ◌<◌, ◌≤◌, ◌↔◌, ◌++◌, ◌||◌, take, length, true, IsTrue, OnOk, OnErr, IfOk, IsErr};
 ghost use Rattle.gr_io.specs.Calls.{next_fails};
 ghost use Rattle.gr_io.specs.Counts.{Rose};

@@ -1,3 +1,4 @@
+//! What every shelf promises, so that readers needn't know whether files or memory stand behind it.
 ghost use Rattle.std.specs.Prelude.{◌≡◌, ℕ, ◌+◌, ◌<◌, ◌≤◌, ◌↔◌, Bool, true, List, [], ◌++◌, Option, Some, None, take, length, IsTrue, OnOk, OnErr, IfOk};
 ghost use Rattle.gr_io.specs.Counts.{Rose};
 ghost use Rattle.gr_io.specs.Shelves.{StaysOpen, SameTexts};

@@ -1,3 +1,4 @@
+//! What every sink promises, so that writers needn't know where their bytes go.
 ghost use Rattle.std.specs.Prelude.{◌≡◌, ℕ, ◌<◌, ◌≤◌, Bool, List, ◌++◌, take, length, IsTrue, OnOk, OnErr, IfOk};
 ghost use Rattle.gr_io.specs.Counts.{Rose};
 

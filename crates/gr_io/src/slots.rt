@@ -1,3 +1,4 @@
+//! Keeps one value for each slot, so that a shelf's open texts stay apart.
 ghost use Rattle.std.specs.Prelude.{◌≡◌};
 ghost use Rattle.gr_io.specs.Slots.{at_slot, set_slot};
 

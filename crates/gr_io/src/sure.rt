@@ -1,3 +1,4 @@
+//! Devices whose calls never fail and take no memory: a shelf of given texts, and a sink that drops its bytes.
 ghost use Rattle.std.specs.Prelude.{◌≡◌, ℕ, ◌<◌, ◌≤◌, ◌↔◌, ◌++◌, true, false, List, [], Some, None, take, length, min, IsTrue, IsOk, OnOk, IfOk};
 ghost use Rattle.gr_io.specs.Shelves.{StaysOpen, SameTexts};
 ghost use Rattle.gr_io.specs.Slots.{at_slot};

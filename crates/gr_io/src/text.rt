@@ -1,3 +1,4 @@
+//! The texts that a shelf in memory holds, and how one is found by its name.
 ghost use Rattle.std.specs.Prelude.{◌≡◌, IfOk, bytes_eq, position};
 
 use std::alloc::{AllocError, Global};

@@ -1,3 +1,4 @@
+//! Turns the bytes of a token into whole numbers within a given range; it reads nothing itself.
 ghost use Rattle.std.specs.Prelude.{◌≡◌, ◌-◌, ◌^◌, min, is_some, IsTrue, option_map, pos, neg_ℤ, IfSome, ◌≤ℤ◌};
 ghost use Rattle.gr_text.specs.Numbers.{is_digit, all_digits, digits_value, decimal_value, up_to, natural_in, whole_value, clamped, within, number_in};
 

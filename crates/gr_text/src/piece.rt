@@ -1,3 +1,4 @@
+//! Holds the part of a text that lies in memory, refilled from a shelf's slot as tokens use it up.
 ghost use Rattle.std.specs.Prelude.{◌≡◌, ℕ, ◌+◌, ◌<◌, ◌≤◌, ◌↔◌, List, [], ◌++◌, take, drop, length, slice_range, IsTrue, IfOk, OnOk, OnErr};
 ghost use Rattle.gr_io.specs.Counts.{Rose};
 ghost use Rattle.gr_io.specs.Shelves.{KeepsShelf};

@@ -1,3 +1,4 @@
+//! Joins the tokens of a slot with the shelf that holds the text, so that readers see one source of tokens.
 ghost use Rattle.std.specs.Prelude.{IsTrue};
 
 use crate::source::TokenSource;

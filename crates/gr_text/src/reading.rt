@@ -1,3 +1,4 @@
+//! The checks that readers of texts are made of; they rest on nothing but a source of tokens.
 ghost use Rattle.std.specs.Prelude.{◌≡◌, ℕ, ◌≤◌, Some, None, false, Ok, IsTrue, IfOk, OnOk, ◌≤ℤ◌, if◌then◌else◌};
 ghost use Rattle.gr_base.specs.Names.{is_token};
 ghost use Rattle.gr_text.specs.Reading.{token, token_or_end, word, number, natural, check, given, end};

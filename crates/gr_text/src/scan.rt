@@ -1,3 +1,4 @@
+//! Finds where words begin and end among bytes that lie in memory.
 ghost use Rattle.std.specs.Prelude.{◌≡◌, ◌≤◌, not, length, position};
 ghost use Rattle.std.specs.List.{position_or_len};
 ghost use Rattle.gr_text.specs.Tokens.{is_blank};

@@ -1,3 +1,4 @@
+//! What a reader may ask of a source of tokens, and why reading ends without a value.
 ghost use Rattle.std.specs.Prelude.{◌≡◌, ℕ, ◌+◌, ◌-◌, ◌^◌, ◌<◌, Bool, false, List, IsTrue, IfOk, Ok};
 ghost use Rattle.gr_base.specs.Names.{is_token};
 ghost use Rattle.gr_text.specs.Origins.{Origin};

@@ -1,3 +1,4 @@
+//! Cuts the text in a shelf's slot into tokens, piece by piece, and uses no byte beyond the length it may have.
 ghost use Rattle.std.specs.Prelude.{◌≡◌, ℕ, ◌+◌, ◌-◌, ◌^◌, ◌<◌, ◌≤◌, ◌↔◌, false, true, not, List, [], ◌++◌, take, drop, length, nat_lt, IsTrue, IfOk, IfSome, OnOk, OnErr, is_err, Ok};
 ghost use Rattle.std.specs.List.{position_or_len};
 ghost use Rattle.gr_io.specs.Counts.{Rose};

@@ -1,3 +1,4 @@
+//! What can be wrong with a library text, with the number and the words by which a user is told.
 ghost use Rattle.std.specs.Prelude.{◌≡◌};
 
 use gr_text::ReadError;

@@ -1,3 +1,4 @@
+//! Keeps the routes that were read: the runs of all nets in one list, and where in it each net's own stand.
 ghost use Rattle.std.specs.Prelude.{◌≡◌, ◌<◌, length, map, All};
 ghost use Rattle.route_reader.specs.Solutions.{runs_at, IsRun, IsSolution};
 ghost use Rattle.route_reader.specs.SolutionStore.{runs_between, IsStretch};

@@ -1,3 +1,4 @@
+//! Lists the edges of a net's tree, in room that the next net uses anew.
 ghost use Rattle.std.specs.Prelude.{◌≡◌, OnOk};
 ghost use Rattle.gr_base.specs.Trees.{HasGridEdges, tree_edges};
 

@@ -1,3 +1,4 @@
+//! The two reasons why a text isn't written whole, made from the errors of sinks and of memory.
 use std::alloc::AllocError;
 use thiserror::Error;
 

@@ -1,3 +1,4 @@
+//! Puts a net's record behind a text in memory; it touches no sink.
 ghost use Rattle.std.specs.Prelude.{◌≡◌, ◌++◌, [], OnOk, codes};
 ghost use Rattle.std.specs.Fmt.{decimal};
 ghost use Rattle.std.specs.List.{flat_map};

@@ -1,3 +1,4 @@
+//! Puts the lines of runs behind a text in memory, in the order in which the runs are given.
 ghost use Rattle.std.specs.Prelude.{◌≡◌, ◌++◌, All, OnOk};
 ghost use Rattle.std.specs.List.{flat_map};
 ghost use Rattle.solution_text.specs.WrittenText.{segment_line};

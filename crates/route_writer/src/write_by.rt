@@ -1,3 +1,4 @@
+//! Writes the routes of a design with several workers; only the calling thread touches the sink.
 ghost use Rattle.std.specs.Prelude.{◌≡◌, ◌<◌, ◌≤◌, length, Err, OnOk, OnErr};
 ghost use Rattle.gr_io.specs.Counts.{Rose};
 ghost use Rattle.straight_runs.specs.Routed.{HaveTrees};

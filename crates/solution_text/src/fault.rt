@@ -1,3 +1,4 @@
+//! What can be wrong with the text of a solution, with the number and the words by which a user is told.
 ghost use Rattle.std.specs.Prelude.{◌≡◌};
 
 use thiserror::Error;

@@ -1,3 +1,4 @@
+//! The laws of library texts, each the clause of a function; they rest on what `rc_library` says a text means.
 ghost use Rattle.text_laws.specs.EarlyLibraryFaults.{LibraryFaultsAreDecidedEarly, TokensDecideLibraries};
 ghost use Rattle.text_laws.specs.LibraryItems.{ItemsEndWithTheirTokens};
 

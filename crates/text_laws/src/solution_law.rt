@@ -1,3 +1,4 @@
+//! The laws of solution texts, each the clause of a function; they rest on what `route_reader` says a text means.
 ghost use Rattle.text_laws.specs.EarlySolutionFaults.{SolutionFaultsAreDecidedEarly, TokensDecideSolutions};
 
 /// Does nothing. Its clauses are laws of a solution's text: its first fault and that fault's token are
