@@ -10,13 +10,13 @@ use crate::calls::Calls;
 use crate::copy::copy_start;
 use crate::shelf::{Failed, ReachError, Shelf, Slot};
 use crate::slots::Slots;
-use crate::text::{Text, number_of};
+use crate::text::{NamedText, number_of};
 use std::alloc::{AllocError, Global};
 use std::marker::Model;
 
 /// The next byte to be read: the number of its text, and where it stands in it.
 #[derive(Clone, Copy)]
-pub(crate) struct Place {
+pub(crate) struct NextByte {
     text: usize,
     at: usize,
 }
@@ -25,8 +25,8 @@ pub(crate) struct Place {
 /// together, from 1. A call that isn't `Ok` leaves what is open in each slot as it was.
 #[derive(Drop)]
 pub struct MemoryShelf {
-    texts: Vec<Text>,
-    places: Slots<Option<Place>>,
+    texts: Vec<NamedText>,
+    places: Slots<Option<NextByte>>,
     piece: usize,
     misses: u64,
     calls: Calls,
@@ -84,7 +84,7 @@ impl MemoryShelf {
             ≡ record self.old { texts = self.old.texts ++ record { name = name.now; bytes = bytes.now } ∷ [] }) }
         ensures err { OnErr result (self.new ≡ self.old) }
     {
-        let text = Text::new(alloc, name, bytes)?;
+        let text = NamedText::new(alloc, name, bytes)?;
         self.texts.push(text)?;
         Ok(())
     }
@@ -134,7 +134,7 @@ impl Shelf for MemoryShelf {
             self.misses = self.misses.saturating_add(1);
             return Err(ReachError::Missing);
         };
-        self.places.set(slot, Some(Place { text, at: 0 }));
+        self.places.set(slot, Some(NextByte { text, at: 0 }));
         Ok(())
     }
 
@@ -163,7 +163,7 @@ impl Shelf for MemoryShelf {
         let at = place.at + count;
         self.places.set(
             slot,
-            Some(Place {
+            Some(NextByte {
                 text: place.text,
                 at,
             }),

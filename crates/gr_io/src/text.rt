@@ -6,12 +6,12 @@ use std::marker::Model;
 
 /// A text that is held under a name.
 #[derive(Drop)]
-pub(crate) struct Text {
+pub(crate) struct NamedText {
     name: Vec<u8>,
     bytes: Vec<u8>,
 }
 
-impl Model for Text {
+impl Model for NamedText {
     ghost use Rattle.gr_io.specs.Texts.{HeldText};
 
     ghost Value = { HeldText };
@@ -19,11 +19,11 @@ impl Model for Text {
     ghost view = { λ t. record { name = t.name.items; bytes = t.bytes.items } };
 }
 
-impl Text {
+impl NamedText {
     pub(crate) fn new(alloc: Global, name: &str, bytes: &[u8]) -> Result<Self, AllocError>
         ensures { IfOk result (λ text. text ≡ record { name = name.now; bytes = bytes.now }) }
     {
-        Ok(Text {
+        Ok(NamedText {
             name: Vec::from_slice(alloc, name.as_bytes())?,
             bytes: Vec::from_slice(alloc, bytes)?,
         })
@@ -43,7 +43,7 @@ impl Text {
 }
 
 /// The number of the first text of a name.
-pub(crate) fn number_of(texts: &[Text], name: &str) -> Option<usize>
+pub(crate) fn number_of(texts: &[NamedText], name: &str) -> Option<usize>
     ensures { result ≡ position (λ t. bytes_eq t.name name.now) texts.now }
 {
     texts.iter().position(|text| text.is_named(name))

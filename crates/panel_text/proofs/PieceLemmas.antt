@@ -19,7 +19,7 @@ use Rattle.solution_text.specs.Runs.{LieIn, begins, reach, run_from}
 use Rattle.solution_text.proofs.RunLemmas.{moved, reach-is, trail-place}
 use Rattle.track_panels.specs.declared.piece.Piece.{Piece}
 use Rattle.track_panels.specs.Pieces.{AreInOrder, ArePieces}
-use Rattle.panel_text.specs.declared.place.Place.{Place}
+use Rattle.panel_text.specs.declared.place.PanelPlace.{PanelPlace}
 use Rattle.panel_text.specs.declared.starts.Starts.{Starts}
 use Rattle.panel_text.specs.Chains.{HaveChains}
 use Rattle.panel_text.specs.Gathered.{AreStarts}
@@ -100,7 +100,7 @@ tile-few g Up line cell in' = absurd (omega (arith, in'))
 -- ---- the pieces
 
 -- those that begin at a tile
-abbrev pieces_at : DesignView → (ℕ → Edges) → Place → (tile : ℕ) → List Piece
+abbrev pieces_at : DesignView → (ℕ → Edges) → PanelPlace → (tile : ℕ) → List Piece
 pieces_at d sets place tile = map (piece_at d.frame.shape place.way tile) (starts_from d sets place.way 0 (cell_in d.frame.shape place tile))
 
 record IsPieceAt (d : DesignView) (tile : ℕ) (piece : Piece) : Type 0 where
@@ -109,7 +109,7 @@ record IsPieceAt (d : DesignView) (tile : ℕ) (piece : Piece) : Type 0 where
   within : piece.high < most_cells
   net : piece.net < length d.nets
 
-module _ (d : DesignView) (sets : ℕ → Edges) (within : (net : ℕ) → LieIn d.frame.shape (sets net)) (place : Place) (is : IsPlace d.frame.shape place) where
+module _ (d : DesignView) (sets : ℕ → Edges) (within : (net : ℕ) → LieIn d.frame.shape (sets net)) (place : PanelPlace) (is : IsPlace d.frame.shape place) where
   is-piece : (tile net : ℕ) → tile < tiles_along d.frame.shape place.way → net < length d.nets →
       begins d.frame.shape (sets net) place.way (cell_in d.frame.shape place tile) ≡ true →
       IsPieceAt d tile (piece_at d.frame.shape place.way tile (net, (run_from d.frame.shape (sets net) place.way (cell_in d.frame.shape place tile)).to))
@@ -175,7 +175,7 @@ module _ (d : DesignView) (sets : ℕ → Edges) (within : (net : ℕ) → LieIn
   pieces-are some few = record { some = some; few = few; order = pieces-ordered }
 
 -- the pieces along a panel where the runs are those of sets of edges
-pub pieces-along : (d : DesignView) (sets : ℕ → Edges) (place : Place) (s : Starts) (pieces : List Piece) (g : Shape) → g ≡ d.frame.shape →
+pub pieces-along : (d : DesignView) (sets : ℕ → Edges) (place : PanelPlace) (s : Starts) (pieces : List Piece) (g : Shape) → g ≡ d.frame.shape →
     ((chains : ℕ → List (ℕ × ℕ)) → HaveChains chains s → pieces ≡ pieces_along g place chains) → AreStarts d sets place.way 0 s → pieces ≡ pieces_of d sets place
 pieces-along d sets place s pieces g same by are =
     by (starts_from d sets place.way 0) are.chains ∙ ap (λ (h : Shape). pieces_along h place (starts_from d sets place.way 0)) same

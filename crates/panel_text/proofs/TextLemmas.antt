@@ -17,7 +17,7 @@ use Rattle.track_panels.specs.declared.piece.Piece.{Piece}
 use Rattle.track_panels.specs.Numberings.{IsPanel, left_edge, point_of, tracks_of}
 use Rattle.track_panels.specs.Panels.{PanelView}
 use Rattle.track_panels.specs.Pieces.{covers}
-use Rattle.panel_text.specs.declared.place.Place.{Place}
+use Rattle.panel_text.specs.declared.place.PanelPlace.{PanelPlace}
 use Rattle.panel_text.specs.declared.starts.Starts.{Starts}
 use Rattle.panel_text.specs.declared.told.Told.{Told}
 use Rattle.panel_text.specs.Gathered.{AreStarts}
@@ -49,7 +49,7 @@ pieces-more d pieces numbers text before at track e inside long here so_far =
     ∙ ap (λ (t : List ℕ). before ++ t) (sym (ap (flat_map (piece_line d)) zipped ∙ flat_map-append (piece_line d) done ((get_or pieces at e, track) ∷ [])
     ∙ ap (λ (t : List ℕ). flat_map (piece_line d) done ++ t) (append-nil line)))
 
-lines-told : (d : DesignView) (place : Place) (p : Piece) (ps : List Piece) (numbers : List ℕ) (tracks point : ℕ) → numbers ≡ left_edge (p ∷ ps) →
+lines-told : (d : DesignView) (place : PanelPlace) (p : Piece) (ps : List Piece) (numbers : List ℕ) (tracks point : ℕ) → numbers ≡ left_edge (p ∷ ps) →
     tracks ≡ tracks_of (p ∷ ps) → point ≡ point_of (p ∷ ps) →
     panel_line place tracks point ++ flat_map (piece_line d) (zip (p ∷ ps) numbers) ≡
     panel_line place (tracks_of (p ∷ ps)) (point_of (p ∷ ps)) ++ flat_map (piece_line d) (zip (p ∷ ps) (left_edge (p ∷ ps)))
@@ -73,12 +73,12 @@ unfolding tracks_of left_edge
 no-tracks = refl
 
 -- nothing is told of a panel without a piece
-pub told-none : (d : DesignView) (place : Place) (pieces : List Piece) (told : Told) → length pieces ≡ 0 → told ≡ with_pieces d place pieces told
+pub told-none : (d : DesignView) (place : PanelPlace) (pieces : List Piece) (told : Told) → length pieces ≡ 0 → told ≡ with_pieces d place pieces told
 told-none d place [] told none =
     same-told told.lines (told.lines ++ []) told.panels (told.panels + 0) told.tracks (told.tracks + tracks_of []) (sym (append-nil told.lines)) (omega arith) (omega (arith, no-tracks))
 told-none d place (p ∷ ps) told none = absurd (omega (arith, none))
 
-pub told-some : (d : DesignView) (place : Place) (pieces : List Piece) (panel : PanelView) (old new : Told) (lines : List ℕ) → 0 < length pieces →
+pub told-some : (d : DesignView) (place : PanelPlace) (pieces : List Piece) (panel : PanelView) (old new : Told) (lines : List ℕ) → 0 < length pieces →
     IsPanel pieces panel → lines ≡ old.lines ++ panel_line place panel.tracks panel.point →
     new.lines ≡ lines ++ flat_map (piece_line d) (zip pieces panel.numbers) → new.panels ≡ old.panels + 1 → new.tracks ≡ old.tracks + panel.tracks →
     new ≡ with_pieces d place pieces old
@@ -101,36 +101,36 @@ few-tracks pieces panel is =
 -- ---- panels one after another
 
 -- first some panels, then more
-pub told-more : (d : DesignView) (way : Way) (s : Starts) (some more : List Place) (old mid new : Told) → Tell d way s some old mid → Tell d way s more mid new →
+pub told-more : (d : DesignView) (way : Way) (s : Starts) (some more : List PanelPlace) (old mid new : Told) → Tell d way s some old mid → Tell d way s more mid new →
     Tell d way s (some ++ more) old new
 told-more d way s some more old mid new first rest sets are =
     rest sets are ∙ ap (λ (told : Told). with_panels d sets told more) (first sets are) ∙ sym (fold-append (with_panel d sets) old some more)
 
-pub layer-more : (d : DesignView) (way : Way) (s : Starts) (f : ℕ → Place) (line : ℕ) (old mid new : Told) → Tell d way s (map f (range_with_len 0 line)) old mid →
+pub layer-more : (d : DesignView) (way : Way) (s : Starts) (f : ℕ → PanelPlace) (line : ℕ) (old mid new : Told) → Tell d way s (map f (range_with_len 0 line)) old mid →
     Tell d way s (f line ∷ []) mid new → Tell d way s (map f (range_with_len 0 (line + 1))) old new
 layer-more d way s f line old mid new first rest =
-    subst (λ (places : List Place). Tell d way s places old new)
+    subst (λ (places : List PanelPlace). Tell d way s places old new)
     (sym (ap (map f) (range-more 0 line ∙ ap (λ (n : ℕ). range_with_len 0 line ++ n ∷ []) (omega arith)) ∙ map-append f (range_with_len 0 line) (line ∷ [])))
     (told-more d way s (map f (range_with_len 0 line)) (f line ∷ []) old mid new first rest)
 
-pub way-more : (d : DesignView) (way : Way) (s : Starts) (f : ℕ → List Place) (layer : ℕ) (old mid new : Told) → Tell d way s (flat_map f (range_with_len 0 layer)) old mid →
+pub way-more : (d : DesignView) (way : Way) (s : Starts) (f : ℕ → List PanelPlace) (layer : ℕ) (old mid new : Told) → Tell d way s (flat_map f (range_with_len 0 layer)) old mid →
     Tell d way s (f layer) mid new → Tell d way s (flat_map f (range_with_len 0 (layer + 1))) old new
 way-more d way s f layer old mid new first rest =
-    subst (λ (places : List Place). Tell d way s places old new)
+    subst (λ (places : List PanelPlace). Tell d way s places old new)
     (sym (flat-more f layer))
     (told-more d way s (flat_map f (range_with_len 0 layer)) (f layer) old mid new first rest)
 
 -- ---- what is told of all is the text
 
 module _ (d : DesignView) (sets : ℕ → Edges) where
-  all-told : (places : List Place) (told : Told) → with_panels d sets told places ≡
+  all-told : (places : List PanelPlace) (told : Told) → with_panels d sets told places ≡
       told-of (told.lines ++ flat_map (panel_lines d sets) places) (told.panels + panels_used d sets places) (told.tracks + tracks_in d sets places)
   all-told [] told = same-told told.lines (told.lines ++ []) told.panels (told.panels + 0) told.tracks (told.tracks + 0) (sym (append-nil told.lines)) (omega arith) (omega arith)
   all-told (place ∷ places) told =
       let pieces = pieces_of d sets place in
       let next = with_panel d sets told place in
-      let count = sum_by-cons (λ (q : Place). cond (has_some (pieces_of d sets q)) 1 0) place places in
-      let sum = sum_by-cons (λ (q : Place). tracks_of (pieces_of d sets q)) place places in
+      let count = sum_by-cons (λ (q : PanelPlace). cond (has_some (pieces_of d sets q)) 1 0) place places in
+      let sum = sum_by-cons (λ (q : PanelPlace). tracks_of (pieces_of d sets q)) place places in
       all-told places next
       ∙ same-told (next.lines ++ flat_map (panel_lines d sets) places) (told.lines ++ flat_map (panel_lines d sets) (place ∷ places))
       (next.panels + panels_used d sets places) (told.panels + panels_used d sets (place ∷ places))

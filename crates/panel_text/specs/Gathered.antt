@@ -5,7 +5,7 @@ use Rattle.gr_base.specs.declared.grid.Way.TheVariants.{East, North}
 use Rattle.gr_base.specs.Designs.{DesignView}
 use Rattle.gr_base.specs.EdgeSets.{Edges}
 use Rattle.solution_text.specs.Runs.{LieIn}
-use Rattle.panel_text.specs.declared.gathered.Gathered.{Gathered}
+use Rattle.panel_text.specs.declared.gathered.RunsByWay.{RunsByWay}
 use Rattle.panel_text.specs.declared.starts.Starts.{Starts}
 use Rattle.panel_text.specs.Chains.{AreInGrid, HaveChains}
 use Rattle.panel_text.specs.PanelPieces.{starts_from}
@@ -16,7 +16,7 @@ pub record AreStarts (d : DesignView) (sets : ℕ → Edges) (way : Way) (first 
   pub grid : AreInGrid d.frame.shape s
   pub chains : HaveChains (starts_from d sets way first) s
 
-pub record AreGathered (d : DesignView) (sets : ℕ → Edges) (first : ℕ) (g : Gathered) : Type 0 where
+pub record AreGathered (d : DesignView) (sets : ℕ → Edges) (first : ℕ) (g : RunsByWay) : Type 0 where
   pub east : AreStarts d sets East first g.east
   pub north : AreStarts d sets North first g.north
 

@@ -10,7 +10,7 @@ use Rattle.gr_base.specs.EdgeSets.{Edges}
 use Rattle.solution_text.specs.Runs.{LieIn}
 use Rattle.track_panels.specs.declared.piece.Piece.{Piece}
 use Rattle.track_panels.specs.Numberings.{IsFewest, IsValid, left_edge, tracks_of, point_of}
-use Rattle.panel_text.specs.declared.place.Place.{Place}
+use Rattle.panel_text.specs.declared.place.PanelPlace.{PanelPlace}
 use Rattle.panel_text.specs.PanelPieces.{pieces_of}
 use Rattle.panel_text.specs.Places.{IsPlace, places_of}
 
@@ -21,7 +21,7 @@ letter North = codes "v"
 letter Up = []
 
 -- the line of a panel: its layer from 1, its row or column from 0, how many tracks it has, and the tile that shows it
-abbrev pub panel_line : Place → (tracks point : ℕ) → List ℕ
+abbrev pub panel_line : PanelPlace → (tracks point : ℕ) → List ℕ
 panel_line place tracks point =
     codes "panel " ++ letter place.way ++ codes " " ++ decimal (place.layer + 1) ++ codes " " ++ decimal place.line
     ++ codes " tracks " ++ decimal tracks ++ codes " at " ++ decimal point ++ codes "\n"
@@ -37,13 +37,13 @@ piece_line d p =
     ++ codes " " ++ decimal (p.1 + 1) ++ codes "\n"
 
 -- the lines of a panel with pieces, and none of one without
-abbrev pub lines_of : DesignView → Place → List Piece → List ℕ
+abbrev pub lines_of : DesignView → PanelPlace → List Piece → List ℕ
 lines_of d place [] = []
 lines_of d place (piece ∷ pieces) =
     panel_line place (tracks_of (piece ∷ pieces)) (point_of (piece ∷ pieces))
     ++ flat_map (piece_line d) (zip (piece ∷ pieces) (left_edge (piece ∷ pieces)))
 
-abbrev pub panel_lines : DesignView → (ℕ → Edges) → Place → List ℕ
+abbrev pub panel_lines : DesignView → (ℕ → Edges) → PanelPlace → List ℕ
 panel_lines d sets place = lines_of d place (pieces_of d sets place)
 
 abbrev pub has_some : List Piece → Bool
@@ -55,15 +55,15 @@ has_some (piece ∷ pieces) = true
 abbrev pub PanelsUseFewest : Type 0
 PanelsUseFewest =
     (d : DesignView) → (sets : ℕ → Edges) → ((net : ℕ) → LieIn d.frame.shape (sets net)) →
-    (place : Place) → IsPlace d.frame.shape place →
+    (place : PanelPlace) → IsPlace d.frame.shape place →
     IsValid (zip (pieces_of d sets place) (left_edge (pieces_of d sets place)))
     × IsFewest (pieces_of d sets place) (left_edge (pieces_of d sets place))
 
 -- how many panels have a piece, and how many tracks the panels have together
-abbrev pub panels_used : DesignView → (ℕ → Edges) → List Place → ℕ
+abbrev pub panels_used : DesignView → (ℕ → Edges) → List PanelPlace → ℕ
 panels_used d sets places = count_by (λ place. has_some (pieces_of d sets place)) places
 
-abbrev pub tracks_in : DesignView → (ℕ → Edges) → List Place → ℕ
+abbrev pub tracks_in : DesignView → (ℕ → Edges) → List PanelPlace → ℕ
 tracks_in d sets places = sum_by (λ place. tracks_of (pieces_of d sets place)) places
 
 -- the panels of the nets' edges: their number, the sum of their tracks, and the lines of each

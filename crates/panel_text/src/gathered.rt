@@ -16,7 +16,7 @@ use std::alloc::{AllocError, Global};
 
 /// The runs of nets that go East and those that go North.
 #[derive(Drop)]
-pub(crate) struct Gathered {
+pub(crate) struct RunsByWay {
     pub east: Starts,
     pub north: Starts,
 }
@@ -26,12 +26,12 @@ pub(crate) fn gather(
     alloc: Global,
     design: &Design,
     solution: &Solution,
-) -> Result<Gathered, AllocError>
+) -> Result<RunsByWay, AllocError>
     requires { IsOf design.now solution.now }
     ensures { IfOk result (AreGathered design.now (edges_by solution.now) 0) }
 {
     let shape = design.frame().shape;
-    let mut runs = Gathered {
+    let mut runs = RunsByWay {
         east: Starts::new(alloc, shape)?,
         north: Starts::new(alloc, shape)?,
     };
@@ -51,7 +51,7 @@ pub(crate) fn gather(
 /// Adds the runs of a routed net to those of the nets behind it. `found` is room that is used anew. The
 /// only error is want of memory.
 fn add_net(
-    runs: &mut Gathered,
+    runs: &mut RunsByWay,
     maker: &mut RunMaker,
     found: &mut Vec<Run>,
     design: &Design,

@@ -3,7 +3,7 @@ ghost use Rattle.std.specs.Prelude.{◌≡◌, ◌<◌, ◌^◌, ◌++◌, lengt
 ghost use Rattle.std.specs.List.{flat_map, zip};
 ghost use Rattle.panel_text.specs.Texts.{letter, panel_line, piece_line};
 
-use crate::place::Place;
+use crate::place::PanelPlace;
 use gr_base::{Design, Way};
 use gr_text::Text;
 use std::alloc::AllocError;
@@ -23,7 +23,7 @@ fn letter(way: Way) -> &'static [u8]
 /// Puts the line of a panel at the end of the text: how many tracks it has, and the tile that shows it.
 pub(crate) fn put_panel_line(
     text: &mut Text,
-    place: Place,
+    place: PanelPlace,
     tracks: u32,
     point: u32,
 ) -> Result<(), AllocError>

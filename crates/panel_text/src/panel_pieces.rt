@@ -5,7 +5,7 @@ ghost use Rattle.panel_text.specs.Chains.{AreInGrid, HaveChains};
 ghost use Rattle.panel_text.specs.PanelPieces.{pieces_along};
 ghost use Rattle.panel_text.specs.Places.{IsPlace, cell_in, lines_along, tiles_along};
 
-use crate::place::Place;
+use crate::place::PanelPlace;
 use crate::starts::Starts;
 use gr_base::{Shape, Way};
 use std::alloc::AllocError;
@@ -34,7 +34,7 @@ fn tiles(shape: Shape, way: Way) -> u32
 }
 
 /// The cell at a tile of a panel.
-fn cell(shape: Shape, place: Place, tile: u32) -> u32
+fn cell(shape: Shape, place: PanelPlace, tile: u32) -> u32
     requires place { IsPlace shape place }
     requires tile { tile < tiles_along shape place.way }
     ensures number { result ≡ cell_in shape place tile }
@@ -53,7 +53,7 @@ pub(crate) fn gather_pieces(
     pieces: &mut Vec<Piece>,
     starts: &Starts,
     shape: Shape,
-    place: Place,
+    place: PanelPlace,
 ) -> Result<(), AllocError>
     requires grid { AreInGrid shape starts.now }
     requires place { IsPlace shape place }

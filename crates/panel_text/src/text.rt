@@ -9,7 +9,7 @@ ghost use Rattle.panel_text.specs.Told.{IsWithin, Tell, told_text};
 use crate::gathered::gather;
 use crate::lines::{put_panel_line, put_pieces};
 use crate::panel_pieces::{gather_pieces, lines};
-use crate::place::Place;
+use crate::place::PanelPlace;
 use crate::starts::Starts;
 use crate::told::Told;
 use gr_base::{Design, Way};
@@ -100,7 +100,7 @@ fn put_layer(
             alloc,
             design,
             starts,
-            Place { way, layer, line },
+            PanelPlace { way, layer, line },
         )?;
     }
     Ok(())
@@ -113,7 +113,7 @@ fn put_panel(
     alloc: Global,
     design: &Design,
     starts: &Starts,
-    place: Place,
+    place: PanelPlace,
 ) -> Result<(), AllocError>
     requires starts { AreOfSome design.now place.way starts.now }
     requires place { IsPlace design.now.frame.shape place }

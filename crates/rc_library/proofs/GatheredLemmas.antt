@@ -5,7 +5,7 @@ use Rattle.std.proofs.lemmas.List.Elements.{All-nil, All-head, All-tail, All-con
 use Rattle.gr_base.specs.Designs.{DesignView, IsDesign, pins_of}
 use Rattle.rc_library.specs.Limits.{most_resistance}
 use Rattle.rc_library.specs.Libraries.{LibraryView, IsWire, IsSinking, IsLibrary, IsLibraryOf, sizes_of}
-use Rattle.rc_library.specs.Gathered.{Places, no_places, Gathered, IsGathered, IsOf, nothing, all_given, library_with, finished_with, finished}
+use Rattle.rc_library.specs.Gathered.{PlaceNotes, no_places, Gathered, IsGathered, IsOf, nothing, all_given, library_with, finished_with, finished}
 use Rattle.rc_library.specs.declared.parts.Wire.{Wire}
 use Rattle.rc_library.specs.declared.parts.Sinking.{Sinking}
 use Rattle.rc_library.specs.declared.parts.NamedKind.{NamedKind}
@@ -42,7 +42,7 @@ no_inverters-push version kinds new inverts none early =
     upright (inr is) = is
 
 -- the parts that say nothing make what is gathered at first
-pub nothing-is : (d : DesignView) (version layers : ℕ) (wires : List (Option Wire)) (kinds : List NamedKind) (places : Places) →
+pub nothing-is : (d : DesignView) (version layers : ℕ) (wires : List (Option Wire)) (kinds : List NamedKind) (places : PlaceNotes) →
     layers ≡ d.frame.shape.layers → wires ≡ replicate layers None → kinds ≡ [] → places ≡ no_places d →
     ◌≡◌ {A = Gathered}
     (record { version = version; wires = wires; via = None; driver = None; sink = None; kinds = kinds; places = places })

@@ -11,7 +11,7 @@ use Rattle.gr_base.specs.declared.frame.Net.{Net}
 use Rattle.gr_base.specs.declared.grid.Shape.{Shape}
 use Rattle.rc_library.specs.Limits.{most_resistance}
 use Rattle.rc_library.specs.Libraries.{firsts_of, IsSinking}
-use Rattle.rc_library.specs.Gathered.{Places, no_places, ArePlaces}
+use Rattle.rc_library.specs.Gathered.{PlaceNotes, no_places, ArePlaces}
 use Rattle.rc_library.specs.declared.parts.Sinking.{Sinking}
 use Rattle.rc_library.proofs.LibraryLemmas.{length-firsts}
 
@@ -68,7 +68,7 @@ all-pins nets number d is =
 pub no_places-is : (d : DesignView) (columns rows nets pins : ℕ) (firsts : List ℕ) (blocked flips : List Bool) (drivers : List (Option ℕ)) (sinks : List (Option Sinking)) →
     columns ≡ d.frame.shape.columns → rows ≡ d.frame.shape.rows → nets ≡ length d.nets → pins ≡ pins_of d.nets → firsts ≡ firsts_of d.nets →
     blocked ≡ replicate (columns * rows) false → drivers ≡ replicate nets None → sinks ≡ replicate pins None → flips ≡ replicate pins false →
-    ◌≡◌ {A = Places}
+    ◌≡◌ {A = PlaceNotes}
     (record { sizes = record { columns = columns; rows = rows; firsts = firsts }; blocked = blocked; drivers = drivers; sinks = sinks; flips = flips })
     (no_places d)
 no_places-is d columns rows nets pins firsts blocked flips drivers sinks are_columns are_rows are_nets are_pins are_firsts is_blocked is_drivers is_sinks is_flips =

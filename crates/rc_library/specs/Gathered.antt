@@ -8,7 +8,7 @@ use Rattle.rc_library.specs.declared.parts.Sinking.{Sinking}
 use Rattle.rc_library.specs.declared.parts.NamedKind.{NamedKind}
 
 -- what is said of single tiles, nets and pins
-pub record Places : Type 0 where
+pub record PlaceNotes : Type 0 where
   pub sizes : Sizes
   pub blocked : List Bool
   pub drivers : List (Option ℕ)
@@ -16,7 +16,7 @@ pub record Places : Type 0 where
   pub flips : List Bool
 
 -- nothing is said of any tile, net or pin
-abbrev pub no_places : DesignView → Places
+abbrev pub no_places : DesignView → PlaceNotes
 no_places d = record {
   sizes = sizes_of d;
   blocked = replicate (d.frame.shape.columns * d.frame.shape.rows) false;
@@ -27,20 +27,20 @@ no_places d = record {
 
 -- a tile is blocked; a net has a driver of its own; a net's pin is a sink of its own; a net's pin wants the inverted
 -- signal
-abbrev pub with_block : (x y : ℕ) → Places → Places
+abbrev pub with_block : (x y : ℕ) → PlaceNotes → PlaceNotes
 with_block x y p = record p { blocked = slice_set p.blocked (y * p.sizes.columns + x) true }
 
-abbrev pub with_driver_of : (net r : ℕ) → Places → Places
+abbrev pub with_driver_of : (net r : ℕ) → PlaceNotes → PlaceNotes
 with_driver_of net r p = record p { drivers = slice_set p.drivers net (Some r) }
 
-abbrev pub with_sink_of : (net pin : ℕ) → Sinking → Places → Places
+abbrev pub with_sink_of : (net pin : ℕ) → Sinking → PlaceNotes → PlaceNotes
 with_sink_of net pin sink p = record p { sinks = slice_set p.sinks (pin_number p.sizes net pin) (Some sink) }
 
-abbrev pub with_flip : (net pin : ℕ) → Places → Places
+abbrev pub with_flip : (net pin : ℕ) → PlaceNotes → PlaceNotes
 with_flip net pin p = record p { flips = slice_set p.flips (pin_number p.sizes net pin) true }
 
 -- a value for each tile, net and pin, and numbers in range
-pub record ArePlaces (p : Places) : Type 0 where
+pub record ArePlaces (p : PlaceNotes) : Type 0 where
   pub sized : IsSized p.sizes p.blocked p.drivers p.sinks p.flips
   pub drivers : All (λ driver. IfSome driver (λ r. r ≤ most_resistance)) p.drivers
   pub sinks : All (λ sink. IfSome sink IsSinking) p.sinks
@@ -53,7 +53,7 @@ pub record Gathered : Type 0 where
   pub driver : Option ℕ
   pub sink : Option Sinking
   pub kinds : List NamedKind
-  pub places : Places
+  pub places : PlaceNotes
 
 -- nothing but its version
 abbrev pub nothing : DesignView → ℕ → Gathered
@@ -73,7 +73,7 @@ with_wire layer wire g = record g { wires = slice_set g.wires layer (Some wire) 
 abbrev pub with_kind : NamedKind → Gathered → Gathered
 with_kind kind g = record g { kinds = g.kinds ++ kind ∷ [] }
 
-abbrev pub with_places : Places → Gathered → Gathered
+abbrev pub with_places : PlaceNotes → Gathered → Gathered
 with_places places g = record g { places = places }
 
 -- the values, if each is given

@@ -1,9 +1,9 @@
 -- How a library stores what it says of single tiles, nets and pins.
-use Rattle.rc_library.specs.Gathered.{Places, ArePlaces}
-use Rattle.rc_library.specs.declared.places.Places.TheInside.{Inside}
+use Rattle.rc_library.specs.Gathered.{PlaceNotes, ArePlaces}
+use Rattle.rc_library.specs.declared.places.PlaceNotes.TheInside.{Inside}
 
 -- what the fields say
-abbrev pub seen : Inside → Places
+abbrev pub seen : Inside → PlaceNotes
 seen p = record {
   sizes = record { columns = p.columns; rows = p.rows; firsts = p.firsts.items };
   blocked = p.blocked;

@@ -10,7 +10,7 @@ use crate::kinds::Kinds;
 use crate::lazy_table::alike;
 use crate::library::Library;
 use crate::parts::{NamedKind, Sinking, Wire};
-use crate::places::Places;
+use crate::places::PlaceNotes;
 use gr_base::Design;
 use std::alloc::{AllocError, Global};
 use std::marker::Model;
@@ -25,7 +25,7 @@ pub(crate) struct Gathered {
     /// By layer.
     wires: Vec<Option<Wire>>,
     kinds: Kinds,
-    places: Places,
+    places: PlaceNotes,
 }
 
 impl Model for Gathered {
@@ -56,7 +56,7 @@ impl Gathered {
             sink: None,
             wires: alike(alloc, layers, None)?,
             kinds: Kinds::new(alloc),
-            places: Places::new(alloc, design)?,
+            places: PlaceNotes::new(alloc, design)?,
         })
     }
 

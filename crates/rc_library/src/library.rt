@@ -5,7 +5,7 @@ ghost use Rattle.rc_library.specs.Libraries.{kind_of, name_of, inverts_at, block
 
 use crate::kinds::Kinds;
 use crate::parts::{Kind, Sinking, Wire};
-use crate::places::Places;
+use crate::places::PlaceNotes;
 use gr_base::Name;
 use std::marker::Model;
 
@@ -19,7 +19,7 @@ pub struct Library {
     pub(crate) sink: Sinking,
     pub(crate) wires: Vec<Wire>,
     pub(crate) kinds: Kinds,
-    pub(crate) places: Places,
+    pub(crate) places: PlaceNotes,
 }
 
 impl Model for Library {

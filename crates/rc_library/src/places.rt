@@ -14,7 +14,7 @@ use std::marker::Model;
 /// of all nets are counted one after another; `firsts` has the number of each net's first pin, and
 /// behind them the number of all pins.
 #[derive(Debug, Drop)]
-pub(crate) struct Places {
+pub(crate) struct PlaceNotes {
     columns: u32,
     rows: u32,
     firsts: Vec<u32>,
@@ -24,10 +24,10 @@ pub(crate) struct Places {
     flips: LazyTable<bool>,
 }
 
-impl Model for Places {
+impl Model for PlaceNotes {
     ghost use Rattle.rc_library.specs.Gathered as gathered;
 
-    ghost Value = { gathered.Places };
+    ghost Value = { gathered.PlaceNotes };
 
     ghost use Rattle.rc_library.specs.PlacesStore.{seen, Keeps};
 
@@ -36,7 +36,7 @@ impl Model for Places {
     ghost invariant = { Keeps };
 }
 
-impl Places {
+impl PlaceNotes {
     /// Nothing is said of any place of the design.
     pub(crate) fn new(alloc: Global, design: &Design) -> Result<Self, AllocError>
         ensures { IfOk result (λ places. places ≡ no_places design.now) }
@@ -47,7 +47,7 @@ impl Places {
         let nets = design.nets();
         let firsts = first_pins(alloc, design)?;
         let pins = firsts[nets as usize];
-        Ok(Places {
+        Ok(PlaceNotes {
             columns,
             rows,
             firsts,

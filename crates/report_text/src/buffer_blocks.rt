@@ -3,7 +3,7 @@ ghost use Rattle.std.specs.Prelude.{◌≡◌, ◌+◌, ◌*◌, ◌<◌, ◌≤
 ghost use Rattle.report_text.specs.BufferTexts.{ArePlanned, AreSomePlanned, buffers_text, net_lines};
 ghost use Rattle.report_text.specs.BufferBlocks.{IsBlock, AreBlocks};
 
-use crate::buffer_text::{Told, polar_text, put_nets, put_total};
+use crate::buffer_text::{PlansToTell, polar_text, put_nets, put_total};
 use beside_calls::block_start;
 use elmore_delay::Plans;
 use gr_base::{Design, Routes};
@@ -48,7 +48,7 @@ pub fn polar_text_by<R: Threads + Sync>(
     if workers == 1 {
         return polar_text(alloc, design, library, routes, plans);
     }
-    let told = Told {
+    let told = PlansToTell {
         design,
         library,
         routes,
@@ -79,7 +79,7 @@ fn no_blocks(alloc: Global, count: u32) -> Result<Vec<Option<Text>>, AllocError>
 fn make_blocks<R: Threads + Sync>(
     rt: &R,
     alloc: Global,
-    told: &Told<'_>,
+    told: &PlansToTell<'_>,
     size: u32,
     blocks: &mut Vec<Option<Text>>,
 )
@@ -105,7 +105,7 @@ fn make_blocks<R: Threads + Sync>(
 }
 
 /// The text of a block. None where memory runs out.
-fn block_of(alloc: Global, told: &Told<'_>, size: u32, at: usize) -> Option<Text>
+fn block_of(alloc: Global, told: &PlansToTell<'_>, size: u32, at: usize) -> Option<Text>
     requires plans { AreSomePlanned told.now.design.now told.now.library.now told.now.routes.now told.now.plans.now }
     ensures { IsBlock told.now.design.now told.now.library.now told.now.routes.now told.now.plans.now size at result }
 {
@@ -122,7 +122,7 @@ fn block_of(alloc: Global, told: &Told<'_>, size: u32, at: usize) -> Option<Text
 /// were made.
 fn put_blocks(
     text: &mut Text,
-    told: &Told<'_>,
+    told: &PlansToTell<'_>,
     size: u32,
     blocks: &[Option<Text>],
 ) -> Result<(), AllocError>

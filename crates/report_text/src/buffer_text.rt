@@ -17,7 +17,7 @@ use std::alloc::{AllocError, Global};
 
 /// Plans of buffers on a design's routes, with the library that names their kinds.
 #[derive(Clone, Copy)]
-pub(crate) struct Told<'a> {
+pub(crate) struct PlansToTell<'a> {
     pub design: &'a Design,
     pub library: &'a Library,
     pub routes: &'a Routes,
@@ -60,7 +60,7 @@ pub fn polar_text(
     requires plans { AreSomePlanned design.now library.now routes.now plans.now }
     ensures { IfOk result (λ text. text ≡ buffers_text design.now library.now routes.now plans.now) }
 {
-    let told = Told {
+    let told = PlansToTell {
         design,
         library,
         routes,
@@ -83,7 +83,7 @@ pub(crate) fn put_total(text: &mut Text, design: &Design, plans: &Plans) -> Resu
 pub(crate) fn put_nets(
     text: &mut Text,
     alloc: Global,
-    told: &Told<'_>,
+    told: &PlansToTell<'_>,
     first: u32,
     last: u32,
 ) -> Result<(), AllocError>
@@ -129,7 +129,7 @@ fn count(plans: &Plans, net: u32) -> u64
 fn put_net(
     text: &mut Text,
     found: &mut Vec<Buffered>,
-    told: &Told<'_>,
+    told: &PlansToTell<'_>,
     net: u32,
 ) -> Result<(), AllocError>
     requires plans { AreSomePlanned told.now.design.now told.now.library.now told.now.routes.now told.now.plans.now }
@@ -151,7 +151,7 @@ fn put_net(
 fn put_plan(
     text: &mut Text,
     found: &mut Vec<Buffered>,
-    told: &Told<'_>,
+    told: &PlansToTell<'_>,
     net: &Net,
     tree: &RouteTree,
     plan: &Plan,

@@ -13,7 +13,7 @@ use Rattle.book_state.specs.declared.entry.Reply.{Reply}
 use Rattle.round_trace.specs.Counts.{ended_lines, IsCountOf}
 use Rattle.round_trace.specs.RoundLines.{round_line}
 use Rattle.round_trace.specs.Traces.{behind_mark, books, ended_by, finds_full, is_claimed_reply, round_done, rounds_from, rounds_of}
-use Rattle.round_trace.specs.declared.counting.Count.{Count}
+use Rattle.round_trace.specs.declared.counting.RoundsSoFar.{RoundsSoFar}
 use Rattle.round_trace.specs.declared.done.RoundDone.{RoundDone}
 
 -- the first entries and the next one
@@ -40,7 +40,7 @@ lines-push : (h : List Entry) (e : Entry) → flat_map round_line (rounds_of (h 
 lines-push h e =
     ap (flat_map round_line) (rounds-push [] h e) ∙ flat_map-append round_line (rounds_of h) (option_to_list (ended_by h e))
 
-pub count-none : (c : Count) → c.lines ≡ [] → c.marks ≡ 0 → c.nets ≡ 0 → c.full ≡ 0 → IsCountOf [] c
+pub count-none : (c : RoundsSoFar) → c.lines ≡ [] → c.marks ≡ 0 → c.nets ≡ 0 → c.full ≡ 0 → IsCountOf [] c
 unfolding behind_mark
 count-none c lines marks nets full = record { lines = lines; marks = marks; nets = nets; full = full; few = omega (arith, marks, nets, full) }
 
@@ -54,7 +54,7 @@ marks-push : (h : List Entry) (e : Entry) (b : Bool) → is_mark e ≡ b → cou
 marks-push h e b is = count-push is_mark h e ∙ ap (λ (mark : Bool). count_by is_mark h + cond mark 1 0) is
 
 -- a call that isn't a mark
-pub count-other : (old new : Count) (h : List Entry) (e : Entry) (reply : Reply) → is_mark e ≡ false → e.reply ≡ reply →
+pub count-other : (old new : RoundsSoFar) (h : List Entry) (e : Entry) (reply : Reply) → is_mark e ≡ false → e.reply ≡ reply →
     new.lines ≡ old.lines → new.marks ≡ old.marks → new.nets ≡ old.nets + cond (is_claimed_reply reply) 1 0 →
     new.full ≡ old.full + cond (is_full_reply reply) 1 0 → IsCountOf h old → IsCountOf (h ++ e ∷ []) new
 count-other old new h e reply other is lines marks nets full of =
@@ -86,7 +86,7 @@ count-other old new h e reply other is lines marks nets full of =
     one-of other = omega arith
 
 -- a mark
-pub count-mark : (old new : Count) (h : List Entry) (e : Entry) (reply : Reply) → is_mark e ≡ true → e.reply ≡ reply →
+pub count-mark : (old new : RoundsSoFar) (h : List Entry) (e : Entry) (reply : Reply) → is_mark e ≡ true → e.reply ≡ reply →
     new.lines ≡ old.lines ++ ended_lines reply old.marks old.nets old.full → new.marks ≡ old.marks + 1 → new.nets ≡ 0 → new.full ≡ 0 →
     IsCountOf h old → IsCountOf (h ++ e ∷ []) new
 count-mark old new h e reply mark is lines marks nets full of =

@@ -8,9 +8,9 @@ use Rattle.book_state.specs.declared.entry.Reply.{Reply}
 use Rattle.book_state.specs.declared.entry.Entry.{Entry}
 use Rattle.round_trace.specs.RoundLines.{round_line}
 use Rattle.round_trace.specs.Traces.{behind_mark, books, finds_full, rounds_of}
-use Rattle.round_trace.specs.declared.counting.Count.{Count}
+use Rattle.round_trace.specs.declared.counting.RoundsSoFar.{RoundsSoFar}
 
-pub record IsCountOf (h : List Entry) (c : Count) : Type 0 where
+pub record IsCountOf (h : List Entry) (c : RoundsSoFar) : Type 0 where
   pub lines : c.lines ≡ flat_map round_line (rounds_of h)
   pub marks : c.marks ≡ count_by is_mark h
   pub nets : c.nets ≡ count_by books (behind_mark h)
@@ -24,5 +24,5 @@ ended_lines reply round nets full =
     (λ (overflow : ℕ). record { round = round; overflow = overflow; nets = nets; full = full }) (overflow_in reply)))
 
 -- the numbers can grow
-abbrev pub HasRoom : Count → Type 0
+abbrev pub HasRoom : RoundsSoFar → Type 0
 HasRoom c = c.marks + c.nets + c.full < 2 ^ 62

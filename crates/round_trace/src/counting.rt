@@ -13,18 +13,18 @@ use std::alloc::{AllocError, Global};
 /// What a first part of a history says of its rounds: the lines of those that have ended, how many marks
 /// there are, and how many claims behind the last one were answered Claimed, and how many Full.
 #[derive(Drop)]
-pub(crate) struct Count {
+pub(crate) struct RoundsSoFar {
     pub lines: Text,
     pub marks: u64,
     nets: u64,
     full: u64,
 }
 
-impl Count {
-    pub(crate) fn new(alloc: Global) -> Count
+impl RoundsSoFar {
+    pub(crate) fn new(alloc: Global) -> RoundsSoFar
         ensures { IsCountOf [] result }
     {
-        Count {
+        RoundsSoFar {
             lines: Text::new(alloc),
             marks: 0,
             nets: 0,

@@ -3,7 +3,7 @@ ghost use Rattle.std.specs.Prelude.{◌≡◌, IfOk};
 ghost use Rattle.round_trace.specs.Counts.{IsCountOf};
 ghost use Rattle.round_trace.specs.Traces.{trace_text};
 
-use crate::counting::Count;
+use crate::counting::RoundsSoFar;
 use book_state::History;
 use gr_text::Text;
 use std::alloc::{AllocError, Global};
@@ -22,10 +22,10 @@ pub fn trace_text(alloc: Global, history: &History) -> Result<Text, AllocError>
 }
 
 /// What a history says of its rounds. The only error is want of memory.
-fn count_of(alloc: Global, history: &History) -> Result<Count, AllocError>
+fn count_of(alloc: Global, history: &History) -> Result<RoundsSoFar, AllocError>
     ensures { IfOk result (IsCountOf history.now) }
 {
-    let mut count = Count::new(alloc);
+    let mut count = RoundsSoFar::new(alloc);
     for place in 0..history.len() {
         count.take(history.entry(place))?;
     }

@@ -6,7 +6,7 @@ use Rattle.gr_base.specs.declared.frame.Frame.{Frame}
 use Rattle.solution_text.specs.declared.run.Run.{Run}
 use Rattle.solution_text.specs.declared.fault.SolutionFault.TheVariants.{Form}
 use Rattle.solution_text.specs.Grammar.{Checked, ◌>>=◌, is_mark, spot_of, run_between}
-use Rattle.route_reader.specs.declared.segment.Cut.{Cut}
+use Rattle.route_reader.specs.declared.segment.SplitText.{SplitText}
 use Rattle.route_reader.specs.declared.segment.Written.{Written}
 use Rattle.route_reader.specs.declared.segment.Points.{Points}
 
@@ -15,7 +15,7 @@ abbrev pub parted : (marks : List ℕ) → List ℕ → Option (List (List ℕ))
 parted marks text = if bytes_eq (filter is_mark text) marks then Some (slice_split is_mark text) else None
 
 -- the part before the first mark, and the parts of what follows the mark
-abbrev pub after_cut : (marks : List ℕ) → Option Cut → Option (List (List ℕ))
+abbrev pub after_cut : (marks : List ℕ) → Option SplitText → Option (List (List ℕ))
 after_cut marks None = None
 after_cut marks (Some cut) = option_map (λ parts. cut.before.now ∷ parts) (parted marks cut.rest.now)
 

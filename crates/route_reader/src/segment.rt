@@ -6,7 +6,7 @@ ghost use Rattle.route_reader.specs.Segments.{parted, after_cut, after_point, ru
 
 /// A text in two parts, before and behind a mark.
 #[derive(Clone, Copy)]
-pub(crate) struct Cut<'t> {
+pub(crate) struct SplitText<'t> {
     before: &'t [u8],
     rest: &'t [u8],
 }
@@ -43,14 +43,14 @@ fn first_mark(text: &[u8]) -> Option<usize>
 }
 
 /// Cuts the text at its first mark, if it is this one.
-fn cut_at<'t>(text: &'t [u8], mark: u8) -> Option<Cut<'t>>
+fn cut_at<'t>(text: &'t [u8], mark: u8) -> Option<SplitText<'t>>
     ensures { (marks : List ℕ) → parted (mark ∷ marks) text.now ≡ after_cut marks result }
 {
     let at = first_mark(text)?;
     if text[at] != mark {
         return None;
     }
-    Some(Cut {
+    Some(SplitText {
         before: &text[..at],
         rest: &text[at + 1..],
     })

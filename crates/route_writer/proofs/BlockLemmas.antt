@@ -9,7 +9,7 @@ use Rattle.gr_base.specs.Trees.{TreeView}
 use Rattle.gr_io.specs.Parts.{AppendsPart}
 use Rattle.route_writer.specs.RouteTexts.{nets_text, routes_text}
 use Rattle.route_writer.specs.Blocks.{IsPut, ArePut, texts_of}
-use Rattle.route_writer.specs.declared.blocks.Block.{Block}
+use Rattle.route_writer.specs.declared.blocks.BlockRecords.{BlockRecords}
 use Rattle.route_writer.proofs.WriteLemmas.{Stands, stands-cut, part-more, nets-none, nets-join, nets-all}
 
 -- blocks begin one behind the other
@@ -17,7 +17,7 @@ pub starts-rise : (d : DesignView) (from size k more : ℕ) → block_start (len
 starts-rise d from size k more = let e : (k + more) * size ≡ k * size + more * size = omega arith in omega arith
 
 -- the texts from a block on
-from-whole : (blocks : List Block) (i : ℕ) (d : Block) → i < length blocks → (get_or blocks i d).whole ≡ true →
+from-whole : (blocks : List BlockRecords) (i : ℕ) (d : BlockRecords) → i < length blocks → (get_or blocks i d).whole ≡ true →
     texts_of (drop i blocks) ≡ (get_or blocks i d).draft.text ++ texts_of (drop (i + 1) blocks)
 from-whole [] i d below whole = absurd (omega arith)
 from-whole (b ∷ bs) zero d below whole = rw whole refl
@@ -25,22 +25,22 @@ from-whole (b ∷ bs) (suc i) d below whole =
     let e : suc (i + 1) ≡ suc i + 1 = omega arith in
     from-whole bs i d (omega arith) whole ∙ ap (λ (n : ℕ). (get_or bs i d).draft.text ++ texts_of (drop n (b ∷ bs))) e
 
-pub texts-cut : (blocks : List Block) (i : ℕ) (d : Block) → i < length blocks → (get_or blocks i d).whole ≡ false → texts_of (drop i blocks) ≡ []
+pub texts-cut : (blocks : List BlockRecords) (i : ℕ) (d : BlockRecords) → i < length blocks → (get_or blocks i d).whole ≡ false → texts_of (drop i blocks) ≡ []
 texts-cut [] i d below cut = absurd (omega arith)
 texts-cut (b ∷ bs) zero d below cut = rw cut refl
 texts-cut (b ∷ bs) (suc i) d below cut = texts-cut bs i d (omega arith) cut
 
 -- a turn of the loop over blocks that comes to a whole block
-module _ (blocks : List Block) (i : ℕ) (b : Block) (below : i < length blocks) (at : b ≡ get_or blocks i b) (whole : b.whole ≡ true) where
+module _ (blocks : List BlockRecords) (i : ℕ) (b : BlockRecords) (below : i < length blocks) (at : b ≡ get_or blocks i b) (whole : b.whole ≡ true) where
   texts-next : texts_of (drop i blocks) ≡ b.draft.text ++ texts_of (drop (i + 1) blocks)
   texts-next =
-      from-whole blocks i b below (sym (ap (λ (x : Block). x.whole) at) ∙ whole)
-      ∙ ap (λ (x : Block). x.draft.text ++ texts_of (drop (i + 1) blocks)) (sym at)
+      from-whole blocks i b below (sym (ap (λ (x : BlockRecords). x.whole) at) ∙ whole)
+      ∙ ap (λ (x : BlockRecords). x.draft.text ++ texts_of (drop (i + 1) blocks)) (sym at)
 
   pub whole-next : All (λ x. IsTrue x.whole) (take i blocks) → All (λ x. IsTrue x.whole) (take (i + 1) blocks)
   whole-next before =
       All-same (λ x. IsTrue x.whole) (take (i + 1) blocks) (take i blocks ++ get_or blocks i b ∷ []) (take_more blocks i b below)
-      (All-push (λ x. IsTrue x.whole) (take i blocks) (get_or blocks i b) before (sym (ap (λ (x : Block). x.whole) at) ∙ whole))
+      (All-push (λ x. IsTrue x.whole) (take i blocks) (get_or blocks i b) before (sym (ap (λ (x : BlockRecords). x.whole) at) ∙ whole))
 
   -- its text is written
   pub stands-block : {old now text : List ℕ} (next bytes : List ℕ) → bytes ≡ b.draft.text → next ≡ now ++ bytes →
@@ -63,17 +63,17 @@ module _ (blocks : List Block) (i : ℕ) (b : Block) (below : i < length blocks)
       (texts-next ∙ ap (λ (t : List ℕ). t ++ texts_of (drop (i + 1) blocks)) (sym is)) part) s
 
 -- all blocks are whole
-pub whole-all : (blocks : List Block) (i : ℕ) → length blocks ≤ i → All (λ x. IsTrue x.whole) (take i blocks) → All (λ x. IsTrue x.whole) blocks
+pub whole-all : (blocks : List BlockRecords) (i : ℕ) → length blocks ≤ i → All (λ x. IsTrue x.whole) (take i blocks) → All (λ x. IsTrue x.whole) blocks
 whole-all blocks i done all = All-same (λ x. IsTrue x.whole) blocks (take i blocks) (sym (take_all i blocks done)) all
 
 -- the texts of blocks are a first part of the records of their nets, and all of them where the blocks are whole
-pub record AreTexts (d : DesignView) (trees : List (Option TreeView)) (first last : ℕ) (blocks : List Block) : Type 0 where
+pub record AreTexts (d : DesignView) (trees : List (Option TreeView)) (first last : ℕ) (blocks : List BlockRecords) : Type 0 where
   pub rest : List ℕ
   pub is : nets_text d trees first last ≡ texts_of blocks ++ rest
   pub none : All (λ b. IsTrue b.whole) blocks → rest ≡ []
 
-pub texts-put : (d : DesignView) (trees : List (Option TreeView)) (from size k : ℕ) (blocks : List Block) →
-    ((at : ℕ) (b : Block) → at < length blocks →
+pub texts-put : (d : DesignView) (trees : List (Option TreeView)) (from size k : ℕ) (blocks : List BlockRecords) →
+    ((at : ℕ) (b : BlockRecords) → at < length blocks →
     IsPut d trees (block_start (length d.nets) from size (k + at)) (block_start (length d.nets) from size (k + at + 1)) (slice_index_or blocks at b)) →
     AreTexts d trees (block_start (length d.nets) from size k) (block_start (length d.nets) from size (k + length blocks)) blocks
 texts-put d trees from size k [] put = record {
@@ -114,7 +114,7 @@ texts-put d trees from size k (b ∷ bs) put =
 
 -- ---- a batch of blocks, from a net on
 
-module _ (d : DesignView) (trees : List (Option TreeView)) (from size count : ℕ) (blocks : List Block) (within : from ≤ length d.nets)
+module _ (d : DesignView) (trees : List (Option TreeView)) (from size count : ℕ) (blocks : List BlockRecords) (within : from ≤ length d.nets)
     (long : length blocks ≡ count) (put : ArePut d trees from size blocks) where
   batch : AreTexts d trees from (block_start (length d.nets) from size count) blocks
   batch =

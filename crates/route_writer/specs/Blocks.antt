@@ -4,19 +4,19 @@ use Rattle.beside_calls.specs.Blocks.{block_start}
 use Rattle.gr_base.specs.Designs.{DesignView}
 use Rattle.gr_base.specs.Trees.{TreeView}
 use Rattle.route_writer.specs.RouteTexts.{nets_text}
-use Rattle.route_writer.specs.declared.blocks.Block.{Block}
+use Rattle.route_writer.specs.declared.blocks.BlockRecords.{BlockRecords}
 
 -- a block that is whole has the records of these nets
-abbrev pub IsPut : DesignView → List (Option TreeView) → (first last : ℕ) → Block → Type 0
+abbrev pub IsPut : DesignView → List (Option TreeView) → (first last : ℕ) → BlockRecords → Type 0
 IsPut d trees first last b = IsTrue b.whole → b.draft.text ≡ nets_text d trees first last
 
 -- each block that is whole has the records of its nets
-abbrev pub ArePut : DesignView → List (Option TreeView) → (from size : ℕ) → List Block → Type 0
+abbrev pub ArePut : DesignView → List (Option TreeView) → (from size : ℕ) → List BlockRecords → Type 0
 ArePut d trees from size blocks =
-    (at : ℕ) → (b : Block) → at < length blocks →
+    (at : ℕ) → (b : BlockRecords) → at < length blocks →
     IsPut d trees (block_start (length d.nets) from size at) (block_start (length d.nets) from size (at + 1)) (slice_index_or blocks at b)
 
 -- the texts of the blocks, up to the first that isn't whole
-abbrev pub texts_of : List Block → List ℕ
+abbrev pub texts_of : List BlockRecords → List ℕ
 texts_of [] = []
 texts_of (b ∷ bs) = if b.whole then b.draft.text ++ texts_of bs else []

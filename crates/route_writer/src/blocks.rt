@@ -20,18 +20,18 @@ pub(crate) const MOST_IN_BLOCK: u32 = 65_536;
 
 /// The records of a block of nets, and whether it has them all: else memory ran out.
 #[derive(Drop)]
-pub(crate) struct Block {
+pub(crate) struct BlockRecords {
     pub draft: Draft,
     pub whole: bool,
 }
 
 /// So many blocks without text. The only error is want of memory.
-pub(crate) fn blocks(alloc: Global, count: u32) -> Result<Vec<Block>, AllocError>
+pub(crate) fn blocks(alloc: Global, count: u32) -> Result<Vec<BlockRecords>, AllocError>
     ensures { IfOk result (λ blocks. length blocks.items ≡ count) }
 {
     let mut blocks = Vec::with_capacity(alloc, count as usize)?;
     for _ in 0..count {
-        blocks.push(Block {
+        blocks.push(BlockRecords {
             draft: Draft::new(alloc),
             whole: true,
         })?;
@@ -47,7 +47,7 @@ pub(crate) fn put_blocks<R: Threads + Sync>(
     routes: &Routes,
     from: u32,
     size: u32,
-    blocks: &mut Vec<Block>,
+    blocks: &mut Vec<BlockRecords>,
 )
     requires routed { HaveTrees design.now routes.now }
     requires from { from ≤ length design.now.nets }
@@ -61,7 +61,7 @@ pub(crate) fn put_blocks<R: Threads + Sync>(
         rt,
         blocks.as_mut_slice(),
         threads,
-        &|at, block: &mut Block|
+        &|at, block: &mut BlockRecords|
             requires { HaveTrees design.now routes.now × (from ≤ length design.now.nets) × (size ≤ 65536) }
             ensures { IsPut design.entry.now routes.entry.now (start_of (length design.entry.now.nets) from size at)
                 (start_of (length design.entry.now.nets) from size (at + 1)) block.exit.now }
@@ -72,7 +72,14 @@ pub(crate) fn put_blocks<R: Threads + Sync>(
 }
 
 /// Puts the records of a block's nets into it.
-fn put_block(block: &mut Block, design: &Design, routes: &Routes, from: u32, size: u32, at: usize)
+fn put_block(
+    block: &mut BlockRecords,
+    design: &Design,
+    routes: &Routes,
+    from: u32,
+    size: u32,
+    at: usize,
+)
     requires routed { HaveTrees design.now routes.now }
     requires from { from ≤ length design.now.nets }
     requires size { size ≤ 65536 }
@@ -87,7 +94,7 @@ fn put_block(block: &mut Block, design: &Design, routes: &Routes, from: u32, siz
 
 /// Writes the texts of the blocks. At an error the sink holds a first part of them: `NoMemory` comes
 /// at the first block that isn't whole, `Failed` only where the sink's count of faults rose.
-pub(crate) fn write_blocks<K: Sink>(sink: &mut K, blocks: &[Block]) -> Result<(), WriteError>
+pub(crate) fn write_blocks<K: Sink>(sink: &mut K, blocks: &[BlockRecords]) -> Result<(), WriteError>
     ensures ok { OnOk result (IsTrue K.tells → K.written sink.new ≡ K.written sink.old ++ texts_of blocks.now) }
     ensures whole { OnOk result (All (λ block. IsTrue block.whole) blocks.now) }
     ensures quiet { OnOk result (K.faults sink.new ≡ K.faults sink.old) }

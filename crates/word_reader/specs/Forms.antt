@@ -21,20 +21,20 @@ abbrev pub most_batch : ℕ
 most_batch = 65536
 
 -- what an option takes as its value
-pub data Takes : Type 0 where
+pub data ValueForm : Type 0 where
   -- a number from the least to the most
-  Number : (least most : ℕ) → Takes
+  Number : (least most : ℕ) → ValueForm
   -- one of these words
-  Word : (words : List (List ℕ)) → Takes
+  Word : (words : List (List ℕ)) → ValueForm
   -- one of these words, or a number from the least to the most
-  WordOrNumber : (words : List (List ℕ)) → (least most : ℕ) → Takes
+  WordOrNumber : (words : List (List ℕ)) → (least most : ℕ) → ValueForm
   -- any word, which is a name
-  Name : Takes
+  Name : ValueForm
   -- none: it is given, or it isn't
-  Nothing : Takes
+  Nothing : ValueForm
 
 -- whether an option takes a value
-abbrev pub takes_value : Takes → Bool
+abbrev pub takes_value : ValueForm → Bool
 takes_value (Number least most) = true
 takes_value (Word words) = true
 takes_value (WordOrNumber words least most) = true
@@ -45,7 +45,7 @@ takes_value Nothing = false
 -- option beside which it can't be given, if there is one
 pub record OptionRow : Type 0 where
   pub word : List ℕ
-  pub takes : Takes
+  pub takes : ValueForm
   pub default : Option (List ℕ)
   pub excludes : Option OptionKind
 

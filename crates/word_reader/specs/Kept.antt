@@ -2,7 +2,7 @@
 use Rattle.std.specs.Prelude.{◌≡◌, ℕ, ◌<◌, ◌≤◌, List, [], ◌∷◌, ◌++◌, map, length, get_or, Option, Some, None, if◌then◌else◌}
 use Rattle.std.specs.Borrow.{Bor}
 use Rattle.std.specs.Option.{option_map, option_and_then, option_to_list}
-use Rattle.word_reader.specs.Forms.{CommandRow, OptionRow, Takes, Number, Word, WordOrNumber, Name, Nothing, is_option, place}
+use Rattle.word_reader.specs.Forms.{CommandRow, OptionRow, ValueForm, Number, Word, WordOrNumber, Name, Nothing, is_option, place}
 use Rattle.word_reader.specs.Meanings.{Meaning, Divides, Positional, Awaits, Holds, Unknown}
 use Rattle.word_reader.specs.Orders.{Order, order_by}
 use Rattle.word_reader.specs.Sorting.{Sorted, sorted}
@@ -12,7 +12,7 @@ use Rattle.word_reader.specs.declared.form.Command.{Command}
 use Rattle.word_reader.specs.declared.form.CommandRow.{CommandRow as KeptCommand}
 use Rattle.word_reader.specs.declared.form.OptionKind.{OptionKind}
 use Rattle.word_reader.specs.declared.form.OptionRow.{OptionRow as KeptOption}
-use Rattle.word_reader.specs.declared.form.Takes.{Takes as KeptTakes}
+use Rattle.word_reader.specs.declared.form.ValueForm.{ValueForm as KeptForm}
 use Rattle.word_reader.specs.declared.meaning.Meaning.{Meaning as Given}
 use Rattle.word_reader.specs.declared.sorted.Next.{Next}
 use Rattle.word_reader.specs.declared.sorted.Next.TheVariants.{Any}
@@ -30,12 +30,12 @@ option_count = OPTION_COUNT
 abbrev pub texts_seen : List (Bor (List ℕ)) → List (List ℕ)
 texts_seen = map (λ (text : Bor (List ℕ)). text.now)
 
-abbrev pub takes_seen : KeptTakes → Takes
-takes_seen (KeptTakes.Number least most) = Number least most
-takes_seen (KeptTakes.Word words) = Word (texts_seen words.now)
-takes_seen (KeptTakes.WordOrNumber words least most) = WordOrNumber (texts_seen words.now) least most
-takes_seen KeptTakes.Name = Name
-takes_seen KeptTakes.Nothing = Nothing
+abbrev pub takes_seen : KeptForm → ValueForm
+takes_seen (KeptForm.Number least most) = Number least most
+takes_seen (KeptForm.Word words) = Word (texts_seen words.now)
+takes_seen (KeptForm.WordOrNumber words least most) = WordOrNumber (texts_seen words.now) least most
+takes_seen KeptForm.Name = Name
+takes_seen KeptForm.Nothing = Nothing
 
 abbrev pub option_seen : KeptOption → OptionRow
 option_seen row = record {

@@ -3,7 +3,7 @@ use Rattle.std.specs.Prelude.{ℕ, ◌<◌, ◌≤◌, List, [], ◌∷◌, leng
 use Rattle.std.specs.List.{position}
 use Rattle.std.specs.Option.{option_map, option_map_or, option_or, option_and_then}
 use Rattle.std.specs.Str.{bytes_eq}
-use Rattle.word_reader.specs.Forms.{OptionRow, Takes, Number, Word, WordOrNumber, Name, Nothing, option_row}
+use Rattle.word_reader.specs.Forms.{OptionRow, ValueForm, Number, Word, WordOrNumber, Name, Nothing, option_row}
 use Rattle.word_reader.specs.Numbers.{number_in}
 use Rattle.word_reader.specs.Sorting.{Sorted}
 use Rattle.word_reader.specs.declared.form.OptionKind.{OptionKind}
@@ -28,7 +28,7 @@ abbrev pub count_in : (least most : ℕ) → List ℕ → Option Value
 count_in least most word = option_map Count (number_in least most word)
 
 -- the value that a word is, if the option takes it
-abbrev pub value_in : Takes → List ℕ → Option Value
+abbrev pub value_in : ValueForm → List ℕ → Option Value
 value_in (Number least most) word = count_in least most word
 value_in (Word words) word = choice_in words word
 value_in (WordOrNumber words least most) word = option_or (choice_in words word) (count_in least most word)
@@ -57,7 +57,7 @@ abbrev pub number_of : OptionKind → Sorted → Option ℕ
 number_of option sorted = option_and_then as_number (value_of option sorted)
 
 -- the value is one that the option takes, or none
-abbrev pub IsTaken : Takes → Value → Type 0
+abbrev pub IsTaken : ValueForm → Value → Type 0
 IsTaken takes Absent = Unit {0}
 IsTaken (Number least most) (Count number) = (least ≤ number) × (number ≤ most)
 IsTaken (Word words) (Choice place) = place < length words

@@ -55,7 +55,7 @@ pub(crate) enum OptionKind {
 pub(crate) struct OptionRow {
     /// The option's own.
     pub word: &'static str,
-    pub takes: Takes,
+    pub takes: ValueForm,
     /// What is taken for its value where none is given, if anything is.
     pub default: Option<&'static str>,
     /// The option beside which it can't be given, if there is one.
@@ -64,7 +64,7 @@ pub(crate) struct OptionRow {
 
 /// What an option takes as its value.
 #[derive(Clone, Copy)]
-pub(crate) enum Takes {
+pub(crate) enum ValueForm {
     /// A number from `least` to `most`.
     Number {
         least: u64,
@@ -200,7 +200,7 @@ impl OptionKind {
         match self {
             OptionKind::Workers => OptionRow {
                 word: "--workers",
-                takes: Takes::Number {
+                takes: ValueForm::Number {
                     least: 1,
                     most: MOST_WORKERS as u64,
                 },
@@ -209,7 +209,7 @@ impl OptionKind {
             },
             OptionKind::ViaCost => OptionRow {
                 word: "--via-cost",
-                takes: Takes::Number {
+                takes: ValueForm::Number {
                     least: 0,
                     most: MOST_VIA_COST as u64,
                 },
@@ -218,7 +218,7 @@ impl OptionKind {
             },
             OptionKind::Batch => OptionRow {
                 word: "--batch",
-                takes: Takes::Number {
+                takes: ValueForm::Number {
                     least: 1,
                     most: MOST_BATCH as u64,
                 },
@@ -227,13 +227,13 @@ impl OptionKind {
             },
             OptionKind::Rule => OptionRow {
                 word: "--rule",
-                takes: Takes::Word(&["first", "steep", "flat", "near"]),
+                takes: ValueForm::Word(&["first", "steep", "flat", "near"]),
                 default: Some("first"),
                 excludes: None,
             },
             OptionKind::Stop => OptionRow {
                 word: "--stop",
-                takes: Takes::WordOrNumber {
+                takes: ValueForm::WordOrNumber {
                     words: &["still"],
                     least: 0,
                     most: u64::MAX,
@@ -243,19 +243,19 @@ impl OptionKind {
             },
             OptionKind::From => OptionRow {
                 word: "--from",
-                takes: Takes::Name,
+                takes: ValueForm::Name,
                 default: None,
                 excludes: None,
             },
             OptionKind::Trace => OptionRow {
                 word: "--trace",
-                takes: Takes::Nothing,
+                takes: ValueForm::Nothing,
                 default: None,
                 excludes: None,
             },
             OptionKind::Steps => OptionRow {
                 word: "--steps",
-                takes: Takes::Number {
+                takes: ValueForm::Number {
                     least: 0,
                     most: MOST_STEPS as u64,
                 },
@@ -269,7 +269,7 @@ impl OptionKind {
     pub(crate) fn takes_value(self) -> bool
         ensures { result ≡ takes_value (option_row self).takes }
     {
-        !matches!(self.row().takes, Takes::Nothing)
+        !matches!(self.row().takes, ValueForm::Nothing)
     }
 
     /// The place of the option among all.

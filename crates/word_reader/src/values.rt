@@ -7,7 +7,7 @@ ghost use Rattle.word_reader.specs.Forms.{option_row, Number, Word};
 ghost use Rattle.word_reader.specs.Kept.{option_seen, takes_seen, texts_seen, value_seen, values_seen, words_seen};
 ghost use Rattle.word_reader.specs.Values.{choice_in, count_in, number_of, value_by, value_in, value_of, Count, IsTaken};
 
-use crate::form::{OptionKind, OptionRow, Takes};
+use crate::form::{OptionKind, OptionRow, ValueForm};
 use crate::numbers::number_in;
 use crate::sorted::Sorted;
 
@@ -56,18 +56,18 @@ fn value_by(row: OptionRow, given: Option<&str>) -> Option<Value<'_>>
 }
 
 /// The value that a word is, if it is one that is taken.
-fn value_in(takes: Takes, word: &str) -> Option<Value<'_>>
+fn value_in(takes: ValueForm, word: &str) -> Option<Value<'_>>
     ensures value { option_map value_seen result ≡ value_in (takes_seen takes) word.now }
     ensures range { IfSome result (λ value. IsTaken (takes_seen takes) (value_seen value)) }
 {
     match takes {
-        Takes::Number { least, most } => count_in(least, most, word),
-        Takes::Word(words) => choice_in(words, word),
-        Takes::WordOrNumber { words, least, most } => {
+        ValueForm::Number { least, most } => count_in(least, most, word),
+        ValueForm::Word(words) => choice_in(words, word),
+        ValueForm::WordOrNumber { words, least, most } => {
             choice_in(words, word).or(count_in(least, most, word))
         }
-        Takes::Name => Some(Value::Named(word)),
-        Takes::Nothing => Some(Value::Present),
+        ValueForm::Name => Some(Value::Named(word)),
+        ValueForm::Nothing => Some(Value::Present),
     }
 }
 

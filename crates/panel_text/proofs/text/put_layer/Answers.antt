@@ -1,7 +1,7 @@
 use Rattle.std.proofs.Common.{◌≡◌, ℕ, ◌+◌, ◌<◌, ◌≤◌, ◌^◌, List, map, ap, sym, subst, ◌∙◌, arith}
 use Rattle.std.specs.List.{range_with_len}
 use Rattle.gr_base.specs.declared.frame.Frame.{Frame}
-use Rattle.panel_text.specs.declared.place.Place.{Place}
+use Rattle.panel_text.specs.declared.place.PanelPlace.{PanelPlace}
 use Rattle.panel_text.specs.Places.{lines_along}
 use Rattle.panel_text.specs.Told.{IsWithin, Tell}
 use Rattle.panel_text.proofs.PieceLemmas.{few-lines}
@@ -17,7 +17,7 @@ put_panel-requires-clause-room c =
 pub loop-line-preserved : goal.loop-line-preserved
 loop-line-preserved c =
     let was = c.loop-line.invariant in
-    let f : ℕ → Place = λ line. record { way = c.args.way; layer = c.args.layer; line = line } in
+    let f : ℕ → PanelPlace = λ line. record { way = c.args.way; layer = c.args.layer; line = line } in
     record {
       told = layer-more c.args.design.now c.args.way c.args.starts.now f c.loop-line.line c.args.told.now c.loop-line.told c.put_panel.new.told was.told c.in_ok-put_panel.ensures.told;
       room = λ count is. subst (λ (n : ℕ). IsWithin n c.put_panel.new.told) (omega arith) (c.in_ok-put_panel.ensures.room (count + c.loop-line.line) (was.room count is));
@@ -25,7 +25,7 @@ loop-line-preserved c =
 
 pub returns-clause-told : goal.returns-clause-told
 returns-clause-told c =
-    let f : ℕ → Place = λ line. record { way = c.args.way; layer = c.args.layer; line = line } in
+    let f : ℕ → PanelPlace = λ line. record { way = c.args.way; layer = c.args.layer; line = line } in
     let same = ap (λ (g : Frame). lines_along g.shape c.args.way) c.frame.ensures.frame in
     let all : c.loop-line.line ≡ lines_along c.args.design.now.frame.shape c.args.way =
     omega (arith, c.loop-line.auto.line-end, c.loop-line-test.false, c.lines-line-end.ensures, same) in

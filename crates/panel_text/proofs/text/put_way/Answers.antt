@@ -1,7 +1,7 @@
 use Rattle.std.proofs.Common.{◌≡◌, ℕ, ◌+◌, ◌*◌, ◌<◌, ◌≤◌, ◌^◌, List, ap, sym, subst, ◌∙◌, arith}
 use Rattle.std.specs.List.{flat_map, range_with_len}
 use Rattle.gr_base.specs.declared.frame.Frame.{Frame}
-use Rattle.panel_text.specs.declared.place.Place.{Place}
+use Rattle.panel_text.specs.declared.place.PanelPlace.{PanelPlace}
 use Rattle.panel_text.specs.Places.{places_on}
 use Rattle.panel_text.specs.Told.{IsWithin, Tell}
 use Rattle.panel_text.proofs.TextLemmas.{way-more, more-within}

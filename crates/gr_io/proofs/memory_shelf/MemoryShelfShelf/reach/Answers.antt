@@ -1,7 +1,7 @@
 use Rattle.std.proofs.Common.{◌≡◌, List, ℕ, Err, Ok, Option, Some, None, ap, arith, sym, ◌∙◌, subst}
 use Rattle.gr_io.specs.Texts.{MemoryTexts, after_reach, held_in, left_at, reach_answer}
 use Rattle.gr_io.specs.Slots.{at_slot}
-use Rattle.gr_io.specs.declared.memory_shelf.Place.{Place}
+use Rattle.gr_io.specs.declared.memory_shelf.NextByte.{NextByte}
 use Rattle.gr_io.specs.declared.slots.Slots.{Slots}
 use Rattle.gr_io.specs.declared.shelf.ReachError.TheVariants.{Missing}
 use Rattle.gr_io.proofs.HeldLemmas.{found_in, missing_in}
@@ -37,7 +37,7 @@ pub returns-clause-opened : goal.returns-clause-opened
 returns-clause-opened c =
     let inside = c.self.inside in
     let found = found_in _ inside.texts.items c.args.name.now _ c.in-Some.text c.deref.ensures.value c.number_of.ensures c.in-Some.is in
-    let at = ap (λ (ps : Slots (Option Place)). at_slot ps c.args.slot) c.set.ensures ∙ at_slot-set_slot inside.places c.args.slot _ in
+    let at = ap (λ (ps : Slots (Option NextByte)). at_slot ps c.args.slot) c.set.ensures ∙ at_slot-set_slot inside.places c.args.slot _ in
     subst (λ (now : MemoryTexts). held_in now.texts c.args.name.now ≡ Some (left_at (seen inside.texts.items c.set.new.self inside.piece inside.misses c.begin.new.self) c.args.slot)) c.self.view_is
     (found.1 ∙ ap (λ (xs : List ℕ). Some xs) (sym (left_at-seen inside.texts.items c.set.new.self inside.piece inside.misses c.begin.new.self c.args.slot _ at)))
 

@@ -4,7 +4,7 @@ use Rattle.gr_io.specs.Calls.{next_fails}
 use Rattle.gr_io.specs.Places.{IsPlace}
 use Rattle.gr_io.specs.Slots.{at_slot}
 use Rattle.gr_io.specs.Texts.{HeldText, MemoryTexts, after_read, bytes_at, left_at}
-use Rattle.gr_io.specs.declared.memory_shelf.Place.{Place}
+use Rattle.gr_io.specs.declared.memory_shelf.NextByte.{NextByte}
 use Rattle.gr_io.specs.declared.slots.Slots.{Slots}
 use Rattle.gr_io.proofs.PlaceLemmas.{ArePlaces-set_slot, left_at-seen, seen, seen-read}
 use Rattle.gr_io.proofs.ReadLemmas.{at-read, read-append-left, read-end}
@@ -24,7 +24,7 @@ reading c =
     let inside = c.self.inside in
     let place = c.unwrap-place.result in
     let at = sym c.get.ensures ∙ c.unwrap-place.ensures in
-    let is = subst (λ (o : Option Place). IsPlace inside.texts.items o) at (c.self.invariant.1 c.args.slot) in
+    let is = subst (λ (o : Option NextByte). IsPlace inside.texts.items o) at (c.self.invariant.1 c.args.slot) in
     let text = get_or_read inside.texts.items place.text c.index-text.result.now is.0 c.index-text.ensures (record { name = []; bytes = [] }) in
     let from = take_rest c.bytes.result.now place.at ∙ ap (λ (xs : List ℕ). drop place.at xs) (c.bytes.ensures ∙ ap (λ (t : HeldText). t.bytes) text) in
     record {
@@ -50,7 +50,7 @@ returns-clause-bytes c =
     let inside = c.self.inside in
     let place = c.unwrap-place.result in
     let bytes = bytes_at inside.texts.items place.text in
-    let at = ap (λ (ps : Slots (Option Place)). at_slot ps c.args.slot) c.set.ensures ∙ at_slot-set_slot inside.places c.args.slot _ in
+    let at = ap (λ (ps : Slots (Option NextByte)). at_slot ps c.args.slot) c.set.ensures ∙ at_slot-set_slot inside.places c.args.slot _ in
     subst (λ (now : MemoryTexts). take c.copy_start-count.result c.copy_start-count.new.to ++ left_at (seen inside.texts.items c.set.new.self inside.piece inside.misses c.begin.new.self) c.args.slot ≡ left_at now c.args.slot) c.self.view_is
     (ap (λ (xs : List ℕ). take c.copy_start-count.result c.copy_start-count.new.to ++ xs) (left_at-seen inside.texts.items c.set.new.self inside.piece inside.misses c.begin.new.self c.args.slot _ at)
     ∙ read-append-left bytes _ c.copy_start-count.new.to place.at c.copy_start-count.result r.from c.copy_start-count.ensures.copied

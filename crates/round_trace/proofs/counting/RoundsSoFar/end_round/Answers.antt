@@ -1,6 +1,6 @@
 use Rattle.std.proofs.Common.{◌+◌, refl}
 use Rattle.round_trace.proofs.TraceLemmas.{count-mark}
-use Rattle.round_trace.proofs.counting.Count.end_round.Goals as goal
+use Rattle.round_trace.proofs.counting.RoundsSoFar.end_round.Goals as goal
 
 pub returns : goal.returns
 returns c = λ before e mark is of.

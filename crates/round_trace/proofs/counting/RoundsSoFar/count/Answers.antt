@@ -1,6 +1,6 @@
 use Rattle.std.proofs.Common.{ℕ, ◌+◌, Bool, cond, refl, ap, ◌∙◌}
 use Rattle.round_trace.proofs.TraceLemmas.{count-other}
-use Rattle.round_trace.proofs.counting.Count.count.Goals as goal
+use Rattle.round_trace.proofs.counting.RoundsSoFar.count.Goals as goal
 
 pub returns : goal.returns
 returns c = λ before e other is of.

@@ -4,7 +4,7 @@ use Rattle.gr_base.specs.declared.frame.Frame.{Frame}
 use Rattle.rc_library.specs.Gathered.{ArePlaces}
 use Rattle.rc_library.proofs.LibraryLemmas.{length-firsts}
 use Rattle.rc_library.proofs.PlacesLemmas.{ArePlaces-none, all-pins, no_places-is}
-use Rattle.rc_library.proofs.places.Places.new.Goals as goal
+use Rattle.rc_library.proofs.places.PlaceNotes.new.Goals as goal
 
 pub index-pins-requires : goal.index-pins-requires
 index-pins-requires c =
