@@ -1,3 +1,4 @@
+//! What planners may ask of the costs of a grid's edges; each implementation shows that its prices lie in range.
 ghost use Rattle.std.specs.Prelude.{◌≡◌, ℕ, ◌≤◌, ◌↔◌, Bool, Option, IsTrue, IsSome, IfSome};
 ghost use Rattle.gr_base.specs.declared.grid.Edge.{Edge};
 ghost use Rattle.gr_base.specs.declared.grid.Shape.{Shape};

@@ -1,3 +1,4 @@
+//! Decides by a sight alone whether another round is to begin: one function for each watch.
 ghost use Rattle.std.specs.Prelude.{◌≡◌};
 ghost use Rattle.cost_rules.specs.declared.sight.Watch.TheVariants.{Still, Goal};
 ghost use Rattle.cost_rules.specs.Watching.{watch_says};

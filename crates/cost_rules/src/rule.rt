@@ -1,3 +1,4 @@
+//! Pairs a function with the formula that it was shown to compute, so that callers can bring rules of their own.
 ghost use Rattle.std.specs.Prelude.{◌≡◌, ℕ, ◌≤◌};
 ghost use Rattle.cost_rules.specs.declared.site.Formula.{Formula};
 ghost use Rattle.cost_rules.specs.declared.site.Site.{Site};

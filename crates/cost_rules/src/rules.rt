@@ -1,3 +1,4 @@
+//! Keeps what a caller gave: one rule for each formula and one watcher for each watch, each shown to be of its kind.
 ghost use Rattle.std.specs.Prelude.{◌≡◌};
 ghost use Rattle.cost_rules.specs.declared.site.Formula.TheVariants.{First, Steep, Flat, Near};
 ghost use Rattle.cost_rules.specs.declared.sight.Watch.TheVariants.{Never, Still, Goal};

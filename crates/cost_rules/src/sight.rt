@@ -1,3 +1,5 @@
+//! The plain values that watchers work with: what they see, what they may answer, and the three watches.
+
 /// What a watcher sees at the end of a round.
 #[derive(Clone, Copy, Debug, PartialEq, Eq)]
 pub struct Sight {

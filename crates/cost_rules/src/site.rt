@@ -1,3 +1,5 @@
+//! The plain values that rules of cost work with: what they are told of a net at an edge, and the four formulas.
+
 /// One net at one wire edge.
 ///
 /// The formulas are for sites in range: a demand of at most 2^62, a capacity of at most 1,000,000,

@@ -1,3 +1,4 @@
+//! Pairs a function with the watch that it was shown to follow; the function sees a sight and nothing else.
 ghost use Rattle.std.specs.Prelude.{◌≡◌};
 ghost use Rattle.cost_rules.specs.declared.sight.Going.{Going};
 ghost use Rattle.cost_rules.specs.declared.sight.Sight.{Sight};

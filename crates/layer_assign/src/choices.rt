@@ -1,3 +1,4 @@
+//! Writes one node's choices into the tables: the best layer for each span of its parent's tile, and what it costs.
 ghost use Rattle.std.specs.Prelude.{◌≡◌, ℕ, ◌+◌, ◌*◌, ◌^◌, ◌<◌, ◌≤◌, ◌||◌, ◌==◌, false, not, Option, length, get_or, IsSome};
 ghost use Rattle.gr_base.specs.Limits.{most_cells};
 ghost use Rattle.gr_base.specs.Trees.{IsTree};

@@ -1,3 +1,4 @@
+//! Keeps rows of what it costs to climb each span, with which the tables of net after net begin.
 ghost use Rattle.std.specs.Prelude.{◌≡◌, ℕ, ◌<◌, ◌≤◌, Option, [], length, IfOk, OnOk};
 ghost use Rattle.gr_base.specs.Limits.{most_cells};
 ghost use Rattle.layer_assign.specs.declared.climbs.TheConstants.{KEPT_ROWS};

@@ -1,3 +1,4 @@
+//! Adds cells to a tree that grows: one on a neighbour, or those of a tile above and below one of its cells.
 ghost use Rattle.std.specs.Prelude.{◌≡◌, ◌≢◌, ◌∷◌, [], ℕ, ◌+◌, ◌-◌, ◌*◌, ◌<◌, ◌≤◌, false, ◌&&◌, ◌||◌, ◌==◌, Some, length, OnOk, IsTrue};
 ghost use Rattle.gr_base.specs.Grid.{cells_of, AreNeighbours};
 ghost use Rattle.gr_base.specs.EdgeSets.{is_way, set_of};

@@ -1,3 +1,4 @@
+//! Assigns the edges of a flat tree to layers: tables are filled from the last node back and followed from the first.
 ghost use Rattle.std.specs.Prelude.{◌≡◌, ℕ, ◌<◌, ◌≤◌, length, slice_index, IfOk};
 ghost use Rattle.gr_base.specs.Trees.{IsTree};
 ghost use Rattle.layer_assign.specs.Assignments.{IsFlat, tile_count, IsAssignment, IsLeast, IsFirst, HasLayers, ArePins};

@@ -1,3 +1,4 @@
+//! The layers that were assigned, which callers can read by nodes but neither make nor change.
 ghost use Rattle.std.specs.Prelude.{◌≡◌, ◌<◌, length, slice_index};
 
 use std::marker::Model;

@@ -1,3 +1,4 @@
+//! Prices the limbs of nodes layer by layer; no edge is priced where even 1 would make its layer no better.
 ghost use Rattle.std.specs.Prelude.{◌≡◌, ℕ, ◌+◌, ◌*◌, ◌^◌, ◌<◌, ◌≤◌, Some, None, length, IfSome, IsSome, if◌then◌else◌};
 ghost use Rattle.cost_rules.specs.Formulas.{most_cost};
 ghost use Rattle.gr_base.specs.Limits.{most_cells};

@@ -1,3 +1,4 @@
+//! Raises a flat tree to the grid by the layers of its edges, tile after tile; it asks for no costs.
 ghost use Rattle.std.specs.Prelude.{◌≡◌, ◌≢◌, ◌∷◌, [], ℕ, ◌+◌, ◌-◌, ◌<◌, ◌≤◌, true, false, ◌||◌, length, Some, slice_get, slice_index, slice_set, sum_by, All, IfOk, OnOk, IsTrue};
 ghost use Rattle.gr_base.specs.Grid.{cells_of, AreNeighbours};
 ghost use Rattle.gr_base.specs.EdgeSets.{set_of};

@@ -1,3 +1,4 @@
+//! The memory that assigning and raising share from net to net; contracts see of it only how many tiles it is for.
 ghost use Rattle.std.specs.Prelude.{◌≡◌, IfOk};
 ghost use Rattle.layer_assign.specs.Assignments.{tile_count};
 

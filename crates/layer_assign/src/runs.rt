@@ -1,3 +1,4 @@
+//! Chooses layers where a tile has no pins and just two edges, in time linear in the number of layers.
 ghost use Rattle.std.specs.Prelude.{◌≡◌, ℕ, ◌+◌, ◌-◌, ◌^◌, ◌<◌, ◌≤◌, ◌&&◌, ◌==◌, not, is_none, nat_lt, None, Option, Some, length, slice_get, IfSome, IsTrue};
 ghost use Rattle.cost_rules.specs.Formulas.{most_cost};
 ghost use Rattle.gr_base.specs.Limits.{most_cells};

@@ -1,3 +1,4 @@
+//! The plain values that layers are chosen with: spans, offers, limbs, and the workings of one node's choice.
 use gr_base::{Edge, Way};
 
 /// The layers from the least to the greatest of some: `low` is at most `high`. Of no layers there is

@@ -1,3 +1,4 @@
+//! The arithmetic of spans: what one more layer makes of them, what a climb costs, and their numbers in tables.
 ghost use Rattle.std.specs.Prelude.{◌≡◌, ◌<◌, ◌≤◌, IfSome};
 ghost use Rattle.layer_assign.specs.Spans.{widened, climb, IsWithin, span_number, spans_of, next_span};
 

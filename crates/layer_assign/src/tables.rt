@@ -1,3 +1,4 @@
+//! Finds and writes entries of the tables, which have a place for each node and span, and compares offers.
 ghost use Rattle.std.specs.Prelude.{◌≡◌, ℕ, ◌+◌, ◌*◌, ◌<◌, ◌≤◌, Option, [], length, OnOk, IsSome};
 ghost use Rattle.gr_base.specs.Limits.{most_cells};
 ghost use Rattle.layer_assign.specs.declared.span.Span.{Span as SpanView};

@@ -1,3 +1,4 @@
+//! Gathers the span of each node's tile from pins and layers, and by such spans reads layers off the choices.
 ghost use Rattle.std.specs.Prelude.{◌≡◌, ℕ, ◌+◌, ◌<◌, ◌≤◌, ◌*◌, length, Option, Some, slice_index, All, IfOk, OnOk, IsSome, IsTrue, if◌then◌else◌};
 ghost use Rattle.gr_base.specs.Grid.{cells_of};
 ghost use Rattle.gr_base.specs.Limits.{most_cells};

@@ -1,3 +1,4 @@
+//! Makes the flat tree of a net's pins: their topology, joined by flat walks at the least costs over the layers.
 ghost use Rattle.std.specs.Prelude.{◌≡◌, ◌<◌, ◌≤◌, ◌^◌, All, length, IfOk, IsTrue};
 ghost use Rattle.gr_base.specs.Grid.{cells_of};
 ghost use Rattle.gr_base.specs.Trees.{holds};

@@ -1,3 +1,4 @@
+//! The costs that flat walks are planned by: of each edge the least over the layers, worked out when asked for.
 ghost use Rattle.std.specs.Prelude.{◌≡◌, ◌<◌, Some, IsTrue};
 ghost use Rattle.gr_base.specs.Grid.{has_edge, on_layer};
 ghost use Rattle.net_plan.specs.Prices.{kept_prices};

@@ -1,3 +1,4 @@
+//! Makes maze plans, walk after walk to the nearest pin that is left; of the planner it uses the room for mazes alone.
 ghost use Rattle.std.specs.Prelude.{◌≡◌, ◌<◌, Some, All, IfOk, IsTrue, not, filter, length, slice_get};
 ghost use Rattle.gr_base.specs.Designs.{is_routed, pins_at};
 ghost use Rattle.gr_base.specs.Plans.{IsRouteOf};

@@ -1,3 +1,4 @@
+//! The costs of a design's edges to one net, worked out from lent capacity and loads whenever they are asked for.
 ghost use Rattle.std.specs.Prelude.{◌≡◌, ◌*◌, ◌≤◌, IsTrue};
 ghost use Rattle.cost_rules.specs.Formulas.{IsInRange, most_cost, cost_at};
 ghost use Rattle.gr_base.specs.Grid.{has_edge, is_wire};

@@ -1,3 +1,4 @@
+//! Puts the points of a topology in the order in which they are joined to a flat tree, each after its parent.
 ghost use Rattle.std.specs.Prelude.{◌≡◌, ℕ, ◌<◌, length, false, IfSome, OnOk};
 ghost use Rattle.steiner_topology.specs.Spanning.{IsTopology};
 ghost use Rattle.maze_route.specs.Search.{is_marked};

@@ -1,3 +1,4 @@
+//! Makes pattern plans: a flat tree, then the first least assignment of its edges, then the tree raised from it.
 ghost use Rattle.std.specs.Prelude.{◌≡◌, Some, slice_get, IfOk, IsTrue};
 ghost use Rattle.gr_base.specs.Designs.{is_routed, pins_at};
 ghost use Rattle.gr_base.specs.Plans.{IsRouteOf};

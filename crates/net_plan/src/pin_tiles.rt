@@ -1,3 +1,4 @@
+//! Goes from cells to tiles and back: the distinct tiles of pins, and the cell of a tile on a grid of one layer.
 ghost use Rattle.std.specs.Prelude.{◌≡◌, ◌<◌, ◌≤◌, All, length, OnOk};
 ghost use Rattle.std.specs.List.{list_any};
 ghost use Rattle.gr_base.specs.Grid.{cells_of};

@@ -1,3 +1,4 @@
+//! The memory that pattern plans and maze plans are made with; what it holds between plans has no bearing on them.
 ghost use Rattle.std.specs.Prelude.{◌≡◌, ◌≤◌, length, IfOk, OnOk};
 ghost use Rattle.layer_assign.specs.Assignments.{tile_count};
 

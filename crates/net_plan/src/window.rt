@@ -1,3 +1,4 @@
+//! Finds the window of a net's maze plan, from the net's pins, the margin and the size of the grid alone.
 ghost use Rattle.std.specs.Prelude.{◌≡◌, ◌<◌, All, IsTrue, length};
 ghost use Rattle.gr_base.specs.Designs.{is_routed, pins_at};
 ghost use Rattle.gr_base.specs.Grid.{cells_of};

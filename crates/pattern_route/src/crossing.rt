@@ -1,3 +1,4 @@
+//! Sweeps the lines between two tiles for the first crossing of least cost, and lists the cells of its walk.
 ghost use Rattle.std.specs.Prelude.{◌≡◌, ◌≢◌, ◌+◌, ◌++◌, OnOk, if◌then◌else◌, nat_lt};
 ghost use mathlib.Core.List.{IsPrefix};
 ghost use Rattle.gr_base.specs.Grid.{gap};

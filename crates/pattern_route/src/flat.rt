@@ -1,3 +1,4 @@
+//! Finds the flat walk between two tiles: by the least crossing column, unless a crossing row costs less.
 ghost use Rattle.std.specs.Prelude.{◌≡◌, ◌<◌, OnOk};
 ghost use mathlib.Core.List.{IsPrefix};
 ghost use Rattle.gr_base.specs.Grid.{IsInside, cells_of, place_at};

@@ -1,3 +1,4 @@
+//! Goes along one line of tiles, and says what the steps cost and which cells they come to.
 ghost use Rattle.std.specs.Prelude.{◌≡◌, ◌≢◌, ◌+◌, ◌*◌, ◌≤◌, ◌++◌, OnOk, unwrap_or};
 ghost use mathlib.Core.List.{IsPrefix};
 ghost use Rattle.cost_rules.specs.Formulas.{most_cost};

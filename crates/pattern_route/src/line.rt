@@ -1,3 +1,5 @@
+//! The plain values that flat walks are found with: lines of tiles, spans between two tiles, crossings and sweeps.
+
 /// The lines of tiles of one direction.
 #[derive(Clone, Copy)]
 pub(crate) enum Axis {

@@ -1,3 +1,4 @@
+//! Draws the numbers that the sums over many mazes and topologies rest on, the same ones in each run.
 ghost use Rattle.std.specs.Prelude.{◌<◌};
 
 /// A linear congruential generator.

@@ -1,3 +1,4 @@
+//! Costs that follow from cells by a plain rule, so that rows can try planners' calls without a design's loads.
 ghost use Rattle.std.specs.Prelude.{◌≡◌, ℕ, ◌+◌, ◌*◌, ◌%◌, ◌≤◌, Bool, true, Some, ◌&&◌, ◌==◌, if◌then◌else◌, refl};
 ghost use Rattle.gr_base.specs.declared.grid.Edge.{Edge};
 ghost use Rattle.gr_base.specs.Grid.{high_of};

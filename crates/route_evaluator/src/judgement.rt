@@ -1,3 +1,4 @@
+//! Judges all routed nets of a design, by a solution's runs or by trees, and sums them up in one verdict.
 ghost use Rattle.std.specs.Prelude.{◌≡◌, ◌≤◌, IfOk, OnOk};
 ghost use Rattle.gr_base.specs.Trees.{route_edges};
 ghost use Rattle.grid_demand.specs.Tables.{capacity_of};

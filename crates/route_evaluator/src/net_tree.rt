@@ -1,3 +1,4 @@
+//! Makes the tree of a net's edges in a solution, or finds that they are no tree; its sets serve net after net.
 ghost use Rattle.std.specs.Prelude.{◌≡◌, ◌<◌, ◌*◌, Err, length, slice_get, All, IsTrue, IfOk, OnOk};
 ghost use Rattle.gr_base.specs.Designs.{is_routed, pins_at};
 ghost use Rattle.gr_base.specs.Grid.{cells_of};

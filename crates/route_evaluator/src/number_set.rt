@@ -1,3 +1,4 @@
+//! Sets of edges or cells by number, emptied in the time of what is in them, whatever the size of the grid.
 ghost use Rattle.std.specs.Prelude.{◌≡◌, ◌==◌, ℕ, ◌<◌, ◌≤◌, false, length, count_by, slice_index_or, All, IfOk, OnOk, if◌then◌else◌};
 ghost use Rattle.std.specs.List.{list_all};
 ghost use Rattle.route_evaluator.specs.NumberSets.{has_number, empty_set, set_with};

@@ -1,3 +1,4 @@
+//! What a flood leaves behind: the cells that it reached and from where, in memory that the next flood uses anew.
 ghost use Rattle.std.specs.Prelude.{◌≡◌, IfOk};
 ghost use Rattle.gr_base.specs.Grid.{cells_of};
 ghost use Rattle.route_evaluator.specs.NumberSets.{empty_set};

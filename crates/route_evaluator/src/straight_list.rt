@@ -1,3 +1,4 @@
+//! The straight runs of a net's edges as callers get them: a list that they can read but not change.
 ghost use Rattle.std.specs.Prelude.{◌≡◌};
 
 use solution_text::Run;

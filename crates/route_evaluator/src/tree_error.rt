@@ -1,3 +1,4 @@
+//! The two reasons why a net has no tree: its edges aren't one, or memory is wanting.
 use std::alloc::AllocError;
 use thiserror::Error;
 

@@ -1,3 +1,4 @@
+//! What judging finds: the measures as plain numbers, and the nets whose pins aren't joined.
 use gr_base::Cells;
 
 /// The judgement of a solution, over the design's routed nets and the sets of edges that their

@@ -1,3 +1,4 @@
+//! Adds a point where a point's way to its parent can be shared, and keeps the lists of children in step.
 ghost use Rattle.std.specs.Prelude.{◌≡◌, ℕ, ◌+◌, ◌<◌, ◌^◌, ◌∷◌, [], ◌++◌, vec_len, length, All, IsTrue, IfSome, OnOk};
 ghost use Rattle.steiner_topology.specs.Topology.{parent_of, is_neighbour, meeting, saving, best_neighbour, with_branch, branched, handled};
 ghost use Rattle.steiner_topology.specs.Children.{AreChildren, lists_of, without, is_better, preferred, best_of};

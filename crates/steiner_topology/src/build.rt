@@ -1,3 +1,4 @@
+//! Builds a topology in a caller's room: Prim's tree of the tiles, then a branch for each join where one saves length.
 ghost use Rattle.std.specs.Prelude.{◌≡◌, ◌+◌, ◌*◌, ◌<◌, ◌≤◌, ◌^◌, length, map, take, fold, All, IfOk, OnOk};
 ghost use Rattle.steiner_topology.specs.Joins.{AreInside, joins_of};
 ghost use Rattle.steiner_topology.specs.Topology.{with_pair, loose_points, topology_of, wirelength, tiles_of};

@@ -1,3 +1,4 @@
+//! Keeps a list of each point's children, so that a point's neighbours are found without a search.
 ghost use Rattle.std.specs.Prelude.{◌≡◌, ◌+◌, ◌<◌, ◌^◌, [], vec_len, length, replicate, All, OnOk};
 ghost use Rattle.steiner_topology.specs.Children.{AreChildren, lists_of, without, unlisted, listed, branch_listed};
 

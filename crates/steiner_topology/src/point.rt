@@ -1,3 +1,5 @@
+//! The plain values that topologies are made of and with: tiles, points, joins, and points that wait to be joined.
+
 /// A tile: its column and its row.
 pub type Tile = (u32, u32);
 

@@ -1,3 +1,4 @@
+//! Finds Prim's tree of some tiles, in lists that the caller lends; the time is the square of their number.
 ghost use Rattle.std.specs.Prelude.{◌≡◌, ◌<◌, ◌^◌, [], vec_len, length, map, OnOk, All};
 ghost use Rattle.steiner_topology.specs.Joins.{AreInside, joins_of};
 ghost use Rattle.steiner_topology.specs.Waits.{first_pairs, waits, nearer, IsFirst};

@@ -1,3 +1,4 @@
+//! The memory that topologies are made with, kept from net to net; what it holds has no bearing on them.
 use crate::children::Children;
 use crate::point::{Join, Point, Waiting};
 use crate::tree::Topology;

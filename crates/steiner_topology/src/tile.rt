@@ -1,3 +1,4 @@
+//! The geometry of tiles: how far apart two of them are, and where ways between three can meet.
 ghost use Rattle.std.specs.Prelude.{◌≡◌, ◌+◌, ◌<◌, ◌^◌};
 ghost use Rattle.steiner_topology.specs.Tile.{distance, median, middle};
 

@@ -1,3 +1,4 @@
+//! A topology as callers see it: points that were shown to be a tree, to be read but not changed.
 ghost use Rattle.std.specs.Prelude.{◌≡◌, ◌<◌, ◌^◌, List, vec_len, length};
 ghost use Rattle.steiner_topology.specs.declared.point.Point.{Point};
 ghost use Rattle.steiner_topology.specs.Spanning.{IsTopology};

@@ -1,3 +1,4 @@
+//! Lists the low ends of edges that go one way, rising and each once, so that runs are followed by look-ups.
 ghost use Rattle.std.specs.Prelude.{◌≡◌, ℕ, ◌<◌, ◌==◌, All, OnOk};
 ghost use Rattle.std.specs.List.{list_any};
 ghost use Rattle.std.specs.List.Sorted.{IsStrictlyIncreasing};

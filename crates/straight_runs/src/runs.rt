@@ -1,3 +1,4 @@
+//! Gathers maximal straight runs in a list of the caller's; it knows of edges, but neither of nets nor of designs.
 ghost use Rattle.std.specs.Prelude.{◌≡◌, ℕ, ◌-◌, ◌<◌, ◌++◌, ◌&&◌, not, nat_le, IsTrue, All, [], OnOk, OnErr};
 ghost use Rattle.std.specs.List.Sorted.{IsStrictlyIncreasing};
 ghost use Rattle.gr_base.specs.Grid.{cells_of, has_edge};
