@@ -37,9 +37,6 @@ pub record ArePlanned (d : DesignView) (formula : Formula) (round : ℕ) (loads 
   pub each : (k net : ℕ) → k < length trees → slice_get nets (first + k * count) ≡ Some net → IsSomeAnd (plan_at trees k) (IsPlanned d formula round loads net)
 
 module _ (d : DesignView) (formula : Formula) (round : ℕ) (loads : LoadsView) (nets : List ℕ) (first count : ℕ) where
-  pub planned-none : (at : ℕ) → at ≡ first → ArePlanned d formula round loads nets first count at []
-  planned-none at is = record { at_is = omega (arith, is); each = λ k net below there. absurd (omega (arith, below)) }
-
   pub planned-more : (at next net : ℕ) (trees more : List (Option Planned)) (tree : Planned) → next ≡ at + count → more ≡ trees ++ Some tree ∷ [] →
       slice_get nets at ≡ Some net → IsPlanned d formula round loads net tree → ArePlanned d formula round loads nets first count at trees → ArePlanned d formula round loads nets first count next more
   planned-more at next net trees more tree next_is more_is there plan planned =

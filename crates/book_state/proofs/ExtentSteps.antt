@@ -182,10 +182,6 @@ within-old w p q is =
     let top : q.y ≤ w.y1 = grind (arith, nat_tests, is) in
     within-test (with_place w p) q (omega (arith, left)) (omega (arith, right)) (omega (arith, bottom)) (omega (arith, top))
 
-pub one-place : (g : Shape) (p : Cell) → IsInside g p → IsWindow g (record { x0 = p.x; y0 = p.y; x1 = p.x; y1 = p.y })
-one-place g p inside =
-    record { columns = omega arith; rows = omega arith; last_column = inside.column; last_row = inside.row }
-
 pub window-with : (g : Shape) (w : Window) (p : Cell) → IsWindow g w → IsInside g p → IsWindow g (with_place w p)
 window-with g w p fits inside =
     let column = inside.column in

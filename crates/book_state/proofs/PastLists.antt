@@ -143,15 +143,6 @@ begins s w self whole is_self is_whole part =
 pub few-same : (h whole : List Entry) → h ≡ whole → length whole < 2 ^ 62 → length h < 2 ^ 62
 few-same h whole same few = let long = ap (λ (es : List Entry). length es) same in omega (arith, long)
 
--- a history that grows twice
-pub grown-twice : (a b c : List Entry) → take (length a) b ≡ a → take (length b) c ≡ b → take (length a) c ≡ a
-grown-twice a b c first second =
-    let long = length-part a b first in
-    sym (take-take (length a) (length b) c long) ∙ ap (λ (es : List Entry). take (length a) es) second ∙ first
-
-pub grown-once : (a b : List Entry) (e : Entry) → b ≡ a ++ e ∷ [] → take (length a) b ≡ a
-grown-once a b e is = ap (λ (es : List Entry). take (length a) es) is ∙ take_at a (e ∷ []) (length a) refl
-
 -- a history that grew to the entries of another
 pub record HasGrown (w : Inside) (blocks : List Block) (last : List Held) : Type 0 where
   pub same : entries_in blocks last ≡ seen w

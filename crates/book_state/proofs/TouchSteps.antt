@@ -2,11 +2,10 @@
 use Rattle.std.proofs.Common.{◌≡◌, ℕ, ◌+◌, ◌<◌, ◌≤◌, ◌⊎◌, inl, inr, Bool, true, false, ◌&&◌, ◌||◌, List, [], ◌∷◌, ◌++◌, length, All, Option, Some, None, slice_index_or, IsTrue, refl, sym, ap, subst, ◌∙◌, arith}
 use Rattle.std.proofs.lemmas.Bool.{cases_Bool, both_ways, or_parts, or_cases}
 use Rattle.std.proofs.lemmas.List.{append-nil, append_assoc}
-use Rattle.std.proofs.lemmas.List.Elements.{All-nil, All-cons, All-head, All-tail, All-same, All-append}
+use Rattle.std.proofs.lemmas.List.Elements.{All-nil, All-head, All-tail, All-same, All-append}
 use Rattle.std.proofs.lemmas.List.Folds.{list_any-append}
 use Rattle.std.specs.List.{list_any}
 use Rattle.gr_base.proofs.TreeDistinct.{is_edge-same}
-use Rattle.gr_base.proofs.TreeEdges.{is_edge-refl}
 use Rattle.gr_base.specs.EdgeSets.{is_edge}
 use Rattle.gr_base.specs.Grid.{is_wire}
 use Rattle.gr_base.specs.ParentEdges.{wire_to_parent}
@@ -34,21 +33,6 @@ notes-none c w demands old new same =
       fresh = All-nil (λ (t : Touch). is_noted old t.edge ≡ false);
     }
 
--- one edge is noted
-pub notes-one : (c : CapacityView) (w : Window) (demands : Edge → ℕ) (old new : List Touch) (t : Touch) → new ≡ old ++ t ∷ [] → IsTouch c w t → t.demand ≡ demands t.edge →
-    is_noted old t.edge ≡ false → AddsTouches c w demands old new
-notes-one c w demands old new t is touch told fresh =
-    record {
-      added = t ∷ [];
-      new_is = is;
-      each = one (IsTouch c w) touch;
-      told = one (λ (u : Touch). u.demand ≡ demands u.edge) told;
-      fresh = one (λ (u : Touch). is_noted old u.edge ≡ false) fresh;
-    }
-  where
-    one : (P : Touch → Type 0) → P t → All P (t ∷ [])
-    one P holds = All-cons P t [] holds (All-nil P)
-
 noted-append : (xs ys : List Touch) (e : Edge) → is_noted (xs ++ ys) e ≡ (is_noted xs e || is_noted ys e)
 noted-append xs ys e = list_any-append (λ (t : Touch). is_edge e t.edge) xs ys
 
@@ -73,14 +57,6 @@ notes-then c w demands old mid new one two = record {
   where
     older : (ts : List Touch) → All (λ (t : Touch). is_noted mid t.edge ≡ false) ts → All (λ (t : Touch). is_noted old t.edge ≡ false) ts
     older ts none = λ k d below. unnoted-before c w demands old mid (slice_index_or ts k d).edge one (none k d below)
-
-pub noted-push : (old new : List Touch) (t : Touch) → new ≡ old ++ t ∷ [] → is_noted new t.edge ≡ true
-noted-push old new t is =
-    ap (λ (xs : List Touch). is_noted xs t.edge) is ∙ noted-append old (t ∷ []) t.edge ∙ last (is_noted old t.edge) (is_edge t.edge t.edge) (is_edge-refl t.edge)
-  where
-    last : (a b : Bool) → b ≡ true → (a || (b || false)) ≡ true
-    last true b is = refl
-    last false b is = rw is refl
 
 -- a wire edge among edges
 abbrev pub is_this_wire : Edge → Edge → Bool
@@ -156,16 +132,6 @@ noted-holds P Q S R each (t ∷ ts) e ps qs ss there = elim (or_cases (is_edge e
   | inl same ↦ subst R (sym (is_edge-same e t.edge same)) (each t (All-head P t ts ps) (All-head Q t ts qs) (All-head S t ts ss))
   | inr later ↦ noted-holds P Q S R each ts e (All-tail P t ts ps) (All-tail Q t ts qs) (All-tail S t ts ss) later
 ]
-
--- no entries
-pub touches-none : {formula : Formula} (c : CapacityView) (net : ℕ) (w : Window) (h : List Entry) (touches : List Touch) → touches ≡ [] → AreTouches c formula net w h h touches
-touches-none {formula = formula} c net w h touches none = record {
-  booking = refl;
-  marks = λ e is_in. refl;
-  each = All-same (IsTouch c w) touches [] none (All-nil (IsTouch c w));
-  told = All-same (IsTold c formula net h) touches [] none (All-nil (IsTold c formula net h));
-  others = λ e is_in unnoted. refl;
-}
 
 -- entries, and one more, which changes what isn't noted in no way that matters
 pub touches-then : {formula : Formula} (c : CapacityView) (net : ℕ) (w : Window) (first before after : List Entry) (old new : List Touch) → AreTouches c formula net w first before old → AddsTouches c w (demand c before) old new →
