@@ -1,15 +1,15 @@
 -- What nets cost, net by net, and what edges hold, edge by edge.
-use Rattle.std.proofs.Common.{◌≡◌, ℕ, ◌+◌, ◌-◌, ◌*◌, ◌<◌, ◌≤◌, inl, inr, cond, Bool, true, false, List, [], ◌∷◌, ◌++◌, filter, length, slice_index, sum_by, map, zero, suc, Option, Some, None, slice_get, unwrap_or, if◌then◌else◌, IsTrue, refl, sym, ap, subst, ◌∙◌, arith}
+use Rattle.std.proofs.Common.{◌≡◌, ℕ, ◌+◌, ◌*◌, ◌≤◌, cond, Bool, true, false, List, [], ◌∷◌, ◌++◌, filter, sum_by, refl, sym, ap, ◌∙◌, arith}
 use Rattle.std.specs.List.{range_with_len}
 use Rattle.std.proofs.lemmas.List.Sums.{sum_by_push}
 use Rattle.gr_base.proofs.General.{range-more}
 use Rattle.gr_base.specs.Designs.{DesignView, is_routed}
 use Rattle.gr_base.specs.EdgeSets.{Edges}
-use Rattle.gr_base.specs.Grid.{cells_of, has_edge, is_wire}
-use Rattle.gr_base.specs.Sums.{wire_at, wire_number, wires_from_cells}
+use Rattle.gr_base.specs.Grid.{cells_of, has_edge}
+use Rattle.gr_base.specs.Sums.{wire_at, wires_from_cells}
 use Rattle.gr_base.specs.declared.grid.Edge.{Edge}
 use Rattle.grid_demand.proofs.RangeFilters.{filter-passes, filter-fails}
-use Rattle.price_bounds.specs.Costs.{AreJoined, cost_of, cost_before, held_of, held_numbered, IsCostBound, IsCostOf}
+use Rattle.price_bounds.specs.Costs.{cost_of, cost_before, held_of, held_numbered, IsCostBound, IsCostOf}
 use Rattle.price_laws.specs.Prices.{Prices, IsNetBound, held_price}
 use Rattle.wall_laws.proofs.SumLemmas.{sum-filter, sum-map}
 

@@ -1,13 +1,11 @@
 -- A surplus of costs proves a figure.
-use Rattle.std.proofs.Common.{◌≡◌, ℕ, ◌+◌, ◌-◌, ◌*◌, ◌<◌, ◌≤◌, inl, inr, max, Bool, true, false, List, length, slice_index, slice_index_or, IsTrue, refl, sym, ap, subst, ◌∙◌, arith}
+use Rattle.std.proofs.Common.{◌≡◌, ℕ, ◌+◌, ◌-◌, ◌*◌, ◌<◌, ◌≤◌, inl, inr, max, Bool, true, false, List, length, slice_index, ap, ◌∙◌, arith}
 use Rattle.std.proofs.Math.Nat.{mul-le-mul_right}
 use Rattle.std.proofs.lemmas.Bool.{cases_lt}
 use Rattle.std.proofs.lemmas.List.{get_or_past}
-use Rattle.gr_base.specs.Capacities.{usable}
-use Rattle.gr_base.specs.Designs.{DesignView, is_routed}
+use Rattle.gr_base.specs.Designs.{DesignView}
 use Rattle.gr_base.specs.EdgeSets.{Edges}
 use Rattle.gr_base.specs.Sums.{total_over, wirelength, wire_number}
-use Rattle.gr_base.specs.declared.grid.Edge.{Edge}
 use Rattle.net_prices.specs.PriceTables.{allowed_by, prices_by}
 use Rattle.net_prices.specs.declared.rates.Rates.{Rates}
 use Rattle.price_bounds.specs.Costs.{AreJoined, IsCostBound}

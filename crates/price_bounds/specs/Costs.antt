@@ -1,5 +1,5 @@
 -- What the sets of nets cost together.
-use Rattle.std.specs.Prelude.{◌≡◌, ℕ, ◌+◌, ◌*◌, ◌≤◌, cond, filter, sum_by, IsTrue, if◌then◌else◌}
+use Rattle.std.specs.Prelude.{ℕ, ◌+◌, ◌*◌, ◌≤◌, cond, filter, sum_by, IsTrue, if◌then◌else◌}
 use Rattle.std.specs.List.{range_with_len}
 use Rattle.gr_base.specs.Capacities.{capacity}
 use Rattle.gr_base.specs.Designs.{DesignView, is_routed}

@@ -118,8 +118,7 @@ fn best_bound<R: Threads + Sync>(
     requires workers { 0 < asked.workers }
     ensures bound { IfOk result (IsFigure design.now asked.via_cost figure) }
 {
-    let shape = design.frame().shape;
-    let mut seats = seats_for(alloc, shape, figure == Figure::Overflow, asked.workers)?;
+    let mut seats = seats_for(alloc, design, figure == Figure::Overflow, asked.workers)?;
     let mut weights = vec![in alloc; 0; 2 * capacity.shape().cells() as usize]?;
     let mut moves = Steps::new(alloc, design, capacity, figure)?;
     moves.put(&mut weights);
@@ -145,11 +144,9 @@ fn bound_at<R: Threads + Sync>(
 ) -> Result<Bound, AllocError>
     requires capacity { capacity.now ≡ capacity_of design.now }
     requires workers { 0 < asked.workers }
-    requires seats { length seats.old.items ≡ asked.workers }
-    requires shape { AreFor design.now.frame.shape seats.old.items }
+    requires seats { AreFor design.now seats.old.items }
     requires weights { length weights.now ≡ 2 * cells_of capacity.now.shape }
-    ensures seats { length seats.new.items ≡ asked.workers }
-    ensures shape { AreFor design.now.frame.shape seats.new.items }
+    ensures seats { AreFor design.now seats.new.items }
     ensures bound { IfOk result (λ bound. IsFigure design.now asked.via_cost figure bound.most) }
 {
     let rates = rates_of(figure, asked.via_cost);

@@ -6,8 +6,7 @@ use Rattle.price_bounds.proofs.bounding.best_bound.Given as goal
 
 abbrev pub invariant-loop : goal.invariant-loop
 invariant-loop g l = record {
-  seats : length l.seats.items ≡ l.asked.workers;
-  shape : AreFor l.design.frame.shape l.seats.items;
+  seats : AreFor l.design l.seats.items;
   long : length l.weights.items ≡ 2 * cells_of l.capacity.shape;
   best : IsFigure l.design l.asked.via_cost l.figure l.best;
 }

@@ -1,7 +1,6 @@
-use Rattle.std.proofs.Common.{ℕ, sym, ap, subst, ◌∙◌, arith}
+use Rattle.std.proofs.Common.{sym, ap, subst, ◌∙◌, arith}
 use Rattle.net_prices.specs.PriceTables.{allowed_by, prices_by, ArePrices}
 use Rattle.net_prices.specs.Pricers.{PricerView}
-use Rattle.price_laws.specs.Prices.{IsNetBound}
 use Rattle.price_bounds.proofs.CostLemmas.{more-costs, same-costs}
 use Rattle.price_bounds.proofs.costs.costs_between.Goals as goal
 

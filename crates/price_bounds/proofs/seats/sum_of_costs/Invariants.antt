@@ -1,5 +1,4 @@
-use Rattle.std.proofs.Common.{ℕ, List, length}
-use Rattle.beside_calls.specs.Blocks.{block_start}
+use Rattle.std.proofs.Common.{ℕ, ◌≤◌, List, length}
 use Rattle.gr_base.specs.Designs.{DesignView}
 use Rattle.net_prices.specs.PriceTables.{allowed_by, prices_by}
 use Rattle.net_prices.specs.declared.rates.Rates.{Rates}
@@ -7,8 +6,8 @@ use Rattle.price_bounds.specs.Costs.{IsCostOf}
 use Rattle.price_bounds.specs.Seats.{ArePriced}
 use Rattle.price_bounds.proofs.seats.sum_of_costs.Given as goal
 
--- the nets of the seats so far cost what was added up
+-- the nets that are counted cost what was added up
 abbrev pub invariant-loop-seat : goal.invariant-loop-seat
 invariant-loop-seat l =
-    (d : DesignView) (rates : Rates) (weights : List ℕ) (size : ℕ) → ArePriced d rates weights size l.seats →
-    IsCostOf d (prices_by rates weights) (allowed_by d rates.usable_only) 0 (block_start (length d.nets) 0 size l.seat-index) l.cost
+    (d : DesignView) (rates : Rates) (weights : List ℕ) → ArePriced d rates weights l.seats →
+    (l.counted ≤ length d.nets) × IsCostOf d (prices_by rates weights) (allowed_by d rates.usable_only) 0 l.counted l.cost
