@@ -17,6 +17,7 @@ use crate::ground::Ground;
 use crate::wish::Wish;
 use crate::worker::Worker;
 use book_state::Sought;
+use cost_rules::Formula;
 use gr_base::RouteTree;
 use maze_route::Window;
 use net_plan::Planner;
@@ -26,8 +27,14 @@ use std::sync::Wait;
 use std::thread::Threads;
 use track_book::{BookName, Visit};
 
-/// How often a net is planned before its release at most.
-const MOST_PLANS: u32 = 8;
+/// How often a net is planned before its release at most. Where nearly full edges cost more, nets of one place
+/// seldom want the same edge, and a second plan lowers no overflow.
+fn most_plans(formula: Formula) -> u32 {
+    match formula {
+        Formula::First | Formula::Steep | Formula::Flat => 8,
+        Formula::Near => 1,
+    }
+}
 
 /// A net's plan in a window, as the net's release behind the first `front` entries leaves it.
 #[derive(Drop)]
@@ -56,7 +63,7 @@ impl<N: BookName, R: Threads + Wait + Sync, G: Gate> Ground<'_, N, R, G> {
             wish.now.net wish.now.kind worker.new.pass.seen)) }
     {
         worker.sync(self.rt, visit)?;
-        for _ in 0..MOST_PLANS {
+        for _ in 0..most_plans(wish.rule.formula()) {
             let Some(plan) = self.plan_ahead(wish, visit, worker, planner)? else {
                 return Ok(None);
             };
