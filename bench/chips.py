@@ -8,7 +8,7 @@ more. With one worker both have to write the same bytes. Overflow stands for rou
 tells it.
 
 With --steps each design is routed once, by the first rule and one worker, until there is no overflow or the rounds are
-done; the table says how near its routes are to what `grbound` proves by K steps, in how many seconds of processor time.
+done; the table says how near its routes are to what `grbound` proves by K steps and so many workers.
 """
 import argparse
 import hashlib
@@ -89,12 +89,15 @@ def proved(given, folder, path, rounds):
     with open(solution, "wb") as file:
         subprocess.run([given.program, "route", *words], stdout=file, stderr=subprocess.DEVNULL, check=True)
     edges = counted(Netlist(Tokens(path)), solution)
-    done = subprocess.run(["/usr/bin/time", "-f", "%M %U %S", given.bounds, path, "--steps", given.steps],
-                          capture_output=True, check=True)
+    command = [given.bounds, path, "--steps", given.steps, "--workers", given.workers]
+    began = time.monotonic()
+    done = subprocess.run(["/usr/bin/time", "-f", "%M %U %S", *command], capture_output=True, check=True)
+    clock = time.monotonic() - began
     most, user, system = map(float, done.stderr.split())
+    seconds = user + system if given.workers == "1" else clock
     for proof in proofs(bounds_of(done.stdout.decode()), edges, edges.wires + edges.vias):
         yield (f"| {os.path.basename(path).split('.')[0]} | {proof.figure} | {proof.reached:,} | {proof.least:,} | "
-               f"{proof.within()} | {given.steps} | {user + system:.0f} | {most / 1024:.0f} |\n")
+               f"{proof.within()} | {given.steps} | {given.workers} | {seconds:.0f} | {most / 1024:.0f} |\n")
 
 
 def main():
@@ -113,7 +116,7 @@ def main():
     beside = [["plain router, s", "ratio"], ["plain router, MiB", "ratio"]] if given.beside else [[], []]
     columns = ["chip, rounds, rule", "workers", "seconds", *beside[0], "MiB", *beside[1], "overflow by round"]
     if given.steps:
-        columns = ["chip", "figure", "reached", "proved", "within", "steps", "seconds", "MiB"]
+        columns = ["chip", "figure", "reached", "proved", "within", "steps", "workers", "seconds", "MiB"]
     sys.stdout.writelines(head_of(columns))
     with tempfile.TemporaryDirectory() as folder:
         for path, rounds in zip(given.names[::2], given.names[1::2]):
