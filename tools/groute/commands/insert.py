@@ -158,7 +158,7 @@ class Work:
             raise taken_out.differs("its components")
 
 
-def main(words: Sequence[str]) -> None:
+def main(words: Sequence[str]) -> int:
     """Reads all and writes what is asked for."""
     reader = parser()
     asked = reader.parse_args(words)
@@ -182,6 +182,7 @@ def main(words: Sequence[str]) -> None:
         if asked.eco:
             outputs.lines(asked.eco, script(named, work.liberty))
     tell(work)
+    return frame.tell_unjoined("insert", work.design, work.insertion.unjoined)
 
 
 def tell(work: Work) -> None:
@@ -196,5 +197,7 @@ def tell(work: Work) -> None:
         frame.say("insert", f"{len(work.sites.overlaps) - frame.SHOWN:,} more cells lie on others")
     area = sum(work.chip.lef.macros[kind.name].width * work.chip.lef.macros[kind.name].height
                for kind in work.cells.values()) / work.placed.units ** 2
+    if work.insertion.unjoined:
+        print(f"unjoined {len(work.insertion.unjoined)}")
     print(f"buffers {len(work.cells)}\nnets {len(work.insertion.changes)}\narea {area:.10g}\n"
           f"fillers removed {len(work.sites.removed)}\noverlaps {len(work.sites.overlaps)}")

@@ -174,7 +174,7 @@ def main(words: Sequence[str]) -> int:
     asked = parser().parse_args(words)
     design = Netlist(Tokens(asked.design))
     terms = Terms(design, names_beside(asked.design, asked.names))
-    library = Library(Tokens(asked.library))
+    library = Library(asked.library)
     timed = {net[0]: Timed(*net) for net in buffered(design, asked.report)}
     slacks = read_slacks(asked.slack) if asked.slack else None
     nets = sorted((timed[id_] for id_ in chosen(timed, terms, asked.nets, slacks.clocks if slacks else ())),

@@ -44,12 +44,12 @@ def main(words: Sequence[str]) -> int:
         pins = pins_beside(asked.design, asked.pins)
         pins.check(design)
         names = Names(design, pins, Verilog(asked.verilog) if asked.verilog else None)
-        found = Parasitics(design, pins, Library(Tokens(asked.library)), asked.scale, names)
+        found = Parasitics(design, pins, Library(asked.library, design.layers), asked.scale, names)
         outputs.lines(asked.output, found.lines(asked.solution))
     without = [id_ for id_ in found.unrouted if design.widths[id_] is None]
     for id_ in without[:frame.SHOWN]:
         frame.say("spef", f"the net {design.names[id_]} has no routes and is left out")
     if len(without) > frame.SHOWN:
         frame.say("spef", f"{len(without) - frame.SHOWN:,} more nets have no routes and are left out")
-    lacking = [id_ for id_ in found.unrouted if design.widths[id_] is not None]
-    return frame.tell_unjoined("spef", design, lacking + found.unjoined)
+    unjoined = found.unjoined + [id_ for id_ in found.unrouted if design.widths[id_] is not None]
+    return frame.tell_unjoined("spef", design, sorted(unjoined, key=design.places.__getitem__))

@@ -79,7 +79,7 @@ class Routes:
         self.timing = [read_figures(path) for path in asked.timing or ()]
         self.rounds: list[Round] = []
         if asked.report:
-            library = Library(Tokens(asked.library))
+            library = Library(asked.library)
             self.kinds, self.has_times = library.kinds, library.has_times()
             check_report(asked.report, self.design.routed, self.edges.overflow(), self.edges.vias)
             for id_, required, buffers in buffered(self.design, asked.report):

@@ -85,7 +85,7 @@ class Parasitics:
 
     def __init__(self, design: Netlist, pins: Pins, library: Library, scale: int, names: Names) -> None:
         self.design, self.pins, self.names = design, pins, names
-        values = [library.via, *(library.wires[layer] for layer in range(1, design.layers + 1))]
+        values = [library.steps[layer] for layer in range(design.layers + 1)]      # of vias 0
         self.ohms = [f"{resistance / scale:.6g}" for resistance, _ in values]
         self.halves = [capacitance / scale / 2 for _, capacitance in values]
         self.unrouted: list[int] = []
