@@ -121,7 +121,7 @@ def main(words: Sequence[str]) -> int:
         check_report(asked.buffers, design.routed, edges.overflow(), edges.vias)
     if asked.output:
         inputs = [asked.design, asked.solution, asked.buffers, asked.bound, asked.tracks, asked.names]
-        with Outputs(filter(None, inputs)) as outputs:
+        with Outputs(inputs) as outputs:
             if asked.output.endswith(".csv"):
                 write_table(edges, asked.output, outputs, asked.layer, terms)
             else:

@@ -39,7 +39,7 @@ from groute.placed.lef_text import Lef
 from groute.placed.liberty import Liberty
 from groute.placed.library_text import library_text
 from groute.placed.statements import Notes, number
-from groute.texts.files import Outputs
+from groute.texts.files import BESIDE, Outputs
 
 
 def adjustment(word: str) -> tuple[str, Fraction]:
@@ -96,15 +96,15 @@ def main(words: Sequence[str]) -> None:
     """Reads the DEF and writes the texts."""
     asked, notes = asked_of(words), Notes("def_to_ispd")
     with Outputs([asked.placed, asked.lef, *asked.lefs, *asked.liberty]) as outputs:
-        for path in [asked.design, *([asked.library] if asked.library else [])]:
-            outputs.check(path)     # before what takes long
+        beside = [f"{asked.design}{end}" for end in BESIDE]
+        outputs.check(asked.design, asked.library, *beside)     # before what takes long
         placed = Def(asked.placed, notes)
         lef = Lef([asked.lef, *asked.lefs], placed.units, notes)
         chip = Chip(placed, lef, asked.tile, asked.layers, asked.adjust, asked.keep_supply)
         liberty = Liberty(asked.liberty) if asked.liberty else None
         outputs.lines(asked.design, design_text(chip))
         if not os.path.exists(asked.design) or os.path.isfile(asked.design):    # and no pipe or terminal
-            outputs.lines(f"{asked.design}.names", names_of(chip, liberty).lines())
-            outputs.lines(f"{asked.design}.pins", pins_text(chip))
+            outputs.lines(beside[0], names_of(chip, liberty).lines())
+            outputs.lines(beside[1], pins_text(chip))
         if asked.library:
             outputs.lines(asked.library, library_text(chip, liberty, asked))

@@ -52,7 +52,7 @@ from groute.texts.figures import NANOSECOND, Figures, object_of, read_figures, r
 from groute.texts.files import Fault, Outputs
 from groute.texts.reports import kept_in
 from groute.texts.tokens import Tokens
-from groute.timing import closing
+from groute.timing import closing, sta
 
 # Passed on to def_to_ispd.py, and how many words stand behind each.
 PASSED = {"--tile": 2, "--layers": 1, "--adjust": 1, "--kinds": 1, "--driver": 1, "--sink": 1, "--kind": 4, "--via": 2,
@@ -64,6 +64,7 @@ WRITTEN = ("design.ispd", "design.ispd.names", "design.ispd.pins", "design.libra
 # Of each placement that is routed.
 OF_RUN = ("design.ispd", "design.library", "given.solution", "routes.solution", "report.txt")
 FOLDERS = (closing.BEST, *(f"run{number}" for number in range(1, closing.RUNS + 1)))
+IN_FOLDERS = {*OF_RUN, *closing.FILES.values(), "design.ispd.names", "design.ispd.pins"}
 MOST_ROUNDS = RANGES["ROUNDS"][1]
 RULE = "near"           # the one that leaves least overflow
 OVERFULL_ROUNDS = 16    # where no routes are without overflow
@@ -141,19 +142,28 @@ def called(program: str) -> bool:
 
 def prepare(asked: Namespace, paths: dict[str, str]) -> None:
     """Checks the inputs, and removes what an earlier run wrote."""
+    if asked.sta and not sta.is_there():
+        raise Fault(sta.LACKS)
     inputs = [asked.placed, *asked.lef, *asked.liberty, *filter(None, [asked.verilog, asked.sdc]), *earlier(asked)]
     for path in inputs:
         with open(path, "rb"):
             pass
     os.makedirs(asked.output, exist_ok=True)
+    folders = [os.path.join(asked.output, name) for name in FOLDERS]
+    written = [*paths.values(), *(os.path.join(folder, name) for folder in folders for name in IN_FOLDERS)]
     with Outputs(inputs) as outputs:
-        for path in paths.values():
-            outputs.check(path)
-    for path in paths.values():
+        outputs.check(*written)
+    for folder in filter(os.path.lexists, folders if asked.sta else ()):
+        if not (os.path.isdir(folder) and IN_FOLDERS.issuperset(os.listdir(folder))):
+            raise Fault(f"{folder} has what no run wrote")
+    for path in written:
         if os.path.isfile(path):
             os.unlink(path)
-    for name in FOLDERS:
-        shutil.rmtree(os.path.join(asked.output, name), ignore_errors=True)
+    for folder in folders:
+        try:
+            os.rmdir(folder)
+        except OSError:
+            pass    # it isn't there, or has more
 
 
 def earlier(asked: Namespace) -> list[str]:

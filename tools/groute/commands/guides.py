@@ -106,6 +106,6 @@ def main(words: Sequence[str]) -> int:
     if len(layers) != design.layers:
         raise Fault(f"the LEF has {len(layers)} routing layers, and the design {design.layers}")
     unjoined: list[int] = []
-    with Outputs(filter(None, [asked.design, asked.solution, asked.lef, asked.names])) as outputs:
+    with Outputs([asked.design, asked.solution, asked.lef, asked.names]) as outputs:
         outputs.lines(asked.guides, guides(design, asked.solution, layers, unjoined))
     return frame.tell_unjoined("guides", design, unjoined)

@@ -165,10 +165,9 @@ def main(words: Sequence[str]) -> int:
     if asked.below is not None and not asked.slack:
         reader.error("--below wants --slack")
     inputs = [asked.placed, asked.design, asked.solution, asked.report, *asked.lef, *asked.liberty, asked.slack,
-              asked.keep, asked.verilog and asked.verilog[0]]
-    with Outputs(filter(None, inputs)) as outputs:
-        for path in (asked.output, *(asked.verilog or ())[1:], *filter(None, [asked.eco])):
-            outputs.check(path)     # before what takes long
+              asked.keep, asked.verilog and asked.verilog[0], asked.pins, asked.names]
+    with Outputs(inputs) as outputs:
+        outputs.check(asked.output, *(asked.verilog or ())[1:], asked.eco)      # before what takes long
         work = Work(asked)
         text = work.edited()
         work.check(text)

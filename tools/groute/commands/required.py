@@ -106,9 +106,10 @@ def main(words: Sequence[str]) -> int:
     asked = reader.parse_args(words)
     if (asked.period is None) == (asked.sdc is None) or asked.sdc and asked.clock:
         reader.error("either --period, with or without --clock, or --sdc is due")
-    inputs = [asked.design, asked.library, asked.solution, asked.netlist, asked.spef, *asked.liberty, asked.sdc]
-    with Outputs(filter(None, inputs)) as outputs:
-        outputs.check(asked.output)     # before what takes long
+    inputs = [asked.design, asked.library, asked.solution, asked.netlist, asked.spef, *asked.liberty, asked.sdc,
+              asked.pins, asked.names]
+    with Outputs(inputs) as outputs:
+        outputs.check(asked.output, asked.written, asked.figures)       # before what takes long
         design = Netlist(Tokens(asked.design))
         pins = pins_beside(asked.design, asked.pins)
         pins.check(design)

@@ -37,8 +37,8 @@ def parser() -> frame.Parser:
 def main(words: Sequence[str]) -> int:
     """Reads the texts and writes the parasitics."""
     asked = parser().parse_args(words)
-    inputs = [asked.design, asked.library, asked.solution, asked.verilog, asked.pins or f"{asked.design}.pins"]
-    with Outputs(filter(None, inputs)) as outputs:
+    inputs = [asked.design, asked.library, asked.solution, asked.verilog, asked.pins]
+    with Outputs(inputs) as outputs:
         outputs.check(asked.output)     # before what takes long
         design = Netlist(Tokens(asked.design))
         pins = pins_beside(asked.design, asked.pins)

@@ -219,7 +219,7 @@ def main(words: Sequence[str]) -> None:
     asked = parser().parse_args(words)
     design = Known(asked.design, names_beside(asked.design, asked.names))
     found, dropped = solution(design, asked.routes)
-    with Outputs(filter(None, [asked.design, asked.routes, asked.names])) as outputs:
+    with Outputs([asked.design, asked.routes, asked.names]) as outputs:
         outputs.lines(asked.solution, text_of(design, found))
     # Lines of their own, which scripts read.
     print(f"nets {len(found)}\ndropped edges {dropped}", file=sys.stderr)

@@ -13,6 +13,7 @@ PACKED = {GZIP: "gzip", XZ: "xz", BZIP: "bzip2", b"\x28\xb5\x2f\xfd": "zstd", b"
           b"\x1f\x9d": "compress", b"\x04\x22\x4d\x18": "lz4"}
 UTF_16 = (b"\xff\xfe", b"\xfe\xff")
 OWN = b"# written by groute"    # how a text of a chip begins that the tools wrote
+BESIDE = ".names", ".pins"  # how the names of texts end that lie beside a design
 MARK = b"\xef\xbb\xbf"  # a byte order mark of UTF-8
 # How texts of chips begin, behind blanks and comments.
 BEHIND_COMMENTS = re.compile(rb"(?:\s+|#[^\n]*\n|//[^\n]*\n|/\*.*?\*/)*", re.DOTALL)
@@ -104,10 +105,10 @@ def first_unpacked(begin: bytes) -> bytes:
 
 class Outputs:
     """Files that are written together: beside their names, and renamed when all are whole. What isn't a regular file,
-    as a device or a pipe, is written as it is."""
+    as a device or a pipe, is written as it is. Inputs are read, and what lies beside them."""
 
-    def __init__(self, inputs: Iterable[str] = ()) -> None:
-        self.inputs = list(inputs)
+    def __init__(self, inputs: Iterable[str | None] = ()) -> None:
+        self.inputs = list(filter(None, inputs))
         self.files: list[IO[bytes]] = []
         self.names: list[str] = []
         self.renamed: list[tuple[str, str]] = []    # from the name beside to the name that is asked for
@@ -117,7 +118,7 @@ class Outputs:
 
     def binary(self, path: str) -> IO[bytes]:
         """A file of bytes under this name."""
-        self.check(path)
+        self.check(*self.names, path)
         try:
             mode = os.stat(path).st_mode
         except FileNotFoundError:
@@ -147,13 +148,23 @@ class Outputs:
             lines = list(lines)     # as what is written there stays, whatever comes
         self.text(path).writelines(f"{line}\n" for line in lines)
 
-    def check(self, path: str) -> None:
-        """Refuses to write over what is read, or what begins like a text of a chip."""
+    def check(self, *paths: str | None) -> None:
+        """Refuses to write over what is read, or what begins like a text of a chip, or to write a file twice."""
+        found: set[str] = set()
+        for path in filter(None, paths):
+            self.check_one(path)
+            if os.path.realpath(path) in found:
+                raise Fault(f"{path} would be written twice")
+            if os.path.isfile(path) or not os.path.exists(path):
+                found.add(os.path.realpath(path))
+
+    def check_one(self, path: str) -> None:
+        """The same of one file."""
+        if os.path.isdir(path):
+            raise Fault(f"{path} is a folder, and a file is to be written")
         if not os.path.isfile(path):
-            if os.path.isdir(path):
-                raise Fault(f"{path} is a folder, and a file is to be written")
             return
-        for other in self.inputs:
+        for other in (f"{given}{end}" for given in self.inputs for end in ("", *BESIDE)):
             if os.path.exists(other) and os.path.samefile(path, other):
                 raise Fault(f"{path} is read, and would be written over")
         if begins_like_a_chip(path):

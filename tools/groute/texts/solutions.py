@@ -1,5 +1,5 @@
 """Solutions: the routes of a design's nets, and the nets that they leave unjoined."""
-from typing import Container, Iterable, Iterator, Mapping
+from typing import Container, Iterable, Iterator, Mapping, Sequence
 
 from groute.texts.designs import Design, Netlist
 from groute.texts.files import Fault
@@ -191,3 +191,8 @@ def unjoined_without(design: Netlist, ids: Iterable[int]) -> list[int]:
 def unjoined_words(count: int) -> str:
     """How many nets are not joined, in words; nothing where all are."""
     return f"{count:,} net{'s' * (count != 1)} unjoined" if count else ""
+
+
+def unjoined_first(ids: Sequence[int]) -> list[str]:
+    """The lines before an answer, where nets are not joined."""
+    return [f"unjoined {len(ids)}", ""] if ids else []

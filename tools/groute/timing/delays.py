@@ -8,7 +8,7 @@ from groute.timing.trees import Tree
 class Model(Library):
     """A library whose numbers make a net's delay, in its own units, and the items but sinks' to write again."""
 
-    def __init__(self, path: str, layers: int) -> None:
+    def __init__(self, path: str, layers: int = 0) -> None:
         self.items: list[str] = []
         Library.__init__(self, path, layers)
 

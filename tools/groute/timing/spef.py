@@ -106,6 +106,9 @@ class Parasitics:
                     self.unrouted.append(id_)
                 else:
                     yield self.net(id_, tree)
+        if self.unrouted and len(self.unrouted) == len(self.design.ids):
+            id_ = self.unrouted.pop(0)      # as readers want a net, one without wires
+            yield self.net(id_, Tree(self.design, id_, []))
 
     def net(self, id_: int, tree: Tree) -> str:
         """The text of a net, in which a cell has the name of its first pin, if it has one."""
