@@ -17,7 +17,7 @@ from unittest import mock
 
 from groute import frame, start
 from groute.texts.files import MOST_LETTERS
-from chips import OnChip, placed
+from chips import STA, OnChip, placed
 from test_insertion import CELLS, NETS, PORTS, REPORT, SOLUTION
 from testing import PICTURES, ROOT, TOOLS, InFolder, program, run, tool
 
@@ -211,6 +211,97 @@ class Drawn(OnChip):
 
     def test_tools_of_timing(self) -> None:
         self.draw(self.calls_of_timing(), 73)
+
+
+class Written(OnChip):
+    """Outputs that are inputs, or the same file."""
+
+    def calls(self) -> list[tuple[str, list[str], list[str], list[str]]]:
+        """Of each tool that writes: words, the words for what it writes, and what it reads beside."""
+        self.design(placed(8, 4, CELLS, PORTS, NETS))
+        self.spef()
+        a_def, design, library, solution, report, netlist, spef = (self.path(f"a.{kind}") for kind in (
+            "def", "ispd", "library", "solution", "report", "v", "spef"))
+        slacks = self.put("slacks", "slacks 1\nslack 1 -5000\nend\n")
+        cells, liberty, beside = ["--lef", self.lef], ["--liberty", self.lib], [f"{design}.names", f"{design}.pins"]
+        guide, names = self.put("guide", "in\n(\n)\n"), self.put("more.names", self.text("a.ispd.names"))
+        found: list[tuple[str, list[str], list[str], list[str]]] = [
+            ("netlist", [a_def, *cells, *liberty], ["-o"], []),
+            ("spef", [design, library, solution, "--verilog", netlist], ["-o"], beside),
+            ("insert", [a_def, design, solution, report, *cells, *liberty, "--slack", slacks], ["-o", "--eco"], beside),
+            ("guides", [design, solution, "--names", names], [""], []),
+            ("guides", [design, solution], [""], beside[:1]),
+            ("to_solution", [design, guide], [""], beside[:1]),
+            ("carry", [design, solution, design], [""], []),
+            ("congestion", [design, solution], ["-o"], []),
+            ("def_to_ispd", [a_def, self.lef, *liberty], ["", ""], [])]
+        if PICTURES:
+            found += [("adjust", [design, "--layer", "all", "0.5"], ["-o"], beside[:1]),
+                      ("hotspots", [design, solution], ["--csv", "--klayout", "--openroad"], beside[:1]),
+                      ("report", [design, solution, library, report, "--slack", slacks], ["-o"], beside[:1])]
+        if STA:
+            found.append(("required", [design, library, solution, netlist, spef, *liberty, "--period", "1"],
+                          ["-o", "--library", "--figures"], beside))
+        return found
+
+    def test_libraries(self) -> None:
+        """What is wrong in a library is told with its line by each tool that reads one."""
+        calls = [call for call in self.calls() if self.path("a.library") in call[1]]
+        self.assertEqual({name for name, *_ in calls}, {"spef"} | ({"required"} if STA else set())
+                         | ({"report"} if PICTURES else set()))
+        lines = self.text("a.library").splitlines()
+        at = {line.split()[0]: number for number, line in enumerate(lines)}
+        for word, new, says in (("wire", None, "before it wire 2 is due: end"), ("via", None, "before it via is due"),
+                                ("wire", "wire 2 x 5", "a whole number is due: x"),
+                                ("wire", "wire 2 -1 5", "a number from 0 to 1000000 is due: -1"),
+                                ("wire", "wire 1 1 5", "a second wire 1 ends here"),
+                                ("driver", "driver 1.5", "a whole number is due: 1.5"),
+                                ("sink", "sink 1 9999999999999999", "to 1125899906842624 is due: 9999999999999999"),
+                                ("sink", "sink 1 1 2", "an item of a library is due: 2"),
+                                ("kind", "kind B 1 2 -3", "a number from 0 to 1125899906842624 is due: -3")):
+            changed = [*lines]
+            changed[at[word]:at[word] + 1] = [new] if new else []
+            self.put("a.library", "".join(f"{line}\n" for line in changed))
+            line = at[word] + 1 if new else len(changed)
+            for name, words, options, _ in calls:
+                if new or name != "report":     # which wants kinds alone
+                    written = [word for at, option in enumerate(options) for word in (option, self.path(f"new{at}"))]
+                    status, _, err = in_process(name, [*words, *written])
+                    self.assertEqual(status, 3, err)
+                    self.assertIn(f"{name}: {self.path('a.library')}:{line}: token ", err)
+                    self.assertIn(says, err)
+
+    def test_inputs(self) -> None:
+        """An output that is read, in whatever way it is called, is refused, and so are two of one name."""
+        calls = self.calls()
+        os.symlink(self.folder.name, self.path("link"))
+        before = {name: self.text(name) for name in os.listdir(self.folder.name) if name != "link"}
+        for name, words, options, beside in calls:
+            read = sorted({word for word in words if os.path.isfile(word)} | set(beside))
+            for number in range(len(options)):
+                paths = [self.path(f"new{at}") for at in range(len(options))]
+                for path in [*read, os.path.join(self.path("link"), os.path.basename(read[0]))]:
+                    if name == "congestion":
+                        os.symlink(path, self.path("link.csv"))
+                        path = self.path("link.csv")
+                    paths[number] = path
+                    self.refused(name, words, options, paths, "would be written over")
+                    if name == "congestion":
+                        os.unlink(path)
+            if len(options) > 1:
+                paths = [self.path("new")] * (len(options) - 1) + [self.path("./new")]
+                self.refused(name, words, options, paths, "new would be written twice")
+        self.refused("def_to_ispd", calls[8][1], ["", ""], [self.path("new"), self.path("new.pins")], "written twice")
+        self.assertEqual({name: self.text(name) for name in os.listdir(self.folder.name) if name != "link"}, before)
+
+    def refused(self, name: str, words: list[str], options: list[str], paths: list[str], says: str) -> None:
+        """That a tool refuses what it should write."""
+        written = [word for pair in zip(options, paths) for word in pair if word]
+        firsts = 2 if name == "def_to_ispd" else len(words)
+        with self.subTest(tool=name, written=written):
+            status, _, err = in_process(name, [*words[:firsts], *written, *words[firsts:]])
+            self.assertEqual(status, 3, err)
+            self.assertIn(says, err)
 
 
 class BadInputs(InFolder):

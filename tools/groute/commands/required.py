@@ -13,7 +13,9 @@ nothing constrains gets the greatest time that a library takes.
 An error or a warning of sta is a fault here, but for what it warns of liberty files.
 """
 import argparse
+import os
 import sys
+import tempfile
 from typing import Callable, Iterator, Sequence
 
 from groute import frame
@@ -75,10 +77,21 @@ def cells_of(netlist: Verilog) -> Callable[[str], str]:
     return lambda component: cells.get(own(component), "")
 
 
+def told(asked: argparse.Namespace, design: Netlist, pins: Pins, names: Names, netlist: Verilog) -> list[str]:
+    """What sta answers."""
+    with tempfile.TemporaryDirectory() as folder:
+        given = [asked.netlist, asked.spef, *([asked.sdc] if asked.sdc else []), *asked.liberty]
+        read = [sta.plain(path, folder) for path in given]
+        liberty = read[-len(asked.liberty):]
+        lines = sta.reading(liberty, read[0], netlist.name, read[1])
+        lines += [f"read_sdc {sta.word(os.path.abspath(read[2]))}"] if asked.sdc else \
+            constraints(asked, design, pins, names, netlist)
+        copies = {copy: path for copy, path in zip(read, given) if copy != path}
+        return sta.answer([*lines, *PINS.splitlines(), *CHIP.splitlines()], liberty, copies)
+
+
 def constraints(asked: argparse.Namespace, design: Netlist, pins: Pins, names: Names, netlist: Verilog) -> list[str]:
-    """The lines that constrain."""
-    if asked.sdc:
-        return [f"read_sdc {sta.word(asked.sdc)}"]
+    """The lines that constrain by a clock."""
     ports: list[Name] = []
     if asked.clock:
         ports = [clock_port(names, asked.clock)]
@@ -117,9 +130,7 @@ def main(words: Sequence[str]) -> int:
         names = Names(design, pins, netlist)
         model = Model(asked.library, design.layers)
         trees, unjoined = trees_of(design, asked.solution)
-        lines = sta.reading(asked.liberty, asked.netlist, netlist.name, asked.spef)
-        lines += [*constraints(asked, design, pins, names, netlist), *PINS.splitlines(), *CHIP.splitlines()]
-        answer = sta.answer(lines, asked.liberty)
+        answer = told(asked, design, pins, names, netlist)
         nets = {id_: pins.nets[id_] for id_ in design.ids}
         sinks = dict(sinks_of(nets, names, pins_of(answer)))
         found = table(sinks)

@@ -49,6 +49,16 @@ def refuse_packed(path: str, begin: bytes) -> None:
         raise Fault(f"{path}: it is a text of UTF-16, which is not read here: write it as UTF-8")
 
 
+def is_plain(path: str) -> bool:
+    """Whether a text is as `text_of` gives it. Tells of one that can't be read."""
+    with open(path, "rb") as file:
+        begin = file.read(len(XZ))
+    if begin.startswith((GZIP, XZ, MARK)):
+        return False
+    refuse_packed(path, begin)
+    return True
+
+
 def text_of(path: str) -> str:
     """A whole text, unpacked where it is compressed by gzip or xz, and without a byte order mark."""
     with open(path, "rb") as file:

@@ -4,9 +4,9 @@ import re
 import shutil
 import subprocess
 import tempfile
-from typing import Iterable, Sequence
+from typing import Iterable, Mapping, Sequence
 
-from groute.texts.files import Fault, one_line
+from groute.texts.files import Fault, is_plain, one_line, text_of
 
 PROGRAM = "sta"
 MARK, END = "groute:", "groute: end"    # how a line of the answer begins, and the last one
@@ -35,9 +35,20 @@ def reading(liberty: Sequence[str], netlist: str, module: str, spef: str | None)
     return lines
 
 
-def answer(lines: Iterable[str], passed: Sequence[str] = ()) -> list[str]:
+def plain(path: str, folder: str) -> str:
+    """The path of a text as sta reads it: its own, or in a folder that of a copy, where it is packed."""
+    if os.path.exists(path) and not os.path.isfile(path) or is_plain(path):
+        return path
+    copy = os.path.join(folder, f"{len(os.listdir(folder))}_{os.path.basename(path)}.plain")
+    with open(copy, "w", encoding="utf-8", errors="surrogateescape", newline="") as file:
+        file.write(text_of(path))
+    return copy
+
+
+def answer(lines: Iterable[str], passed: Sequence[str] = (), copies: Mapping[str, str] | None = None) -> list[str]:
     """Runs a script: the lines that it puts behind MARK. It goes on after errors, warns of names that it doesn't know,
-    and ends with status 0: so each error, each warning but those of some files, and a missing end is a fault."""
+    and ends with status 0: so each error, each warning but those of some files, and a missing end is a fault. In place
+    of copies it tells of what they are of."""
     if not is_there():
         raise Fault(LACKS)
     with tempfile.TemporaryDirectory() as folder:
@@ -53,5 +64,7 @@ def answer(lines: Iterable[str], passed: Sequence[str] = ()) -> list[str]:
     if wrong or END not in told:
         wrong = wrong or told[-1:] or ["it said nothing"]
         more = [f"and {len(wrong) - 5:,} lines more"] if len(wrong) > 5 else []
-        raise Fault(*(f"sta: {one_line(line.replace(f'{path}, ', 'line '))}" for line in wrong[:5]), *more)
+        for copy, name in {f"{path}, ": "line ", **(copies or {})}.items():
+            wrong = [line.replace(copy, name) for line in wrong]
+        raise Fault(*(f"sta: {one_line(line)}" for line in wrong[:5]), *more)
     return [line.removeprefix(MARK).strip() for line in told if line.startswith(MARK) and line != END]
