@@ -430,6 +430,27 @@ class BadInputs(InFolder):
             found = run("sh", "-c", f"{called} > /dev/full")
             self.assert_told(found, "No space left on device")
 
+    def test_closed_streams(self) -> None:
+        """Where standard output is closed, what is written there is told; nothing else ends in another way."""
+        answers = ["where.py", SMALL[0], "1"], ["congestion.py", *SMALL[::2]], ["congestion.py", "--help"]
+        others = ["where.py"], ["carry.py", "/none", "b", "c", "d"], ["guides.py", *SMALL[::2], SKY[1], "/none/a"]
+        in_words = ["in_words.py", program(), "evaluate", *SMALL[::2]]
+        for words in (*answers, *others, in_words, ["netlist.py", SKY[0], "--lef", SKY[1], "--lef", SKY[2], "-o",
+                                                    f"{self.folder.name}/v"]):
+            called = shlex.join([sys.executable, os.path.join(TOOLS, words[0]), *words[1:]])
+            status, out, err = run("sh", "-c", called)
+            self.assertEqual(run("sh", "-c", f"{called} <&-"), (status, out, err))
+            self.assertEqual(run("sh", "-c", f"{called} 2>&-"), (status, out, ""))
+            wanted = 3 if words in answers else 7 if words is in_words else status
+            for closed in (">&-", ">&- 2>&-", "<&- >&- 2>&-", ">/dev/full"):
+                found = run("sh", "-c", f"{called} {closed}")
+                self.assertEqual((found[:2]), (wanted, ""), (words, closed))
+                if wanted == status:
+                    self.assertEqual(found[2], "" if "2>" in closed else err)
+                elif words in answers:
+                    self.assertRegex(found[2], "^$" if "2>" in closed else
+                                     r"^\w+: (Bad file descriptor|No space left on device)\n$")
+
     def heed_interrupts(self) -> None:
         """Children heed them too, though this process may have been started in the background."""
         self.addCleanup(signal.signal, signal.SIGINT, signal.signal(signal.SIGINT, signal.default_int_handler))

@@ -34,8 +34,16 @@ class Parser(argparse.ArgumentParser):
 
     def error(self, message: str) -> NoReturn:
         """Ends with the usage and a line."""
-        self.print_usage(sys.stderr)
-        self.exit(Status.WORDS, f"{one_line(f'{self.prog}: error: {message}')}\n")
+        try:
+            sys.stderr.write(f"{self.format_usage()}{one_line(f'{self.prog}: error: {message}')}\n")
+            sys.stderr.flush()
+        except OSError:
+            pass    # nobody reads it
+        sys.exit(Status.WORDS)
+
+    def print_help(self, file: Any = None) -> None:
+        """Writes the help; a fault of that is told."""
+        (file or sys.stdout).write(self.format_help())
 
 
 def parser(doc: str | None) -> Parser:
@@ -107,9 +115,9 @@ def done(name: str, words: Sequence[str]) -> int:
 def ended(name: str, words: Sequence[str]) -> int:
     """The same, but for what ends by a signal."""
     try:
-        status: int | None = importlib.import_module(f"groute.commands.{name}").main(words)
+        status = status_of(importlib.import_module(f"groute.commands.{name}").main, words)
         sys.stdout.flush()
-        return status or Status.DONE
+        return status
     except BrokenPipeError:
         raise
     except Fault as fault:
@@ -131,6 +139,14 @@ def ended(name: str, words: Sequence[str]) -> int:
         say(name, told(fault))
     closed()
     return Status.FAULT
+
+
+def status_of(main: Callable[[Sequence[str]], int | None], words: Sequence[str]) -> int:
+    """How a command ends, be it by its parser of words."""
+    try:
+        return main(words) or Status.DONE
+    except SystemExit as end:
+        return end.code if isinstance(end.code, int) else Status.DONE
 
 
 def told(fault: Exception) -> str:
