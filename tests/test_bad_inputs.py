@@ -213,6 +213,13 @@ class Drawn(OnChip):
         self.draw(self.calls_of_timing(), 73)
 
 
+def ordered(name: str, words: list[str], options: list[str], paths: list[str]) -> list[str]:
+    """The words of a call, with those for what it writes, where they are due."""
+    written = [word for pair in zip(options, paths) for word in pair if word]
+    firsts = 2 if name == "def_to_ispd" else len(words)
+    return [*words[:firsts], *written, *words[firsts:]]
+
+
 class Written(OnChip):
     """Outputs that are inputs, or the same file."""
 
@@ -271,6 +278,29 @@ class Written(OnChip):
                     self.assertIn(f"{name}: {self.path('a.library')}:{line}: token ", err)
                     self.assertIn(says, err)
 
+    def test_signals(self) -> None:
+        """A signal that comes while files are written ends a tool by it, and leaves what was there."""
+        calls = self.calls()
+        pipe, out = self.path("pipe"), self.put("out", "before")
+        os.mkfifo(pipe)
+        before = sorted(os.listdir(self.folder.name))
+        for number in (signal.SIGINT, signal.SIGTERM, signal.SIGHUP):
+            for name, words, options, _ in calls:
+                written = [out, *(f"{out}{at}" for at in range(len(options) - 2)), pipe][:len(options)]
+                solution = self.path("a.solution")
+                if len(options) == 1 and name in ("guides", "spef"):
+                    words = [pipe if word == solution else word for word in words]
+                elif len(options) == 1:
+                    continue
+                called = [f"{TOOLS}/{name}.py", *ordered(name, words, options, written)]
+                child = subprocess.Popen([sys.executable, *called],
+                                         stdout=subprocess.PIPE, stderr=subprocess.PIPE)
+                while not any(file.endswith(".part") for file in os.listdir(self.folder.name)) and child.poll() is None:
+                    time.sleep(0.01)
+                _, err = interrupted(child, number)
+                self.assertEqual((child.returncode, b"Traceback" in err), (-number, False), (name, err))
+                self.assertEqual((sorted(os.listdir(self.folder.name)), self.text("out")), (before, "before"), name)
+
     def test_inputs(self) -> None:
         """An output that is read, in whatever way it is called, is refused, and so are two of one name."""
         calls = self.calls()
@@ -296,10 +326,8 @@ class Written(OnChip):
 
     def refused(self, name: str, words: list[str], options: list[str], paths: list[str], says: str) -> None:
         """That a tool refuses what it should write."""
-        written = [word for pair in zip(options, paths) for word in pair if word]
-        firsts = 2 if name == "def_to_ispd" else len(words)
-        with self.subTest(tool=name, written=written):
-            status, _, err = in_process(name, [*words[:firsts], *written, *words[firsts:]])
+        with self.subTest(tool=name, paths=paths):
+            status, _, err = in_process(name, ordered(name, words, options, paths))
             self.assertEqual(status, 3, err)
             self.assertIn(says, err)
 

@@ -11,13 +11,12 @@ from typing import TYPE_CHECKING, Any, Callable, Iterator, NoReturn, Sequence
 
 from groute import start
 from groute.options import Status
-from groute.texts.files import MOST_LETTERS, Fault, one_line
+from groute.texts.files import ENDING, MOST_LETTERS, Fault, one_line
 
 if TYPE_CHECKING:
     from groute.texts.designs import Netlist
 
 TOOLS = os.path.dirname(os.path.dirname(os.path.realpath(__file__)))    # the folder of the scripts
-ENDING = (signal.SIGINT, signal.SIGTERM, signal.SIGHUP)
 SHOWN = 5       # names of nets in a line
 
 

@@ -2,10 +2,13 @@
 import io
 import os
 import re
+import signal
 import stat
+from contextlib import contextmanager
 from types import TracebackType
 from typing import IO, Iterable, Iterator
 
+ENDING = (signal.SIGINT, signal.SIGTERM, signal.SIGHUP)     # signals that ask for the end
 MOST_LETTERS = 300      # of a line that tells a fault
 LOOKED_AT = 4096        # bytes of a text by which it is known
 GZIP, XZ, BZIP = b"\x1f\x8b", b"\xfd7zXZ\0", b"BZh"
@@ -138,8 +141,8 @@ class Outputs:
         else:
             path = os.path.realpath(path)
             beside = f"{path}.{os.urandom(4).hex()}.part"
-            file = open(beside, "xb")
             self.renamed.append((beside, path))
+            file = open(beside, "xb")
             if mode is not None:
                 os.chmod(beside, stat.S_IMODE(mode))
         self.files.append(file)
@@ -187,17 +190,37 @@ class Outputs:
         try:
             for name, file in zip(self.names, self.files):
                 close(file, name)
-            while self.renamed and kind is None:
-                os.replace(*self.renamed[0])
-                del self.renamed[0]
+            with held_signals():
+                while self.renamed and kind is None:
+                    os.replace(*self.renamed[0])
+                    del self.renamed[0]
         finally:
-            for file in self.files:
-                try:
-                    file.close()
-                except OSError:
-                    pass    # of which the first is told
-            for beside, _ in self.renamed:
-                os.unlink(beside)
+            try:
+                for file in self.files:
+                    close_again(file)
+            finally:
+                with held_signals():
+                    for beside, _ in self.renamed:
+                        if os.path.exists(beside):
+                            os.unlink(beside)
+
+
+@contextmanager
+def held_signals() -> Iterator[None]:
+    """Where signals that ask for the end wait until what belongs together is done."""
+    before = signal.pthread_sigmask(signal.SIG_BLOCK, ENDING)
+    try:
+        yield
+    finally:
+        signal.pthread_sigmask(signal.SIG_SETMASK, before)
+
+
+def close_again(file: IO[bytes]) -> None:
+    """Closes a file, of which a fault was told already."""
+    try:
+        file.close()
+    except OSError:
+        pass
 
 
 def close(file: IO[bytes], name: str) -> None:
