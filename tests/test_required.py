@@ -114,6 +114,29 @@ class Slacks(OnChip):
             self.assertIn(f"{self.path(name)}: it is compressed by bzip2", self.required("--sdc", sdc)[2])
             self.write(name, plain[name])
 
+    def test_odd_paths(self) -> None:
+        """Files and folders of any name are read, and told by it."""
+        self.design(placed(8, 4, CELLS, PORTS, NETS))
+        self.spef()
+        sdc = self.put("sdc", "create_clock -name c -period 1.5 [get_ports ck]\n"
+                              "set_output_delay 0 -clock c [get_ports out]\n")
+        wanted = self.required("--sdc", sdc)
+        self.assertEqual(wanted[::2], (0, ""))
+        odd = self.path("a b $c;\"d'[1]{")
+        os.mkdir(odd)
+        for name in os.listdir(self.folder.name):
+            if os.path.isfile(self.path(name)):
+                os.rename(self.path(name), f"{odd}/{name}")
+        words = [f"{odd}/a.{kind}" for kind in ("ispd", "library", "solution", "v", "spef")]
+        words += ["--liberty", f"{odd}/cells.lib", "--sdc", f"{odd}/sdc", "-o", f"{odd}/slacks", "--scale", "100"]
+        with mock.patch.dict(os.environ, {"TMPDIR": odd}):
+            self.assertEqual(tool("required.py", *words), wanted)
+            with open(f"{odd}/sdc", "a", encoding="ascii") as file:
+                file.write("set_output_delay 0 -clock d [get_ports out]\n")
+            status, _, err = tool("required.py", *words)
+        self.assertEqual(status, 3)
+        self.assertIn(f"sta: Warning: {odd}/sdc", err)
+
     def write(self, name: str, data: bytes) -> None:
         """Writes a file of the folder."""
         with open(self.path(name), "wb") as file:

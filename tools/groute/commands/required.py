@@ -15,7 +15,6 @@ An error or a warning of sta is a fault here, but for what it warns of liberty f
 import argparse
 import os
 import sys
-import tempfile
 from typing import Callable, Iterator, Sequence
 
 from groute import frame
@@ -79,7 +78,7 @@ def cells_of(netlist: Verilog) -> Callable[[str], str]:
 
 def told(asked: argparse.Namespace, design: Netlist, pins: Pins, names: Names, netlist: Verilog) -> list[str]:
     """What sta answers."""
-    with tempfile.TemporaryDirectory() as folder:
+    with sta.folder_for_texts() as folder:
         given = [asked.netlist, asked.spef, *([asked.sdc] if asked.sdc else []), *asked.liberty]
         read = [sta.plain(path, folder) for path in given]
         liberty = read[-len(asked.liberty):]
