@@ -16,7 +16,8 @@ from types import FrameType
 from unittest import mock
 
 from groute import frame, start
-from groute.texts.files import MOST_LETTERS
+from groute.texts.figures import read_figures
+from groute.texts.files import MOST_LETTERS, Fault
 from chips import STA, OnChip, placed
 from test_insertion import CELLS, NETS, PORTS, REPORT, SOLUTION
 from testing import PICTURES, ROOT, TOOLS, InFolder, program, run, tool
@@ -278,6 +279,32 @@ class Written(OnChip):
                     self.assertIn(f"{name}: {self.path('a.library')}:{line}: token ", err)
                     self.assertIn(says, err)
 
+    def test_places(self) -> None:
+        """What is wrong in routes, or of a buffer in a report, is told with its line by each tool that reads it."""
+        calls, routes = self.calls(), [self.path("a.ispd"), self.path("a.solution")]
+        calls.append(("differ", [*routes, routes[1]], [], []))
+        if PICTURES:
+            calls.append(("congestion", [*routes, "--buffers", self.path("a.report")], ["-o"], []))
+        given = {"a.solution": self.text("a.solution"), "a.report": REPORT[REPORT.index("buffers"):]}
+        at = given["a.solution"].splitlines().index(next(re.finditer(r"(?m)^\(.*", given["a.solution"])).group())
+        changes = [("a.solution", at, "(500,500,1)-(x,500,1)", "has not the form of a segment"),
+                   ("a.solution", at, "(500,500,1)-(99999,500,1)", "(99999,500,1) lies outside the chip"),
+                   ("a.solution", at, "(500,500,1)-(1500,1500,1)", "is not straight"),
+                   ("a.report", 2, "(x,500,1) BUF", "(x,500,1) is no place of a buffer"),
+                   ("a.report", 2, "(3500,500,9) BUF", "(3500,500,9) lies outside the chip")]
+        for changed, line, new, says in changes:
+            for name, text in given.items():
+                lines = text.splitlines()
+                lines[line] = new if name == changed else lines[line]
+                self.put(name, "".join(f"{some}\n" for some in lines))
+            for name, words, options, _ in calls:
+                if self.path(changed) not in words or name == "carry":
+                    continue
+                written = [self.path(f"new{at}.png") for at in range(len(options))]
+                status, _, err = in_process(name, ordered(name, words, options, written))
+                self.assertEqual(status, 3, err)
+                self.assertRegex(err, rf"{name}: .*{changed}:{line + 1}: token [0-9]+: .*{re.escape(says)}\n")
+
     def test_signals(self) -> None:
         """A signal that comes while files are written ends a tool by it, and leaves what was there."""
         calls = self.calls()
@@ -354,6 +381,8 @@ class BadInputs(InFolder):
             begun = time.monotonic()
             self.assert_told(tool(f"{name}.py", *words, *(["out"] if name == "guides" else [])), f"{design}:", "token")
             self.assertLess(time.monotonic() - begun, 20)
+        figures = self.put("figures", "figures 1\npath -1 -3 0\nend\n")
+        self.assertRaisesRegex(Fault, f"{figures}:2: token 5: how many nets", read_figures, figures)
         report = self.put("report", "buffers 0\nnet a 0 required soon buffers 0\n")
         if importlib.util.find_spec("numpy"):
             self.assert_told(tool("slowest.py", *SMALL[:2], SMALL[2], report), f"{report}:2:", "net NAME ID required")

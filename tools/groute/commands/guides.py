@@ -14,7 +14,7 @@ from groute.placed.statements import Notes
 from groute.texts.designs import Cell
 from groute.texts.files import Fault, Outputs
 from groute.texts.names import names_beside
-from groute.texts.solutions import Ends, has_joined, records, runs_of, unjoined_without
+from groute.texts.solutions import Ends, first_fault, has_joined, records, runs_of, unjoined_without
 from groute.texts.tiled import Tiled
 
 Line = tuple[int, int]      # the layer, and the row or column
@@ -70,8 +70,11 @@ def guides(design: Tiled, solution: str, layers: Sequence[str], unjoined: list[i
     ids, ends_of = [], Ends(design).of
     for id_, segments in records(design, solution):
         ids.append(id_)
-        ends = ends_of(segments)
-        found = boxes(design, id_, ends)
+        try:
+            ends = ends_of(segments)
+            found = boxes(design, id_, ends)
+        except Fault as fault:
+            raise first_fault(design, solution) or fault from None
         if not has_joined(design.pin_cells(id_), runs_of(design, ends)):
             unjoined.append(id_)
         yield design.names[id_]

@@ -46,12 +46,14 @@ def named_records(path: str, ids: Mapping[str, int] | None = None) -> dict[str, 
     return found
 
 
-def first_fault(design: Design, path: str) -> Fault | None:
-    """Of a solution's text with a segment that isn't one: which it is, and where it stands."""
+def first_fault(design: Design, path: str, name: str | None = None) -> Fault | None:
+    """Of a solution's text with a segment that isn't one, of any net or of one: which it is, and where it stands."""
     tokens = Tokens(path)
     while not tokens.is_ended():
-        tokens.take(2)
+        mine = tokens.take(2)[0].decode("utf-8", "surrogateescape")
         segments = tokens.until(b"!")
+        if name not in (None, mine):
+            continue
         for at, segment in enumerate(segments):
             try:
                 if at or segment.startswith(b"("):

@@ -7,7 +7,7 @@ from groute.placed.liberty import Liberty
 from groute.texts.designs import Cell, Netlist
 from groute.texts.files import Fault
 from groute.texts.pins import Pin
-from groute.texts.reports import buffer_of, buffered
+from groute.texts.reports import buffer_of, buffered, first_fault
 from groute.texts.solutions import has_joined, routes, unjoined_without
 from groute.timing.trees import Tree
 
@@ -84,7 +84,10 @@ class Insertion:
             told.add(id_)
             if id_ in found:
                 tokens = found.pop(id_)
-                buffers = [buffer_of(self.design, *pair) for pair in zip(tokens[::2], tokens[1::2])]
+                try:
+                    buffers = [buffer_of(self.design, *pair) for pair in zip(tokens[::2], tokens[1::2])]
+                except Fault as fault:
+                    raise first_fault(self.design, report) or fault from None
                 self.part(id_, Tree(self.design, id_, runs), buffers)
             elif not has_joined(self.design.pin_cells(id_), runs):
                 self.unjoined.append(id_)
