@@ -487,6 +487,10 @@ class BadInputs(InFolder):
             found = run("sh", "-c", f"{called} > /dev/full")
             self.assert_told(found, "No space left on device")
 
+    def test_memory(self) -> None:
+        called = shlex.join([sys.executable, os.path.join(TOOLS, "where.py"), "/dev/zero", "1"])
+        self.assert_told(run("sh", "-c", f"ulimit -v 300000; exec {called}"), "where: there isn't enough memory")
+
     def test_closed_streams(self) -> None:
         """Where standard output is closed, what is written there is told; nothing else ends in another way."""
         answers = ["where.py", SMALL[0], "1"], ["congestion.py", *SMALL[::2]], ["congestion.py", "--help"]

@@ -17,6 +17,7 @@ if TYPE_CHECKING:
     from groute.texts.designs import Netlist
 
 TOOLS = os.path.dirname(os.path.dirname(os.path.realpath(__file__)))    # the folder of the scripts
+NO_MEMORY = "there isn't enough memory"
 SHOWN = 5       # names of nets in a line
 
 
@@ -123,14 +124,14 @@ def ended(name: str, words: Sequence[str]) -> int:
         for line in fault.args:
             say(name, line)
     except MemoryError:
-        say(name, "there isn't enough memory")
+        say(name, NO_MEMORY)
     except OSError as fault:
         say(name, f"{fault.filename}: {fault.strerror}" if fault.filename else fault.strerror or str(fault))
     except ImportError as fault:
         from importlib.util import find_spec
         lacking = [module for module in start.PACKAGES if find_spec(module) is None]
         if not lacking:
-            say(name, told(fault))
+            say(name, NO_MEMORY if "failed to map" in str(fault) else told(fault))
         else:
             start.again(*lacking)
             say(name, start.lacks(*lacking))
