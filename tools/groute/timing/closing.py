@@ -59,8 +59,8 @@ class Steps:
         self.tool("spef.py", *run.paths("design", "library", "solution"), "-o", run.path("spef"), "--verilog",
                   run.netlist, *scale)
         said = self.tool("required.py", *run.paths("design", "library", "solution"), run.netlist, run.path("spef"),
-                         "-o", run.path("slacks"), "--library", run.path("timed"), "--figures", run.path("figures"), *scale,
-                         *self.cells(with_lef=False), *self.constraints)
+                         "-o", run.path("slacks"), "--library", run.path("timed"), "--figures", run.path("figures"),
+                         *scale, *self.cells(with_lef=False), *self.constraints)
         run.has_unjoined = said.startswith("unjoined ")
         run.figures = read_figures(run.path("figures"))
         run.figures.buffers, run.figures.area = run.buffers, round(run.area * MICRON)
