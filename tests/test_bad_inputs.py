@@ -1,4 +1,5 @@
 """Tests of what tools do with bad words and texts: a line that says why, and nothing left."""
+import bz2
 import gzip
 import importlib.util
 import io
@@ -20,7 +21,7 @@ from groute.texts.figures import read_figures
 from groute.texts.files import MOST_LETTERS, Fault
 from chips import STA, OnChip, placed
 from test_insertion import CELLS, NETS, PORTS, REPORT, SOLUTION
-from testing import PICTURES, ROOT, TOOLS, InFolder, program, run, tool
+from testing import BOUNDS, PICTURES, ROOT, TOOLS, InFolder, program, run, tool
 
 SMALL = [f"{ROOT}/examples/small.{kind}" for kind in ("ispd", "library", "solution")]
 SKY = [f"{ROOT}/examples/sky/{name}" for name in ("adder.def", "tech.lef", "cells.lef", "cells.lib")]
@@ -278,6 +279,27 @@ class Written(OnChip):
                     self.assertEqual(status, 3, err)
                     self.assertIn(f"{name}: {self.path('a.library')}:{line}: token ", err)
                     self.assertIn(says, err)
+
+    def test_packed(self) -> None:
+        """A packed text is told as one by each tool that reads it."""
+        calls = self.calls()
+        calls.append(("insert", [*calls[2][1], "--keep", self.put("keep", "in\n")], ["-o", "--eco"], []))
+        if PICTURES:
+            routes = [self.path("a.ispd"), self.path("a.solution")]
+            calls.append(("report", [*routes, "--bound", self.put("bounds", BOUNDS)], ["-o"], []))
+        for kind in ("names", "pins"):
+            self.put(f"packed.{kind}", self.text(f"a.ispd.{kind}"))
+        for name, words, options, _ in calls:
+            for at, path in enumerate(words):
+                if not os.path.isfile(path):
+                    continue
+                with open(path, "rb") as file, open(self.path("packed"), "wb") as packed:
+                    packed.write(bz2.compress(file.read()))
+                given = [*words[:at], self.path("packed"), *words[at + 1:]]
+                written = [self.path(f"new{number}.csv") for number in range(len(options))]
+                status, _, err = in_process(name, ordered(name, given, options, written))
+                self.assertEqual((status, f"{name}: {self.path('packed')}: it is compressed by bzip2" in err),
+                                 (3, True), (name, path, err))
 
     def test_places(self) -> None:
         """What is wrong in routes, or of a buffer in a report, is told with its line by each tool that reads it."""

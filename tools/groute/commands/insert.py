@@ -25,7 +25,7 @@ from groute.placed.def_text import Def
 from groute.placed.lef_text import Lef
 from groute.placed.liberty import Liberty
 from groute.placed.statements import Notes, number
-from groute.texts.files import OWN, Fault, Outputs, text_of
+from groute.texts.files import OWN, Fault, Outputs, open_text, text_of
 from groute.texts.names import names_beside
 from groute.texts.pins import pins_beside
 from groute.texts.slacks import read_slacks
@@ -99,7 +99,7 @@ class Work:
             slacks, below = read_slacks(asked.slack), asked.below or 0
             found |= slacks.clocks | {id_ for id_ in self.design.ids if slacks.times.get(id_, below) >= below}
         if asked.keep:
-            with open(asked.keep, encoding="utf-8", errors="surrogateescape") as file:
+            with open_text(asked.keep) as file:
                 kept = file.read().split()
             if lacking := [name for name in kept if name not in ids]:
                 raise Fault(f"{asked.keep}: the design has no net {lacking[0]}")

@@ -52,6 +52,17 @@ def refuse_packed(path: str, begin: bytes) -> None:
         raise Fault(f"{path}: it is a text of UTF-16, which is not read here: write it as UTF-8")
 
 
+def open_text(path: str) -> IO[str]:
+    """A text to read, in which names are what they were as bytes; what is packed is told."""
+    file = open(path, "rb")
+    try:
+        refuse_packed(path, file.peek(len(XZ)))
+    except BaseException:
+        file.close()
+        raise
+    return io.TextIOWrapper(file, encoding="utf-8", errors="surrogateescape")
+
+
 def is_plain(path: str) -> bool:
     """Whether a text is as `text_of` gives it. Tells of one that can't be read."""
     with open(path, "rb") as file:
