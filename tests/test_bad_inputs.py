@@ -553,6 +553,17 @@ class BadInputs(InFolder):
                 self.assertEqual((child.returncode, out, err), (-number, b"", b""), words)
         self.assertEqual(os.listdir(self.folder.name), ["pipe"])
 
+    def test_signals_at_start(self) -> None:
+        """An interrupt is silent too while modules are read, here one that takes long."""
+        self.heed_interrupts()
+        seen = os.path.join(self.folder.name, "seen")
+        self.put("argparse.py", f"import time\nopen({seen!r}, 'w').close()\ntime.sleep(60)\n")
+        child = subprocess.Popen([sys.executable, f"{TOOLS}/where.py", SMALL[0], "1"], stdout=subprocess.PIPE,
+                                 stderr=subprocess.PIPE, env={**os.environ, "PYTHONPATH": self.folder.name})
+        while not os.path.exists(seen) and child.poll() is None:
+            time.sleep(0.01)
+        self.assertEqual((interrupted(child, signal.SIGINT), child.returncode), ((b"", b""), -signal.SIGINT))
+
     @unittest.skipUnless(os.path.exists("/usr/bin/sleep"), "sleep is not there")
     def test_signals_of_children(self) -> None:
         """What flow.py runs ends with it."""

@@ -1,5 +1,6 @@
 """What a script imports first: it finds a python that has what is wanted. Older pythons can read this file."""
 import os
+import signal
 import sys
 
 OLDEST = (3, 10)
@@ -12,6 +13,8 @@ is_again = os.environ.pop(AGAIN, None) is not None
 
 def run(name: str) -> None:
     """Runs the command of this name by the words of this process, and ends with its status."""
+    if signal.getsignal(signal.SIGINT) is signal.default_int_handler:
+        signal.signal(signal.SIGINT, signal.SIG_DFL)    # so that an interrupt is silent while modules are read
     open_streams()
     if sys.version_info < OLDEST:
         again()
