@@ -66,7 +66,10 @@ class Flow(InFolder):
             self.assertEqual(" ".join(flow.order(asked, least)), wanted, words)
         for words, says in (("--batch 1 --stop 0", "exclude each other"), ("--rule other", "--rule"),
                             ("--batch 0", "from 1 to 65536"), ("--stop x", "--stop"), ("--workers 17", "1 to 16"),
-                            ("--rounds 99", "from 0 to 64")):
+                            ("--rounds 99", "from 0 to 64"), ("--sink x", "--sink: x is no number"),
+                            ("--tile 0 9", "--tile: 0 is no number"), ("--adjust a=2", "no LAYER=SHARE"),
+                            ("--kinds a", "want --liberty"), ("--driver a", "want --liberty"),
+                            (f"--sta --liberty {SKY[3]} --period 0", "no number of nanoseconds")):
             status, out, err, folder = self.made(SKY[0], *words.split())
             self.assertEqual((status, out, os.path.exists(folder)), (2, "", False), words)
             self.assertIn(says, err.splitlines()[-1])

@@ -30,10 +30,13 @@ class Ended(BaseException):
 
 
 class Parser(argparse.ArgumentParser):
-    """A parser of words that says in one line what is wrong with them."""
+    """A parser of words that says in one line what is wrong with them, or lets another one tell it."""
+    teller: "Parser | None" = None
 
     def error(self, message: str) -> NoReturn:
         """Ends with the usage and a line."""
+        if self.teller is not None:
+            self.teller.error(message)
         try:
             sys.stderr.write(f"{self.format_usage()}{one_line(f'{self.prog}: error: {message}')}\n")
             sys.stderr.flush()

@@ -83,9 +83,10 @@ def parser() -> frame.Parser:
     return words
 
 
-def asked_of(words: Sequence[str]) -> Namespace:
-    """What is asked for."""
+def asked_of(words: Sequence[str], teller: frame.Parser | None = None) -> Namespace:
+    """What is asked for; another parser, where it hands the words on, tells what is wrong."""
     reader = parser()
+    reader.teller = teller
     asked = reader.parse_args(words)
     if not asked.liberty and (asked.kinds or not asked.driver.isdecimal()):
         reader.error("--kinds, and a cell for --driver, want --liberty")

@@ -42,6 +42,8 @@ from argparse import Namespace
 from typing import IO, Any, Iterator, Sequence
 
 from groute import frame, start
+from groute.commands import def_to_ispd
+from groute.commands.required import nanoseconds
 from groute.explained import Ended, explained, program_of
 from groute.options import RANGES, Status, values
 from groute.show import tables
@@ -200,10 +202,13 @@ def steps(asked: Namespace) -> tuple[int, str]:
 
 def make_design(asked: Namespace, placed: str, paths: dict[str, str]) -> None:
     """Writes design and library of a placement."""
-    words = [placed, asked.lef[0], paths["design.ispd"], paths["design.library"], "--scale", str(asked.scale)]
-    words += [word for lef in asked.lef[1:] for word in ("--lef", lef)]
-    words += [word for liberty in asked.liberty for word in ("--liberty", liberty)] + asked.passed
-    tool("def_to_ispd.py", *words)
+    tool("def_to_ispd.py", placed, asked.lef[0], paths["design.ispd"], paths["design.library"], *design_words(asked))
+
+
+def design_words(asked: Namespace) -> list[str]:
+    """The options of that."""
+    words = ["--scale", str(asked.scale), *(word for lef in asked.lef[1:] for word in ("--lef", lef))]
+    return [*words, *(word for liberty in asked.liberty for word in ("--liberty", liberty)), *asked.passed]
 
 
 def timed(groute: str, asked: Namespace, least: int, paths: dict[str, str]) -> str:
@@ -348,7 +353,7 @@ def parser() -> frame.Parser:
     words.add_argument("--scale", type=frame.number(1), default=100, metavar="N",
                        help="of the library's numbers; else 100")
     words.add_argument("--sta", action="store_true", help="goes on by OpenSTA's slacks")
-    words.add_argument("--period", metavar="NS", help="of the clock, in nanoseconds")
+    words.add_argument("--period", type=nanoseconds, metavar="NS", help="of the clock, in nanoseconds")
     words.add_argument("--clock", metavar="PORT", help="where it begins")
     words.add_argument("--sdc", metavar="FILE", help="constraints, in the place of a clock")
     words.add_argument("--verilog", metavar="NETLIST", help="a flat netlist of the placement, in the place of its own")
@@ -373,6 +378,7 @@ def asked_of(words: Sequence[str]) -> Namespace:
     check_timing(reader, asked)
     asked.passed = [part for word in PASSED for given in getattr(asked, word[2:].replace("-", "_"))
                     for part in (word, *given)]
+    def_to_ispd.asked_of(["-", "-", "-", "-", *design_words(asked)], reader)
     return asked
 
 
