@@ -1,4 +1,5 @@
 """Tests of what tools do with bad words and texts: a line that says why, and nothing left."""
+import bz2
 import gzip
 import importlib.util
 import io
@@ -16,10 +17,11 @@ from types import FrameType
 from unittest import mock
 
 from groute import frame, start
-from groute.texts.files import MOST_LETTERS
-from chips import OnChip, placed
+from groute.texts.figures import read_figures
+from groute.texts.files import MOST_LETTERS, Fault
+from chips import STA, OnChip, placed
 from test_insertion import CELLS, NETS, PORTS, REPORT, SOLUTION
-from testing import PICTURES, ROOT, TOOLS, InFolder, program, run, tool
+from testing import BOUNDS, PICTURES, ROOT, TOOLS, InFolder, program, run, tool
 
 SMALL = [f"{ROOT}/examples/small.{kind}" for kind in ("ispd", "library", "solution")]
 SKY = [f"{ROOT}/examples/sky/{name}" for name in ("adder.def", "tech.lef", "cells.lef", "cells.lib")]
@@ -213,6 +215,172 @@ class Drawn(OnChip):
         self.draw(self.calls_of_timing(), 73)
 
 
+def ordered(name: str, words: list[str], options: list[str], paths: list[str]) -> list[str]:
+    """The words of a call, with those for what it writes, where they are due."""
+    written = [word for pair in zip(options, paths) for word in pair if word]
+    firsts = 2 if name == "def_to_ispd" else len(words)
+    return [*words[:firsts], *written, *words[firsts:]]
+
+
+class Written(OnChip):
+    """Outputs that are inputs, or the same file."""
+
+    def calls(self) -> list[tuple[str, list[str], list[str], list[str]]]:
+        """Of each tool that writes: words, the words for what it writes, and what it reads beside."""
+        self.design(placed(8, 4, CELLS, PORTS, NETS))
+        self.spef()
+        a_def, design, library, solution, report, netlist, spef = (self.path(f"a.{kind}") for kind in (
+            "def", "ispd", "library", "solution", "report", "v", "spef"))
+        slacks = self.put("slacks", "slacks 1\nslack 1 -5000\nend\n")
+        cells, liberty, beside = ["--lef", self.lef], ["--liberty", self.lib], [f"{design}.names", f"{design}.pins"]
+        guide, names = self.put("guide", "in\n(\n)\n"), self.put("more.names", self.text("a.ispd.names"))
+        found: list[tuple[str, list[str], list[str], list[str]]] = [
+            ("netlist", [a_def, *cells, *liberty], ["-o"], []),
+            ("spef", [design, library, solution, "--verilog", netlist], ["-o"], beside),
+            ("insert", [a_def, design, solution, report, *cells, *liberty, "--slack", slacks], ["-o", "--eco"], beside),
+            ("guides", [design, solution, "--names", names], [""], []),
+            ("guides", [design, solution], [""], beside[:1]),
+            ("to_solution", [design, guide], [""], beside[:1]),
+            ("carry", [design, solution, design], [""], []),
+            ("congestion", [design, solution], ["-o"], []),
+            ("def_to_ispd", [a_def, self.lef, *liberty], ["", ""], [])]
+        if PICTURES:
+            found += [("adjust", [design, "--layer", "all", "0.5"], ["-o"], beside[:1]),
+                      ("hotspots", [design, solution], ["--csv", "--klayout", "--openroad"], beside[:1]),
+                      ("report", [design, solution, library, report, "--slack", slacks], ["-o"], beside[:1])]
+        if STA:
+            found.append(("required", [design, library, solution, netlist, spef, *liberty, "--period", "1"],
+                          ["-o", "--library", "--figures"], beside))
+        return found
+
+    def test_libraries(self) -> None:
+        """What is wrong in a library is told with its line by each tool that reads one."""
+        calls = [call for call in self.calls() if self.path("a.library") in call[1]]
+        self.assertEqual({name for name, *_ in calls}, {"spef"} | ({"required"} if STA else set())
+                         | ({"report"} if PICTURES else set()))
+        lines = self.text("a.library").splitlines()
+        at = {line.split()[0]: number for number, line in enumerate(lines)}
+        for word, new, says in (("wire", None, "before it wire 2 is due: end"), ("via", None, "before it via is due"),
+                                ("wire", "wire 2 x 5", "a whole number is due: x"),
+                                ("wire", "wire 2 -1 5", "a number from 0 to 1000000 is due: -1"),
+                                ("wire", "wire 1 1 5", "a second wire 1 ends here"),
+                                ("driver", "driver 1.5", "a whole number is due: 1.5"),
+                                ("sink", "sink 1 9999999999999999", "to 1125899906842624 is due: 9999999999999999"),
+                                ("sink", "sink 1 1 2", "an item of a library is due: 2"),
+                                ("kind", "kind B 1 2 -3", "a number from 0 to 1125899906842624 is due: -3")):
+            changed = [*lines]
+            changed[at[word]:at[word] + 1] = [new] if new else []
+            self.put("a.library", "".join(f"{line}\n" for line in changed))
+            line = at[word] + 1 if new else len(changed)
+            for name, words, options, _ in calls:
+                if new or name != "report":     # which wants kinds alone
+                    written = [word for at, option in enumerate(options) for word in (option, self.path(f"new{at}"))]
+                    status, _, err = in_process(name, [*words, *written])
+                    self.assertEqual(status, 3, err)
+                    self.assertIn(f"{name}: {self.path('a.library')}:{line}: token ", err)
+                    self.assertIn(says, err)
+
+    def test_packed(self) -> None:
+        """A packed text is told as one by each tool that reads it."""
+        calls = self.calls()
+        calls.append(("insert", [*calls[2][1], "--keep", self.put("keep", "in\n")], ["-o", "--eco"], []))
+        if PICTURES:
+            routes = [self.path("a.ispd"), self.path("a.solution")]
+            calls.append(("report", [*routes, "--bound", self.put("bounds", BOUNDS)], ["-o"], []))
+        for kind in ("names", "pins"):
+            self.put(f"packed.{kind}", self.text(f"a.ispd.{kind}"))
+        for name, words, options, _ in calls:
+            for at, path in enumerate(words):
+                if not os.path.isfile(path):
+                    continue
+                with open(path, "rb") as file, open(self.path("packed"), "wb") as packed:
+                    packed.write(bz2.compress(file.read()))
+                given = [*words[:at], self.path("packed"), *words[at + 1:]]
+                written = [self.path(f"new{number}.csv") for number in range(len(options))]
+                status, _, err = in_process(name, ordered(name, given, options, written))
+                self.assertEqual((status, f"{name}: {self.path('packed')}: it is compressed by bzip2" in err),
+                                 (3, True), (name, path, err))
+
+    def test_places(self) -> None:
+        """What is wrong in routes, or of a buffer in a report, is told with its line by each tool that reads it."""
+        calls, routes = self.calls(), [self.path("a.ispd"), self.path("a.solution")]
+        calls.append(("differ", [*routes, routes[1]], [], []))
+        if PICTURES:
+            calls.append(("congestion", [*routes, "--buffers", self.path("a.report")], ["-o"], []))
+        given = {"a.solution": self.text("a.solution"), "a.report": REPORT[REPORT.index("buffers"):]}
+        at = given["a.solution"].splitlines().index(next(re.finditer(r"(?m)^\(.*", given["a.solution"])).group())
+        changes = [("a.solution", at, "(500,500,1)-(x,500,1)", "has not the form of a segment"),
+                   ("a.solution", at, "(500,500,1)-(99999,500,1)", "(99999,500,1) lies outside the chip"),
+                   ("a.solution", at, "(500,500,1)-(1500,1500,1)", "is not straight"),
+                   ("a.report", 2, "(x,500,1) BUF", "(x,500,1) is no place of a buffer"),
+                   ("a.report", 2, "(3500,500,9) BUF", "(3500,500,9) lies outside the chip")]
+        for changed, line, new, says in changes:
+            for name, text in given.items():
+                lines = text.splitlines()
+                lines[line] = new if name == changed else lines[line]
+                self.put(name, "".join(f"{some}\n" for some in lines))
+            for name, words, options, _ in calls:
+                if self.path(changed) not in words or name == "carry":
+                    continue
+                written = [self.path(f"new{at}.png") for at in range(len(options))]
+                status, _, err = in_process(name, ordered(name, words, options, written))
+                self.assertEqual(status, 3, err)
+                self.assertRegex(err, rf"{name}: .*{changed}:{line + 1}: token [0-9]+: .*{re.escape(says)}\n")
+
+    def test_signals(self) -> None:
+        """A signal that comes while files are written ends a tool by it, and leaves what was there."""
+        calls = self.calls()
+        pipe, out = self.path("pipe"), self.put("out", "before")
+        os.mkfifo(pipe)
+        before = sorted(os.listdir(self.folder.name))
+        for number in (signal.SIGINT, signal.SIGTERM, signal.SIGHUP):
+            for name, words, options, _ in calls:
+                written = [out, *(f"{out}{at}" for at in range(len(options) - 2)), pipe][:len(options)]
+                solution = self.path("a.solution")
+                if len(options) == 1 and name in ("guides", "spef"):
+                    words = [pipe if word == solution else word for word in words]
+                elif len(options) == 1:
+                    continue
+                called = [f"{TOOLS}/{name}.py", *ordered(name, words, options, written)]
+                child = subprocess.Popen([sys.executable, *called],
+                                         stdout=subprocess.PIPE, stderr=subprocess.PIPE)
+                while not any(file.endswith(".part") for file in os.listdir(self.folder.name)) and child.poll() is None:
+                    time.sleep(0.01)
+                _, err = interrupted(child, number)
+                self.assertEqual((child.returncode, b"Traceback" in err), (-number, False), (name, err))
+                self.assertEqual((sorted(os.listdir(self.folder.name)), self.text("out")), (before, "before"), name)
+
+    def test_inputs(self) -> None:
+        """An output that is read, in whatever way it is called, is refused, and so are two of one name."""
+        calls = self.calls()
+        os.symlink(self.folder.name, self.path("link"))
+        before = {name: self.text(name) for name in os.listdir(self.folder.name) if name != "link"}
+        for name, words, options, beside in calls:
+            read = sorted({word for word in words if os.path.isfile(word)} | set(beside))
+            for number in range(len(options)):
+                paths = [self.path(f"new{at}") for at in range(len(options))]
+                for path in [*read, os.path.join(self.path("link"), os.path.basename(read[0]))]:
+                    if name == "congestion":
+                        os.symlink(path, self.path("link.csv"))
+                        path = self.path("link.csv")
+                    paths[number] = path
+                    self.refused(name, words, options, paths, "would be written over")
+                    if name == "congestion":
+                        os.unlink(path)
+            if len(options) > 1:
+                paths = [self.path("new")] * (len(options) - 1) + [self.path("./new")]
+                self.refused(name, words, options, paths, "new would be written twice")
+        self.refused("def_to_ispd", calls[8][1], ["", ""], [self.path("new"), self.path("new.pins")], "written twice")
+        self.assertEqual({name: self.text(name) for name in os.listdir(self.folder.name) if name != "link"}, before)
+
+    def refused(self, name: str, words: list[str], options: list[str], paths: list[str], says: str) -> None:
+        """That a tool refuses what it should write."""
+        with self.subTest(tool=name, paths=paths):
+            status, _, err = in_process(name, ordered(name, words, options, paths))
+            self.assertEqual(status, 3, err)
+            self.assertIn(says, err)
+
+
 class BadInputs(InFolder):
     """Inputs that were once found."""
 
@@ -235,6 +403,8 @@ class BadInputs(InFolder):
             begun = time.monotonic()
             self.assert_told(tool(f"{name}.py", *words, *(["out"] if name == "guides" else [])), f"{design}:", "token")
             self.assertLess(time.monotonic() - begun, 20)
+        figures = self.put("figures", "figures 1\npath -1 -3 0\nend\n")
+        self.assertRaisesRegex(Fault, f"{figures}:2: token 5: how many nets", read_figures, figures)
         report = self.put("report", "buffers 0\nnet a 0 required soon buffers 0\n")
         if importlib.util.find_spec("numpy"):
             self.assert_told(tool("slowest.py", *SMALL[:2], SMALL[2], report), f"{report}:2:", "net NAME ID required")
@@ -339,6 +509,31 @@ class BadInputs(InFolder):
             found = run("sh", "-c", f"{called} > /dev/full")
             self.assert_told(found, "No space left on device")
 
+    def test_memory(self) -> None:
+        called = shlex.join([sys.executable, os.path.join(TOOLS, "where.py"), "/dev/zero", "1"])
+        self.assert_told(run("sh", "-c", f"ulimit -v 300000; exec {called}"), "where: there isn't enough memory")
+
+    def test_closed_streams(self) -> None:
+        """Where standard output is closed, what is written there is told; nothing else ends in another way."""
+        answers = ["where.py", SMALL[0], "1"], ["congestion.py", *SMALL[::2]], ["congestion.py", "--help"]
+        others = ["where.py"], ["carry.py", "/none", "b", "c", "d"], ["guides.py", *SMALL[::2], SKY[1], "/none/a"]
+        in_words = ["in_words.py", program(), "evaluate", *SMALL[::2]]
+        for words in (*answers, *others, in_words, ["netlist.py", SKY[0], "--lef", SKY[1], "--lef", SKY[2], "-o",
+                                                    f"{self.folder.name}/v"]):
+            called = shlex.join([sys.executable, os.path.join(TOOLS, words[0]), *words[1:]])
+            status, out, err = run("sh", "-c", called)
+            self.assertEqual(run("sh", "-c", f"{called} <&-"), (status, out, err))
+            self.assertEqual(run("sh", "-c", f"{called} 2>&-"), (status, out, ""))
+            wanted = 3 if words in answers else 7 if words is in_words else status
+            for closed in (">&-", ">&- 2>&-", "<&- >&- 2>&-", ">/dev/full"):
+                found = run("sh", "-c", f"{called} {closed}")
+                self.assertEqual((found[:2]), (wanted, ""), (words, closed))
+                if wanted == status:
+                    self.assertEqual(found[2], "" if "2>" in closed else err)
+                elif words in answers:
+                    self.assertRegex(found[2], "^$" if "2>" in closed else
+                                     r"^\w+: (Bad file descriptor|No space left on device)\n$")
+
     def heed_interrupts(self) -> None:
         """Children heed them too, though this process may have been started in the background."""
         self.addCleanup(signal.signal, signal.SIGINT, signal.signal(signal.SIGINT, signal.default_int_handler))
@@ -357,6 +552,17 @@ class BadInputs(InFolder):
                     out, err = interrupted(child, number)
                 self.assertEqual((child.returncode, out, err), (-number, b"", b""), words)
         self.assertEqual(os.listdir(self.folder.name), ["pipe"])
+
+    def test_signals_at_start(self) -> None:
+        """An interrupt is silent too while modules are read, here one that takes long."""
+        self.heed_interrupts()
+        seen = os.path.join(self.folder.name, "seen")
+        self.put("argparse.py", f"import time\nopen({seen!r}, 'w').close()\ntime.sleep(60)\n")
+        child = subprocess.Popen([sys.executable, f"{TOOLS}/where.py", SMALL[0], "1"], stdout=subprocess.PIPE,
+                                 stderr=subprocess.PIPE, env={**os.environ, "PYTHONPATH": self.folder.name})
+        while not os.path.exists(seen) and child.poll() is None:
+            time.sleep(0.01)
+        self.assertEqual((interrupted(child, signal.SIGINT), child.returncode), ((b"", b""), -signal.SIGINT))
 
     @unittest.skipUnless(os.path.exists("/usr/bin/sleep"), "sleep is not there")
     def test_signals_of_children(self) -> None:

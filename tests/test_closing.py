@@ -114,6 +114,19 @@ class Flow(OnChip):
         self.assertRegex(out, r"total negative slack 0\.000 to 0\.000 ns, .*; 0 buffers\n$")
         self.assertNotIn("timed", os.listdir(self.path("out")))
 
+    def test_unjoined(self) -> None:
+        """Routes that leave a net unjoined are timed, and get no buffers."""
+        real, all_ = shlex.quote(program()), self.path("all")
+        groute = self.put("less", f'#!/bin/sh\n[ "$1" = route ] || exec {real} "$@"\n{real} "$@" > {all_} 2> {all_}.r\n'
+                                  f'sed "1,/^!/d" {all_} | tee {all_}.less\n'
+                                  f'{{ {real} evaluate "$2" {all_}.less | head -n 5; sed 1,5d {all_}.r; }} >&2')
+        os.chmod(groute, 0o755)
+        status, out, err = self.made("--period", "3.5", "--program", groute)
+        self.assertEqual(status, 1, err)
+        self.assertRegex(out, "^a: 1 net unjoined; overflow" if PICTURES else "^a: unjoined 1, ")
+        self.assertRegex(out, r"total negative slack (-0\.\d+) to \1 ns, .*; 0 buffers\n$")
+        self.assertNotIn("timed", os.listdir(self.path("out")))
+
     def test_a_step_that_fails(self) -> None:
         status, _, err = self.made("--period", "2", "--clock", "no")
         self.assertEqual(status, 3)

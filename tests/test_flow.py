@@ -4,7 +4,8 @@ import shlex
 
 from groute import start
 from groute.commands import flow
-from testing import BOUNDS, PICTURES, ROOT, InFolder, program, run, tool
+from chips import STA
+from testing import BOUNDS, PICTURES, ROOT, InFolder, program, run, text_of, tool
 
 SKY = [f"{ROOT}/examples/sky/{name}" for name in ("adder.def", "tech.lef", "cells.lef", "cells.lib")]
 FILES = ["design.ispd", "design.ispd.names", "design.ispd.pins", "design.library", "report.txt", "routes.guide",
@@ -65,7 +66,10 @@ class Flow(InFolder):
             self.assertEqual(" ".join(flow.order(asked, least)), wanted, words)
         for words, says in (("--batch 1 --stop 0", "exclude each other"), ("--rule other", "--rule"),
                             ("--batch 0", "from 1 to 65536"), ("--stop x", "--stop"), ("--workers 17", "1 to 16"),
-                            ("--rounds 99", "from 0 to 64")):
+                            ("--rounds 99", "from 0 to 64"), ("--sink x", "--sink: x is no number"),
+                            ("--tile 0 9", "--tile: 0 is no number"), ("--adjust a=2", "no LAYER=SHARE"),
+                            ("--kinds a", "want --liberty"), ("--driver a", "want --liberty"),
+                            (f"--sta --liberty {SKY[3]} --period 0", "no number of nanoseconds")):
             status, out, err, folder = self.made(SKY[0], *words.split())
             self.assertEqual((status, out, os.path.exists(folder)), (2, "", False), words)
             self.assertIn(says, err.splitlines()[-1])
@@ -141,21 +145,30 @@ class Flow(InFolder):
         given = ("--layers", "met1-met5", "--rounds", "0")
         folder = os.path.join(self.folder.name, "out")
         os.mkdir(folder)
-        for name in ("mine.txt", "index.htm", "bounds.txt"):
+        for name in ("timed", "run2"):
+            os.mkdir(os.path.join(folder, name))
+        for name in ("mine.txt", "index.htm", "bounds.txt", "timed/mine.txt", "timed/placed.def", "run2/routes.spef"):
             self.put(f"out/{name}", "mine")
         self.assertEqual(self.made(SKY[0], *given)[0], 0)
         names = sorted(os.listdir(folder))
-        self.assertTrue({"mine.txt", "index.htm"} < set(names))
+        self.assertTrue({"mine.txt", "index.htm", "timed"} < set(names))
+        self.assertFalse("run2" in names)
+        self.assertEqual(os.listdir(os.path.join(folder, "timed")), ["mine.txt"])
         self.assertFalse({"bounds.txt"} & set(names))
         self.assertEqual(self.made(SKY[0], *given, "--rounds", "99")[0], 2)
         self.assertEqual(self.made(SKY[0] + ".none", *given)[0], 3)
         self.assertEqual(self.made(SKY[0], *given, "--liberty", "/none")[0], 3)
         self.assertEqual(sorted(os.listdir(folder)), names)
-        for name in FILES:      # an input that would be written over
+        self.put("out/timed/placed.def", text_of("examples/sky/adder.def"))
+        for name in (*FILES, "timed/placed.def"):      # an input that would be written over
             self.assertEqual(self.made(os.path.join(folder, name), *given)[0], 3)
         self.assertEqual(sorted(os.listdir(folder)), names)
+        os.unlink(os.path.join(folder, "timed", "placed.def"))
+        status, _, err, _ = self.made(SKY[0], *given, "--liberty", SKY[3], "--sta", "--period", "1")
+        self.assertEqual((status, ("timed has what no run wrote" if STA else "sta isn't on PATH") in err), (3, True))
+        self.assertEqual(sorted(os.listdir(folder)), names)
         self.assertEqual(self.made(SKY[0], "--layers", "met9-met5")[0], 3)
-        self.assertEqual(sorted(os.listdir(folder)), ["index.htm", "mine.txt"])
+        self.assertEqual(sorted(os.listdir(folder)), ["index.htm", "mine.txt", "timed"])
 
     def test_unjoined(self) -> None:
         """The status is the verdict's where routes leave nets unjoined."""

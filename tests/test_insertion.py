@@ -73,8 +73,10 @@ class ByHand(OnChip):
         self.given(SOLUTION, REPORT)
 
     def given(self, solution: str, report: str) -> None:
-        """Puts routes and a report."""
-        self.put("a.solution", solution)
+        """Puts routes and a report; nets that have no routes here keep those before."""
+        records = {record.split()[1]: record for text in (self.text("a.solution"), solution)
+                   for record in text.split("!\n") if record}
+        self.put("a.solution", "".join(f"{record}!\n" for record in records.values()))
         self.put("a.report", report)
 
     def inserted(self, *words: str) -> tuple[int, str, str]:
@@ -146,6 +148,11 @@ class ByHand(OnChip):
             self.assertIn(says, err)
         self.given(SOLUTION.replace("two 1 (500,500,1)-(7500,500,1)", "two 1 (500,500,1)-(6500,500,1)"), REPORT)
         self.assertIn("leave pins unjoined", self.inserted()[2])
+        self.given(SOLUTION + "in 0 !\nback 8 !\n", REPORT)     # of which no buffer is told
+        status, out, err = self.inserted()
+        self.assertEqual((status, out.splitlines()[:2]), (1, ["unjoined 2", "buffers 6"]))
+        self.assertTrue(err.endswith("insert: 2 nets unjoined: in, back\n"), err)
+        self.design(self.text("a.def"))
         self.put("b.def", "VERSION 5.6 ;\n")
         self.given(SOLUTION, REPORT)
         self.assertIn("would be written over", self.inserted()[2])

@@ -12,12 +12,12 @@ import unittest
 from testing import LIBRARY, ROOT, TOOLS, program, run
 
 COLUMNS = 80
-ROUNDS = 4
+ROUNDS = 6
 # A made design whose rounds take some seconds.
 MADE = ("make", "1", "160", "160", "6", "140000")
 LINE = re.compile(rb"\r([^\r\n\x1b]+)\x1b\[K")
-IN_ROUND = re.compile(r"round (\d+) of 4: (?:overflow \d+, (\d+) of (\d+)|(\d+)) nets begun, \d+ s")
-ENDED = re.compile(r"round 4 of 4 ended: overflow \d+; buffers and texts, \d+ s")
+IN_ROUND = re.compile(rf"round (\d+) of {ROUNDS}: (?:overflow \d+, (\d+) of (\d+)|(\d+)) nets begun, \d+ s")
+ENDED = re.compile(rf"round {ROUNDS} of {ROUNDS} ended: overflow \d+; buffers and texts, \d+ s")
 
 
 def screen(told: bytes) -> list[bytes]:

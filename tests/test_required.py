@@ -1,4 +1,6 @@
 """Tests of required.py, where OpenSTA is there: slacks of nets, and libraries whose required times they are."""
+import bz2
+import gzip
 import lzma
 import os
 import re
@@ -89,6 +91,69 @@ class Slacks(OnChip):
         status, _, err = self.required("--period", "1.5")
         self.assertEqual(status, 3)
         self.assertIn("net three not found", err)
+
+    def test_packed(self) -> None:
+        """Texts that are packed, or begin with a mark, come to sta as it reads them, and are told by their names."""
+        self.design(placed(8, 4, CELLS, PORTS, NETS))
+        self.spef()
+        sdc = self.put("sdc", "create_clock -name c -period 1.5 [get_ports ck]\n"
+                              "set_output_delay 0 -clock c [get_ports out]\n")
+        wanted = self.required("--sdc", sdc)
+        self.assertEqual(wanted[::2], (0, ""))
+        names = "cells.lib", "sdc", "a.v", "a.spef"
+        plain = {name: self.text(name).encode() for name in names}
+        for at in range(3):
+            for name, data in plain.items():
+                self.write(name, (gzip.compress(data), lzma.compress(data), b"\xef\xbb\xbf" + data)[at])
+            self.assertEqual(self.required("--sdc", sdc), wanted)
+        self.write("a.spef", gzip.compress(plain["a.spef"].replace(b"*D_NET two ", b"*D_NET three ")))
+        self.assertEqual(self.required("--sdc", sdc)[2].split(",")[0], f"required: sta: Warning: {self.path('a.spef')}")
+        for name in names:
+            self.write("a.spef", plain["a.spef"])
+            self.write(name, bz2.compress(plain[name]))
+            self.assertIn(f"{self.path(name)}: it is compressed by bzip2", self.required("--sdc", sdc)[2])
+            self.write(name, plain[name])
+
+    def test_odd_paths(self) -> None:
+        """Files and folders of any name are read, and told by it."""
+        self.design(placed(8, 4, CELLS, PORTS, NETS))
+        self.spef()
+        sdc = self.put("sdc", "create_clock -name c -period 1.5 [get_ports ck]\n"
+                              "set_output_delay 0 -clock c [get_ports out]\n")
+        wanted = self.required("--sdc", sdc)
+        self.assertEqual(wanted[::2], (0, ""))
+        odd = self.path("a b $c;\"d'[1]{")
+        os.mkdir(odd)
+        for name in os.listdir(self.folder.name):
+            if os.path.isfile(self.path(name)):
+                os.rename(self.path(name), f"{odd}/{name}")
+        words = [f"{odd}/a.{kind}" for kind in ("ispd", "library", "solution", "v", "spef")]
+        words += ["--liberty", f"{odd}/cells.lib", "--sdc", f"{odd}/sdc", "-o", f"{odd}/slacks", "--scale", "100"]
+        with mock.patch.dict(os.environ, {"TMPDIR": odd}):
+            self.assertEqual(tool("required.py", *words), wanted)
+            with open(f"{odd}/sdc", "a", encoding="ascii") as file:
+                file.write("set_output_delay 0 -clock d [get_ports out]\n")
+            status, _, err = tool("required.py", *words)
+        self.assertEqual(status, 3)
+        self.assertIn(f"sta: Warning: {odd}/sdc", err)
+
+    def write(self, name: str, data: bytes) -> None:
+        """Writes a file of the folder."""
+        with open(self.path(name), "wb") as file:
+            file.write(data)
+
+    def test_unjoined(self) -> None:
+        """Nets that routes leave unjoined are counted, as `evaluate` does."""
+        self.design(placed(8, 4, CELLS, PORTS, NETS))
+        self.spef()
+        records = self.text("a.solution").split("!\n")
+        self.put("a.solution", "!\n".join(record for record in records if not record.startswith(("two ", "back "))))
+        says = "2 nets unjoined: two, back"
+        status, out, err = self.required("--period", "1.5")
+        self.assertEqual((status, out.splitlines()[0], err), (1, "unjoined 2", f"required: {says}\n"))
+        judged = run(program(), "evaluate", self.path("a.ispd"), self.path("a.solution"))[1]
+        self.assertEqual(judged.splitlines()[5:], ["unjoined 2", "two 1", "back 8"])
+        self.assertEqual(len(read_slacks(self.path("a.slacks")).times), 8)
 
     def test_limits(self) -> None:
         """Nets over max_capacitance, by their wires and pins, and over max_transition."""

@@ -67,7 +67,7 @@ class Words(unittest.TestCase):
                 for (_, value), name in zip(given, options):
                     takes = self.options[name][1]
                     words, numbers = self.values(takes)
-                    open_ended = ["[A-Z]+"] if numbers or takes == "Takes::Name" else []
+                    open_ended = ["[A-Z]+"] if numbers or takes == "ValueForm::Name" else []
                     self.assertRegex(value, "^" + "[|]".join([*words, *open_ended]) + "$")
                 self.assertIn(f"groute {''.join(line)}\n", manual())
 

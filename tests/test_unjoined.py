@@ -3,9 +3,14 @@ import os
 import random
 import re
 
+from groute.texts.designs import Netlist
+from groute.texts.pins import lines
+from groute.texts.tokens import Tokens
 from testing import PICTURES, InFolder, program, run
+from chips import STA, OnChip, placed
 from test_answers import random_designs
 from test_bad_inputs import in_process
+from test_insertion import CELLS, NETS, PORTS
 
 LAYERS = "names 2\nunits 1\norigin 0 0\ntile 10 10\n%s"
 
@@ -26,6 +31,12 @@ class Damaged(InFolder):
                 del records[at]
         return "".join(f"{record}!\n" for record in records)
 
+    def pins(self, design: str) -> str:
+        """The path of a text that gives each pin of a design a cell of its own."""
+        read = Netlist(Tokens(design))
+        nets = ((id_, [(f"c{id_}_{at}", "A", "-") for at in range(len(read.pins(id_)))]) for id_ in read.ids)
+        return self.put("pins", "".join(f"{line}\n" for line in lines("made", nets)))
+
     def test_all_tools(self) -> None:
         """What `evaluate` calls unjoined is counted, named, and ends with status 1; overflow alone with 0."""
         rng = random.Random(4)
@@ -44,7 +55,9 @@ class Damaged(InFolder):
             says = f"{count} net{'s' * (count > 1)} unjoined"
             seen[count > 0] += 1
             output = os.path.join(self.folder.name, "out")
-            calls = [("congestion", [design, solution]), ("guides", [design, solution, output, "--names", names])]
+            calls = [("congestion", [design, solution]), ("guides", [design, solution, output, "--names", names]),
+                     ("differ", [design, solution, solution]),
+                     ("spef", [design, library, solution, "-o", output, "--pins", self.pins(design)])]
             if PICTURES:
                 calls += [("hotspots", [design, solution]),
                           ("slowest", [design, library, solution, self.put("told", told)]),
@@ -58,8 +71,7 @@ class Damaged(InFolder):
                                      (1, [name, f" {says}"]) if count else (0, []), err)
                     if count:
                         self.assertEqual(err.strip().split(": ")[2].removesuffix(", ..").split(", "), ids[:5])
-                    first = {"report": says, "congestion": f"unjoined {count}\n",
-                             "hotspots": f"unjoined {count}\n"}.get(name, "")
+                    first = {"report": says, "guides": "", "spef": ""}.get(name, f"unjoined {count}\n")
                     self.assertEqual(out.startswith(first), bool(count) or not first, out)
         self.assertGreater(min(seen.values()), 4)
 
@@ -120,3 +132,41 @@ class NamesBeside(InFolder):
         self.put("design.names", LAYERS % "layer 1 lower\n")
         for words in calls:
             self.assertEqual(in_process(words[0], words[1:])[0], 3, words)
+
+
+class Empty(OnChip):
+    """Routes without a record: each tool that takes them tells how many nets are unjoined, first and by its status."""
+
+    def test_all_tools(self) -> None:
+        self.design(placed(8, 4, CELLS, PORTS, NETS))
+        for kind in ("solution", "report"):
+            os.rename(self.path(f"a.{kind}"), self.path(f"b.{kind}"))
+        solution = self.put("a.solution", "")
+        design, library, a_def, netlist, spef = (self.path(f"a.{kind}") for kind in (
+            "ispd", "library", "def", "v", "spef"))
+        report = self.put("a.report", "".join(f"{word} 0\n" for word in (
+            f"routed {len(NETS)}\noverflow", "maximum", "wirelength", "vias", "buffers"))
+            + "net in 0 required -9 buffers 0\n")
+        cells, out = ["--lef", self.lef, "--liberty", self.lib], self.path("out")
+        calls = [["spef", design, library, solution, "-o", spef, "--scale", "100"], ["congestion", design, solution],
+                 ["congestion", design, solution, "-o", f"{out}.csv"], ["guides", design, solution, out],
+                 ["differ", design, self.path("b.solution"), solution], ["differ", design, solution, solution],
+                 ["insert", a_def, design, solution, report, "-o", out, *cells]]
+        if STA:
+            calls.append(["required", design, library, solution, netlist, spef, *cells[2:], "--period", "1", "-o", out,
+                          "--library", f"{out}.library"])
+        if PICTURES:
+            calls += [["hotspots", design, solution], ["report", design, solution, "-o", out],
+                      ["report", design, solution, library, report, "-o", out],
+                      ["slowest", design, library, solution, report],
+                      ["congestion", design, solution, "-o", f"{out}.png", "--buffers", report]]
+        count = int(run(program(), "evaluate", design, solution)[1].split()[11])
+        self.assertEqual(count, len(NETS))
+        says = f"{count} nets unjoined"
+        for name, *words in calls:
+            with self.subTest(tool=name, words=words):
+                status, printed, err = in_process(name, words)
+                self.assertEqual((status, err.splitlines()[-1:]),
+                                 (1, [f"{name}: {says}: in, two, branch, series, ck, .."]), err)
+                first = {"spef": "", "guides": "", "report": says}.get(name, f"unjoined {count}\n")
+                self.assertTrue(printed.startswith(first), printed)

@@ -11,13 +11,13 @@ from typing import TYPE_CHECKING, Any, Callable, Iterator, NoReturn, Sequence
 
 from groute import start
 from groute.options import Status
-from groute.texts.files import MOST_LETTERS, Fault, one_line
+from groute.texts.files import ENDING, MOST_LETTERS, Fault, one_line
 
 if TYPE_CHECKING:
     from groute.texts.designs import Netlist
 
 TOOLS = os.path.dirname(os.path.dirname(os.path.realpath(__file__)))    # the folder of the scripts
-ENDING = (signal.SIGINT, signal.SIGTERM, signal.SIGHUP)
+NO_MEMORY = "there isn't enough memory"
 SHOWN = 5       # names of nets in a line
 
 
@@ -30,12 +30,23 @@ class Ended(BaseException):
 
 
 class Parser(argparse.ArgumentParser):
-    """A parser of words that says in one line what is wrong with them."""
+    """A parser of words that says in one line what is wrong with them, or lets another one tell it."""
+    teller: "Parser | None" = None
 
     def error(self, message: str) -> NoReturn:
         """Ends with the usage and a line."""
-        self.print_usage(sys.stderr)
-        self.exit(Status.WORDS, f"{one_line(f'{self.prog}: error: {message}')}\n")
+        if self.teller is not None:
+            self.teller.error(message)
+        try:
+            sys.stderr.write(f"{self.format_usage()}{one_line(f'{self.prog}: error: {message}')}\n")
+            sys.stderr.flush()
+        except OSError:
+            pass    # nobody reads it
+        sys.exit(Status.WORDS)
+
+    def print_help(self, file: Any = None) -> None:
+        """Writes the help; a fault of that is told."""
+        (file or sys.stdout).write(self.format_help())
 
 
 def parser(doc: str | None) -> Parser:
@@ -107,23 +118,23 @@ def done(name: str, words: Sequence[str]) -> int:
 def ended(name: str, words: Sequence[str]) -> int:
     """The same, but for what ends by a signal."""
     try:
-        status: int | None = importlib.import_module(f"groute.commands.{name}").main(words)
+        status = status_of(importlib.import_module(f"groute.commands.{name}").main, words)
         sys.stdout.flush()
-        return status or Status.DONE
+        return status
     except BrokenPipeError:
         raise
     except Fault as fault:
         for line in fault.args:
             say(name, line)
     except MemoryError:
-        say(name, "there isn't enough memory")
+        say(name, NO_MEMORY)
     except OSError as fault:
         say(name, f"{fault.filename}: {fault.strerror}" if fault.filename else fault.strerror or str(fault))
     except ImportError as fault:
         from importlib.util import find_spec
         lacking = [module for module in start.PACKAGES if find_spec(module) is None]
         if not lacking:
-            say(name, told(fault))
+            say(name, NO_MEMORY if "failed to map" in str(fault) else told(fault))
         else:
             start.again(*lacking)
             say(name, start.lacks(*lacking))
@@ -131,6 +142,14 @@ def ended(name: str, words: Sequence[str]) -> int:
         say(name, told(fault))
     closed()
     return Status.FAULT
+
+
+def status_of(main: Callable[[Sequence[str]], int | None], words: Sequence[str]) -> int:
+    """How a command ends, be it by its parser of words."""
+    try:
+        return main(words) or Status.DONE
+    except SystemExit as end:
+        return end.code if isinstance(end.code, int) else Status.DONE
 
 
 def told(fault: Exception) -> str:

@@ -1,5 +1,6 @@
 """What a script imports first: it finds a python that has what is wanted. Older pythons can read this file."""
 import os
+import signal
 import sys
 
 OLDEST = (3, 10)
@@ -12,6 +13,9 @@ is_again = os.environ.pop(AGAIN, None) is not None
 
 def run(name: str) -> None:
     """Runs the command of this name by the words of this process, and ends with its status."""
+    if signal.getsignal(signal.SIGINT) is signal.default_int_handler:
+        signal.signal(signal.SIGINT, signal.SIG_DFL)    # so that an interrupt is silent while modules are read
+    open_streams()
     if sys.version_info < OLDEST:
         again()
         own, oldest = (".".join(map(str, version[:2])) for version in (sys.version_info, OLDEST))
@@ -22,6 +26,18 @@ def run(name: str) -> None:
     from groute import frame
     gc.set_threshold(CONTAINERS)
     sys.exit(frame.done(name, sys.argv[1:]))
+
+
+def open_streams() -> None:
+    """Opens those of the three streams that are closed, so that no file gets their numbers: nothing can be read there,
+    standard error is written for nobody, and a write on standard output fails."""
+    for number, (name, mode) in enumerate((("stdin", "r"), ("stdout", "w"), ("stderr", "w"))):
+        try:
+            os.fstat(number)
+        except OSError:
+            os.set_inheritable(os.open(os.devnull, os.O_WRONLY if name == "stderr" else os.O_RDONLY), True)
+        if getattr(sys, name) is None:
+            setattr(sys, name, open(number, mode, closefd=False))
 
 
 def again(*modules: str) -> None:

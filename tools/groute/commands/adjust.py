@@ -55,5 +55,5 @@ def main(words: Sequence[str]) -> None:
     if asked.output is None:
         sys.stdout.writelines(f"{line}\n" for line in lines(design, capacity))
         return
-    with Outputs([asked.design]) as outputs:
+    with Outputs([asked.design, asked.names]) as outputs:
         outputs.lines(asked.output, lines(design, capacity))

@@ -27,7 +27,7 @@ from groute.texts.bounds import bounds_in
 from groute.texts.designs import EAST, Cell, Netlist
 from groute.texts.files import Fault, Outputs
 from groute.texts.names import Terms, names_beside
-from groute.texts.reports import buffer_of, buffered, check_report
+from groute.texts.reports import buffer_of, buffered, check_report, first_fault
 from groute.texts.tokens import Tokens
 
 
@@ -93,7 +93,10 @@ def checked(asked: Namespace, design: Netlist, terms: Terms) -> None:
 def buffers(asked: Namespace, design: Netlist) -> list[Cell]:
     """The cells of the buffers that are asked for."""
     tokens = (some for id_, _, some in buffered(design, asked.buffers) if asked.net in (None, id_))
-    return [buffer_of(design, *pair)[0] for some in tokens for pair in zip(some[::2], some[1::2])]
+    try:
+        return [buffer_of(design, *pair)[0] for some in tokens for pair in zip(some[::2], some[1::2])]
+    except Fault as fault:
+        raise first_fault(design, asked.buffers) or fault from None
 
 
 def draw(asked: Namespace, edges: Counted, outputs: Outputs, terms: Terms) -> None:
@@ -121,7 +124,7 @@ def main(words: Sequence[str]) -> int:
         check_report(asked.buffers, design.routed, edges.overflow(), edges.vias)
     if asked.output:
         inputs = [asked.design, asked.solution, asked.buffers, asked.bound, asked.tracks, asked.names]
-        with Outputs(filter(None, inputs)) as outputs:
+        with Outputs(inputs) as outputs:
             if asked.output.endswith(".csv"):
                 write_table(edges, asked.output, outputs, asked.layer, terms)
             else:

@@ -39,7 +39,7 @@ from groute.placed.lef_text import Lef
 from groute.placed.liberty import Liberty
 from groute.placed.library_text import library_text
 from groute.placed.statements import Notes, number
-from groute.texts.files import Outputs
+from groute.texts.files import BESIDE, Outputs
 
 
 def adjustment(word: str) -> tuple[str, Fraction]:
@@ -83,9 +83,10 @@ def parser() -> frame.Parser:
     return words
 
 
-def asked_of(words: Sequence[str]) -> Namespace:
-    """What is asked for."""
+def asked_of(words: Sequence[str], teller: frame.Parser | None = None) -> Namespace:
+    """What is asked for; another parser, where it hands the words on, tells what is wrong."""
     reader = parser()
+    reader.teller = teller
     asked = reader.parse_args(words)
     if not asked.liberty and (asked.kinds or not asked.driver.isdecimal()):
         reader.error("--kinds, and a cell for --driver, want --liberty")
@@ -96,15 +97,15 @@ def main(words: Sequence[str]) -> None:
     """Reads the DEF and writes the texts."""
     asked, notes = asked_of(words), Notes("def_to_ispd")
     with Outputs([asked.placed, asked.lef, *asked.lefs, *asked.liberty]) as outputs:
-        for path in [asked.design, *([asked.library] if asked.library else [])]:
-            outputs.check(path)     # before what takes long
+        beside = [f"{asked.design}{end}" for end in BESIDE]
+        outputs.check(asked.design, asked.library, *beside)     # before what takes long
         placed = Def(asked.placed, notes)
         lef = Lef([asked.lef, *asked.lefs], placed.units, notes)
         chip = Chip(placed, lef, asked.tile, asked.layers, asked.adjust, asked.keep_supply)
         liberty = Liberty(asked.liberty) if asked.liberty else None
         outputs.lines(asked.design, design_text(chip))
         if not os.path.exists(asked.design) or os.path.isfile(asked.design):    # and no pipe or terminal
-            outputs.lines(f"{asked.design}.names", names_of(chip, liberty).lines())
-            outputs.lines(f"{asked.design}.pins", pins_text(chip))
+            outputs.lines(beside[0], names_of(chip, liberty).lines())
+            outputs.lines(beside[1], pins_text(chip))
         if asked.library:
             outputs.lines(asked.library, library_text(chip, liberty, asked))

@@ -14,6 +14,7 @@ from groute.loads.differences import AFTER, BEFORE, GROUPS, Differences, Group, 
 from groute.show import tables
 from groute.texts import objects
 from groute.texts.designs import Netlist
+from groute.texts.solutions import unjoined_first
 from groute.texts.tokens import Tokens
 
 HEAD = ["", "nets", "wirelength", "after", "vias", "after", "overflow", "after"]
@@ -90,5 +91,5 @@ def main(words: Sequence[str]) -> int:
     if asked.json:
         sys.stdout.write(objects.text_of("differ", answer(found)))
     else:
-        sys.stdout.writelines(f"{line}\n" for line in printed(found, asked.worst))
+        sys.stdout.writelines(f"{line}\n" for line in (*unjoined_first(found.unjoined), *printed(found, asked.worst)))
     return frame.tell_unjoined("differ", design, found.unjoined)

@@ -42,6 +42,8 @@ from argparse import Namespace
 from typing import IO, Any, Iterator, Sequence
 
 from groute import frame, start
+from groute.commands import def_to_ispd
+from groute.commands.required import nanoseconds
 from groute.explained import Ended, explained, program_of
 from groute.options import RANGES, Status, values
 from groute.show import tables
@@ -52,7 +54,7 @@ from groute.texts.figures import NANOSECOND, Figures, object_of, read_figures, r
 from groute.texts.files import Fault, Outputs
 from groute.texts.reports import kept_in
 from groute.texts.tokens import Tokens
-from groute.timing import closing
+from groute.timing import closing, sta
 
 # Passed on to def_to_ispd.py, and how many words stand behind each.
 PASSED = {"--tile": 2, "--layers": 1, "--adjust": 1, "--kinds": 1, "--driver": 1, "--sink": 1, "--kind": 4, "--via": 2,
@@ -64,6 +66,7 @@ WRITTEN = ("design.ispd", "design.ispd.names", "design.ispd.pins", "design.libra
 # Of each placement that is routed.
 OF_RUN = ("design.ispd", "design.library", "given.solution", "routes.solution", "report.txt")
 FOLDERS = (closing.BEST, *(f"run{number}" for number in range(1, closing.RUNS + 1)))
+IN_FOLDERS = {*OF_RUN, *closing.FILES.values(), "design.ispd.names", "design.ispd.pins"}
 MOST_ROUNDS = RANGES["ROUNDS"][1]
 RULE = "near"           # the one that leaves least overflow
 OVERFULL_ROUNDS = 16    # where no routes are without overflow
@@ -141,19 +144,28 @@ def called(program: str) -> bool:
 
 def prepare(asked: Namespace, paths: dict[str, str]) -> None:
     """Checks the inputs, and removes what an earlier run wrote."""
+    if asked.sta and not sta.is_there():
+        raise Fault(sta.LACKS)
     inputs = [asked.placed, *asked.lef, *asked.liberty, *filter(None, [asked.verilog, asked.sdc]), *earlier(asked)]
     for path in inputs:
         with open(path, "rb"):
             pass
     os.makedirs(asked.output, exist_ok=True)
+    folders = [os.path.join(asked.output, name) for name in FOLDERS]
+    written = [*paths.values(), *(os.path.join(folder, name) for folder in folders for name in IN_FOLDERS)]
     with Outputs(inputs) as outputs:
-        for path in paths.values():
-            outputs.check(path)
-    for path in paths.values():
+        outputs.check(*written)
+    for folder in filter(os.path.lexists, folders if asked.sta else ()):
+        if not (os.path.isdir(folder) and IN_FOLDERS.issuperset(os.listdir(folder))):
+            raise Fault(f"{folder} has what no run wrote")
+    for path in written:
         if os.path.isfile(path):
             os.unlink(path)
-    for name in FOLDERS:
-        shutil.rmtree(os.path.join(asked.output, name), ignore_errors=True)
+    for folder in folders:
+        try:
+            os.rmdir(folder)
+        except OSError:
+            pass    # it isn't there, or has more
 
 
 def earlier(asked: Namespace) -> list[str]:
@@ -190,10 +202,13 @@ def steps(asked: Namespace) -> tuple[int, str]:
 
 def make_design(asked: Namespace, placed: str, paths: dict[str, str]) -> None:
     """Writes design and library of a placement."""
-    words = [placed, asked.lef[0], paths["design.ispd"], paths["design.library"], "--scale", str(asked.scale)]
-    words += [word for lef in asked.lef[1:] for word in ("--lef", lef)]
-    words += [word for liberty in asked.liberty for word in ("--liberty", liberty)] + asked.passed
-    tool("def_to_ispd.py", *words)
+    tool("def_to_ispd.py", placed, asked.lef[0], paths["design.ispd"], paths["design.library"], *design_words(asked))
+
+
+def design_words(asked: Namespace) -> list[str]:
+    """The options of that."""
+    words = ["--scale", str(asked.scale), *(word for lef in asked.lef[1:] for word in ("--lef", lef))]
+    return [*words, *(word for liberty in asked.liberty for word in ("--liberty", liberty)), *asked.passed]
 
 
 def timed(groute: str, asked: Namespace, least: int, paths: dict[str, str]) -> str:
@@ -338,7 +353,7 @@ def parser() -> frame.Parser:
     words.add_argument("--scale", type=frame.number(1), default=100, metavar="N",
                        help="of the library's numbers; else 100")
     words.add_argument("--sta", action="store_true", help="goes on by OpenSTA's slacks")
-    words.add_argument("--period", metavar="NS", help="of the clock, in nanoseconds")
+    words.add_argument("--period", type=nanoseconds, metavar="NS", help="of the clock, in nanoseconds")
     words.add_argument("--clock", metavar="PORT", help="where it begins")
     words.add_argument("--sdc", metavar="FILE", help="constraints, in the place of a clock")
     words.add_argument("--verilog", metavar="NETLIST", help="a flat netlist of the placement, in the place of its own")
@@ -363,6 +378,7 @@ def asked_of(words: Sequence[str]) -> Namespace:
     check_timing(reader, asked)
     asked.passed = [part for word in PASSED for given in getattr(asked, word[2:].replace("-", "_"))
                     for part in (word, *given)]
+    def_to_ispd.asked_of(["-", "-", "-", "-", *design_words(asked)], reader)
     return asked
 
 

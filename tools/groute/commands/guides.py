@@ -14,7 +14,7 @@ from groute.placed.statements import Notes
 from groute.texts.designs import Cell
 from groute.texts.files import Fault, Outputs
 from groute.texts.names import names_beside
-from groute.texts.solutions import Ends, has_joined, records, runs_of, unjoined_without
+from groute.texts.solutions import Ends, first_fault, has_joined, records, runs_of, unjoined_without
 from groute.texts.tiled import Tiled
 
 Line = tuple[int, int]      # the layer, and the row or column
@@ -70,8 +70,11 @@ def guides(design: Tiled, solution: str, layers: Sequence[str], unjoined: list[i
     ids, ends_of = [], Ends(design).of
     for id_, segments in records(design, solution):
         ids.append(id_)
-        ends = ends_of(segments)
-        found = boxes(design, id_, ends)
+        try:
+            ends = ends_of(segments)
+            found = boxes(design, id_, ends)
+        except Fault as fault:
+            raise first_fault(design, solution) or fault from None
         if not has_joined(design.pin_cells(id_), runs_of(design, ends)):
             unjoined.append(id_)
         yield design.names[id_]
@@ -106,6 +109,6 @@ def main(words: Sequence[str]) -> int:
     if len(layers) != design.layers:
         raise Fault(f"the LEF has {len(layers)} routing layers, and the design {design.layers}")
     unjoined: list[int] = []
-    with Outputs(filter(None, [asked.design, asked.solution, asked.lef, asked.names])) as outputs:
+    with Outputs([asked.design, asked.solution, asked.lef, asked.names]) as outputs:
         outputs.lines(asked.guides, guides(design, asked.solution, layers, unjoined))
     return frame.tell_unjoined("guides", design, unjoined)

@@ -114,7 +114,8 @@ def main(words: Sequence[str]) -> int:
     for region in regions:
         kept = set(chosen([id_ for id_, _ in region.nets], terms, asked.nets))
         region.nets = [(id_, count) for id_, count in region.nets if id_ in kept]
-    with Outputs(filter(None, [asked.design, asked.solution, asked.names])) as outputs:
+    with Outputs([asked.design, asked.solution, asked.names]) as outputs:
+        outputs.check(asked.csv, asked.openroad, asked.klayout)
         if asked.csv:
             write_table(regions, design, terms, asked.csv, outputs)
         if asked.openroad or asked.klayout:

@@ -25,7 +25,7 @@ from groute.placed.def_text import Def
 from groute.placed.lef_text import Lef
 from groute.placed.liberty import Liberty
 from groute.placed.statements import Notes, number
-from groute.texts.files import OWN, Fault, Outputs, text_of
+from groute.texts.files import OWN, Fault, Outputs, open_text, text_of
 from groute.texts.names import names_beside
 from groute.texts.pins import pins_beside
 from groute.texts.slacks import read_slacks
@@ -99,7 +99,7 @@ class Work:
             slacks, below = read_slacks(asked.slack), asked.below or 0
             found |= slacks.clocks | {id_ for id_ in self.design.ids if slacks.times.get(id_, below) >= below}
         if asked.keep:
-            with open(asked.keep, encoding="utf-8", errors="surrogateescape") as file:
+            with open_text(asked.keep) as file:
                 kept = file.read().split()
             if lacking := [name for name in kept if name not in ids]:
                 raise Fault(f"{asked.keep}: the design has no net {lacking[0]}")
@@ -158,17 +158,16 @@ class Work:
             raise taken_out.differs("its components")
 
 
-def main(words: Sequence[str]) -> None:
+def main(words: Sequence[str]) -> int:
     """Reads all and writes what is asked for."""
     reader = parser()
     asked = reader.parse_args(words)
     if asked.below is not None and not asked.slack:
         reader.error("--below wants --slack")
     inputs = [asked.placed, asked.design, asked.solution, asked.report, *asked.lef, *asked.liberty, asked.slack,
-              asked.keep, asked.verilog and asked.verilog[0]]
-    with Outputs(filter(None, inputs)) as outputs:
-        for path in (asked.output, *(asked.verilog or ())[1:], *filter(None, [asked.eco])):
-            outputs.check(path)     # before what takes long
+              asked.keep, asked.verilog and asked.verilog[0], asked.pins, asked.names]
+    with Outputs(inputs) as outputs:
+        outputs.check(asked.output, *(asked.verilog or ())[1:], asked.eco)      # before what takes long
         work = Work(asked)
         text = work.edited()
         work.check(text)
@@ -182,6 +181,7 @@ def main(words: Sequence[str]) -> None:
         if asked.eco:
             outputs.lines(asked.eco, script(named, work.liberty))
     tell(work)
+    return frame.tell_unjoined("insert", work.design, work.insertion.unjoined)
 
 
 def tell(work: Work) -> None:
@@ -196,5 +196,7 @@ def tell(work: Work) -> None:
         frame.say("insert", f"{len(work.sites.overlaps) - frame.SHOWN:,} more cells lie on others")
     area = sum(work.chip.lef.macros[kind.name].width * work.chip.lef.macros[kind.name].height
                for kind in work.cells.values()) / work.placed.units ** 2
+    if work.insertion.unjoined:
+        print(f"unjoined {len(work.insertion.unjoined)}")
     print(f"buffers {len(work.cells)}\nnets {len(work.insertion.changes)}\narea {area:.10g}\n"
           f"fillers removed {len(work.sites.removed)}\noverlaps {len(work.sites.overlaps)}")

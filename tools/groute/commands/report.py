@@ -60,7 +60,7 @@ def main(words: Sequence[str]) -> int:
     text = pages.text_of(routes, asked)
     inputs = [asked.design, asked.solution, asked.library, asked.report, asked.bound, asked.names, asked.slack,
               *(asked.timing or ()), *asked.before]
-    with Outputs(filter(None, inputs)) as outputs:
+    with Outputs(inputs) as outputs:
         outputs.text(asked.output).write(text)
     before = asked.before
     print(objects.text_of("report", routes.answer(before)).rstrip() if asked.json else routes.verdict(before))

@@ -13,24 +13,28 @@ nothing constrains gets the greatest time that a library takes.
 An error or a warning of sta is a fault here, but for what it warns of liberty files.
 """
 import argparse
-from typing import Callable, Sequence
+import os
+import sys
+from typing import Callable, Iterator, Sequence
 
 from groute import frame
 from groute.placed.liberty import Liberty
 from groute.placed.statements import number
 from groute.texts.designs import Netlist
+from groute.texts.figures import Figures
 from groute.texts.files import Fault, Outputs
+from groute.texts.libraries import MOST_TIME
 from groute.texts.names import names_beside
 from groute.texts.pins import Pins, pins_beside
-from groute.texts.solutions import routes
+from groute.texts.slacks import Slacks
 from groute.texts.tokens import Tokens
 from groute.timing import sta
-from groute.timing.delays import MOST_TIME, Model
+from groute.timing.delays import Model
 from groute.timing.naming import Name, own
 from groute.timing.slacks import (CHIP, NANOSECOND, PINS, Timed, by_period, clock_port, clocks_before, figures,
                                   limits_of, pins_of, sinks_of, table)
 from groute.timing.spef import Names
-from groute.timing.trees import Tree
+from groute.timing.trees import Tree, trees_of
 from groute.timing.verilog import Verilog
 
 
@@ -72,10 +76,21 @@ def cells_of(netlist: Verilog) -> Callable[[str], str]:
     return lambda component: cells.get(own(component), "")
 
 
+def told(asked: argparse.Namespace, design: Netlist, pins: Pins, names: Names, netlist: Verilog) -> list[str]:
+    """What sta answers."""
+    with sta.folder_for_texts() as folder:
+        given = [asked.netlist, asked.spef, *([asked.sdc] if asked.sdc else []), *asked.liberty]
+        read = [sta.plain(path, folder) for path in given]
+        liberty = read[-len(asked.liberty):]
+        lines = sta.reading(liberty, read[0], netlist.name, read[1])
+        lines += [f"read_sdc {sta.word(os.path.abspath(read[2]))}"] if asked.sdc else \
+            constraints(asked, design, pins, names, netlist)
+        copies = {copy: path for copy, path in zip(read, given) if copy != path}
+        return sta.answer([*lines, *PINS.splitlines(), *CHIP.splitlines()], liberty, copies)
+
+
 def constraints(asked: argparse.Namespace, design: Netlist, pins: Pins, names: Names, netlist: Verilog) -> list[str]:
-    """The lines that constrain."""
-    if asked.sdc:
-        return [f"read_sdc {sta.word(asked.sdc)}"]
+    """The lines that constrain by a clock."""
     ports: list[Name] = []
     if asked.clock:
         ports = [clock_port(names, asked.clock)]
@@ -86,36 +101,35 @@ def constraints(asked: argparse.Namespace, design: Netlist, pins: Pins, names: N
     return list(by_period(asked.period, ports))
 
 
-def times(model: Model, design: Netlist, solution: str, sinks: dict[int, list[Timed]], scale: int
+def times(model: Model, trees: dict[int, Tree], sinks: dict[int, list[Timed]], scale: int
           ) -> dict[tuple[int, int], int]:
     """The times of all sinks, by net's id and pin."""
     found = {(id_, pin): MOST_TIME for id_, some in sinks.items() for pin in range(1, len(some))}
-    for id_, runs in routes(design, solution):
-        halves = model.halves(id_, Tree(design, id_, runs))
-        for pin, (half, timed) in enumerate(zip(halves, sinks[id_][1:]), 1):
+    for id_, tree in trees.items():
+        for pin, (half, timed) in enumerate(zip(model.halves(id_, tree), sinks[id_][1:]), 1):
             if half is not None and timed.slack is not None:
                 found[id_, pin] = (2 * timed.slack * scale ** 2 + half) // 2
     return found
 
 
-def main(words: Sequence[str]) -> None:
+def main(words: Sequence[str]) -> int:
     """Asks OpenSTA and writes the table, and the library."""
     reader = parser()
     asked = reader.parse_args(words)
     if (asked.period is None) == (asked.sdc is None) or asked.sdc and asked.clock:
         reader.error("either --period, with or without --clock, or --sdc is due")
-    inputs = [asked.design, asked.library, asked.solution, asked.netlist, asked.spef, *asked.liberty, asked.sdc]
-    with Outputs(filter(None, inputs)) as outputs:
-        outputs.check(asked.output)     # before what takes long
+    inputs = [asked.design, asked.library, asked.solution, asked.netlist, asked.spef, *asked.liberty, asked.sdc,
+              asked.pins, asked.names]
+    with Outputs(inputs) as outputs:
+        outputs.check(asked.output, asked.written, asked.figures)       # before what takes long
         design = Netlist(Tokens(asked.design))
         pins = pins_beside(asked.design, asked.pins)
         pins.check(design)
         netlist = Verilog(asked.netlist)
         names = Names(design, pins, netlist)
-        lines = sta.reading(asked.liberty, asked.netlist, netlist.name, asked.spef)
-        lines += [*constraints(asked, design, pins, names, netlist), *PINS.splitlines(),
-                  *CHIP.splitlines()]
-        answer = sta.answer(lines, asked.liberty)
+        model = Model(asked.library, design.layers)
+        trees, unjoined = trees_of(design, asked.solution)
+        answer = told(asked, design, pins, names, netlist)
         nets = {id_: pins.nets[id_] for id_ in design.ids}
         sinks = dict(sinks_of(nets, names, pins_of(answer)))
         found = table(sinks)
@@ -127,10 +141,18 @@ def main(words: Sequence[str]) -> None:
         if asked.figures:
             outputs.lines(asked.figures, chip.lines())
         if asked.written:
-            model = Model(asked.library)
-            outputs.lines(asked.written, model.lines(times(model, design, asked.solution, sinks, asked.scale)))
+            outputs.lines(asked.written, model.lines(times(model, trees, sinks, asked.scale)))
+    sys.stdout.writelines(f"{line}\n" for line in printed(found, chip, len(unjoined)))
+    return frame.tell_unjoined("required", design, unjoined)
+
+
+def printed(found: Slacks, chip: Figures, unjoined: int) -> Iterator[str]:
+    """The lines of the answer."""
+    if unjoined:
+        yield f"unjoined {unjoined}"
     late = sum(time < 0 and id_ not in found.clocks for id_, time in found.times.items())
-    print(f"worst slack, ns {chip.worst / NANOSECOND:.4f}\ntotal negative slack, ns {chip.total / NANOSECOND:.4f}\n"
-          f"worst hold slack, ns {chip.hold / NANOSECOND:.4f}\nnets over max_transition {chip.transition}\n"
-          f"nets over max_capacitance {chip.capacitance}\nnets late {late}\nnets free {len(found.free)}\n"
-          f"nets of clocks {len(found.clocks)}")
+    for says, time in (("worst", chip.worst), ("total negative", chip.total), ("worst hold", chip.hold)):
+        yield f"{says} slack, ns {time / NANOSECOND:.4f}"
+    for says, count in (("over max_transition", chip.transition), ("over max_capacitance", chip.capacitance),
+                        ("late", late), ("free", len(found.free)), ("of clocks", len(found.clocks))):
+        yield f"nets {says} {count}"

@@ -25,6 +25,7 @@ from groute.texts.libraries import Library
 from groute.texts.names import Terms, chosen, names_beside
 from groute.texts.reports import buffered, check_report
 from groute.texts.slacks import Slacks, read_slacks
+from groute.texts.solutions import unjoined_first
 from groute.texts.tokens import Tokens
 
 HALVES, FEMTOSECONDS = 2000, 1000   # half femtoseconds, and femtoseconds, a picosecond
@@ -174,7 +175,7 @@ def main(words: Sequence[str]) -> int:
     asked = parser().parse_args(words)
     design = Netlist(Tokens(asked.design))
     terms = Terms(design, names_beside(asked.design, asked.names))
-    library = Library(Tokens(asked.library))
+    library = Library(asked.library)
     timed = {net[0]: Timed(*net) for net in buffered(design, asked.report)}
     slacks = read_slacks(asked.slack) if asked.slack else None
     nets = sorted((timed[id_] for id_ in chosen(timed, terms, asked.nets, slacks.clocks if slacks else ())),
@@ -190,7 +191,8 @@ def main(words: Sequence[str]) -> int:
     sizes = dict(zip(edges.ids, zip(*(some.tolist() for some in edges.sizes()))))
     said = asked, nets, design, library, sizes, terms, slacks
     if asked.json:
-        sys.stdout.write(objects.text_of("slowest", answer(*said)))
+        found = {"unjoined_nets": len(edges.unjoined), **answer(*said)}
+        sys.stdout.write(objects.text_of("slowest", found))
     else:
-        sys.stdout.writelines(f"{line}\n" for line in printed(*said))
+        sys.stdout.writelines(f"{line}\n" for line in (*unjoined_first(edges.unjoined), *printed(*said)))
     return frame.tell_unjoined("slowest", design, edges.unjoined)

@@ -37,19 +37,19 @@ def parser() -> frame.Parser:
 def main(words: Sequence[str]) -> int:
     """Reads the texts and writes the parasitics."""
     asked = parser().parse_args(words)
-    inputs = [asked.design, asked.library, asked.solution, asked.verilog, asked.pins or f"{asked.design}.pins"]
-    with Outputs(filter(None, inputs)) as outputs:
+    inputs = [asked.design, asked.library, asked.solution, asked.verilog, asked.pins]
+    with Outputs(inputs) as outputs:
         outputs.check(asked.output)     # before what takes long
         design = Netlist(Tokens(asked.design))
         pins = pins_beside(asked.design, asked.pins)
         pins.check(design)
         names = Names(design, pins, Verilog(asked.verilog) if asked.verilog else None)
-        found = Parasitics(design, pins, Library(Tokens(asked.library)), asked.scale, names)
+        found = Parasitics(design, pins, Library(asked.library, design.layers), asked.scale, names)
         outputs.lines(asked.output, found.lines(asked.solution))
     without = [id_ for id_ in found.unrouted if design.widths[id_] is None]
     for id_ in without[:frame.SHOWN]:
         frame.say("spef", f"the net {design.names[id_]} has no routes and is left out")
     if len(without) > frame.SHOWN:
         frame.say("spef", f"{len(without) - frame.SHOWN:,} more nets have no routes and are left out")
-    lacking = [id_ for id_ in found.unrouted if design.widths[id_] is not None]
-    return frame.tell_unjoined("spef", design, lacking + found.unjoined)
+    unjoined = found.unjoined + [id_ for id_ in found.unrouted if design.widths[id_] is not None]
+    return frame.tell_unjoined("spef", design, sorted(unjoined, key=design.places.__getitem__))

@@ -15,7 +15,7 @@ from typing import Iterator, Sequence
 
 from groute import frame
 from groute.texts.designs import EAST, MOST_DIGITS, NORTH, UP, Cell
-from groute.texts.files import Fault, Outputs
+from groute.texts.files import Fault, Outputs, open_text
 from groute.texts.names import Names, names_beside
 from groute.texts.tiled import Tiled
 
@@ -56,7 +56,7 @@ class Known(Tiled):
 
 def blocks(path: str) -> Iterator[tuple[str, list[list[str]], int]]:
     """Of each net of the routes: its name, and the words of each of its lines, with the number of the first."""
-    with open(path, encoding="utf-8", errors="surrogateescape") as file:
+    with open_text(path) as file:
         name: str | None = None
         lines: list[list[str]] | None = None
         first = 0
@@ -219,7 +219,7 @@ def main(words: Sequence[str]) -> None:
     asked = parser().parse_args(words)
     design = Known(asked.design, names_beside(asked.design, asked.names))
     found, dropped = solution(design, asked.routes)
-    with Outputs(filter(None, [asked.design, asked.routes, asked.names])) as outputs:
+    with Outputs([asked.design, asked.routes, asked.names]) as outputs:
         outputs.lines(asked.solution, text_of(design, found))
     # Lines of their own, which scripts read.
     print(f"nets {len(found)}\ndropped edges {dropped}", file=sys.stderr)

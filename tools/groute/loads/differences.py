@@ -6,7 +6,7 @@ from typing import Iterator, NamedTuple
 from groute.loads.edges_plain import capacity_of, lower_cells, number_of
 from groute.texts.designs import EAST, NORTH, UP, Netlist
 from groute.texts.files import Fault
-from groute.texts.solutions import Ends, has_joined, named_records, straight
+from groute.texts.solutions import Ends, first_fault, has_joined, named_records, straight
 
 GROUPS = ("new", "gone", "same", "other")
 BEFORE, AFTER = range(2)
@@ -57,7 +57,8 @@ class Differences:
         try:
             return straight(self.design, self.ends.of(self.records[side].get(name, [])))
         except Fault as fault:
-            raise Fault(f"{self.paths[side]}: of the net {name}: {fault}") from None
+            told = first_fault(self.design, self.paths[side], name) or fault
+            raise Fault(f"of the net {name}: {told}") from None
 
     def edges(self, name: str) -> tuple[Edges, Edges]:
         """The edges of a net in both routes."""

@@ -67,13 +67,13 @@ def panels(path: str) -> list[Panel]:
     return found
 
 
-def uses(design: Design, panel: Panel, pitch: int) -> Iterator[Use]:
+def uses(design: Design, panel: Panel, pitch: int, path: str) -> Iterator[Use]:
     """Tile after tile, the runs there and the tracks that it holds."""
     count = design.columns if panel.way == EAST else design.rows
     change = [0] * (count + 1)
     for first, last in panel.runs:
         if not 0 <= first <= last < count:
-            raise Fault(f"the design has no {WORDS[panel.way]} with the tiles {first} to {last}")
+            raise Fault(f"{path}: the design has no {WORDS[panel.way]} with the tiles {first} to {last}")
         change[first] += 1
         change[last + 1] -= 1
     stated = design.capacity[panel.way][panel.layer]
@@ -98,7 +98,7 @@ def rows(design: Design, path: str, terms: Terms) -> list[list[str | int]]:
         if not pitch:
             table.append((-1, [*place, panel.tracks, "-", "-", panel.at]))
             continue
-        fullest = max(uses(design, panel, pitch), key=Use.share)
+        fullest = max(uses(design, panel, pitch, path), key=Use.share)
         percent: str | int = round(100 * fullest.share()) if fullest.holds else "-"
         table.append((fullest.share(), [*place, fullest.runs, fullest.holds, percent, fullest.tile]))
     table.sort(key=lambda row: -row[0])

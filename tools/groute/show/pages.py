@@ -20,7 +20,7 @@ from groute.texts.libraries import Library
 from groute.texts.figures import read_figures, rows
 from groute.texts.files import Fault
 from groute.texts.names import Terms, names_beside
-from groute.texts.reports import Round, buffered, check_report, rounds_of, total_of, written
+from groute.texts.reports import Round, buffered, check_report, first_fault, rounds_of, total_of, written
 from groute.texts.slacks import read_slacks
 from groute.texts.solutions import unjoined_words
 from groute.texts.tokens import Tokens
@@ -78,8 +78,9 @@ class Routes:
         self.slacks = read_slacks(asked.slack) if asked.slack else None
         self.timing = [read_figures(path) for path in asked.timing or ()]
         self.rounds: list[Round] = []
+        self.report = asked.report or ""
         if asked.report:
-            library = Library(Tokens(asked.library))
+            library = Library(asked.library)
             self.kinds, self.has_times = library.kinds, library.has_times()
             check_report(asked.report, self.design.routed, self.edges.overflow(), self.edges.vias)
             for id_, required, buffers in buffered(self.design, asked.report):
@@ -228,7 +229,10 @@ def add_nets(packed: Packed, routes: Routes, ids: list[int]) -> None:
     if routes.required:
         times = routes.times()
         packed.add("required", numpy.array([times.get(id_, numpy.nan) for id_ in ids]))
-        add_buffers(packed, routes, ids)
+        try:
+            add_buffers(packed, routes, ids)
+        except Fault as fault:
+            raise first_fault(routes.design, routes.report, routes.kinds) or fault from None
 
 
 def add_buffers(packed: Packed, routes: Routes, ids: list[int]) -> None:

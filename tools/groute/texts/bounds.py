@@ -1,7 +1,7 @@
 """What grbound writes of a design: what no routes are below, and the fullest walls."""
 from dataclasses import dataclass
 
-from groute.texts.files import Fault
+from groute.texts.files import Fault, open_text
 
 FIGURES = ("overflow at least", "wirelength at least", "usable wirelength at least")
 BY_PRICES = ("overflow by prices at least", "usable wirelength without overflow at least",
@@ -71,7 +71,7 @@ def wall(line: str) -> Wall:
 
 def bounds_in(path: str) -> Bounds:
     """The bounds of a file that grbound wrote."""
-    with open(path, encoding="ascii", errors="replace") as file:
+    with open_text(path) as file:
         text = file.read()
     try:
         return bounds_of(text)

@@ -69,6 +69,8 @@ def read_figures(path: str) -> Figures:
         while (word := tokens.take(1)[0].decode(errors="replace")) != "end":
             if word == "path":
                 slack, count = tokens.numbers(2)
+                if count < 0:
+                    raise tokens.fault("how many nets the path has is due")
                 paths.append((slack, tokens.numbers(count)))
             elif word in WORDS and word not in found:
                 found[word] = tokens.number()

@@ -2,10 +2,13 @@
 import io
 import os
 import re
+import signal
 import stat
+from contextlib import contextmanager
 from types import TracebackType
 from typing import IO, Iterable, Iterator
 
+ENDING = (signal.SIGINT, signal.SIGTERM, signal.SIGHUP)     # signals that ask for the end
 MOST_LETTERS = 300      # of a line that tells a fault
 LOOKED_AT = 4096        # bytes of a text by which it is known
 GZIP, XZ, BZIP = b"\x1f\x8b", b"\xfd7zXZ\0", b"BZh"
@@ -13,6 +16,7 @@ PACKED = {GZIP: "gzip", XZ: "xz", BZIP: "bzip2", b"\x28\xb5\x2f\xfd": "zstd", b"
           b"\x1f\x9d": "compress", b"\x04\x22\x4d\x18": "lz4"}
 UTF_16 = (b"\xff\xfe", b"\xfe\xff")
 OWN = b"# written by groute"    # how a text of a chip begins that the tools wrote
+BESIDE = ".names", ".pins"  # how the names of texts end that lie beside a design
 MARK = b"\xef\xbb\xbf"  # a byte order mark of UTF-8
 # How texts of chips begin, behind blanks and comments.
 BEHIND_COMMENTS = re.compile(rb"(?:\s+|#[^\n]*\n|//[^\n]*\n|/\*.*?\*/)*", re.DOTALL)
@@ -46,6 +50,27 @@ def refuse_packed(path: str, begin: bytes) -> None:
             raise Fault(f"{path}: it is compressed by {name}, which is not read here: unpack it first")
     if begin.startswith(UTF_16):
         raise Fault(f"{path}: it is a text of UTF-16, which is not read here: write it as UTF-8")
+
+
+def open_text(path: str) -> IO[str]:
+    """A text to read, in which names are what they were as bytes; what is packed is told."""
+    file = open(path, "rb")
+    try:
+        refuse_packed(path, file.peek(len(XZ)))
+    except BaseException:
+        file.close()
+        raise
+    return io.TextIOWrapper(file, encoding="utf-8", errors="surrogateescape")
+
+
+def is_plain(path: str) -> bool:
+    """Whether a text is as `text_of` gives it. Tells of one that can't be read."""
+    with open(path, "rb") as file:
+        begin = file.read(len(XZ))
+    if begin.startswith((GZIP, XZ, MARK)):
+        return False
+    refuse_packed(path, begin)
+    return True
 
 
 def text_of(path: str) -> str:
@@ -104,10 +129,10 @@ def first_unpacked(begin: bytes) -> bytes:
 
 class Outputs:
     """Files that are written together: beside their names, and renamed when all are whole. What isn't a regular file,
-    as a device or a pipe, is written as it is."""
+    as a device or a pipe, is written as it is. Inputs are read, and what lies beside them."""
 
-    def __init__(self, inputs: Iterable[str] = ()) -> None:
-        self.inputs = list(inputs)
+    def __init__(self, inputs: Iterable[str | None] = ()) -> None:
+        self.inputs = list(filter(None, inputs))
         self.files: list[IO[bytes]] = []
         self.names: list[str] = []
         self.renamed: list[tuple[str, str]] = []    # from the name beside to the name that is asked for
@@ -117,7 +142,7 @@ class Outputs:
 
     def binary(self, path: str) -> IO[bytes]:
         """A file of bytes under this name."""
-        self.check(path)
+        self.check(*self.names, path)
         try:
             mode = os.stat(path).st_mode
         except FileNotFoundError:
@@ -127,8 +152,8 @@ class Outputs:
         else:
             path = os.path.realpath(path)
             beside = f"{path}.{os.urandom(4).hex()}.part"
-            file = open(beside, "xb")
             self.renamed.append((beside, path))
+            file = open(beside, "xb")
             if mode is not None:
                 os.chmod(beside, stat.S_IMODE(mode))
         self.files.append(file)
@@ -147,13 +172,23 @@ class Outputs:
             lines = list(lines)     # as what is written there stays, whatever comes
         self.text(path).writelines(f"{line}\n" for line in lines)
 
-    def check(self, path: str) -> None:
-        """Refuses to write over what is read, or what begins like a text of a chip."""
+    def check(self, *paths: str | None) -> None:
+        """Refuses to write over what is read, or what begins like a text of a chip, or to write a file twice."""
+        found: set[str] = set()
+        for path in filter(None, paths):
+            self.check_one(path)
+            if os.path.realpath(path) in found:
+                raise Fault(f"{path} would be written twice")
+            if os.path.isfile(path) or not os.path.exists(path):
+                found.add(os.path.realpath(path))
+
+    def check_one(self, path: str) -> None:
+        """The same of one file."""
+        if os.path.isdir(path):
+            raise Fault(f"{path} is a folder, and a file is to be written")
         if not os.path.isfile(path):
-            if os.path.isdir(path):
-                raise Fault(f"{path} is a folder, and a file is to be written")
             return
-        for other in self.inputs:
+        for other in (f"{given}{end}" for given in self.inputs for end in ("", *BESIDE)):
             if os.path.exists(other) and os.path.samefile(path, other):
                 raise Fault(f"{path} is read, and would be written over")
         if begins_like_a_chip(path):
@@ -166,17 +201,37 @@ class Outputs:
         try:
             for name, file in zip(self.names, self.files):
                 close(file, name)
-            while self.renamed and kind is None:
-                os.replace(*self.renamed[0])
-                del self.renamed[0]
+            with held_signals():
+                while self.renamed and kind is None:
+                    os.replace(*self.renamed[0])
+                    del self.renamed[0]
         finally:
-            for file in self.files:
-                try:
-                    file.close()
-                except OSError:
-                    pass    # of which the first is told
-            for beside, _ in self.renamed:
-                os.unlink(beside)
+            try:
+                for file in self.files:
+                    close_again(file)
+            finally:
+                with held_signals():
+                    for beside, _ in self.renamed:
+                        if os.path.exists(beside):
+                            os.unlink(beside)
+
+
+@contextmanager
+def held_signals() -> Iterator[None]:
+    """Where signals that ask for the end wait until what belongs together is done."""
+    before = signal.pthread_sigmask(signal.SIG_BLOCK, ENDING)
+    try:
+        yield
+    finally:
+        signal.pthread_sigmask(signal.SIG_SETMASK, before)
+
+
+def close_again(file: IO[bytes]) -> None:
+    """Closes a file, of which a fault was told already."""
+    try:
+        file.close()
+    except OSError:
+        pass
 
 
 def close(file: IO[bytes], name: str) -> None:

@@ -1,7 +1,7 @@
 """What groute tells of routes: totals, rounds, buffers."""
 import re
 from dataclasses import dataclass
-from typing import Iterator, Sequence
+from typing import Container, Iterator, Sequence
 
 from groute.texts.designs import MOST_DIGITS, POINT, Cell, Design
 from groute.texts.files import Fault
@@ -86,7 +86,11 @@ def written(rounds: Sequence[Round]) -> int:
 def buffered(design: Design, path: str) -> Iterator[tuple[int, int, list[bytes]]]:
     """Of each net in a report's or a buffers' text: its id, its required time in half femtoseconds, and two tokens for
     each of its buffers, which `buffer_of` reads."""
-    tokens = Tokens(path)
+    yield from buffered_in(design, Tokens(path))
+
+
+def buffered_in(design: Design, tokens: Tokens) -> Iterator[tuple[int, int, list[bytes]]]:
+    """The same of the tokens of a text."""
     while (word := tokens.take(1)[0]) != b"buffers":
         if word == b"round":
             tokens.take(7)          # its number, and three words with theirs
@@ -112,3 +116,18 @@ def buffer_of(design: Design, point: bytes, kind: bytes) -> tuple[Cell, str]:
         raise Fault(f"{point.decode(errors='replace')} is no place of a buffer")
     x, y, layer = map(int, form.groups())
     return design.cell(x, y, layer), kind.decode(errors="surrogateescape")
+
+
+def first_fault(design: Design, path: str, kinds: Container[str] | None = None) -> Fault | None:
+    """Of a text with a buffer that has no place, or is of none of these kinds: which it is, and where it stands."""
+    tokens = Tokens(path)
+    for _, _, some in buffered_in(design, tokens):
+        for at in range(0, len(some), 2):
+            try:
+                kind = buffer_of(design, some[at], some[at + 1])[1]
+                if kinds is not None and kind not in kinds:
+                    raise Fault(f"the library has no kind {kind}")
+            except Fault as fault:
+                number = tokens.before + tokens.at - len(some) + at + 1
+                return Fault(f"{path}{tokens.line(number)}: token {number}: {fault}")
+    return None

@@ -1,5 +1,5 @@
 """Solutions: the routes of a design's nets, and the nets that they leave unjoined."""
-from typing import Container, Iterable, Iterator, Mapping
+from typing import Container, Iterable, Iterator, Mapping, Sequence
 
 from groute.texts.designs import Design, Netlist
 from groute.texts.files import Fault
@@ -46,12 +46,14 @@ def named_records(path: str, ids: Mapping[str, int] | None = None) -> dict[str, 
     return found
 
 
-def first_fault(design: Design, path: str) -> Fault | None:
-    """Of a solution's text with a segment that isn't one: which it is, and where it stands."""
+def first_fault(design: Design, path: str, name: str | None = None) -> Fault | None:
+    """Of a solution's text with a segment that isn't one, of any net or of one: which it is, and where it stands."""
     tokens = Tokens(path)
     while not tokens.is_ended():
-        tokens.take(2)
+        mine = tokens.take(2)[0].decode("utf-8", "surrogateescape")
         segments = tokens.until(b"!")
+        if name not in (None, mine):
+            continue
         for at, segment in enumerate(segments):
             try:
                 if at or segment.startswith(b"("):
@@ -191,3 +193,8 @@ def unjoined_without(design: Netlist, ids: Iterable[int]) -> list[int]:
 def unjoined_words(count: int) -> str:
     """How many nets are not joined, in words; nothing where all are."""
     return f"{count:,} net{'s' * (count != 1)} unjoined" if count else ""
+
+
+def unjoined_first(ids: Sequence[int]) -> list[str]:
+    """The lines before an answer, where nets are not joined."""
+    return [f"unjoined {len(ids)}", ""] if ids else []

@@ -17,12 +17,14 @@ FILES = {"design": "design.ispd", "library": "design.library", "solution": "rout
 
 @dataclass
 class Run:
-    """A placement with its netlist, and its folder; how many buffers it has more than the first, and their area."""
+    """A placement with its netlist, and its folder; how many buffers it has more than the first, and their area; and
+    whether its routes leave nets unjoined, which get no buffers."""
     folder: str
     placed: str
     netlist: str
     buffers: int = 0
     area: float = 0.0
+    has_unjoined: bool = False
     figures: Figures = field(default_factory=lambda: Figures(0, 0, 0, 0, 0))
 
     def path(self, name: str) -> str:
@@ -56,9 +58,10 @@ class Steps:
         scale = ["--scale", str(self.scale)]
         self.tool("spef.py", *run.paths("design", "library", "solution"), "-o", run.path("spef"), "--verilog",
                   run.netlist, *scale)
-        self.tool("required.py", *run.paths("design", "library", "solution"), run.netlist, run.path("spef"), "-o",
-                  run.path("slacks"), "--library", run.path("timed"), "--figures", run.path("figures"), *scale,
-                  *self.cells(with_lef=False), *self.constraints)
+        said = self.tool("required.py", *run.paths("design", "library", "solution"), run.netlist, run.path("spef"),
+                         "-o", run.path("slacks"), "--library", run.path("timed"), "--figures", run.path("figures"),
+                         *scale, *self.cells(with_lef=False), *self.constraints)
+        run.has_unjoined = said.startswith("unjoined ")
         run.figures = read_figures(run.path("figures"))
         run.figures.buffers, run.figures.area = run.buffers, round(run.area * MICRON)
         with Outputs() as outputs:
@@ -92,11 +95,11 @@ def closed(first: Run, steps: Steps) -> Run:
     steps.time(first)
     best, folders = first, []
     for number in range(1, RUNS + 1):
-        if total(best) >= 0:
+        if total(best) >= 0 or best.has_unjoined:
             break
         folders.append(os.path.join(first.folder, f"run{number}"))
         new = steps.next(best, folders[-1])
-        if new is None or total(new) <= total(best):
+        if new is None or total(new) <= total(best) or new.has_unjoined:
             break
         best = new
     for folder in folders:

@@ -1,49 +1,22 @@
 """Elmore's delays of routes without buffers, as groute counts them, and libraries with other times for sinks."""
 from typing import Iterator, Mapping
 
-from groute.texts.libraries import Library
-from groute.texts.tokens import Tokens, whole
+from groute.texts.libraries import MOST_TIME, Library
 from groute.timing.trees import Tree
 
-MOST_TIME = 1 << 50     # of a library
 
+class Model(Library):
+    """A library whose numbers make a net's delay, in its own units, and the items but sinks' to write again."""
 
-class Model:
-    """A library by its items: what a net's delay is made of, in the library's units, and the items to write again."""
+    def __init__(self, path: str, layers: int = 0) -> None:
+        self.items: list[str] = []
+        Library.__init__(self, path, layers)
 
-    def __init__(self, path: str) -> None:
-        tokens = Tokens(path)
-        with tokens.file:
-            tokens.words(b"library")
-            self.version = tokens.number()
-            self.steps: dict[int, tuple[int, int]] = {}     # by layer from 1; of vias 0
-            self.driver = self.load = 0
-            self.drivers: dict[int, int] = {}
-            self.loads: dict[tuple[int, int], int] = {}
-            self.items: list[str] = []
-            while (word := tokens.take(1)[0]) != b"end":
-                if word not in Library.SIZES:
-                    raise tokens.fault("an item of a library is due")
-                self.read(word, tokens)
-
-    def read(self, word: bytes, tokens: Tokens) -> None:
-        """An item, from behind its word on."""
-        words = tokens.take(Library.SIZES[word])
-        numbers = [whole(value) or 0 for value in words]
-        if word == b"wire":
-            self.steps[numbers[0]] = numbers[1], numbers[2]
-        elif word == b"via":
-            self.steps[0] = numbers[0], numbers[1]
-        elif word == b"driver":
-            self.driver = numbers[0]
-        elif word == b"sink":
-            self.load = numbers[0]
-        elif word == b"drive":
-            self.drivers[numbers[0]] = numbers[1]
-        elif word == b"pin":
-            self.loads[numbers[0], numbers[1]] = numbers[2]
-        if word != b"pin":
-            self.items.append(b" ".join([word, *words]).decode(errors="surrogateescape"))
+    def keep(self, word: str, name: str, numbers: list[int]) -> None:
+        """What an item says."""
+        Library.keep(self, word, name, numbers)
+        if word != "pin":
+            self.items.append(" ".join([word, *([name] if name else []), *map(str, numbers)]))
 
     def halves(self, id_: int, tree: Tree) -> list[int | None]:
         """Twice the delay to each pin of a net but its driver; None where no route leads."""

@@ -7,8 +7,8 @@ from groute.placed.liberty import Liberty
 from groute.texts.designs import Cell, Netlist
 from groute.texts.files import Fault
 from groute.texts.pins import Pin
-from groute.texts.reports import buffer_of, buffered
-from groute.texts.solutions import routes
+from groute.texts.reports import buffer_of, buffered, first_fault
+from groute.texts.solutions import has_joined, routes, unjoined_without
 from groute.timing.trees import Tree
 
 ODD = re.compile(r"[^A-Za-z0-9_]")
@@ -67,22 +67,34 @@ class Kinds:
 
 
 class Insertion:
-    """The nets that change. `left` has others that have buffers in the report, with why they stay as they are."""
+    """The nets that change. `left` has others that have buffers in the report, with why they stay as they are, and
+    `unjoined` those whose routes leave a pin unjoined."""
 
     def __init__(self, design: Netlist, pins: dict[int, list[Pin]], kinds: Kinds) -> None:
         self.design, self.pins, self.kinds = design, pins, kinds
         self.changes: list[Change] = []
         self.left: list[tuple[int, str]] = []
+        self.unjoined: list[int] = []
 
     def read(self, solution: str, report: str, without: Container[int]) -> None:
         """Parts the nets of a report at their buffers, but some."""
         found = {id_: tokens for id_, _, tokens in buffered(self.design, report) if tokens and id_ not in without}
-        for id_, runs in routes(self.design, solution, found):
-            tokens = found.pop(id_)
-            buffers = [buffer_of(self.design, *pair) for pair in zip(tokens[::2], tokens[1::2])]
-            self.part(id_, Tree(self.design, id_, runs), buffers)
+        told = set()
+        for id_, runs in routes(self.design, solution):
+            told.add(id_)
+            if id_ in found:
+                tokens = found.pop(id_)
+                try:
+                    buffers = [buffer_of(self.design, *pair) for pair in zip(tokens[::2], tokens[1::2])]
+                except Fault as fault:
+                    raise first_fault(self.design, report) or fault from None
+                self.part(id_, Tree(self.design, id_, runs), buffers)
+            elif not has_joined(self.design.pin_cells(id_), runs):
+                self.unjoined.append(id_)
         if found:
             raise Fault(f"{report}: it isn't of these routes: the net {self.design.names[next(iter(found))]} has none")
+        self.unjoined += unjoined_without(self.design, told)
+        self.unjoined.sort(key=self.design.places.__getitem__)
 
     def part(self, id_: int, tree: Tree, buffers: Sequence[tuple[Cell, str]]) -> None:
         """Parts a net."""

@@ -85,7 +85,7 @@ class Parasitics:
 
     def __init__(self, design: Netlist, pins: Pins, library: Library, scale: int, names: Names) -> None:
         self.design, self.pins, self.names = design, pins, names
-        values = [library.via, *(library.wires[layer] for layer in range(1, design.layers + 1))]
+        values = [library.steps[layer] for layer in range(design.layers + 1)]      # of vias 0
         self.ohms = [f"{resistance / scale:.6g}" for resistance, _ in values]
         self.halves = [capacitance / scale / 2 for _, capacitance in values]
         self.unrouted: list[int] = []
@@ -106,6 +106,9 @@ class Parasitics:
                     self.unrouted.append(id_)
                 else:
                     yield self.net(id_, tree)
+        if self.unrouted and len(self.unrouted) == len(self.design.ids):
+            id_ = self.unrouted.pop(0)      # as readers want a net, one without wires
+            yield self.net(id_, Tree(self.design, id_, []))
 
     def net(self, id_: int, tree: Tree) -> str:
         """The text of a net, in which a cell has the name of its first pin, if it has one."""

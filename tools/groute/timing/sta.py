@@ -4,9 +4,9 @@ import re
 import shutil
 import subprocess
 import tempfile
-from typing import Iterable, Sequence
+from typing import Iterable, Mapping, Sequence
 
-from groute.texts.files import Fault, one_line
+from groute.texts.files import Fault, is_plain, one_line, text_of
 
 PROGRAM = "sta"
 MARK, END = "groute:", "groute: end"    # how a line of the answer begins, and the last one
@@ -35,12 +35,33 @@ def reading(liberty: Sequence[str], netlist: str, module: str, spef: str | None)
     return lines
 
 
-def answer(lines: Iterable[str], passed: Sequence[str] = ()) -> list[str]:
+def folder_for_texts() -> "tempfile.TemporaryDirectory[str]":
+    """A folder that goes again, whose path sta reads."""
+    return tempfile.TemporaryDirectory(dir=None if SIMPLE.fullmatch(tempfile.gettempdir()) else "/tmp")
+
+
+def plain(path: str, folder: str) -> str:
+    """The path of a text as sta reads it: its own, or one in a folder, where that is no word of letters and digits, or
+    where the text is packed."""
+    is_read = os.path.exists(path) and not os.path.isfile(path) or is_plain(path)
+    if is_read and SIMPLE.fullmatch(os.path.abspath(path)):
+        return path
+    copy = os.path.join(folder, f"groute_text_{len(os.listdir(folder))}")
+    if is_read:
+        os.symlink(os.path.abspath(path), copy)
+        return copy
+    with open(copy, "w", encoding="utf-8", errors="surrogateescape", newline="") as file:
+        file.write(text_of(path))
+    return copy
+
+
+def answer(lines: Iterable[str], passed: Sequence[str] = (), copies: Mapping[str, str] | None = None) -> list[str]:
     """Runs a script: the lines that it puts behind MARK. It goes on after errors, warns of names that it doesn't know,
-    and ends with status 0: so each error, each warning but those of some files, and a missing end is a fault."""
+    and ends with status 0: so each error, each warning but those of some files, and a missing end is a fault. In place
+    of copies it tells of what they are of."""
     if not is_there():
         raise Fault(LACKS)
-    with tempfile.TemporaryDirectory() as folder:
+    with folder_for_texts() as folder:
         path = os.path.join(folder, "script.tcl")
         with open(path, "w", encoding="utf-8", errors="surrogateescape") as file:
             file.writelines(f"{line}\n" for line in (*lines, f'puts "{END}"'))
@@ -53,5 +74,7 @@ def answer(lines: Iterable[str], passed: Sequence[str] = ()) -> list[str]:
     if wrong or END not in told:
         wrong = wrong or told[-1:] or ["it said nothing"]
         more = [f"and {len(wrong) - 5:,} lines more"] if len(wrong) > 5 else []
-        raise Fault(*(f"sta: {one_line(line.replace(f'{path}, ', 'line '))}" for line in wrong[:5]), *more)
+        for copy, name in {f"{path}, ": "line ", **(copies or {})}.items():
+            wrong = [line.replace(copy, name).replace(os.path.basename(copy), name) for line in wrong]
+        raise Fault(*(f"sta: {one_line(line)}" for line in wrong[:5]), *more)
     return [line.removeprefix(MARK).strip() for line in told if line.startswith(MARK) and line != END]

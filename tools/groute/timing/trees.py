@@ -3,6 +3,7 @@ from typing import Iterable, Iterator
 
 from groute.texts.designs import NORTH, UP, Cell, Netlist
 from groute.texts.files import Fault
+from groute.texts.solutions import routes, unjoined_without
 
 
 class Tree:
@@ -57,3 +58,10 @@ class Tree:
     def backwards(self) -> Iterator[int]:
         """All places but the first, each before its parent."""
         return iter(range(len(self.cells) - 1, 0, -1))
+
+
+def trees_of(design: Netlist, solution: str) -> tuple[dict[int, Tree], list[int]]:
+    """The trees of a solution's nets, by id, and the nets that it leaves unjoined."""
+    trees = {id_: Tree(design, id_, runs) for id_, runs in routes(design, solution)}
+    unjoined = {id_ for id_, tree in trees.items() if tree.unjoined()} | set(unjoined_without(design, trees))
+    return trees, [id_ for id_ in design.ids if id_ in unjoined]
