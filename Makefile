@@ -1,7 +1,7 @@
 # What there is to make: `make` alone prints these lines.
 #
 # make test     everything that needs no proof, on the program that ./groute runs: some minutes
-# make prove    proves and builds both programs from nothing, some 45 minutes on four processors, and says whether they
+# make prove    proves and builds both programs from nothing, 20 to 45 minutes on four processors, and says whether they
 #               are the released ones
 # make install [DESTDIR=FOLDER] [PREFIX=/usr/local]
 #               the programs that ./groute and ./grbound run, with tools, man pages, completion and documents
