@@ -87,6 +87,12 @@ def interrupted(child: "subprocess.Popen[bytes]", number: int) -> tuple[bytes, b
     return child.communicate(timeout=1)
 
 
+def heed_signals(case: unittest.TestCase) -> None:
+    """Children heed those that ask for the end, though this process may have been started in the background."""
+    case.addCleanup(signal.signal, signal.SIGINT, signal.signal(signal.SIGINT, signal.default_int_handler))
+    case.addCleanup(signal.signal, signal.SIGHUP, signal.signal(signal.SIGHUP, signal.SIG_DFL))
+
+
 class Drawn(OnChip):
     """Inputs that are drawn."""
 
@@ -329,6 +335,7 @@ class Written(OnChip):
 
     def test_signals(self) -> None:
         """A signal that comes while files are written ends a tool by it, and leaves what was there."""
+        heed_signals(self)
         calls = self.calls()
         pipe, out = self.path("pipe"), self.put("out", "before")
         os.mkfifo(pipe)
@@ -534,13 +541,9 @@ class BadInputs(InFolder):
                     self.assertRegex(found[2], "^$" if "2>" in closed else
                                      r"^\w+: (Bad file descriptor|No space left on device)\n$")
 
-    def heed_interrupts(self) -> None:
-        """Children heed them too, though this process may have been started in the background."""
-        self.addCleanup(signal.signal, signal.SIGINT, signal.signal(signal.SIGINT, signal.default_int_handler))
-
     def test_signals(self) -> None:
         """An interrupt ends a tool by the signal, without a word, and leaves no part of a file."""
-        self.heed_interrupts()
+        heed_signals(self)
         pipe = os.path.join(self.folder.name, "pipe")
         os.mkfifo(pipe)
         for number in (signal.SIGINT, signal.SIGTERM):
@@ -555,7 +558,7 @@ class BadInputs(InFolder):
 
     def test_signals_at_start(self) -> None:
         """An interrupt is silent too while modules are read, here one that takes long."""
-        self.heed_interrupts()
+        heed_signals(self)
         seen = os.path.join(self.folder.name, "seen")
         self.put("argparse.py", f"import time\nopen({seen!r}, 'w').close()\ntime.sleep(60)\n")
         child = subprocess.Popen([sys.executable, f"{TOOLS}/where.py", SMALL[0], "1"], stdout=subprocess.PIPE,
@@ -567,7 +570,7 @@ class BadInputs(InFolder):
     @unittest.skipUnless(os.path.exists("/usr/bin/sleep"), "sleep is not there")
     def test_signals_of_children(self) -> None:
         """What flow.py runs ends with it."""
-        self.heed_interrupts()
+        heed_signals(self)
         seen = os.path.join(self.folder.name, "seen")
         groute = self.put("groute", f"#!/bin/sh\n[ $# -gt 0 ] || exit 2\necho $$ > {seen}\nexec sleep 600\n")
         os.chmod(groute, 0o755)
