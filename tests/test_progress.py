@@ -12,9 +12,10 @@ import unittest
 from testing import LIBRARY, ROOT, TOOLS, program, run
 
 COLUMNS = 80
-ROUNDS = 6
+ROUNDS = 4
 # A made design whose rounds take some seconds.
-MADE = ("make", "1", "160", "160", "6", "140000")
+NETS = "170000"
+MADE = ("make", "1", "160", "160", "6", NETS)
 LINE = re.compile(rb"\r([^\r\n\x1b]+)\x1b\[K")
 IN_ROUND = re.compile(rf"round (\d+) of {ROUNDS}: (?:overflow \d+, (\d+) of (\d+)|(\d+)) nets begun, \d+ s")
 ENDED = re.compile(rf"round {ROUNDS} of {ROUNDS} ended: overflow \d+; buffers and texts, \d+ s")
@@ -70,7 +71,7 @@ class Progress(unittest.TestCase):
             process = subprocess.Popen(words, stdout=file if out is None else theirs if out == 2 else out,
                                        stderr=theirs, stdin=subprocess.DEVNULL, env={**os.environ, "TERM": term})
             os.close(theirs)
-            told = b""
+            told = bytearray()
             try:
                 while piece := os.read(mine, 1 << 16):
                     told += piece
@@ -79,7 +80,7 @@ class Progress(unittest.TestCase):
             os.close(mine)
             status = process.wait()
             file.seek(0)
-            return status, file.read(), told
+            return status, file.read(), bytes(told)
 
     def check_lines(self, told: bytes) -> None:
         """The lines tell of each round, and in rounds behind the first of more and more nets."""
@@ -110,7 +111,7 @@ class Progress(unittest.TestCase):
         self.assertEqual(status, 0)
         self.assertIn(b"\n!\n", out)
         self.check_lines(told)
-        self.assertRegex(b"\n".join(screen(told)), rb"^routed 140000\noverflow ")
+        self.assertRegex(b"\n".join(screen(told)), rf"^routed {NETS}\noverflow ".encode())
         seconds = re.findall(rb"nets begun, (\d+) s", told)
         self.assertLessEqual(max(seconds.count(second) for second in seconds), 4)
 
