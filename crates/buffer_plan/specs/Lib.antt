@@ -5,3 +5,4 @@ pub mod CandidatesAbove
 pub mod Gathered
 pub mod Following
 pub mod Plans
+pub mod Rules

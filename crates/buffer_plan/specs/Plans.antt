@@ -1,5 +1,5 @@
 -- The plans of buffers of a design's routes.
-use Rattle.std.specs.Prelude.{◌≡◌, ℕ, ◌+◌, ◌<◌, List, length, Option, None, IsTrue, IsFalse, IfSome, IsSomeAnd, slice_index_or}
+use Rattle.std.specs.Prelude.{◌≡◌, ℕ, List, Option, None, IsTrue, IsFalse, IsSomeAnd}
 use Rattle.gr_base.specs.Designs.{DesignView, is_routed, pins_at}
 use Rattle.gr_base.specs.Plans.{IsRouteOfNet}
 use Rattle.gr_base.specs.Trees.{TreeView, tree_at}
@@ -23,21 +23,6 @@ pub record IsPlan (l : LoadingView) (plan : Plan) : Type 0 where
   pub placement : plan.placement ≡ picked l
   pub best : IsBest l plan.placement
   pub required : plan.required ≡ time_with l plan.placement
-
--- the net is routed, and the plan is one for its tree
-pub record IsRoutedPlan (d : DesignView) (lib : LibraryView) (trees : List (Option TreeView)) (net : ℕ)
-    (plan : Plan) : Type 0 where
-  pub routed : IsTrue (is_routed d net)
-  pub planned : IsSomeAnd (tree_at trees net) (λ t. IsPlan (loading_of d lib net t) plan)
-
--- a plan of a net, if there is one, is one of a routed net
-abbrev pub IsPlanOf : DesignView → LibraryView → List (Option TreeView) → ℕ → Option Plan → Type 0
-IsPlanOf d lib trees net plan = IfSome plan (IsRoutedPlan d lib trees net)
-
--- plans of the nets from a number on, of which some may have none
-abbrev pub ArePlansFrom : (first : ℕ) → DesignView → LibraryView → List (Option TreeView) → List (Option Plan) → Type 0
-ArePlansFrom first d lib trees plans =
-    (k : ℕ) (default : Option Plan) → k < length plans → IsPlanOf d lib trees (first + k) (slice_index_or plans k default)
 
 -- a routed net has a tree, and a plan for it; another net has none
 pub record IsPlanned (d : DesignView) (lib : LibraryView) (trees : List (Option TreeView)) (net : ℕ)

@@ -4,11 +4,16 @@
 mod hanging;
 mod laws;
 mod lists;
+mod loaded;
+mod net_planner;
 mod nets;
 mod placing;
 mod planner;
+mod planning;
 
 pub use laws::{candidates_above_nodes, candidates_at_nodes, picked_is_best};
-pub use nets::{plan_all, routed_tree};
+pub use loaded::Loaded;
+pub use net_planner::NetPlanner;
+pub use nets::{net_plan, plan_all, plan_all_by, routed_tree};
 pub use placing::plan_of;
 pub use planner::Planner;

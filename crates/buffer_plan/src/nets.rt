@@ -1,14 +1,15 @@
 //! The plans of all routed nets.
-ghost use Rattle.std.specs.Prelude.{◌≡◌, ℕ, ◌+◌, ◌<◌, ◌≤◌, false, List, length, Option, Some, None, IsTrue, IsFalse, IsSome, IfOk, IfSome, All, replicate};
+ghost use Rattle.std.specs.Prelude.{◌≡◌, ◌+◌, ◌<◌, ◌≤◌, false, length, map, Ok, Some, None, IsTrue, IsErr, IfOk, IfSome, All};
 ghost use Rattle.gr_base.specs.Designs.{is_routed};
 ghost use Rattle.gr_base.specs.Grid.{cells_of};
 ghost use Rattle.gr_base.specs.Plans.{IsRouteOfNet};
 ghost use Rattle.gr_base.specs.Trees.{tree_at};
 ghost use Rattle.rc_library.specs.Libraries.{IsLibraryOf};
-ghost use Rattle.elmore_delay.specs.PlanLists.{plan_at};
-ghost use Rattle.elmore_delay.specs.declared.plans.Plan.{Plan};
-ghost use Rattle.buffer_plan.specs.Plans.{AreRoutesOf, ArePlans, IsPlanOf, ArePlansFrom};
+ghost use Rattle.buffer_plan.specs.Plans.{AreRoutesOf, ArePlans};
+ghost use Rattle.buffer_plan.specs.Rules.{IsRuled, IsByRule, AreByRule, AreAllByRule};
 
+use crate::loaded::Loaded;
+use crate::net_planner::NetPlanner;
 use crate::planner::Planner;
 use elmore_delay::{Loading, Plan, Plans};
 use ginneken_lists::Steps;
@@ -18,6 +19,10 @@ use std::alloc::{AllocError, Global};
 use std::marker::Brand;
 use std::sync::ledger::{Blank, Ledger};
 use std::thread::{Threads, for_each_chunk_mut};
+
+/// A net's plan, or none where the net isn't routed or its planner's rule gives it none; an error where it
+/// isn't made, for want of memory.
+type Planned = Result<Option<Plan>, AllocError>;
 
 /// The plans of exactly the routed nets: for each the picked placement of buffers in its tree, with
 /// which the required time at the driver is the greatest, and that time. The nets are parted into
@@ -36,106 +41,98 @@ pub fn plan_all<R: Threads + Sync>(
     requires workers { 0 < workers }
     ensures { IfOk result (ArePlans design.now library.now routes.now) }
 {
-    let mut plans = no_plans(alloc, design.nets())?;
-    plan_blocks(rt, alloc, design, library, routes, workers, &mut plans);
-    if !have_plans(design, &plans) {
-        return Err(AllocError);
-    }
-    Ok(Plans::of(plans))
+    plan_all_by::<Planner, R>(rt, alloc, design, library, routes, workers)
 }
 
-/// No plan for each of so many nets.
-fn no_plans(alloc: Global, nets: u32) -> Result<Vec<Option<Plan>>, AllocError>
-    ensures { IfOk result (λ plans. plans.items ≡ replicate nets None) }
-{
-    let mut plans = Vec::with_capacity(alloc, nets as usize)?;
-    for _ in 0..nets {
-        plans.push(None)?;
-    }
-    Ok(plans)
-}
-
-/// Plans all nets, in at most so many blocks side by side. A net whose plan finds no memory gets none.
-fn plan_blocks<R: Threads + Sync>(
+/// The plans of all nets by a planner's rule, in at most so many blocks side by side. The only error is
+/// want of memory.
+pub fn plan_all_by<P: NetPlanner + Sync, R: Threads + Sync>(
     rt: &R,
     alloc: Global,
     design: &Design,
     library: &Library,
     routes: &Routes,
     workers: u32,
-    plans: &mut Vec<Option<Plan>>,
+) -> Result<Plans, AllocError>
+    requires library { IsLibraryOf design.now library.now }
+    requires routes { AreRoutesOf design.now routes.now }
+    requires workers { 0 < workers }
+    ensures { IfOk result (AreAllByRule P.rule design.now library.now routes.now) }
+{
+    let mut planned = none_planned(alloc, design.nets())?;
+    plan_blocks::<P, R>(rt, alloc, design, library, routes, workers, &mut planned);
+    gather(alloc, planned)
+}
+
+/// No plans yet for so many nets.
+fn none_planned(alloc: Global, nets: u32) -> Result<Vec<Planned>, AllocError>
+    ensures long { IfOk result (λ planned. length planned.items ≡ nets) }
+    ensures none { IfOk result (λ planned. All IsErr planned.items) }
+{
+    let mut planned = Vec::with_capacity(alloc, nets as usize)?;
+    for _ in 0..nets {
+        planned.push(Err(AllocError))?;
+    }
+    Ok(planned)
+}
+
+/// Plans all nets, in at most so many blocks side by side.
+fn plan_blocks<P: NetPlanner + Sync, R: Threads + Sync>(
+    rt: &R,
+    alloc: Global,
+    design: &Design,
+    library: &Library,
+    routes: &Routes,
+    workers: u32,
+    planned: &mut Vec<Planned>,
 )
     requires library { IsLibraryOf design.now library.now }
     requires routes { AreRoutesOf design.now routes.now }
     requires workers { 0 < workers }
-    requires long { length plans.old.items ≡ length design.now.nets }
-    requires none { All (λ plan. plan ≡ None) plans.old.items }
-    ensures long { length plans.new.items ≡ length plans.old.items }
-    ensures plans { ArePlansFrom 0 design.now library.now routes.now plans.new.items }
+    requires long { length planned.old.items ≡ length design.now.nets }
+    requires none { All IsErr planned.old.items }
+    ensures long { length planned.new.items ≡ length planned.old.items }
+    ensures plans { AreByRule P.rule 0 design.now library.now routes.now planned.new.items }
 {
-    let size = plans.len() / workers as usize + 1;
+    let size = planned.len() / workers as usize + 1;
     for_each_chunk_mut(
         rt,
-        plans.as_mut_slice(),
+        planned.as_mut_slice(),
         size,
-        &|first, block: &mut [Option<Plan>]|
+        &|first, block: &mut [Planned]|
             requires { IsLibraryOf design.now library.now × AreRoutesOf design.now routes.now ×
-                (first + length block.now ≤ length design.now.nets) × All (λ plan. plan ≡ None) block.now }
+                (first + length block.now ≤ length design.now.nets) × All IsErr block.now }
             ensures { (length block.exit.now ≡ length block.entry.now) ×
-                ArePlansFrom first design.entry.now library.entry.now routes.entry.now block.exit.now }
+                AreByRule P.rule first design.entry.now library.entry.now routes.entry.now block.exit.now }
         {
-            plan_block(alloc, design, library, routes, first, block);
+            plan_block::<P>(alloc, design, library, routes, first, block);
         },
     );
 }
 
-/// Plans a block of nets, from a net on.
-fn plan_block(
+/// Plans a block of nets, from a net on, one after another.
+fn plan_block<P: NetPlanner>(
     alloc: Global,
     design: &Design,
     library: &Library,
     routes: &Routes,
     first: usize,
-    block: &mut [Option<Plan>],
+    block: &mut [Planned],
 )
     requires library { IsLibraryOf design.now library.now }
     requires routes { AreRoutesOf design.now routes.now }
     requires inside { first + length block.old ≤ length design.now.nets }
-    requires none { All (λ plan. plan ≡ None) block.old }
+    requires none { All IsErr block.old }
     ensures long { length block.new ≡ length block.old }
-    ensures plans { ArePlansFrom first design.now library.now routes.now block.new }
+    ensures plans { AreByRule P.rule first design.now library.now routes.now block.new }
 {
-    plan_each::<Brand>(alloc, design, library, routes, first, block, Blank::new(1));
-}
-
-/// Plans net after net, and counts the steps.
-fn plan_each<L: Ledger>(
-    alloc: Global,
-    design: &Design,
-    library: &Library,
-    routes: &Routes,
-    first: usize,
-    block: &mut [Option<Plan>],
-    blank: Blank,
-)
-    requires library { IsLibraryOf design.now library.now }
-    requires routes { AreRoutesOf design.now routes.now }
-    requires inside { first + length block.old ≤ length design.now.nets }
-    requires none { All (λ plan. plan ≡ None) block.old }
-    requires name { blank.name ≡ L.name }
-    requires parts { blank.parts ≡ L.parts }
-    requires one { blank.parts ≡ 1 }
-    ensures long { length block.new ≡ length block.old }
-    ensures plans { ArePlansFrom first design.now library.now routes.now block.new }
-{
-    let mut steps = Steps::<L>::new(blank);
-    let mut planner = Planner::new(alloc);
+    let mut planner = P::ready(alloc);
     let Ok(mut index) = NodeIndex::new(alloc, design.frame().shape.cells()) else {
         return;
     };
     for at in 0..block.len() {
         let net = (first + at) as u32;
-        block[at] = plan_net(
+        block[at] = net_plan(
             alloc,
             design,
             library,
@@ -143,63 +140,66 @@ fn plan_each<L: Ledger>(
             net,
             &mut planner,
             &mut index,
-            &mut steps,
         );
     }
 }
 
-/// The plan of a net. None where the net isn't routed or memory ran out.
-fn plan_net<L: Ledger>(
+/// What a net gets by a planner's rule. The index serves net after net: what it holds before the call
+/// means nothing. The only error is want of memory.
+pub fn net_plan<P: NetPlanner>(
     alloc: Global,
     design: &Design,
     library: &Library,
     routes: &Routes,
     net: u32,
-    planner: &mut Planner,
+    planner: &mut P,
     index: &mut NodeIndex,
-    steps: &mut Steps<L>,
-) -> Option<Plan>
+) -> Result<Option<Plan>, AllocError>
     requires library { IsLibraryOf design.now library.now }
     requires routes { AreRoutesOf design.now routes.now }
     requires net { net < length design.now.nets }
     requires index { cells_of design.now.frame.shape ≤ length index.old }
-    ensures plan { IsPlanOf design.now library.now routes.now net result }
+    ensures plan { IfOk result (IsByRule P.rule design.now library.now routes.now net) }
     ensures index { length index.new ≡ length index.old }
 {
-    let tree = routed_tree(design, routes, net)?;
-    let Ok(loading) = Loading::of(alloc, library, design, net, tree, index) else {
-        return None;
+    let Some(tree) = routed_tree(design, routes, net) else {
+        return Ok(None);
     };
-    match planner.plan(alloc, tree, library, &loading, steps) {
-        Ok(plan) => Some(plan),
-        Err(_) => None,
-    }
+    let loading = Loading::of(alloc, library, design, net, tree, index)?;
+    let loaded = Loaded {
+        tree,
+        library,
+        loading: &loading,
+    };
+    plan_counted::<P, Brand>(alloc, planner, &loaded, Blank::new(1))
 }
 
-/// Whether each routed net has a plan: else memory ran out.
-fn have_plans(design: &Design, plans: &[Option<Plan>]) -> bool
-    requires { length plans.now ≡ length design.now.nets }
-    ensures { IsTrue result → (net : ℕ) → net < length design.now.nets → IsTrue (is_routed design.now net)
-        → IsSome (plan_at plans.now net) }
+/// What a net gets, where steps are counted in a ledger of their own.
+fn plan_counted<P: NetPlanner, L: Ledger>(
+    alloc: Global,
+    planner: &mut P,
+    net: &Loaded<'_>,
+    blank: Blank,
+) -> Result<Option<Plan>, AllocError>
+    requires name { blank.name ≡ L.name }
+    requires parts { blank.parts ≡ L.parts }
+    requires one { blank.parts ≡ 1 }
+    ensures plan { IfOk result (IsRuled P.rule net.now.loading.now) }
 {
-    for net in 0..design.nets() {
-        if lacks_plan(design, plans, net) {
-            return false;
-        }
-    }
-    true
+    let mut steps = Steps::<L>::new(blank);
+    planner.plan_net(alloc, net, &mut steps)
 }
 
-/// Whether a net is routed and has no plan.
-fn lacks_plan(design: &Design, plans: &[Option<Plan>], net: u32) -> bool
-    requires net { net < length design.now.nets }
-    requires long { length plans.now ≡ length design.now.nets }
-    ensures { IsFalse result → IsTrue (is_routed design.now net) → IsSome (plan_at plans.now net) }
+/// The plans of the nets, where all were made.
+fn gather(alloc: Global, planned: Vec<Planned>) -> Result<Plans, AllocError>
+    ensures { IfOk result (λ plans. planned.items ≡ map Ok plans) }
 {
-    if !design.routed(net) {
-        return false;
+    let mut plans = Vec::with_capacity(alloc, planned.len())?;
+    let mut rest = planned.into_iter();
+    while let Some(plan) = rest.next() {
+        plans.push(plan?)?;
     }
-    plans[net as usize].is_none()
+    Ok(Plans::of(plans))
 }
 
 /// The tree of a routed net. None exactly where the net isn't routed.

@@ -54,6 +54,7 @@ impl Planner {
         ensures picked { IfOk result (λ plan. plan.placement ≡ picked loading.now) }
         ensures best { IfOk result (λ plan. IsBest loading.now plan.placement) }
         ensures required { IfOk result (λ plan. plan.required ≡ time_with loading.now plan.placement) }
+        ensures loading { IsLoading loading.now }
         ensures steps { steps.new ≤ steps.old
             + 8 * (1 + length library.now.kinds) * length tree.now.nodes
             * (1 + length library.now.kinds * length tree.now.nodes) }

@@ -1,70 +1,69 @@
--- The plans of routed nets, net by net.
-use Rattle.std.proofs.Common.{◌≡◌, ℕ, ◌+◌, ◌<◌, inl, inr, List, length, get_or, map, slice_set, All, Option, None, Result, Ok, Err, IfOk, sym, ap, subst, ◌∙◌, arith}
-use Rattle.std.specs.Result.{IsErr}
-use Rattle.std.proofs.lemmas.Bool.{cases_eq, cases_lt, true≢false}
-use Rattle.std.proofs.lemmas.List.{length-map, length-set, get_or-map, get_or-set_same, get_or-set_other}
+-- The plans of routed nets by a library with inverters.
+use Rattle.std.proofs.Common.{◌≡◌, ℕ, List, Option, Some, None, Result, Ok, Err, IfOk, refl, sym, ap, subst, ◌∙◌}
+use Rattle.std.specs.Option.{option_map, IfSome, IsSomeAnd}
 use Rattle.gr_base.specs.Designs.{DesignView}
-use Rattle.gr_base.specs.Trees.{TreeView}
+use Rattle.gr_base.specs.Trees.{TreeView, tree_at}
 use Rattle.rc_library.specs.Libraries.{LibraryView}
+use Rattle.elmore_delay.specs.Loadings.{LoadingView, IsLoading}
 use Rattle.elmore_delay.specs.PlanLists.{plan_at}
 use Rattle.elmore_delay.specs.declared.plans.Plan.{Plan}
-use Rattle.buffer_plan.proofs.PlansLemmas.{get-plan, plan-past, not-routed}
-use Rattle.polar_lists.specs.PolarPlans.{IsNetPlan, AreNetPlans, ArePolarPlans}
+use Rattle.buffer_plan.specs.Best.{IsAllowed, time_with}
+use Rattle.buffer_plan.specs.Plans.{loading_of}
+use Rattle.buffer_plan.specs.Rules.{IsRuled, IsByRule, AreAllByRule}
+use Rattle.polar_lists.specs.PolarPlans.{legal_plan, IsPolarPlan, IsNetPlan, ArePolarPlans}
+use Rattle.polar_lists.specs.Signals.{picked_legal}
+use Rattle.polar_lists.proofs.LegalLemmas.{picked-best, none-picked}
 
--- what isn't made says nothing
-err-plan : {A E : Type 0} (P : A → Type 0) (r : Result A E) → IsErr r → IfOk r P
-err-plan P (Ok x) is = absurd (true≢false (sym is))
-err-plan P (Err e) is = tt
+-- a plan with the picked legal placement and the required time with it is by the rule
+legal-is : (l : LoadingView) (plan : Option Plan) → picked_legal l ≡ option_map (λ (p : Plan). p.placement) plan →
+    IfSome plan (λ (p : Plan). p.required ≡ time_with l p.placement) → plan ≡ legal_plan l
+legal-is l None picked required = sym (ap (option_map (planned l)) picked)
+  where
+    planned : LoadingView → List (Option ℕ) → Plan
+    planned m p = record { placement = p; required = time_with m p }
+legal-is l (Some plan) picked required =
+    sym (ap (option_map (planned l)) picked ∙ ap (λ r. Some (record { placement = plan.placement; required = r })) (sym required))
+  where
+    planned : LoadingView → List (Option ℕ) → Plan
+    planned m p = record { placement = p; required = time_with m p }
 
-pub plans-none : {E : Type 0} (first : ℕ) (d : DesignView) (lib : LibraryView) (trees : List (Option TreeView)) (planned : List (Result (Option Plan) E)) →
-    All IsErr planned → AreNetPlans first d lib trees planned
-plans-none first d lib trees planned none k default inside = err-plan (IsNetPlan d lib trees (first + k)) (get_or planned k default) (none k default inside)
+-- its placement is allowed
+legal-allowed : (l : LoadingView) (plan : Option Plan) → IsLoading l → picked_legal l ≡ option_map (λ (p : Plan). p.placement) plan →
+    IfSome plan (λ (p : Plan). IsAllowed l p.placement)
+legal-allowed l None loading picked = tt
+legal-allowed l (Some plan) loading picked = (picked-best l loading plan.placement picked).legal.allowed
 
--- one net's plan more
-pub plans-set : {E : Type 0} (first : ℕ) (d : DesignView) (lib : LibraryView) (trees : List (Option TreeView)) (planned : List (Result (Option Plan) E)) (at : ℕ)
-    (plan : Result (Option Plan) E) → at < length planned → IfOk plan (IsNetPlan d lib trees (first + at)) → AreNetPlans first d lib trees planned →
-    AreNetPlans first d lib trees (slice_set planned at plan)
-plans-set {E} first d lib trees planned at plan within is are k default inside =
-    let long = length-set planned at plan in
-    elim (cases_eq k at) [
-      | inl same ↦
-          subst (λ (n : ℕ). IfOk (get_or (slice_set planned at plan) n default) (IsNetPlan d lib trees (first + n))) (sym same)
-          (subst (λ (r : Result (Option Plan) E). IfOk r (IsNetPlan d lib trees (first + at))) (sym (get_or-set_same planned at plan default within)) is)
-      | inr apart ↦
-          subst (λ (r : Result (Option Plan) E). IfOk r (IsNetPlan d lib trees (first + k))) (sym (get_or-set_other planned at k plan default apart))
-          (are k default (omega arith))
-    ]
+-- what the rule gives is the best legal plan, or none where none is legal
+polar-plan : (l : LoadingView) (o : Option (List (Option ℕ))) → IsLoading l → picked_legal l ≡ o →
+    IsPolarPlan l (option_map (λ p. record { placement = p; required = time_with l p }) o)
+polar-plan l None loading is = none-picked l loading is
+polar-plan l (Some p) loading is = record { placement = is; best = picked-best l loading p is; required = refl }
 
--- the plan of a net of the design, where each was made
-plan-made : {E : Type 0} (d : DesignView) (lib : LibraryView) (trees : List (Option TreeView)) (planned : List (Result (Option Plan) E)) (plans : List (Option Plan))
-    (net : ℕ) → net < length planned → net < length plans → AreNetPlans 0 d lib trees planned → planned ≡ map (λ (plan : Option Plan). Ok plan) plans →
-    IsNetPlan d lib trees net (plan_at plans net)
-plan-made {E} d lib trees planned plans net below within are is =
-    let ok : Option Plan → Result (Option Plan) E = λ plan. Ok plan in
-    let place : 0 + net ≡ net = omega arith in
-    let here : IfOk (get_or planned net (Ok None)) (IsNetPlan d lib trees net) =
-    subst (λ (n : ℕ). IfOk (get_or planned net (Ok None)) (IsNetPlan d lib trees n)) place (are net (Ok None) (omega arith)) in
-    let same : get_or planned net (Ok None) ≡ Ok (get_or plans net None) =
-    ap (λ (rs : List (Result (Option Plan) E)). get_or rs net (Ok None)) is ∙ get_or-map ok plans net None (Ok None) (omega arith) in
-    subst (IsNetPlan d lib trees net) (sym (get-plan plans net (omega arith)))
-    (subst (λ (r : Result (Option Plan) E). IfOk r (IsNetPlan d lib trees net)) same here)
+pub net-plan : (d : DesignView) (lib : LibraryView) (trees : List (Option TreeView)) (net : ℕ) (plan : Option Plan) →
+    IsByRule legal_plan d lib trees net plan → IsNetPlan d lib trees net plan
+net-plan d lib trees net plan is = record { routed = λ routed. by (tree_at trees net) (is.routed routed); other = is.other }
+  where
+    by : (o : Option TreeView) → IsSomeAnd o (λ t. IsRuled legal_plan (loading_of d lib net t) plan) →
+        IsSomeAnd o (λ t. IsPolarPlan (loading_of d lib net t) plan)
+    by None there = absurd there
+    by (Some t) there =
+        let l = loading_of d lib net t in
+        subst (IsPolarPlan l) (sym there.is) (polar-plan l (picked_legal l) there.loading refl)
 
--- all plans, where each was made
-pub plans-all : {E : Type 0} (d : DesignView) (lib : LibraryView) (trees : List (Option TreeView)) (planned : List (Result (Option Plan) E)) (plans : List (Option Plan)) →
-    length planned ≡ length d.nets → AreNetPlans 0 d lib trees planned → planned ≡ map (λ (plan : Option Plan). Ok plan) plans → ArePolarPlans d lib trees plans
-plans-all {E} d lib trees planned plans long are is net =
-    let ok : Option Plan → Result (Option Plan) E = λ plan. Ok plan in
-    let same_long : length planned ≡ length plans = ap (λ (rs : List (Result (Option Plan) E)). length rs) is ∙ length-map plans ok in
-    elim (cases_lt net (length d.nets)) [
-      | inl below ↦ plan-made d lib trees planned plans net (omega arith) (omega arith) are is
-      | inr past ↦ record {
-        routed = λ routed. absurd (true≢false (sym routed ∙ not-routed d net past));
-        other = λ other. plan-past plans net (omega arith);
-      }
-    ]
+pub all-legal : {F : Type 0} (d : DesignView) (lib : LibraryView) (trees : List (Option TreeView)) (result : Result (List (Option Plan)) F) →
+    IfOk result (AreAllByRule legal_plan d lib trees) → IfOk result (ArePolarPlans d lib trees)
+all-legal d lib trees (Ok plans) are = λ net. net-plan d lib trees net (plan_at plans net) (are net)
+all-legal d lib trees (Err e) are = tt
 
-pub plans-result : {E F : Type 0} (d : DesignView) (lib : LibraryView) (trees : List (Option TreeView)) (planned : List (Result (Option Plan) E))
-    (result : Result (List (Option Plan)) F) → length planned ≡ length d.nets → AreNetPlans 0 d lib trees planned →
-    IfOk result (λ plans. planned ≡ map (λ (plan : Option Plan). Ok plan) plans) → IfOk result (ArePolarPlans d lib trees)
-plans-result d lib trees planned (Ok plans) long are is = plans-all d lib trees planned plans long are is
-plans-result d lib trees planned (Err e) long are is = tt
+-- of what the planner gives: it is by the rule, and allowed
+pub result-is : {E : Type 0} (l : LoadingView) (result : Result (Option Plan) E) →
+    IfOk result (λ plan. picked_legal l ≡ option_map (λ (p : Plan). p.placement) plan) →
+    IfOk result (λ plan. IfSome plan (λ (p : Plan). p.required ≡ time_with l p.placement)) → IfOk result (λ plan. plan ≡ legal_plan l)
+result-is l (Ok plan) picked required = legal-is l plan picked required
+result-is l (Err e) picked required = tt
+
+pub result-allowed : {E : Type 0} (l : LoadingView) (result : Result (Option Plan) E) →
+    IfOk result (λ plan. picked_legal l ≡ option_map (λ (p : Plan). p.placement) plan) → IfOk result (λ _. IsLoading l) →
+    IfOk result (λ plan. IfSome plan (λ (p : Plan). IsAllowed l p.placement))
+result-allowed l (Ok plan) picked loading = legal-allowed l plan loading picked
+result-allowed l (Err e) picked loading = tt

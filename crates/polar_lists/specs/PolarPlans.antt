@@ -1,5 +1,5 @@
 -- The plans of a design's routes for a library with inverters.
-use Rattle.std.specs.Prelude.{◌≡◌, ℕ, ◌+◌, ◌<◌, List, length, Option, Some, None, Result, IfOk, IsTrue, IsFalse, IsSomeAnd, slice_index_or}
+use Rattle.std.specs.Prelude.{◌≡◌, ℕ, List, Option, Some, None, IsTrue, IsFalse, IsSomeAnd, option_map}
 use Rattle.gr_base.specs.Designs.{DesignView, is_routed}
 use Rattle.gr_base.specs.Trees.{TreeView, tree_at}
 use Rattle.rc_library.specs.Libraries.{LibraryView}
@@ -17,6 +17,10 @@ pub record IsLegalPlan (l : LoadingView) (plan : Plan) : Type 0 where
   pub best : IsBestLegal l plan.placement
   pub required : plan.required ≡ time_with l plan.placement
 
+-- the rule of a library with inverters: the picked legal placement and the required time with it, or none
+abbrev pub legal_plan : LoadingView → Option Plan
+legal_plan l = option_map (λ p. record { placement = p; required = time_with l p }) (picked_legal l)
+
 -- such a plan, or none where no placement is legal
 abbrev pub IsPolarPlan : LoadingView → Option Plan → Type 0
 IsPolarPlan l None = HasNoLegal l
@@ -27,12 +31,6 @@ pub record IsNetPlan (d : DesignView) (lib : LibraryView) (trees : List (Option 
     (plan : Option Plan) : Type 0 where
   pub routed : IsTrue (is_routed d net) → IsSomeAnd (tree_at trees net) (λ t. IsPolarPlan (loading_of d lib net t) plan)
   pub other : IsFalse (is_routed d net) → plan ≡ None
-
--- plans of the nets from a number on, those that were made
-abbrev pub AreNetPlans : {E : Type 0} (first : ℕ) → DesignView → LibraryView → List (Option TreeView) →
-    List (Result (Option Plan) E) → Type 0
-AreNetPlans {E} first d lib trees planned = (k : ℕ) (default : Result (Option Plan) E) → k < length planned →
-    IfOk (slice_index_or planned k default) (IsNetPlan d lib trees (first + k))
 
 -- each routed net has a tree, and a plan for it exactly where a placement is legal; no other net has a plan
 abbrev pub ArePolarPlans : DesignView → LibraryView → List (Option TreeView) → List (Option Plan) → Type 0

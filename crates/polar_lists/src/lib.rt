@@ -9,6 +9,7 @@ mod lists;
 mod nets;
 mod offers;
 mod planner;
+mod planning;
 mod side;
 mod sides;
 

@@ -76,7 +76,7 @@ impl PolarPlanner {
     }
 
     /// The picked legal plan, or none where no placement is legal.
-    fn legal_plan<L: Ledger>(
+    pub(crate) fn legal_plan<L: Ledger>(
         &mut self,
         alloc: Global,
         tree: &RouteTree,

@@ -1,6 +1,8 @@
 -- The lines of buffers, and of nets with plans.
 use Rattle.std.proofs.Common.{◌≡◌, ℕ, zero, suc, ◌+◌, ◌-◌, ◌<◌, ◌≤◌, inl, inr, Bool, true, false, List, [], ◌∷◌, ◌++◌, All, length, map, filter, sum_by, Option, Some, None, IfSome, IsSomeAnd, is_some, unwrap_or, option_and_then, slice_get, if◌then◌else◌, refl, sym, ap, subst, ◌∙◌, append-nil, append_assoc, arith}
+use Rattle.std.specs.Borrow.{Bor}
 use Rattle.std.specs.List.{AllByRecursion, flat_map, range_with_len}
+use Rattle.std.specs.Option.{option_copied}
 use Rattle.std.proofs.lemmas.Bool.{cases_Bool, cases_lt, false≢true}
 use Rattle.std.proofs.lemmas.List.{get_or_past}
 use Rattle.std.proofs.lemmas.List.Elements.{All-from_recursion, filter-append}
@@ -16,7 +18,7 @@ use Rattle.rc_library.specs.Libraries.{LibraryView}
 use Rattle.elmore_delay.specs.Placements.{placed_at, NamesKinds}
 use Rattle.elmore_delay.specs.PlanLists.{plan_at}
 use Rattle.elmore_delay.specs.declared.plans.Plan.{Plan}
-use Rattle.report_text.specs.BufferTexts.{kind_on, buffered_cells, kind_line, buffer_line, placement_text, plan_line, no_legal_line, plan_text, net_buffers, buffers_in, IsPlanFor, ArePlanned, AreSomePlanned}
+use Rattle.report_text.specs.BufferTexts.{kind_on, buffered_cells, kind_line, buffer_line, placement_text, plan_text, net_buffers, buffers_in, IsPlanFor, ArePlanned, AreSomePlanned}
 use Rattle.report_text.specs.Placed.{rising_buffers}
 use Rattle.report_text.specs.declared.buffer_text.Buffered.{Buffered}
 
@@ -103,30 +105,23 @@ pub net-skipped : (d : DesignView) (lib : LibraryView) (trees : List (Option Tre
     is_routed d net ≡ false → net_buffers d lib trees plans net ≡ []
 net-skipped d lib trees plans net is = rw is refl
 
--- the lines of a routed net with its tree and plan
+-- the lines of a routed net with its tree
 pub net-lines : (d : DesignView) (lib : LibraryView) (trees : List (Option TreeView)) (plans : List (Option Plan)) (number : ℕ)
-    (net : Net) (t : TreeView) (plan : Plan) → is_routed d number ≡ true → slice_get d.nets number ≡ Some net → tree_at trees number ≡ Some t →
-    plan_at plans number ≡ Some plan → net_buffers d lib trees plans number ≡ plan_line net plan ++ placement_text d.frame lib t plan.placement
+    (net : Net) (t : TreeView) (plan : Option Plan) → is_routed d number ≡ true → slice_get d.nets number ≡ Some net → tree_at trees number ≡ Some t →
+    plan_at plans number ≡ plan → net_buffers d lib trees plans number ≡ plan_text d.frame lib (Some net) (Some t) plan
 net-lines d lib trees plans number net t plan is found tree planned =
     ap (λ (b : Bool). if b then plan_text d.frame lib (slice_get d.nets number) (tree_at trees number) (plan_at plans number) else []) is
     ∙ ap (λ (o : Option Net). plan_text d.frame lib o (tree_at trees number) (plan_at plans number)) found
     ∙ ap (λ (o : Option TreeView). plan_text d.frame lib (Some net) o (plan_at plans number)) tree
     ∙ ap (λ (o : Option Plan). plan_text d.frame lib (Some net) (Some t) o) planned
 
--- the line of a routed net with its tree and no plan
-pub net-no_legal : (d : DesignView) (lib : LibraryView) (trees : List (Option TreeView)) (plans : List (Option Plan)) (number : ℕ)
-    (net : Net) (t : TreeView) → is_routed d number ≡ true → slice_get d.nets number ≡ Some net → tree_at trees number ≡ Some t →
-    plan_at plans number ≡ None → net_buffers d lib trees plans number ≡ no_legal_line net
-net-no_legal d lib trees plans number net t is found tree planned =
-    ap (λ (b : Bool). if b then plan_text d.frame lib (slice_get d.nets number) (tree_at trees number) (plan_at plans number) else []) is
-    ∙ ap (λ (o : Option Net). plan_text d.frame lib o (tree_at trees number) (plan_at plans number)) found
-    ∙ ap (λ (o : Option TreeView). plan_text d.frame lib (Some net) o (plan_at plans number)) tree
-    ∙ ap (λ (o : Option Plan). plan_text d.frame lib (Some net) (Some t) o) planned
-
-pub planned-for : (d : DesignView) (lib : LibraryView) (trees : List (Option TreeView)) (plans : List (Option Plan)) (number : ℕ) (t : TreeView) (plan : Plan) →
-    AreSomePlanned d lib trees plans → is_routed d number ≡ true → tree_at trees number ≡ Some t → plan_at plans number ≡ Some plan → IsPlanFor d lib t plan
-planned-for d lib trees plans number t plan are is tree planned =
-    subst (λ (o : Option Plan). IfSome o (IsPlanFor d lib t)) planned
+-- the plan of a routed net, if there is one, is one for its tree
+pub planned-for : (d : DesignView) (lib : LibraryView) (trees : List (Option TreeView)) (plans : List (Option Plan)) (number : ℕ) (t : TreeView)
+    (plan : Option (Bor Plan)) → AreSomePlanned d lib trees plans → is_routed d number ≡ true → tree_at trees number ≡ Some t →
+    option_copied plan ≡ plan_at plans number → IfSome plan (λ (p : Bor Plan). IsPlanFor d lib t p.now)
+planned-for d lib trees plans number t None are is tree planned = tt
+planned-for d lib trees plans number t (Some plan) are is tree planned =
+    subst (λ (o : Option Plan). IfSome o (IsPlanFor d lib t)) (sym planned)
     (and-some (λ u. IfSome (plan_at plans number) (IsPlanFor d lib u)) (tree_at trees number) t tree (are number is))
 
 -- where each routed net has a plan, it has one or none
@@ -186,28 +181,3 @@ lines-more f head first last low =
     ∙ ap (λ (k : ℕ). head ++ flat_map f (range_with_len first count ++ k ∷ [])) (sym here)
     ∙ ap (λ (ns : List ℕ). head ++ flat_map f ns) (sym (range-more first count))
     ∙ ap (λ (n : ℕ). head ++ flat_map f (range_with_len first n)) (sym more)
-
--- the lines of nets, and of those behind them
-lines-behind : (f : ℕ → List ℕ) (first m n : ℕ) →
-    flat_map f (range_with_len first m) ++ flat_map f (range_with_len (first + m) n) ≡ flat_map f (range_with_len first (m + n))
-lines-behind f first zero n =
-    let here : first + zero ≡ first = omega arith in
-    let same : n ≡ zero + n = omega arith in
-    ap (λ (k : ℕ). flat_map f (range_with_len k n)) here ∙ ap (λ (k : ℕ). flat_map f (range_with_len first k)) same
-lines-behind f first (suc m) n =
-    let here : first + suc m ≡ first + 1 + m = omega arith in
-    let same : suc (m + n) ≡ suc m + n = omega arith in
-    append_assoc (f first) (flat_map f (range_with_len (first + 1) m)) (flat_map f (range_with_len (first + suc m) n))
-    ∙ ap (λ (k : ℕ). f first ++ (flat_map f (range_with_len (first + 1) m) ++ flat_map f (range_with_len k n))) here
-    ∙ ap (λ (text : List ℕ). f first ++ text) (lines-behind f (first + 1) m n)
-    ∙ ap (λ (k : ℕ). flat_map f (range_with_len first k)) same
-
-pub lines-join : (f : ℕ → List ℕ) (middle last : ℕ) → middle ≤ last →
-    flat_map f (range_with_len 0 (middle - 0)) ++ flat_map f (range_with_len middle (last - middle)) ≡ flat_map f (range_with_len 0 (last - 0))
-lines-join f middle last high =
-    let none : middle - 0 ≡ middle = omega arith in
-    let whole : middle + (last - middle) ≡ last - 0 = omega arith in
-    ap (λ (k : ℕ). flat_map f (range_with_len 0 k) ++ flat_map f (range_with_len middle (last - middle))) none
-    ∙ ap (λ (k : ℕ). flat_map f (range_with_len 0 middle) ++ flat_map f (range_with_len k (last - middle))) (let e : middle ≡ 0 + middle = omega arith in e)
-    ∙ lines-behind f 0 middle (last - middle)
-    ∙ ap (λ (k : ℕ). flat_map f (range_with_len 0 k)) whole

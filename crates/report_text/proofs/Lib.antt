@@ -1,4 +1,3 @@
 pub mod NetLemmas
 pub mod PlacedLemmas
 pub mod BufferLemmas
-pub mod BlockLemmas

@@ -1,4 +1,3 @@
 pub mod Texts
 pub mod BufferTexts
 pub mod Placed
-pub mod BufferBlocks

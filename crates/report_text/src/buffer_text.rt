@@ -1,11 +1,12 @@
 //! The text of buffers.
-ghost use Rattle.std.specs.Prelude.{◌≡◌, ◌<◌, ◌≤◌, ◌++◌, All, length, Some, IfOk, OnOk};
+ghost use Rattle.std.specs.Prelude.{◌≡◌, ◌<◌, ◌++◌, All, length, Some, IfOk, IfSome, OnOk};
 ghost use Rattle.std.specs.List.{flat_map};
+ghost use Rattle.std.specs.Option.{option_copied};
 ghost use Rattle.gr_base.specs.Grid.{cells_of};
 ghost use Rattle.gr_base.specs.Sums.{sum_routed};
 ghost use Rattle.gr_base.specs.Trees.{IsTree};
 ghost use Rattle.elmore_delay.specs.PlanLists.{plan_at};
-ghost use Rattle.report_text.specs.BufferTexts.{kind_line, placement_text, plan_line, no_legal_line, net_buffers, net_lines, buffers_in, total_line, buffers_text, IsPlanFor, ArePlanned, AreSomePlanned};
+ghost use Rattle.report_text.specs.BufferTexts.{kind_line, placement_text, plan_line, no_legal_line, plan_text, net_buffers, net_lines, buffers_in, buffers_text, IsPlanFor, ArePlanned, AreSomePlanned};
 ghost use Rattle.report_text.specs.Placed.{buffered_nodes, rising_buffers};
 
 use elmore_delay::{Placement, Plan, Plans};
@@ -15,18 +16,9 @@ use rc_library::Library;
 use solution_text::put_point;
 use std::alloc::{AllocError, Global};
 
-/// Plans of buffers on a design's routes, with the library that names their kinds.
-#[derive(Clone, Copy)]
-pub(crate) struct PlansToTell<'a> {
-    pub design: &'a Design,
-    pub library: &'a Library,
-    pub routes: &'a Routes,
-    pub plans: &'a Plans,
-}
-
 /// A buffer: the number of its cell, and the number of its kind.
 #[derive(Clone, Copy)]
-pub(crate) struct Buffered {
+pub struct Buffered {
     pub cell: u32,
     pub kind: u32,
 }
@@ -60,42 +52,28 @@ pub fn polar_text(
     requires plans { AreSomePlanned design.now library.now routes.now plans.now }
     ensures { IfOk result (λ text. text ≡ buffers_text design.now library.now routes.now plans.now) }
 {
-    let told = PlansToTell {
-        design,
-        library,
-        routes,
-        plans,
-    };
     let mut text = Text::new(alloc);
-    put_total(&mut text, design, plans)?;
-    put_nets(&mut text, alloc, &told, 0, design.nets())?;
+    text.put_number_line(b"buffers", total(design, plans))?;
+    put_nets(&mut text, alloc, design, library, routes, plans)?;
     Ok(text)
 }
 
-/// Puts the line with the number of all buffers at the end of the text.
-pub(crate) fn put_total(text: &mut Text, design: &Design, plans: &Plans) -> Result<(), AllocError>
-    ensures { OnOk result (text.new ≡ text.old ++ total_line design.now plans.now) }
-{
-    text.put_number_line(b"buffers", total(design, plans))
-}
-
-/// Puts the lines of the nets from a number on, below another, at the end of the text.
-pub(crate) fn put_nets(
+/// Puts the lines of all nets at the end of the text.
+fn put_nets(
     text: &mut Text,
     alloc: Global,
-    told: &PlansToTell<'_>,
-    first: u32,
-    last: u32,
+    design: &Design,
+    library: &Library,
+    routes: &Routes,
+    plans: &Plans,
 ) -> Result<(), AllocError>
-    requires plans { AreSomePlanned told.now.design.now told.now.library.now told.now.routes.now told.now.plans.now }
-    requires first { first ≤ last }
-    requires last { last ≤ length told.now.design.now.nets }
-    ensures { OnOk result (text.new ≡ text.old ++ net_lines told.now.design.now told.now.library.now
-        told.now.routes.now told.now.plans.now first last) }
+    requires plans { AreSomePlanned design.now library.now routes.now plans.now }
+    ensures { OnOk result (text.new ≡ text.old
+        ++ net_lines design.now library.now routes.now plans.now 0 (length design.now.nets)) }
 {
     let mut found = Vec::new(alloc);
-    for net in first..last {
-        put_net(text, &mut found, told, net)?;
+    for net in 0..design.nets() {
+        put_net(text, &mut found, design, library, routes, plans, net)?;
     }
     Ok(())
 }
@@ -109,16 +87,16 @@ fn total(design: &Design, plans: &Plans) -> u128
         if !design.routed(net) {
             continue;
         }
-        sum += u128::from(count(plans, net));
+        sum += u128::from(buffers_of(plans.get(net)));
     }
     sum
 }
 
-/// How many buffers the plan of a net has, or 0 where there is none.
-fn count(plans: &Plans, net: u32) -> u64
-    ensures { result ≡ buffers_in (plan_at plans.now net) }
+/// How many buffers a plan has, or 0 where there is none.
+pub fn buffers_of(plan: Option<&Plan>) -> u64
+    ensures { result ≡ buffers_in (option_copied plan.entry) }
 {
-    match plans.get(net) {
+    match plan {
         None => 0,
         Some(plan) => plan.placement.buffers(),
     }
@@ -129,21 +107,42 @@ fn count(plans: &Plans, net: u32) -> u64
 fn put_net(
     text: &mut Text,
     found: &mut Vec<Buffered>,
-    told: &PlansToTell<'_>,
+    design: &Design,
+    library: &Library,
+    routes: &Routes,
+    plans: &Plans,
     net: u32,
 ) -> Result<(), AllocError>
-    requires plans { AreSomePlanned told.now.design.now told.now.library.now told.now.routes.now told.now.plans.now }
-    requires net { net < length told.now.design.now.nets }
-    ensures { OnOk result (text.new ≡ text.old ++ net_buffers told.now.design.now told.now.library.now
-        told.now.routes.now told.now.plans.now net) }
+    requires plans { AreSomePlanned design.now library.now routes.now plans.now }
+    requires net { net < length design.now.nets }
+    ensures { OnOk result (text.new ≡ text.old ++ net_buffers design.now library.now routes.now plans.now net) }
 {
-    if !told.design.routed(net) {
+    if !design.routed(net) {
         return Ok(());
     }
-    let tree = told.routes.get(net).unwrap();
-    match told.plans.get(net) {
-        None => put_no_legal_line(text, told.design.net(net)),
-        Some(plan) => put_plan(text, found, told, told.design.net(net), tree, plan),
+    let tree = routes.get(net).unwrap();
+    let plan = plans.get(net);
+    put_planned(text, found, design, library, design.net(net), tree, plan)
+}
+
+/// Puts the lines of a net with its tree and plan at the end of the text, or where it has no plan the one
+/// line that it has no legal placement. `found` is room that is used anew: what it holds means nothing.
+pub fn put_planned(
+    text: &mut Text,
+    found: &mut Vec<Buffered>,
+    design: &Design,
+    library: &Library,
+    net: &Net,
+    tree: &RouteTree,
+    plan: Option<&Plan>,
+) -> Result<(), AllocError>
+    requires { IfSome plan (λ p. IsPlanFor design.now library.now tree.now p.now) }
+    ensures { OnOk result (text.new ≡ text.old
+        ++ plan_text design.now.frame library.now (Some net.now) (Some tree.now) (option_copied plan.entry)) }
+{
+    match plan {
+        None => put_no_legal_line(text, net),
+        Some(plan) => put_plan(text, found, design, library, net, tree, plan),
     }
 }
 
@@ -151,18 +150,19 @@ fn put_net(
 fn put_plan(
     text: &mut Text,
     found: &mut Vec<Buffered>,
-    told: &PlansToTell<'_>,
+    design: &Design,
+    library: &Library,
     net: &Net,
     tree: &RouteTree,
     plan: &Plan,
 ) -> Result<(), AllocError>
-    requires { IsPlanFor told.now.design.now told.now.library.now tree.now plan.now }
+    requires { IsPlanFor design.now library.now tree.now plan.now }
     ensures { OnOk result (text.new ≡ text.old ++ (plan_line net.now plan.now
-        ++ placement_text told.now.design.now.frame told.now.library.now tree.now plan.now.placement)) }
+        ++ placement_text design.now.frame library.now tree.now plan.now.placement)) }
 {
     put_plan_line(text, net, plan)?;
     gather(found, tree, &plan.placement)?;
-    put_buffers(text, told.design, told.library, found)?;
+    put_buffers(text, design, library, found)?;
     Ok(())
 }
 

@@ -1,4 +1,4 @@
-pub mod PlannedLemmas
+pub mod PlacingLemmas
 pub mod BufferingLemmas
 pub mod JudgingLemmas
 pub mod MakingLemmas

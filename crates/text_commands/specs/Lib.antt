@@ -2,3 +2,4 @@ pub mod Judging
 pub mod Buffering
 pub mod Making
 pub mod Tracking
+pub mod Placing

@@ -9,14 +9,14 @@ ghost use Rattle.buffer_plan.specs.Plans.{AreRoutesOf};
 ghost use Rattle.text_commands.specs.Buffering.{AreTreesBy, StopsAtNet, StopsAtTrees, IsBuffersText, IsPlacedText, GivesTree, GiveTrees, LeavesPlaced, buffering};
 ghost use Rattle.command_form.specs.Leaving.{LeavesOut, WritesOne};
 
-use buffer_plan::plan_all;
+use crate::placing::text_by;
+use buffer_plan::Planner;
 use command_form::{Left, Outcome, Stop, open_design, open_library, open_solution};
 use gr_base::{Design, RouteTree, Routes};
 use gr_io::{Shelf, Sink, write_whole};
 use gr_text::Text;
-use polar_lists::plan_all_polar;
+use polar_lists::PolarPlanner;
 use rc_library::Library;
-use report_text::{buffers_by, polar_text_by};
 use route_evaluator::{TreeError, TreeMaker};
 use route_reader::Solution;
 use std::alloc::{AllocError, Global};
@@ -211,9 +211,7 @@ pub fn buffers_on<R: Threads + Sync>(
     ensures { IfOk result (IsBuffersText design.now library.now trees.now) }
 {
     if library.version() < 3 {
-        let plans = plan_all(rt, alloc, design, library, trees, workers)?;
-        return buffers_by(rt, alloc, design, library, trees, &plans, workers);
+        return text_by::<Planner, R>(rt, alloc, design, library, trees, workers);
     }
-    let plans = plan_all_polar(rt, alloc, design, library, trees, workers)?;
-    polar_text_by(rt, alloc, design, library, trees, &plans, workers)
+    text_by::<PolarPlanner, R>(rt, alloc, design, library, trees, workers)
 }

@@ -4,6 +4,8 @@
 mod buffering;
 mod judging;
 mod making;
+mod placing;
+mod told;
 mod tracking;
 
 pub use buffering::{buffer, buffers_on};

@@ -1,4 +1,11 @@
+use Rattle.std.proofs.Common.{◌≡◌, ◌≤◌, length}
+use Rattle.gr_base.specs.Grid.{cells_of}
+use Rattle.buffer_plan.specs.Rules.{AreByRule}
 use Rattle.buffer_plan.proofs.nets.plan_block.Given as goal
 
-abbrev pub ghosts-plan_each : goal.ghosts-plan_each
-ghosts-plan_each a = record { name = a.blank.name; parts = a.blank.parts }
+abbrev pub invariant-loop-at : goal.invariant-loop-at
+invariant-loop-at g l = record {
+  index : cells_of l.design.frame.shape ≤ length l.index;
+  long : length l.block ≡ length l.fn.block;
+  plans : AreByRule g.P.NetPlanner.rule l.first l.design l.library l.routes l.block;
+}

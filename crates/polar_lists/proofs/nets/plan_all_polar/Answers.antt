@@ -1,8 +1,5 @@
-use Rattle.std.proofs.Common.{◌∙◌}
-use Rattle.polar_lists.proofs.NetLemmas.{plans-result}
+use Rattle.polar_lists.proofs.NetLemmas.{all-legal}
 use Rattle.polar_lists.proofs.nets.plan_all_polar.Goals as goal
 
 pub returns : goal.returns
-returns g c =
-    plans-result c.args.design.now c.args.library.now c.args.routes.now c.plan_blocks.new.planned.items c.gather.result
-    (c.plan_blocks.ensures.long ∙ c.in_ok-planned.ensures.long ∙ c.nets.ensures.nets) c.plan_blocks.ensures.plans c.gather.ensures
+returns g c = all-legal c.args.design.now c.args.library.now c.args.routes.now c.plan_all_by.result c.plan_all_by.ensures

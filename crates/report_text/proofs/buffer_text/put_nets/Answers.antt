@@ -5,12 +5,7 @@ use Rattle.report_text.proofs.buffer_text.put_nets.Goals as goal
 
 pub loop-net-preserved : goal.loop-net-preserved
 loop-net-preserved c =
-    let f : ℕ → List ℕ = net_buffers c.args.told.now.design.now c.args.told.now.library.now c.args.told.now.routes.now c.args.told.now.plans.now in
-    let low = c.loop-net.invariant.low in
-    record {
-      low = omega (arith, low);
-      lines =
-          c.in_ok-put_net.ensures
-          ∙ ap (λ (text : List ℕ). text ++ f c.loop-net.net) c.loop-net.invariant.lines
-          ∙ lines-more f c.args.text.now c.args.first c.loop-net.net low;
-    }
+    let f : ℕ → List ℕ = net_buffers c.args.design.now c.args.library.now c.args.routes.now c.args.plans.now in
+    c.in_ok-put_net.ensures
+    ∙ ap (λ (text : List ℕ). text ++ f c.loop-net.net) c.loop-net.invariant
+    ∙ lines-more f c.args.text.now 0 c.loop-net.net (omega arith)

@@ -16,17 +16,17 @@ put_buffers-requires-clause-cells c =
 
 pub put_buffers-requires-clause-kinds : goal.put_buffers-requires-clause-kinds
 put_buffers-requires-clause-kinds c =
-    subst (λ (bs : List Buffered). All (λ (b : Buffered). b.kind < length c.args.told.now.library.now.kinds) bs)
+    subst (λ (bs : List Buffered). All (λ (b : Buffered). b.kind < length c.args.library.now.kinds) bs)
     (sym (c.deref.ensures.value ∙ c.in_ok-gather.ensures))
-    (rising-kinds c.args.tree.now c.args.plan.now.placement c.args.told.now.library.now c.requires.kinds)
+    (rising-kinds c.args.tree.now c.args.plan.now.placement c.args.library.now c.requires.kinds)
 
 pub returns : goal.returns
 returns c =
-    let lines : List Buffered → List ℕ = λ bs. flat_map (λ (b : Buffered). kind_line c.args.told.now.design.now.frame c.args.told.now.library.now b.cell (Some b.kind)) bs in
+    let lines : List Buffered → List ℕ = λ bs. flat_map (λ (b : Buffered). kind_line c.args.design.now.frame c.args.library.now b.cell (Some b.kind)) bs in
     let head : List ℕ = plan_line c.args.net.now c.args.plan.now in
     c.in_ok-put_buffers.ensures
     ∙ ap (λ (text : List ℕ). text ++ lines c.deref.result.now) c.in_ok-put_plan_line.ensures
     ∙ ap (λ (bs : List Buffered). (c.args.text.now ++ head) ++ lines bs) (c.deref.ensures.value ∙ c.in_ok-gather.ensures)
     ∙ ap (λ (text : List ℕ). (c.args.text.now ++ head) ++ text)
-    (placement-lines c.args.tree.now c.args.plan.now.placement c.args.told.now.design.now.frame c.args.told.now.library.now)
-    ∙ append_assoc c.args.text.now head (placement_text c.args.told.now.design.now.frame c.args.told.now.library.now c.args.tree.now c.args.plan.now.placement)
+    (placement-lines c.args.tree.now c.args.plan.now.placement c.args.design.now.frame c.args.library.now)
+    ∙ append_assoc c.args.text.now head (placement_text c.args.design.now.frame c.args.library.now c.args.tree.now c.args.plan.now.placement)
