@@ -6,3 +6,4 @@ pub mod Pricers
 pub mod PriceTables
 pub mod Payments
 pub mod PricerStore
+pub mod Levels

@@ -6,6 +6,7 @@ mod finder;
 mod fold;
 mod groups;
 mod labels;
+mod levels;
 mod net_pricer;
 mod payment;
 mod price_table;
