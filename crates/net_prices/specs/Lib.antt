@@ -7,3 +7,4 @@ pub mod PriceTables
 pub mod Payments
 pub mod PricerStore
 pub mod Levels
+pub mod Pricings

@@ -10,6 +10,7 @@ mod levels;
 mod net_pricer;
 mod payment;
 mod price_table;
+mod pricing;
 mod rates;
 mod search;
 mod tree_demand;
