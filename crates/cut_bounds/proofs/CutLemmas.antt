@@ -17,7 +17,7 @@ use Rattle.cut_bounds.specs.declared.axis.Axis.{Axis}
 use Rattle.cut_bounds.specs.declared.axis.Axis.TheVariants.{Columns, Rows}
 use Rattle.cut_bounds.specs.declared.axis.Tile.{Tile}
 use Rattle.cut_bounds.specs.declared.net_tiles.NetNeed.{NetNeed}
-use Rattle.cut_bounds.specs.Cuts.{along, lines_of, tile_at, wires_along, AreWithin, is_reached, is_passed, reached_sum, passed_sum, line_needs, sum_to, AreCounted}
+use Rattle.cut_bounds.specs.Cuts.{along, lines_of, tile_at, wires_along, AreWithin, is_reached, is_passed, reached_sum, passed_sum, line_needs, sum_to, AreCounted, AreSums}
 use Rattle.cut_bounds.specs.NetTiles.{Placed, placed_by, pins_counted}
 use Rattle.cut_bounds.specs.TileWires.{where_so, gained, held_by, sum_below, tiles_of}
 use Rattle.cut_bounds.specs.declared.tile_wires.TileWires.{TileWires}
@@ -273,12 +273,16 @@ more-counted-to axis lines net_needs at net_need rest tiles others begun ended b
 
 -- once all are counted
 pub all-counted : (axis : Axis) (lines : ℕ) (net_needs : List NetNeed) (at : ℕ) (rest : List Tile) (begun ended : List ℕ) (all : List Placed) → length net_needs ≤ at →
-    AreCountedTo axis lines net_needs at rest begun ended all →
-    ((line : ℕ) → sum_to line begun ≡ reached_sum axis line all) × ((line : ℕ) → sum_to line ended ≡ passed_sum axis line all)
+    AreCountedTo axis lines net_needs at rest begun ended all → AreSums axis lines all begun ended
 all-counted axis lines net_needs at rest begun ended all past was =
     let none : placed_by (drop at net_needs) rest ≡ [] = ap (λ (cs : List NetNeed). placed_by cs rest) (drop_all at net_needs past) in
     let counted = subst (λ (ns : List Placed). AreCounted axis begun ended ns all) none was.counted in
-    ((λ line. let e = counted.first line in omega (arith, e)), (λ line. let e = counted.last line in omega (arith, e)))
+    record {
+      begun_long = was.begun_long;
+      ended_long = was.ended_long;
+      reached = λ line. let e = counted.first line in omega (arith, e);
+      passed = λ line. let e = counted.last line in omega (arith, e);
+    }
 
 pub no-counted-to : (axis : Axis) (lines : ℕ) (net_needs : List NetNeed) (tiles rest : List Tile) (begun ended : List ℕ) → rest ≡ tiles →
     pins_counted net_needs ≡ length tiles → All (λ (net : Placed). 0 < length net.tiles) (placed_by net_needs tiles) →
@@ -301,15 +305,6 @@ pub record AreNeeds (axis : Axis) (nets : List Placed) (line need : ℕ) (begun 
   pub running : need + sum (take line ended) ≡ sum (take line begun)
   pub long : length needs ≡ line
   pub each : (k : ℕ) → k < line → get_or needs k 0 ≡ line_needs axis k nets
-
--- the sums of a design's nets by line
-pub record AreSums (axis : Axis) (lines : ℕ) (nets : List Placed) (begun ended : List ℕ) : Type 0 where
-  pub begun_long : length begun ≡ lines
-  pub ended_long : length ended ≡ lines
-  pub reached : (line : ℕ) → sum_to line begun ≡ reached_sum axis line nets
-  pub passed : (line : ℕ) → sum_to line ended ≡ passed_sum axis line nets
-  pub some : All (λ (net : Placed). 0 < length net.tiles) nets
-  pub few : sum_by (λ (net : Placed). net.need) nets < 2 ^ 63
 
 -- what a net that begins in the line and before needs and what the cut behind it needs
 pub running-next : (begun ended : List ℕ) (line need b e reached needs passed : ℕ) → line < length begun → line < length ended →
@@ -348,23 +343,25 @@ tile-turns columns number some full =
 
 -- a line more
 pub need-next : (axis : Axis) (lines : ℕ) (nets : List Placed) (line need b e : ℕ) (begun ended needs : List ℕ) → line < lines →
-    b ≡ get_or begun line b → e ≡ get_or ended line e → AreSums axis lines nets begun ended → AreNeeds axis nets line need begun ended needs →
+    b ≡ get_or begun line b → e ≡ get_or ended line e → AreSums axis lines nets begun ended → All (λ (net : Placed). 0 < length net.tiles) nets →
+    sum_by (λ (net : Placed). net.need) nets < 2 ^ 63 → AreNeeds axis nets line need begun ended needs →
     (need + b ≡ line_needs axis line nets + e) × (need + b < 2 ^ 63)
-need-next axis lines nets line need b e begun ended needs inside is is' sums was =
+need-next axis lines nets line need b e begun ended needs inside is is' sums some few was =
     let is0 : b ≡ get_or begun line 0 = is ∙ get_or_default begun line b 0 (omega (arith, inside, sums.begun_long)) in
     let is1 : e ≡ get_or ended line 0 = is' ∙ get_or_default ended line e 0 (omega (arith, inside, sums.ended_long)) in
     let next = running-next begun ended line need b e (reached_sum axis line nets) (line_needs axis line nets) (passed_sum axis line nets)
-    (omega (arith, inside, sums.begun_long)) (omega (arith, inside, sums.ended_long)) is0 is1 was.running (sums.reached line) (sums.passed line) (line-split axis line nets sums.some) in (
+    (omega (arith, inside, sums.begun_long)) (omega (arith, inside, sums.ended_long)) is0 is1 was.running (sums.reached line) (sums.passed line) (line-split axis line nets some) in (
       next,
       running-low begun ended line need b e (reached_sum axis line nets) (line_needs axis line nets) (passed_sum axis line nets) next is1 (sums.passed line)
-          (line-split axis line nets sums.some) (reached-few axis line nets sums.few),
+          (line-split axis line nets some) (reached-few axis line nets few),
     )
 
 pub need-more : (axis : Axis) (lines : ℕ) (nets : List Placed) (line need b e : ℕ) (begun ended needs new : List ℕ) → line < lines →
     b ≡ get_or begun line b → e ≡ get_or ended line e → new ≡ needs ++ ((need + b) - e) ∷ [] → AreSums axis lines nets begun ended →
-    AreNeeds axis nets line need begun ended needs → AreNeeds axis nets (line + 1) ((need + b) - e) begun ended new
-need-more axis lines nets line need b e begun ended needs new inside is is' pushed sums was =
-    let next = (need-next axis lines nets line need b e begun ended needs inside is is' sums was).0 in
+    All (λ (net : Placed). 0 < length net.tiles) nets → sum_by (λ (net : Placed). net.need) nets < 2 ^ 63 → AreNeeds axis nets line need begun ended needs →
+    AreNeeds axis nets (line + 1) ((need + b) - e) begun ended new
+need-more axis lines nets line need b e begun ended needs new inside is is' pushed sums some few was =
+    let next = (need-next axis lines nets line need b e begun ended needs inside is is' sums some few was).0 in
     let is0 : b ≡ get_or begun line 0 = is ∙ get_or_default begun line b 0 (omega (arith, inside, sums.begun_long)) in
     let is1 : e ≡ get_or ended line 0 = is' ∙ get_or_default ended line e 0 (omega (arith, inside, sums.ended_long)) in
     let value : (need + b) - e ≡ line_needs axis line nets = omega (arith, next) in

@@ -14,7 +14,7 @@ use Rattle.wall_laws.specs.Laws.{AreBounds}
 use Rattle.wall_laws.specs.Spans.{least_wirelength, least_usable_wirelength}
 use Rattle.wall_laws.specs.Walls.{holds, needs}
 use Rattle.cut_bounds.specs.Bounds.{BoundsView}
-use Rattle.cut_bounds.specs.BoundsOf.{bounds_of, is_box, is_column, is_row}
+use Rattle.cut_bounds.specs.BoundsOf.{bounds_by, bounds_of, is_box, is_column, is_row}
 use Rattle.cut_bounds.specs.Fullest.{fullest_of}
 use Rattle.cut_bounds.specs.Boxes.{boxes_on}
 use Rattle.cut_bounds.specs.Candidates.{box_at, candidates, candidates_on, column_walls, counts, is_candidate, levels_of, row_walls, straight_cuts}
@@ -200,28 +200,29 @@ walls-read d g walls read same are reads =
 abbrev pub bounds-view : (o w u c r b : ℕ) → List MeasuredWall → BoundsView
 bounds-view o w u c r b f = record { overflow = o; wirelength = w; usable_wirelength = u; columns = c; rows = r; boxes = b; fullest = f }
 
--- the figures that the code gives are the bounds of the design
-pub figures-are : (d : DesignView) (via_cost : ℕ) (straight taken read told read' fullest : List MeasuredWall) (overflow wirelength usable columns rows boxes : ℕ) →
-    straight ≡ straight_cuts d → taken ≡ taken_walls d → read ≡ taken → told ≡ straight ++ filter is_box read → read' ≡ told → fullest ≡ fullest_of read' →
-    overflow ≡ sum_by excess_of read → wirelength ≡ least_wirelength d via_cost → usable ≡ least_usable_wirelength d via_cost →
-    columns ≡ count_by is_column read → rows ≡ count_by is_row read → boxes ≡ count_by is_box read →
-    record { overflow = overflow; wirelength = wirelength; usable_wirelength = usable; columns = columns; rows = rows; boxes = boxes; fullest = fullest } ≡ bounds_of d via_cost
-figures-are d via_cost straight taken read told read' fullest overflow wirelength usable columns rows boxes is is' reads tells reads' full over wire wire' cs rs bs =
-    let all : read ≡ taken_walls d = reads ∙ is' in
-    let f : fullest ≡ fullest_of (straight_cuts d ++ filter is_box (taken_walls d)) =
-    full ∙ ap (λ (ms : List MeasuredWall). fullest_of ms) (reads' ∙ tells ∙ ap (λ (ms : List MeasuredWall). ms ++ filter is_box read) is ∙ ap (λ (ms : List MeasuredWall). straight_cuts d ++ filter is_box ms) all) in
-    let o = over ∙ ap (λ (ms : List MeasuredWall). sum_by excess_of ms) all in
-    let c = cs ∙ ap (λ (ms : List MeasuredWall). count_by is_column ms) all in
-    let r = rs ∙ ap (λ (ms : List MeasuredWall). count_by is_row ms) all in
-    let b = bs ∙ ap (λ (ms : List MeasuredWall). count_by is_box ms) all in
-    same o wire wire' c r b f
+-- the figures that the code gives are those that the walls show
+pub figures-are : (wirelength usable : ℕ) (straight taken told read fullest : List MeasuredWall) (overflow columns rows boxes : ℕ) →
+    overflow ≡ sum_by excess_of taken → columns ≡ count_by is_column taken → rows ≡ count_by is_row taken → boxes ≡ count_by is_box taken →
+    told ≡ straight ++ filter is_box taken → read ≡ told → fullest ≡ fullest_of read →
+    bounds-view overflow wirelength usable columns rows boxes fullest ≡ bounds_by wirelength usable straight taken
+figures-are w u straight taken told read fullest overflow columns rows boxes over cs rs bs tells reads full =
+    same over cs rs bs (full ∙ ap (λ (ms : List MeasuredWall). fullest_of ms) (reads ∙ tells))
   where
-    same : {o o' w w' u u' c c' r r' b b' : ℕ} {f f' : List MeasuredWall} → o ≡ o' → w ≡ w' → u ≡ u' → c ≡ c' → r ≡ r' → b ≡ b' → f ≡ f' →
-        bounds-view o w u c r b f ≡ bounds-view o' w' u' c' r' b' f'
-    same {o' = o'} {w = w} {w' = w'} {u = u} {u' = u'} {c = c} {c' = c'} {r = r} {r' = r'} {b = b} {b' = b'} {f = f} eo ew eu ec er eb ef =
-        ap (λ (n : ℕ). bounds-view n w u c r b f) eo ∙ ap (λ (n : ℕ). bounds-view o' n u c r b f) ew ∙ ap (λ (n : ℕ). bounds-view o' w' n c r b f) eu
-        ∙ ap (λ (n : ℕ). bounds-view o' w' u' n r b f) ec ∙ ap (λ (n : ℕ). bounds-view o' w' u' c' n b f) er ∙ ap (λ (n : ℕ). bounds-view o' w' u' c' r' n f) eb
-        ∙ ap (λ (ms : List MeasuredWall). bounds-view o' w' u' c' r' b' ms) ef
+    same : {o o' c c' r r' b b' : ℕ} {f f' : List MeasuredWall} → o ≡ o' → c ≡ c' → r ≡ r' → b ≡ b' → f ≡ f' →
+        bounds-view o w u c r b f ≡ bounds-view o' w u c' r' b' f'
+    same {o' = o'} {c = c} {c' = c'} {r = r} {r' = r'} {b = b} {b' = b'} {f = f} eo ec er eb ef =
+        ap (λ (n : ℕ). bounds-view n w u c r b f) eo ∙ ap (λ (n : ℕ). bounds-view o' w u n r b f) ec ∙ ap (λ (n : ℕ). bounds-view o' w u c' n b f) er
+        ∙ ap (λ (n : ℕ). bounds-view o' w u c' r' n f) eb ∙ ap (λ (ms : List MeasuredWall). bounds-view o' w u c' r' b' ms) ef
+
+-- where all of it is the design's, they are its bounds
+pub bounds-are : (d : DesignView) (via_cost wirelength usable : ℕ) (straight taken : List MeasuredWall) (b : BoundsView) →
+    wirelength ≡ least_wirelength d via_cost → usable ≡ least_usable_wirelength d via_cost → straight ≡ straight_cuts d → taken ≡ taken_walls d →
+    b ≡ bounds_by wirelength usable straight taken → b ≡ bounds_of d via_cost
+bounds-are d via_cost wirelength usable straight taken b wire wire' is is' shown =
+    shown ∙ ap (λ (n : ℕ). bounds_by n usable straight taken) wire
+    ∙ ap (λ (n : ℕ). bounds_by (least_wirelength d via_cost) n straight taken) wire'
+    ∙ ap (λ (ms : List MeasuredWall). bounds_by (least_wirelength d via_cost) (least_usable_wirelength d via_cost) ms taken) is
+    ∙ ap (λ (ms : List MeasuredWall). bounds_by (least_wirelength d via_cost) (least_usable_wirelength d via_cost) (straight_cuts d) ms) is'
 
 pub law-is : (d : DesignView) (via_cost : ℕ) (b : BoundsView) → IsDesign d → b ≡ bounds_of d via_cost → AreBounds d via_cost b.overflow b.wirelength b.usable_wirelength
 law-is d via_cost b is same =

@@ -39,12 +39,12 @@ is_box m = is_box_wall m.wall
 abbrev pub told_of : (straight taken : List MeasuredWall) → List MeasuredWall
 told_of straight taken = straight ++ filter is_box taken
 
--- the bounds that some walls show which are taken, where these are the straight cuts
-abbrev pub bounds_by : DesignView → (via_cost : ℕ) → (straight taken : List MeasuredWall) → BoundsView
-bounds_by d via_cost straight taken = record {
+-- the bounds that some walls show which are taken, where these are the straight cuts and these the least wirelengths
+abbrev pub bounds_by : (wirelength usable : ℕ) → (straight taken : List MeasuredWall) → BoundsView
+bounds_by wirelength usable straight taken = record {
   overflow = sum_by excess_of taken;
-  wirelength = least_wirelength d via_cost;
-  usable_wirelength = least_usable_wirelength d via_cost;
+  wirelength = wirelength;
+  usable_wirelength = usable;
   columns = count_by is_column taken;
   rows = count_by is_row taken;
   boxes = count_by is_box taken;
@@ -52,4 +52,5 @@ bounds_by d via_cost straight taken = record {
 }
 
 abbrev pub bounds_of : DesignView → (via_cost : ℕ) → BoundsView
-bounds_of d via_cost = bounds_by d via_cost (straight_cuts d) (taken_walls d)
+bounds_of d via_cost =
+    bounds_by (least_wirelength d via_cost) (least_usable_wirelength d via_cost) (straight_cuts d) (taken_walls d)

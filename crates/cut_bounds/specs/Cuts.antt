@@ -1,6 +1,6 @@
 -- What nets need across straight cuts, and what the cuts hold, line by line.
 use Rattle.std.specs.Prelude.{◌≡◌, ℕ, ◌+◌, ◌/◌, ◌%◌, ◌<◌, nat_le, Bool, not, ◌==◌, List}
-use Rattle.std.specs.Prelude.{All, map, take, sum, sum_by, slice_index}
+use Rattle.std.specs.Prelude.{All, length, map, take, sum, sum_by, slice_index}
 use Rattle.std.specs.List.{list_any}
 use Rattle.gr_base.specs.declared.grid.Shape.{Shape}
 use Rattle.wall_laws.specs.Walls.{is_parted}
@@ -65,3 +65,10 @@ line_holds g axis line wires =
 pub record AreCounted (axis : Axis) (begun ended : List ℕ) (nets all : List Placed) : Type 0 where
   pub first : (line : ℕ) → sum_to line begun + reached_sum axis line nets ≡ reached_sum axis line all
   pub last : (line : ℕ) → sum_to line ended + passed_sum axis line nets ≡ passed_sum axis line all
+
+-- what the nets have that begin in each line, and what those have that end in it
+pub record AreSums (axis : Axis) (lines : ℕ) (nets : List Placed) (begun ended : List ℕ) : Type 0 where
+  pub begun_long : length begun ≡ lines
+  pub ended_long : length ended ≡ lines
+  pub reached : (line : ℕ) → sum_to line begun ≡ reached_sum axis line nets
+  pub passed : (line : ℕ) → sum_to line ended ≡ passed_sum axis line nets

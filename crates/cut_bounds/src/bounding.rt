@@ -2,7 +2,7 @@
 ghost use Rattle.std.specs.Prelude.{◌≡◌, ◌≤◌, ◌++◌, [], All, filter, fold, IfOk};
 ghost use Rattle.gr_base.specs.Designs.{IsDesign};
 ghost use Rattle.wall_laws.specs.Laws.{AreBounds};
-ghost use Rattle.cut_bounds.specs.BoundsOf.{bounds_of};
+ghost use Rattle.cut_bounds.specs.BoundsOf.{bounds_by, bounds_of};
 ghost use Rattle.cut_bounds.specs.Candidates.{straight_cuts as cuts_of};
 ghost use Rattle.cut_bounds.specs.Measured.{is_overfull, ranked};
 ghost use Rattle.cut_bounds.specs.Places.{IsWallOf};
@@ -19,7 +19,7 @@ use crate::taken::take_walls;
 use crate::tile_wires::TileWires;
 use crate::wall::MeasuredWall;
 use gr_base::{Design, Shape};
-use span_bounds::wire_bounds;
+use span_bounds::{WireBounds, wire_bounds};
 use std::alloc::{AllocError, Global};
 
 /// The straight cuts of a design, and the walls that are taken.
@@ -39,8 +39,18 @@ pub fn bounds_of(alloc: Global, design: &Design, via_cost: u32) -> Result<Bounds
     ensures law { IfOk result (λ bounds.
         AreBounds design.now via_cost bounds.overflow bounds.wirelength bounds.usable_wirelength) }
 {
-    let Walls { straight, taken } = walls_of(alloc, design)?;
+    let walls = walls_of(alloc, design)?;
     let wire = wire_bounds(alloc, design, via_cost)?;
+    let bounds = bounds_shown(alloc, walls, wire)?;
+    Ok(bounds)
+}
+
+/// The bounds that walls show, beside those of wirelength. The only error is want of memory.
+fn bounds_shown(alloc: Global, walls: Walls, wire: WireBounds) -> Result<Bounds, AllocError>
+    ensures { IfOk result (λ bounds. bounds ≡
+        bounds_by wire.wirelength wire.usable walls.straight.items walls.taken.items) }
+{
+    let Walls { straight, taken } = walls;
     let counts = count_kinds(&taken);
     let overflow = total_excess(&taken);
     let mut told = straight;

@@ -4,8 +4,8 @@ ghost use Rattle.std.specs.Prelude.{All, length, map, slice_index, sum_by, IfOk}
 ghost use Rattle.std.specs.List.{list_any};
 ghost use Rattle.gr_base.specs.declared.grid.Shape.{Shape};
 ghost use Rattle.cut_bounds.specs.NetTiles.{AreWhole, Placed, placed_in};
-ghost use Rattle.cut_bounds.specs.Cuts.{AreCounted, AreWithin, is_reached, is_passed, line_needs, sum_to};
-ghost use Rattle.cut_bounds.specs.Cuts.{reached_sum, passed_sum, lines_of, line_holds, wires_along};
+ghost use Rattle.cut_bounds.specs.Cuts.{AreCounted, AreSums, AreWithin, is_reached, is_passed, line_needs};
+ghost use Rattle.cut_bounds.specs.Cuts.{lines_of, line_holds, wires_along};
 ghost use Rattle.cut_bounds.specs.TileWires.{held_by, sum_below, tiles_of};
 
 use crate::axis::{Axis, Tile};
@@ -110,12 +110,7 @@ fn ends_by_line(
     requires some { All (λ net. 0 < length net.tiles) (placed_in nets.now) }
     requires within { All (λ net. AreWithin axis lines net.tiles) (placed_in nets.now) }
     requires few { sum_by (λ net. net.need) (placed_in nets.now) < 2 ^ 63 }
-    ensures begun_long { IfOk result (λ ends. length ends.begun.items ≡ lines) }
-    ensures ended_long { IfOk result (λ ends. length ends.ended.items ≡ lines) }
-    ensures begun { (line : ℕ) → IfOk result (λ ends.
-        sum_to line ends.begun.items ≡ reached_sum axis line (placed_in nets.now)) }
-    ensures ended { (line : ℕ) → IfOk result (λ ends.
-        sum_to line ends.ended.items ≡ passed_sum axis line (placed_in nets.now)) }
+    ensures { IfOk result (λ ends. AreSums axis lines (placed_in nets.now) ends.begun.items ends.ended.items) }
 {
     let mut ends = LineNeeds {
         begun: vec![in alloc; 0; lines as usize]?,

@@ -1,5 +1,5 @@
 -- Edges of a grid whose layers are taken as one.
-use Rattle.std.proofs.Common.{◌≡◌, ℕ, ◌+◌, ◌-◌, ◌*◌, ◌<◌, ◌≤◌, ◌&&◌, inl, inr, ◌⊎◌, ◌||◌, ◌==◌, nat_lt, Bool, true, false, List, [], ◌∷◌, map, length, slice_index, All, IsTrue, if◌then◌else◌, refl, sym, ap, subst, ◌∙◌, arith}
+use Rattle.std.proofs.Common.{◌≡◌, ℕ, ◌+◌, ◌*◌, ◌<◌, ◌≤◌, ◌&&◌, inl, inr, ◌||◌, ◌==◌, nat_lt, Bool, true, false, List, [], ◌∷◌, map, slice_index, All, IsTrue, if◌then◌else◌, refl, sym, ap, subst, ◌∙◌, arith}
 use Rattle.std.proofs.lemmas.Bool.{cases_Bool, false≢true}
 use Rattle.std.proofs.lemmas.Bool.Decides.{nat_tests}
 use Rattle.std.proofs.lemmas.List.Elements.{All-map, All-weaker}
@@ -85,7 +85,7 @@ pub edge-stands : (flat : Bool) → flat ≡ true → (g small : Shape) → IsFo
     low ≡ folded flat g e.low → IsTrue (has_edge small (edge_at low e.way))
 edge-stands false is g small fold e edge wire low stands = absurd (false≢true is)
 edge-stands true is g small fold e edge wire low stands =
-    subst (λ (n : ℕ). IsTrue (has_edge small (edge_at n e.way))) (sym stands) (wire-edge g small fold.0 fold.1 fold.2 e edge wire)
+    subst (λ (n : ℕ). IsTrue (has_edge small (edge_at n e.way))) (sym stands) (wire-edge g small fold.columns fold.rows (fold.one refl) e edge wire)
 
 -- a pin stands where one of some cells stands
 pub among-folds : (f : ℕ → ℕ) (cells : List ℕ) (n : ℕ) → IsTrue (is_among (map f cells) n) → (cell : ℕ) × (IsTrue (is_among cells cell) × (f cell ≡ n))
@@ -114,8 +114,8 @@ among-folds f (cell ∷ cells) n among =
 
 -- each cell stands in one
 pub folded-below : (flat : Bool) (g small : Shape) → IsFoldOf flat g small → (n : ℕ) → n < cells_of g → folded flat g n < cells_of small
-folded-below true g small fold n below = tile-below g small fold.0 fold.1 fold.2 n below
-folded-below false g small same n below = subst (λ (s : Shape). n < cells_of s) (sym same) below
+folded-below true g small fold n below = tile-below g small fold.columns fold.rows (fold.one refl) n below
+folded-below false g small fold n below = subst (λ (s : Shape). n < cells_of s) (sym (fold.same refl)) below
 
 pub folds-below : (flat : Bool) (g small : Shape) → IsFoldOf flat g small → (cells folds : List ℕ) → All (λ cell. cell < cells_of g) cells →
     folds ≡ map (folded flat g) cells → All (λ cell. cell < cells_of small) folds

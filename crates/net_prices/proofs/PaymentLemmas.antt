@@ -1,17 +1,16 @@
 -- A payment raises what was paid.
-use Rattle.std.proofs.Common.{◌≡◌, ℕ, ◌+◌, ◌-◌, ◌*◌, ◌<◌, ◌≤◌, inl, inr, nat_lt, min, map, Bool, true, false, List, [], ◌∷◌, Option, Some, None, slice_get, length, slice_index, All, IsTrue, if◌then◌else◌, refl, sym, ap, subst, ◌∙◌, arith}
+use Rattle.std.proofs.Common.{◌≡◌, ℕ, ◌+◌, ◌-◌, ◌<◌, ◌≤◌, inl, inr, nat_lt, map, Bool, true, false, List, [], ◌∷◌, Option, Some, None, slice_get, length, slice_index, All, IsTrue, if◌then◌else◌, refl, sym, ap, subst, ◌∙◌, arith}
 use Rattle.std.proofs.lemmas.Bool.{cases_Bool, false≢true}
 use Rattle.std.proofs.lemmas.Bool.Decides.{nat_tests}
 use Rattle.gr_base.specs.Designs.{DesignView, IsDesign, is_routed, is_routed_net, pins_at, pins_in}
 use Rattle.gr_base.specs.EdgeSets.{Edges}
 use Rattle.gr_base.specs.Grid.{cells_of, edge_at, stride, high_of, has_edge, is_wire}
 use Rattle.gr_base.specs.Trees.{is_among}
-use Rattle.gr_base.specs.declared.frame.Frame.{Frame}
 use Rattle.gr_base.specs.declared.frame.Net.{Net}
 use Rattle.gr_base.specs.declared.grid.Edge.{Edge}
 use Rattle.gr_base.specs.declared.grid.Shape.{Shape}
 use Rattle.gr_base.proofs.GridLemmas.{edge-low, high-below}
-use Rattle.net_prices.specs.Arcs.{nothing, arc_up, arc_down, arc_of, arcs_in, level_at, AreLower, ArePaid}
+use Rattle.net_prices.specs.Arcs.{nothing, arc_of, arcs_in, level_at, AreLower, ArePaid}
 use Rattle.net_prices.specs.Folds.{folded, tile_of, IsFoldOf}
 use Rattle.net_prices.specs.Payments.{HasArcs, IsRaised}
 use Rattle.net_prices.specs.PriceTables.{allowed_by, prices_by, ArePrices}
@@ -78,8 +77,9 @@ arcs-taken : (d : DesignView) (allowed : Edges) (flat : Bool) (small : Shape) �
     HasArcs d allowed flat small old → ArePaid small level old new →
     IsTaken d allowed (λ n. level (folded flat d.frame.shape n)) (arcs_in flat d.frame.shape small old) (arcs_in flat d.frame.shape small new)
 arcs-taken d allowed true small fold level old new some paid e up edge may =
-    flat-taken d.frame.shape small fold.0 fold.1 fold.2 level old new paid e up edge (some e up edge may)
-arcs-taken d allowed false small same level old new some paid e up edge may =
+    flat-taken d.frame.shape small fold.columns fold.rows (fold.one refl) level old new paid e up edge (some e up edge may)
+arcs-taken d allowed false small fold level old new some paid e up edge may =
+    let same = fold.same refl in
     let inside : IsTrue (has_edge small e) = subst (λ (s : Shape). IsTrue (has_edge s e)) (sym same) edge in
     let takes = arc-taken small level old new paid e inside up (some e up edge may) in
     subst (λ (s : Shape). slice_index new (arc_of small e up) + fall s level e up ≤ slice_index old (arc_of small e up)) same takes

@@ -13,6 +13,8 @@ folded true g cell = tile_of g cell
 folded false g cell = cell
 
 -- a grid with its layers as one, or as they are
-abbrev pub IsFoldOf : (flat : Bool) → (g small : Shape) → Type 0
-IsFoldOf true g small = (small.columns ≡ g.columns) × (small.rows ≡ g.rows) × (small.layers ≡ 1)
-IsFoldOf false g small = small ≡ g
+pub record IsFoldOf (flat : Bool) (g small : Shape) : Type 0 where
+  pub columns : small.columns ≡ g.columns
+  pub rows : small.rows ≡ g.rows
+  pub one : flat ≡ true → small.layers ≡ 1
+  pub same : flat ≡ false → small ≡ g

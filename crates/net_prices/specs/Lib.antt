@@ -6,3 +6,5 @@ pub mod Pricers
 pub mod PriceTables
 pub mod Payments
 pub mod PricerStore
+pub mod Levels
+pub mod Pricings

@@ -4,8 +4,10 @@ ghost use Rattle.gr_base.specs.Grid.{cells_of};
 ghost use Rattle.gr_base.specs.Trees.{is_among};
 ghost use Rattle.route_evaluator.specs.EdgeNumbers.{way_number as number_of_way};
 ghost use Rattle.net_prices.specs.Arcs.{nothing, level_at, AreLower, ArePaid, IsPaidAt, IsPaidDown, IsPaidUp};
+ghost use Rattle.net_prices.specs.Levels.{level_of};
 
 use crate::labels::{Labels, NOTHING};
+use crate::levels::Levels;
 use gr_base::{Shape, Way};
 
 /// The number of a way.
@@ -40,118 +42,81 @@ fn pay_arc(left: &mut Vec<u32>, arc: u32, tail: u32, head: u32) -> bool
     true
 }
 
-/// The label of a cell, but at most the bound.
-fn level(labels: &[u32], bound: u32, cell: u32) -> u32
-    requires { cell < length labels.now }
-    ensures { result ≡ level_at labels.now bound cell }
-{
-    labels[cell as usize].min(bound)
-}
-
 /// Takes what falls along the arc into a cell from the one before it along a way.
-fn pay_up(
-    left: &mut Vec<u32>,
-    labels: &[u32],
-    shape: Shape,
-    bound: u32,
-    cell: u32,
-    way: Way,
-) -> bool
-    requires cell { cell < cells_of shape }
-    requires labels { length labels.now ≡ cells_of shape }
-    requires left { length left.old.items ≡ 6 * cells_of shape }
+fn pay_up(left: &mut Vec<u32>, levels: &Levels<'_>, cell: u32, way: Way) -> bool
+    requires cell { cell < cells_of levels.now.shape }
+    requires left { length left.old.items ≡ 6 * cells_of levels.now.shape }
     ensures lower { AreLower left.old.items left.new.items }
     ensures paid { IsTrue result →
-        IsPaidUp shape (level_at labels.now bound) left.old.items left.new.items cell way }
+        IsPaidUp levels.now.shape (level_of levels.now) left.old.items left.new.items cell way }
 {
-    let stride = shape.stride(way);
+    let stride = levels.shape.stride(way);
     if cell < stride {
         return true;
     }
     let arc = 6 * cell + 2 * way_number(way);
-    let tail = level(labels, bound, cell - stride);
-    pay_arc(left, arc, tail, level(labels, bound, cell))
+    pay_arc(left, arc, levels.at(cell - stride), levels.at(cell))
 }
 
 /// Takes what falls along the arc into a cell from the one behind it along a way.
-fn pay_down(
-    left: &mut Vec<u32>,
-    labels: &[u32],
-    shape: Shape,
-    bound: u32,
-    cell: u32,
-    way: Way,
-) -> bool
-    requires cell { cell < cells_of shape }
-    requires labels { length labels.now ≡ cells_of shape }
-    requires left { length left.old.items ≡ 6 * cells_of shape }
+fn pay_down(left: &mut Vec<u32>, levels: &Levels<'_>, cell: u32, way: Way) -> bool
+    requires cell { cell < cells_of levels.now.shape }
+    requires left { length left.old.items ≡ 6 * cells_of levels.now.shape }
     ensures lower { AreLower left.old.items left.new.items }
     ensures paid { IsTrue result →
-        IsPaidDown shape (level_at labels.now bound) left.old.items left.new.items cell way }
+        IsPaidDown levels.now.shape (level_of levels.now) left.old.items left.new.items cell way }
 {
-    let above = shape.cells() - cell;
-    let stride = shape.stride(way);
-    if above <= stride {
+    let stride = levels.shape.stride(way);
+    if levels.shape.cells() - cell <= stride {
         return true;
     }
     let arc = 6 * cell + 2 * way_number(way) + 1;
-    let tail = level(labels, bound, cell + stride);
-    pay_arc(left, arc, tail, level(labels, bound, cell))
+    pay_arc(left, arc, levels.at(cell + stride), levels.at(cell))
 }
 
 /// Takes what falls along both arcs into a cell along a way.
-fn pay_way(
-    left: &mut Vec<u32>,
-    labels: &[u32],
-    shape: Shape,
-    bound: u32,
-    cell: u32,
-    way: Way,
-) -> bool
-    requires cell { cell < cells_of shape }
-    requires labels { length labels.now ≡ cells_of shape }
-    requires left { length left.old.items ≡ 6 * cells_of shape }
+fn pay_way(left: &mut Vec<u32>, levels: &Levels<'_>, cell: u32, way: Way) -> bool
+    requires cell { cell < cells_of levels.now.shape }
+    requires left { length left.old.items ≡ 6 * cells_of levels.now.shape }
     ensures lower { AreLower left.old.items left.new.items }
     ensures up { IsTrue result →
-        IsPaidUp shape (level_at labels.now bound) left.old.items left.new.items cell way }
+        IsPaidUp levels.now.shape (level_of levels.now) left.old.items left.new.items cell way }
     ensures down { IsTrue result →
-        IsPaidDown shape (level_at labels.now bound) left.old.items left.new.items cell way }
+        IsPaidDown levels.now.shape (level_of levels.now) left.old.items left.new.items cell way }
 {
-    pay_up(left, labels, shape, bound, cell, way) && pay_down(left, labels, shape, bound, cell, way)
+    pay_up(left, levels, cell, way) && pay_down(left, levels, cell, way)
 }
 
 /// Takes what falls along the arcs into a cell. False where something falls by more than is left.
-fn pay_into(left: &mut Vec<u32>, labels: &[u32], shape: Shape, bound: u32, cell: u32) -> bool
-    requires cell { cell < cells_of shape }
-    requires labels { length labels.now ≡ cells_of shape }
-    requires left { length left.old.items ≡ 6 * cells_of shape }
+fn pay_into(left: &mut Vec<u32>, levels: &Levels<'_>, cell: u32) -> bool
+    requires cell { cell < cells_of levels.now.shape }
+    requires left { length left.old.items ≡ 6 * cells_of levels.now.shape }
     ensures lower { AreLower left.old.items left.new.items }
     ensures paid { IsTrue result →
-        IsPaidAt shape (level_at labels.now bound) left.old.items left.new.items cell }
+        IsPaidAt levels.now.shape (level_of levels.now) left.old.items left.new.items cell }
 {
-    if labels[cell as usize] >= bound {
+    if levels.labels[cell as usize] >= levels.bound {
         return true;
     }
-    if !pay_way(left, labels, shape, bound, cell, Way::East) {
+    if !pay_way(left, levels, cell, Way::East) {
         return false;
     }
-    if !pay_way(left, labels, shape, bound, cell, Way::North) {
+    if !pay_way(left, levels, cell, Way::North) {
         return false;
     }
-    pay_way(left, labels, shape, bound, cell, Way::Up)
+    pay_way(left, levels, cell, Way::Up)
 }
 
 /// Takes what falls along the arcs into some cells. False where something falls by more than is left.
-fn pay_cells(left: &mut Vec<u32>, labels: &[u32], shape: Shape, bound: u32, cells: &[u32]) -> bool
-    requires cells { All (λ cell. cell < cells_of shape) cells.now }
-    requires labels { length labels.now ≡ cells_of shape }
-    requires left { length left.old.items ≡ 6 * cells_of shape }
+fn pay_cells(left: &mut Vec<u32>, levels: &Levels<'_>, cells: &[u32]) -> bool
+    requires cells { All (λ cell. cell < cells_of levels.now.shape) cells.now }
+    requires left { length left.old.items ≡ 6 * cells_of levels.now.shape }
     ensures lower { AreLower left.old.items left.new.items }
     ensures paid { IsTrue result → (cell : ℕ) → IsTrue (is_among cells.now cell) →
-        IsPaidAt shape (level_at labels.now bound) left.old.items left.new.items cell }
+        IsPaidAt levels.now.shape (level_of levels.now) left.old.items left.new.items cell }
 {
     for cell in cells {
-        if !pay_into(left, labels, shape, bound, *cell) {
+        if !pay_into(left, levels, *cell) {
             return false;
         }
     }
@@ -167,5 +132,10 @@ pub(crate) fn pay_all(left: &mut Vec<u32>, labels: &Labels, shape: Shape, bound:
     ensures paid { IsTrue result →
         ArePaid shape (level_at labels.now.table bound) left.old.items left.new.items }
 {
-    pay_cells(left, labels.table(), shape, bound, labels.cells())
+    let levels = Levels {
+        shape,
+        labels: labels.table(),
+        bound,
+    };
+    pay_cells(left, &levels, labels.cells())
 }

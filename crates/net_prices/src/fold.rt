@@ -14,12 +14,12 @@ pub(crate) struct Fold {
     pub shape: Shape,
     pub small: Shape,
     pub flat: bool,
+    pub ghost fits: { IsFoldOf flat shape small },
 }
 
 /// A grid with its layers as one, where that is asked for, else as it is.
 pub(crate) fn fold_of(shape: Shape, flat: bool) -> Fold
-    ensures shape { result.shape ≡ shape }
-    ensures fold { IsFoldOf result.flat result.shape result.small }
+    ensures { result.shape ≡ shape }
 {
     if flat {
         if let Some(small) = Shape::new(shape.columns(), shape.rows(), 1) {
@@ -56,7 +56,6 @@ impl Fold {
         requires edge { IsTrue (has_edge self.shape e) }
         requires wire { IsTrue (is_wire e) }
         requires flat { IsTrue self.flat }
-        requires fold { IsFoldOf self.flat self.shape self.small }
         ensures edge { result ≡ edge_at (tile_of self.shape e.low) e.way }
         ensures inside { IsTrue (has_edge self.small result) }
     {

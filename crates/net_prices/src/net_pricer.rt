@@ -14,6 +14,7 @@ use crate::fold::{Fold, fold_of, fold_pins};
 use crate::labels::{Labels, NOTHING};
 use crate::payment::pay;
 use crate::price_table::fill_prices;
+use crate::pricing::Pricing;
 use crate::rates::Rates;
 use gr_base::{Design, Frame, Shape};
 use grid_demand::Capacity;
@@ -71,7 +72,14 @@ impl NetPricer {
         ensures prices { (d : DesignView) → capacity.now ≡ capacity_of d →
             ArePrices d rates weights.now net self.new }
     {
-        fill_prices(&mut self.table, capacity, self.fold, rates, weights, net);
+        let pricing = Pricing {
+            capacity,
+            fold: self.fold,
+            rates,
+            weights,
+            net,
+        };
+        fill_prices(&mut self.table, &pricing);
         restore_all(&self.table, &mut self.left);
     }
 

@@ -56,12 +56,7 @@ loop-net_need-preserved c =
     c.loop-net_need.ends.begun.items c.loop-net_need.ends.ended.items c.add_net.new.ends.begun.items c.add_net.new.ends.ended.items (placed_in c.args.nets.now) c.loop-net_need.invariant next
     c.add_net.ensures.begun_long c.add_net.ensures.ended_long c.add_net.ensures.counted
 
-pub returns-clause-begun : goal.returns-clause-begun
-returns-clause-begun c line =
-    (all-counted c.args.axis c.args.lines c.args.nets.now.net_needs.items c.loop-net_need.net_need-index c.loop-net_need.rest.now c.loop-net_need.ends.begun.items c.loop-net_need.ends.ended.items (placed_in c.args.nets.now)
-    (subst (λ (cs : List NetNeed). length cs ≤ c.loop-net_need.net_need-index) c.deref-net_need-items.ensures.value c.loop-net_need-test.false) c.loop-net_need.invariant).0 line
-
-pub returns-clause-ended : goal.returns-clause-ended
-returns-clause-ended c line =
-    (all-counted c.args.axis c.args.lines c.args.nets.now.net_needs.items c.loop-net_need.net_need-index c.loop-net_need.rest.now c.loop-net_need.ends.begun.items c.loop-net_need.ends.ended.items (placed_in c.args.nets.now)
-    (subst (λ (cs : List NetNeed). length cs ≤ c.loop-net_need.net_need-index) c.deref-net_need-items.ensures.value c.loop-net_need-test.false) c.loop-net_need.invariant).1 line
+pub returns : goal.returns
+returns c =
+    all-counted c.args.axis c.args.lines c.args.nets.now.net_needs.items c.loop-net_need.net_need-index c.loop-net_need.rest.now c.loop-net_need.ends.begun.items c.loop-net_need.ends.ended.items (placed_in c.args.nets.now)
+    (subst (λ (cs : List NetNeed). length cs ≤ c.loop-net_need.net_need-index) c.deref-net_need-items.ensures.value c.loop-net_need-test.false) c.loop-net_need.invariant

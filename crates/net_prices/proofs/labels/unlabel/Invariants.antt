@@ -1,6 +1,4 @@
-use Rattle.std.proofs.Common.{◌≡◌, ℕ, ◌<◌, take, false, length, slice_index}
-use Rattle.gr_base.specs.Trees.{is_among}
-use Rattle.net_prices.specs.Arcs.{nothing}
+use Rattle.std.proofs.Common.{◌≡◌, take, length}
 use Rattle.net_prices.specs.LabelTables.{IsUnlabelled}
 use Rattle.net_prices.proofs.labels.unlabel.Given as goal
 

@@ -1,4 +1,4 @@
-use Rattle.std.proofs.Common.{◌≡◌, ℕ, length, slice_index}
+use Rattle.std.proofs.Common.{◌≡◌, length, slice_index}
 use Rattle.gr_base.specs.Grid.{cells_of}
 use Rattle.net_prices.specs.Arcs.{AreLower}
 use Rattle.net_prices.specs.Payments.{IsRaised}

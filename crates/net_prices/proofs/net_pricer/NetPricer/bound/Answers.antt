@@ -17,12 +17,11 @@ fold_pins-requires c =
 pub pay_net-requires-clause-pins : goal.pay_net-requires-clause-pins
 pay_net-requires-clause-pins c =
     pins-stand c.args.design.now c.frame-frame.ensures.design c.args.net c.net-value.result.now c.net-value.ensures.net c.self.inside.fold.flat
-    c.self.inside.fold.shape c.self.inside.fold.small (ap (λ (v : PricerView). v.shape) c.self.view_is ∙ sym c.requires.shape) c.self.invariant.fold
+    c.self.inside.fold.shape c.self.inside.fold.small (ap (λ (v : PricerView). v.shape) c.self.view_is ∙ sym c.requires.shape) c.self.inside.fold.fits
     c.as_slice.result.now c.deref-2.result.now c.as_slice.ensures (c.deref-2.ensures.value ∙ c.in_ok-fold_pins.ensures)
 
 pub invariant_of-self-in_err-paid : goal.invariant_of-self-in_err-paid
 invariant_of-self-in_err-paid c = record {
-  fold = c.self.invariant.fold;
   long = c.self.invariant.long;
   lower = lower-more c.self.inside.table.items c.self.inside.left.items c.pay_net.new.left.items c.self.invariant.lower c.pay_net.ensures.lower;
   labels = c.pay_net.ensures.labels;
@@ -44,5 +43,5 @@ returns-clause-bound c rates weights prices =
     paid-net d c.frame-frame.ensures.design rates weights c.args.net c.in_ok-paid.paid (priced_by fold c.self.inside.table.items) all pins
     c.self.inside.left.items c.pay_net.new.left.items are
     (subst (λ (s : Shape). pins ≡ map (folded fold.flat s) all) same (c.deref-2.ensures.value ∙ c.in_ok-fold_pins.ensures))
-    (some-pins d c.args.net all are c.requires.routed) (subst (λ (s : Shape). IsFoldOf fold.flat s fold.small) same c.self.invariant.fold)
+    (some-pins d c.args.net all are c.requires.routed) (subst (λ (s : Shape). IsFoldOf fold.flat s fold.small) same c.self.inside.fold.fits)
     (subst (λ (v : PricerView). ArePrices d rates weights c.args.net v) (sym c.self.view_is) prices) c.self.invariant.lower c.in_ok-paid.ensures.raised

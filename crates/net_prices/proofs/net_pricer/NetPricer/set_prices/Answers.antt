@@ -8,7 +8,6 @@ restore_all-requires c =
 
 pub invariant_of-self : goal.invariant_of-self
 invariant_of-self c = record {
-  fold = c.self.invariant.fold;
   long = c.fill_prices.ensures.long ∙ c.self.invariant.long;
   lower = subst (λ (xs : List ℕ). AreLower xs c.restore_all.new.left.items) c.deref.ensures.value c.restore_all.ensures;
   labels = c.self.invariant.labels;
