@@ -17,7 +17,7 @@ const NONE: u32 = u32::MAX;
 
 /// A cell that waits.
 #[derive(Clone, Copy, Debug)]
-struct Entry {
+struct WaitingCell {
     distance: u32,
     cell: u32,
     /// The place of the entry before it in its bucket.
@@ -30,10 +30,10 @@ struct Entry {
 pub(crate) struct Waiting {
     /// By bucket: the place of its last entry.
     last: Vec<u32>,
-    entries: Vec<Entry>,
-    far: Vec<Entry>,
+    entries: Vec<WaitingCell>,
+    far: Vec<WaitingCell>,
     /// Those that were far, while they are looked at again.
-    were_far: Vec<Entry>,
+    were_far: Vec<WaitingCell>,
     /// The distance at which the first bucket begins.
     base: u32,
     bucket: u32,
@@ -70,7 +70,7 @@ impl Waiting {
     /// Puts a cell in. The only error is want of memory.
     pub(crate) fn push(&mut self, distance: u32, cell: u32) -> Result<(), AllocError> {
         let bucket = (distance.saturating_sub(self.base) >> WIDTH).max(self.bucket);
-        let entry = Entry {
+        let entry = WaitingCell {
             distance,
             cell,
             before: at(&self.last, bucket),
@@ -128,7 +128,7 @@ impl Waiting {
 }
 
 /// The least distance of some entries.
-fn least_distance(entries: &[Entry]) -> u32 {
+fn least_distance(entries: &[WaitingCell]) -> u32 {
     let mut least = NONE;
     for entry in entries {
         least = least.min(entry.distance);

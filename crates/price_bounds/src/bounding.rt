@@ -12,7 +12,7 @@ ghost use Rattle.price_bounds.specs.declared.figure.Figure.TheVariants.{Overflow
 use crate::figure::{Figure, SCALE, rates_of};
 use crate::held::held_price_of;
 use crate::seats::{Seat, least_cost, seats_for};
-use crate::steps::Steps;
+use crate::steps::Weights;
 use gr_base::Design;
 use grid_demand::Capacity;
 use std::alloc::{AllocError, Global};
@@ -120,7 +120,7 @@ fn best_bound<R: Threads + Sync>(
 {
     let mut seats = seats_for(alloc, design, figure == Figure::Overflow, asked.workers)?;
     let mut weights = vec![in alloc; 0; 2 * capacity.shape().cells() as usize]?;
-    let mut moves = Steps::new(alloc, design, capacity, figure)?;
+    let mut moves = Weights::new(alloc, design, capacity, figure)?;
     moves.put(&mut weights);
     let mut best = 0;
     for _ in 0..asked.steps {

@@ -35,7 +35,7 @@ const MOST_WIRES: usize = 1 << 25;
 
 /// A wire edge.
 #[derive(Clone, Copy, Debug)]
-struct Wire {
+struct WeightedEdge {
     held: u64,
     /// Its weight, in parts.
     weight: u32,
@@ -49,9 +49,9 @@ struct Wire {
 /// The weights of a figure, and how the steps went: each begins where most was proved. For overflow the
 /// layers over a tile are one, and their weights go together.
 #[derive(Debug, Drop)]
-pub(crate) struct Steps {
+pub(crate) struct Weights {
     /// By number.
-    wires: Vec<Wire>,
+    wires: Vec<WeightedEdge>,
     /// By layer, where the layers are one: the least need over the layers by its own, in parts. So nets ask
     /// for the same price on each.
     ratios: Vec<u32>,
@@ -67,20 +67,20 @@ pub(crate) struct Steps {
     begun: bool,
 }
 
-impl Steps {
+impl Weights {
     /// The weights of a figure before the first step. The only error is want of memory.
     pub(crate) fn new(
         alloc: Global,
         design: &Design,
         capacity: &Capacity,
         figure: Figure,
-    ) -> Result<Steps, AllocError> {
+    ) -> Result<Weights, AllocError> {
         let most = match figure {
             Figure::Overflow | Figure::Both => MOST,
             Figure::Length => MOST_WITHOUT,
         };
         let flat = figure == Figure::Overflow;
-        Ok(Steps {
+        Ok(Weights {
             wires: if flat {
                 flat_wires_of(alloc, design, capacity)?
             } else {
@@ -214,7 +214,7 @@ fn flat_wires_of(
     alloc: Global,
     design: &Design,
     capacity: &Capacity,
-) -> Result<Vec<Wire>, AllocError> {
+) -> Result<Vec<WeightedEdge>, AllocError> {
     let shape = design.frame().shape;
     let cuts = cuts_of(alloc, design, capacity)?;
     let mut wires = Vec::new(alloc);
@@ -227,7 +227,7 @@ fn flat_wires_of(
 }
 
 /// The wire edges of the grid, without weights. The only error is want of memory.
-fn wires_of(alloc: Global, capacity: &Capacity) -> Result<Vec<Wire>, AllocError> {
+fn wires_of(alloc: Global, capacity: &Capacity) -> Result<Vec<WeightedEdge>, AllocError> {
     let mut wires = Vec::new(alloc);
     for number in 0..2 * capacity.shape().cells() {
         let held = u64::from(held_of(capacity, number));
@@ -237,9 +237,9 @@ fn wires_of(alloc: Global, capacity: &Capacity) -> Result<Vec<Wire>, AllocError>
 }
 
 /// A wire edge that holds so much, with its first weight.
-fn weighted(held: u64, weight: u32) -> Wire {
+fn weighted(held: u64, weight: u32) -> WeightedEdge {
     let weight = weight.saturating_mul(PARTS);
-    Wire {
+    WeightedEdge {
         held,
         weight,
         kept: weight,
