@@ -6,3 +6,4 @@ pub mod Gathered
 pub mod Following
 pub mod Plans
 pub mod Rules
+pub mod Nets

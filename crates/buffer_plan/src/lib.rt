@@ -10,6 +10,7 @@ mod nets;
 mod placing;
 mod planner;
 mod planning;
+mod routed_nets;
 
 pub use laws::{candidates_above_nodes, candidates_at_nodes, picked_is_best};
 pub use loaded::Loaded;
@@ -17,3 +18,4 @@ pub use net_planner::NetPlanner;
 pub use nets::{net_plan, plan_all, plan_all_by, routed_tree};
 pub use placing::plan_of;
 pub use planner::Planner;
+pub use routed_nets::RoutedNets;

@@ -5,12 +5,14 @@ ghost use Rattle.gr_base.specs.Grid.{cells_of};
 ghost use Rattle.gr_base.specs.Plans.{IsRouteOfNet};
 ghost use Rattle.gr_base.specs.Trees.{tree_at};
 ghost use Rattle.rc_library.specs.Libraries.{IsLibraryOf};
+ghost use Rattle.buffer_plan.specs.Nets.{HaveTrees};
 ghost use Rattle.buffer_plan.specs.Plans.{AreRoutesOf, ArePlans};
 ghost use Rattle.buffer_plan.specs.Rules.{IsRuled, IsByRule, AreByRule, AreAllByRule};
 
 use crate::loaded::Loaded;
 use crate::net_planner::NetPlanner;
 use crate::planner::Planner;
+use crate::routed_nets::RoutedNets;
 use elmore_delay::{Loading, Plan, Plans};
 use ginneken_lists::Steps;
 use gr_base::{Design, NodeIndex, RouteTree, Routes};
@@ -41,7 +43,12 @@ pub fn plan_all<R: Threads + Sync>(
     requires workers { 0 < workers }
     ensures { IfOk result (ArePlans design.now library.now routes.now) }
 {
-    plan_all_by::<Planner, R>(rt, alloc, design, library, routes, workers)
+    let nets = RoutedNets {
+        design,
+        library,
+        routes,
+    };
+    plan_all_by::<Planner, R>(rt, alloc, &nets, workers)
 }
 
 /// The plans of all nets by a planner's rule, in at most so many blocks side by side. The only error is
@@ -49,18 +56,15 @@ pub fn plan_all<R: Threads + Sync>(
 pub fn plan_all_by<P: NetPlanner + Sync, R: Threads + Sync>(
     rt: &R,
     alloc: Global,
-    design: &Design,
-    library: &Library,
-    routes: &Routes,
+    nets: &RoutedNets<'_>,
     workers: u32,
 ) -> Result<Plans, AllocError>
-    requires library { IsLibraryOf design.now library.now }
-    requires routes { AreRoutesOf design.now routes.now }
+    requires trees { HaveTrees nets.now }
     requires workers { 0 < workers }
-    ensures { IfOk result (AreAllByRule P.rule design.now library.now routes.now) }
+    ensures { IfOk result (AreAllByRule P.rule nets.now.design.now nets.now.library.now nets.now.routes.now) }
 {
-    let mut planned = none_planned(alloc, design.nets())?;
-    plan_blocks::<P, R>(rt, alloc, design, library, routes, workers, &mut planned);
+    let mut planned = none_planned(alloc, nets.design.nets())?;
+    plan_blocks::<P, R>(rt, alloc, nets, workers, &mut planned);
     gather(alloc, planned)
 }
 
@@ -80,19 +84,16 @@ fn none_planned(alloc: Global, nets: u32) -> Result<Vec<Planned>, AllocError>
 fn plan_blocks<P: NetPlanner + Sync, R: Threads + Sync>(
     rt: &R,
     alloc: Global,
-    design: &Design,
-    library: &Library,
-    routes: &Routes,
+    nets: &RoutedNets<'_>,
     workers: u32,
     planned: &mut Vec<Planned>,
 )
-    requires library { IsLibraryOf design.now library.now }
-    requires routes { AreRoutesOf design.now routes.now }
+    requires trees { HaveTrees nets.now }
     requires workers { 0 < workers }
-    requires long { length planned.old.items ≡ length design.now.nets }
+    requires long { length planned.old.items ≡ length nets.now.design.now.nets }
     requires none { All IsErr planned.old.items }
     ensures long { length planned.new.items ≡ length planned.old.items }
-    ensures plans { AreByRule P.rule 0 design.now library.now routes.now planned.new.items }
+    ensures plans { AreByRule P.rule 0 nets.now.design.now nets.now.library.now nets.now.routes.now planned.new.items }
 {
     let size = planned.len() / workers as usize + 1;
     for_each_chunk_mut(
@@ -100,12 +101,11 @@ fn plan_blocks<P: NetPlanner + Sync, R: Threads + Sync>(
         planned.as_mut_slice(),
         size,
         &|first, block: &mut [Planned]|
-            requires { IsLibraryOf design.now library.now × AreRoutesOf design.now routes.now ×
-                (first + length block.now ≤ length design.now.nets) × All IsErr block.now }
+            requires { HaveTrees nets.now × (first + length block.now ≤ length nets.now.design.now.nets) × All IsErr block.now }
             ensures { (length block.exit.now ≡ length block.entry.now) ×
-                AreByRule P.rule first design.entry.now library.entry.now routes.entry.now block.exit.now }
+                AreByRule P.rule first nets.entry.now.design.now nets.entry.now.library.now nets.entry.now.routes.now block.exit.now }
         {
-            plan_block::<P>(alloc, design, library, routes, first, block);
+            plan_block::<P>(alloc, nets, first, block);
         },
     );
 }
@@ -113,34 +113,23 @@ fn plan_blocks<P: NetPlanner + Sync, R: Threads + Sync>(
 /// Plans a block of nets, from a net on, one after another.
 fn plan_block<P: NetPlanner>(
     alloc: Global,
-    design: &Design,
-    library: &Library,
-    routes: &Routes,
+    nets: &RoutedNets<'_>,
     first: usize,
     block: &mut [Planned],
 )
-    requires library { IsLibraryOf design.now library.now }
-    requires routes { AreRoutesOf design.now routes.now }
-    requires inside { first + length block.old ≤ length design.now.nets }
+    requires trees { HaveTrees nets.now }
+    requires inside { first + length block.old ≤ length nets.now.design.now.nets }
     requires none { All IsErr block.old }
     ensures long { length block.new ≡ length block.old }
-    ensures plans { AreByRule P.rule first design.now library.now routes.now block.new }
+    ensures plans { AreByRule P.rule first nets.now.design.now nets.now.library.now nets.now.routes.now block.new }
 {
     let mut planner = P::ready(alloc);
-    let Ok(mut index) = NodeIndex::new(alloc, design.frame().shape.cells()) else {
+    let Ok(mut index) = NodeIndex::new(alloc, nets.design.frame().shape.cells()) else {
         return;
     };
     for at in 0..block.len() {
         let net = (first + at) as u32;
-        block[at] = net_plan(
-            alloc,
-            design,
-            library,
-            routes,
-            net,
-            &mut planner,
-            &mut index,
-        );
+        block[at] = net_plan(alloc, nets, net, &mut planner, &mut index);
     }
 }
 
@@ -148,27 +137,24 @@ fn plan_block<P: NetPlanner>(
 /// means nothing. The only error is want of memory.
 pub fn net_plan<P: NetPlanner>(
     alloc: Global,
-    design: &Design,
-    library: &Library,
-    routes: &Routes,
+    nets: &RoutedNets<'_>,
     net: u32,
     planner: &mut P,
     index: &mut NodeIndex,
 ) -> Result<Option<Plan>, AllocError>
-    requires library { IsLibraryOf design.now library.now }
-    requires routes { AreRoutesOf design.now routes.now }
-    requires net { net < length design.now.nets }
-    requires index { cells_of design.now.frame.shape ≤ length index.old }
-    ensures plan { IfOk result (IsByRule P.rule design.now library.now routes.now net) }
+    requires trees { HaveTrees nets.now }
+    requires net { net < length nets.now.design.now.nets }
+    requires index { cells_of nets.now.design.now.frame.shape ≤ length index.old }
+    ensures plan { IfOk result (IsByRule P.rule nets.now.design.now nets.now.library.now nets.now.routes.now net) }
     ensures index { length index.new ≡ length index.old }
 {
-    let Some(tree) = routed_tree(design, routes, net) else {
+    let Some(tree) = routed_tree(nets.design, nets.routes, net) else {
         return Ok(None);
     };
-    let loading = Loading::of(alloc, library, design, net, tree, index)?;
+    let loading = Loading::of(alloc, nets.library, nets.design, net, tree, index)?;
     let loaded = Loaded {
         tree,
-        library,
+        library: nets.library,
         loading: &loading,
     };
     plan_counted::<P, Brand>(alloc, planner, &loaded, Blank::new(1))

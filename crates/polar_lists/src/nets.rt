@@ -5,7 +5,7 @@ ghost use Rattle.buffer_plan.specs.Plans.{AreRoutesOf};
 ghost use Rattle.polar_lists.specs.PolarPlans.{ArePolarPlans};
 
 use crate::planner::PolarPlanner;
-use buffer_plan::plan_all_by;
+use buffer_plan::{RoutedNets, plan_all_by};
 use elmore_delay::Plans;
 use gr_base::{Design, Routes};
 use rc_library::Library;
@@ -29,5 +29,10 @@ pub fn plan_all_polar<R: Threads + Sync>(
     requires workers { 0 < workers }
     ensures { IfOk result (ArePolarPlans design.now library.now routes.now) }
 {
-    plan_all_by::<PolarPlanner, R>(rt, alloc, design, library, routes, workers)
+    let nets = RoutedNets {
+        design,
+        library,
+        routes,
+    };
+    plan_all_by::<PolarPlanner, R>(rt, alloc, &nets, workers)
 }

@@ -10,7 +10,7 @@ ghost use Rattle.text_commands.specs.Buffering.{AreTreesBy, StopsAtNet, StopsAtT
 ghost use Rattle.command_form.specs.Leaving.{LeavesOut, WritesOne};
 
 use crate::placing::text_by;
-use buffer_plan::Planner;
+use buffer_plan::{Planner, RoutedNets};
 use command_form::{Left, Outcome, Stop, open_design, open_library, open_solution};
 use gr_base::{Design, RouteTree, Routes};
 use gr_io::{Shelf, Sink, write_whole};
@@ -210,8 +210,13 @@ pub fn buffers_on<R: Threads + Sync>(
     requires trees { AreRoutesOf design.now trees.now }
     ensures { IfOk result (IsBuffersText design.now library.now trees.now) }
 {
+    let nets = RoutedNets {
+        design,
+        library,
+        routes: trees,
+    };
     if library.version() < 3 {
-        return text_by::<Planner, R>(rt, alloc, design, library, trees, workers);
+        return text_by::<Planner, R>(rt, alloc, &nets, workers);
     }
-    text_by::<PolarPlanner, R>(rt, alloc, design, library, trees, workers)
+    text_by::<PolarPlanner, R>(rt, alloc, &nets, workers)
 }

@@ -13,5 +13,5 @@ loop-at-preserved g c =
     record {
       index = omega (arith, kept.index, c.net_plan.ensures.index);
       long = length-set block at plan ∙ kept.long;
-      plans = plans-set g.P.NetPlanner.rule c.args.design.now c.args.library.now c.args.routes.now c.args.first block at plan within c.net_plan.ensures.plan kept.plans;
+      plans = plans-set g.P.NetPlanner.rule c.args.nets.now.design.now c.args.nets.now.library.now c.args.nets.now.routes.now c.args.first block at plan within c.net_plan.ensures.plan kept.plans;
     }

@@ -8,4 +8,4 @@ use Rattle.text_commands.proofs.placing.put_blocks.Given as goal
 abbrev pub invariant-loop-block : goal.invariant-loop-block
 invariant-loop-block g l =
     l.text ≡ l.fn.text
-    ++ net_lines l.design l.library l.trees (plans_by g.P.NetPlanner.rule l.design l.library l.trees) 0 (block_start (length l.design.nets) 0 l.size l.block-index)
+    ++ net_lines l.nets.design.now l.nets.library.now l.nets.routes.now (plans_by g.P.NetPlanner.rule l.nets.design.now l.nets.library.now l.nets.routes.now) 0 (block_start (length l.nets.design.now.nets) 0 l.size l.block-index)

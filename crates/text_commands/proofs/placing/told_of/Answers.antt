@@ -9,7 +9,7 @@ pub loop-net-init : goal.loop-net-init
 loop-net-init g c = record {
   low = omega arith;
   index = omega (arith, c.in_ok-index.ensures, c.cells.ensures.cells, ap (λ (f : Frame). cells_of f.shape) c.frame.ensures.frame);
-  told = told-none g.P.NetPlanner.rule c.args.design.now c.args.library.now c.args.trees.now c.args.first (record { lines = c.new-2.result; buffers = 0 })
+  told = told-none g.P.NetPlanner.rule c.args.nets.now.design.now c.args.nets.now.library.now c.args.nets.now.routes.now c.args.first (record { lines = c.new-2.result; buffers = 0 })
       c.new-2.ensures refl;
 }
 
@@ -26,5 +26,5 @@ loop-net-preserved g c = record {
 pub returns : goal.returns
 returns g c =
     let end : c.loop-net.net ≡ c.args.last = omega (arith, c.loop-net-test.false, c.loop-net.auto.net-end, c.requires.first) in
-    subst (λ (last : ℕ). IsTold g.P.NetPlanner.rule c.args.design.now c.args.library.now c.args.trees.now c.args.first last c.loop-net.told) end
+    subst (λ (last : ℕ). IsTold g.P.NetPlanner.rule c.args.nets.now.design.now c.args.nets.now.library.now c.args.nets.now.routes.now c.args.first last c.loop-net.told) end
     c.loop-net.invariant.told

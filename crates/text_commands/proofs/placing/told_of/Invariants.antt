@@ -6,6 +6,6 @@ use Rattle.text_commands.proofs.placing.told_of.Given as goal
 abbrev pub invariant-loop-net : goal.invariant-loop-net
 invariant-loop-net g l = record {
   low : l.first ≤ l.net;
-  index : cells_of l.design.frame.shape ≤ length l.index;
-  told : IsTold g.P.NetPlanner.rule l.design l.library l.trees l.first l.net l.told;
+  index : cells_of l.nets.design.now.frame.shape ≤ length l.index;
+  told : IsTold g.P.NetPlanner.rule l.nets.design.now l.nets.library.now l.nets.routes.now l.first l.net l.told;
 }
