@@ -1,9 +1,8 @@
 -- The lists of nodes, one node after another.
-use Rattle.std.proofs.Common.{◌≡◌, ◌≢◌, ℕ, zero, suc, ◌+◌, ◌-◌, ◌*◌, ◌<◌, ◌≤◌, inl, inr, List, [], ◌∷◌, ◌++◌, length, All, Contains, sum_by, Option, Some, None, slice_set, refl, sym, ap, subst, ◌∙◌, arith, le_refl, mul-le-mul}
-use Rattle.std.proofs.lemmas.Bool.{cases_eq}
-use Rattle.std.proofs.lemmas.List.{length-set, length-map, get_or-set_same, get_or-set_other, set-set, get_or_at, get_or_append_left, get_or_default}
+use Rattle.std.proofs.Common.{◌≡◌, ◌≢◌, ℕ, zero, suc, ◌+◌, ◌-◌, ◌*◌, ◌<◌, ◌≤◌, List, [], ◌∷◌, length, All, Contains, sum_by, Option, Some, None, slice_set, refl, sym, ap, subst, ◌∙◌, arith, le_refl, mul-le-mul}
+use Rattle.std.proofs.lemmas.List.{length-map, get_or_default}
 use Rattle.std.proofs.lemmas.List.Elements.{All-head, All-tail}
-use Rattle.std.proofs.lemmas.List.Sums.{sum_by-set, sum_by-le, get_or-le-sum_by}
+use Rattle.std.proofs.lemmas.List.Sums.{sum_by-le, get_or-le-sum_by}
 use Rattle.elmore_delay.specs.RcTrees.{IsRcTree}
 use Rattle.elmore_delay.specs.FromLeaves.{sinks_seen}
 use Rattle.ginneken_lists.specs.Candidates.{Chosen, Candidate, all_joined}
@@ -12,6 +11,7 @@ use Rattle.ginneken_lists.specs.Trails.{Keeps}
 use Rattle.ginneken_lists.specs.declared.pair.Pair.{Pair}
 use Rattle.buffer_plan.specs.Picked.{Sites, all_hanging, candidates_of_last}
 use Rattle.buffer_plan.specs.Gathered.{pairs_in, pairs_at, more_pairs, AreGathered, most_steps}
+use Rattle.buffer_plan.proofs.Standing.{AreStanding, hung_on, hung-each, hung-long, hung-few, hung-put, own-stays}
 use Rattle.buffer_plan.proofs.HungLemmas.{candidates-hung, candidates-other}
 use Rattle.buffer_plan.proofs.Complete.{complete}
 
@@ -85,29 +85,20 @@ steps-low k nodes n below own upper some few_below few_own short =
 abbrev pub sinks_pair : Sites → ℕ → Pair
 sinks_pair s node = record { load = (sinks_seen s.tree node).load; time = (sinks_seen s.tree node).time; mark = 0 }
 
+-- a list is that of the sinks at a node
+abbrev pub IsOfSinks : Sites → ℕ → List Pair → Type 0
+IsOfSinks s node pairs = pairs ≡ sinks_pair s node ∷ []
+
 one-marked : (pair : Pair) → pair.mark ≡ 0 → AreMarked [] (pair ∷ [])
 one-marked pair none zero d inside = omega arith
 one-marked pair none (suc k) d inside = absurd (omega arith)
 
--- one more node's list
-pub lists-more : (s : Sites) (n : ℕ) (before after : List (Option (List Pair))) (list : Option (List Pair)) → length before ≡ n → after ≡ before ++ list ∷ [] →
-    pairs_in list ≡ sinks_pair s n ∷ [] → ((node : ℕ) → node < n → pairs_at before node ≡ sinks_pair s node ∷ []) →
-    (node : ℕ) → node < n + 1 → pairs_at after node ≡ sinks_pair s node ∷ []
-lists-more s n before after list long pushed is each node inside = elim (cases_eq node n) [
-  | inl same ↦
-      ap (λ (lists : List (Option (List Pair))). pairs_at lists node) pushed
-      ∙ ap (λ (u : ℕ). pairs_at (before ++ list ∷ []) u) same
-      ∙ ap pairs_in (get_or_at before list [] None n long) ∙ is
-      ∙ ap (λ (u : ℕ). sinks_pair s u ∷ []) (sym same)
-  | inr apart ↦
-      ap (λ (lists : List (Option (List Pair))). pairs_at lists node) pushed
-      ∙ ap pairs_in (get_or_append_left before (list ∷ []) None node (omega arith)) ∙ each node (omega arith)
-]
-
 -- at the start each node has the list of its sinks
-pub gathered-start : (s : Sites) (from : ℕ) (lists : List (Option (List Pair))) → IsRcTree s.tree → from ≡ s.tree.nodes → length lists ≡ s.tree.nodes →
-    ((node : ℕ) → node < s.tree.nodes → pairs_at lists node ≡ sinks_pair s node ∷ []) → AreGathered s from [] lists
-gathered-start s from lists tree all long each =
+pub gathered-start : (s : Sites) (from : ℕ) (lists : List (Option (List Pair))) → IsRcTree s.tree → from ≡ s.tree.nodes →
+    AreStanding pairs_in (IsOfSinks s) from lists → AreGathered s from [] lists
+gathered-start s from lists tree all stand =
+    let each = stand.each in
+    let long = stand.long in
     let rooted = tree.rooted in
     let none : s.tree.nodes - from ≡ 0 = omega arith in
     let one : All (λ list. more_pairs list ≤ 0) lists = λ node d inside.
@@ -116,7 +107,7 @@ gathered-start s from lists tree all long each =
     omega arith in
     let sum = sum_by-le more_pairs 0 lists one in
     record {
-      long = long;
+      long = long ∙ all;
       some = omega arith;
       within = omega arith;
       listed = λ node below. ap (λ (pairs : List Pair). candidates [] pairs) (each node (omega arith))
@@ -135,87 +126,72 @@ pub record IsHung (s : Sites) (node : ℕ) (trail upper_trail now : List Chosen)
   pub marked : AreMarked now joined
   pub short : length joined + 1 ≤ length own + length upper
 
--- the lists after a node was hung: the node has none, and its parent the joined one
-abbrev pub hung_lists : List (Option (List Pair)) → (node parent : ℕ) → List Pair → List (Option (List Pair))
-hung_lists lists node parent joined = slice_set (slice_set lists node None) parent (Some joined)
+-- a node has the pairs of its candidates, and their marks are those of the trail
+record HasPairs (s : Sites) (n : ℕ) (trail : List Chosen) (v : ℕ) (pairs : List Pair) : Type 0 where
+  listed : candidates trail pairs ≡ candidates_of_last n s v
+  marked : AreMarked trail pairs
 
-hung-at_parent : (lists : List (Option (List Pair))) (node parent : ℕ) (joined : List Pair) → parent < length lists →
-    pairs_at (hung_lists lists node parent joined) parent ≡ joined
-hung-at_parent lists node parent joined inside =
-    let long = length-set lists node None in
-    ap pairs_in (get_or-set_same (slice_set lists node None) parent (Some joined) None (omega arith))
+-- a node that isn't the parent has the same
+pairs-stay : (s : Sites) (node v : ℕ) (trail now : List Chosen) (pairs : List Pair) → 0 < node → node < s.tree.nodes → v ≢ s.tree.parent node → Keeps trail now →
+    HasPairs s (s.tree.nodes - (node + 1)) trail v pairs → HasPairs s (s.tree.nodes - node) now v pairs
+pairs-stay s node v trail now pairs later inside other kept has =
+    let n : ℕ = s.tree.nodes - (node + 1) in
+    let more : s.tree.nodes - node ≡ suc n = omega arith in
+    record {
+      listed = candidates-kept trail now pairs kept has.marked ∙ has.listed ∙ sym (candidates-other n node v s (omega arith) other)
+          ∙ ap (λ (m : ℕ). candidates_of_last m s v) (sym more);
+      marked = marks-kept trail now pairs kept has.marked;
+    }
 
-hung-elsewhere : (lists : List (Option (List Pair))) (node parent v : ℕ) (joined : List Pair) → v ≢ parent → v ≢ node →
-    pairs_at (hung_lists lists node parent joined) v ≡ pairs_at lists v
-hung-elsewhere lists node parent v joined other apart =
-    ap pairs_in (get_or-set_other (slice_set lists node None) parent v (Some joined) None other ∙ get_or-set_other lists node v None None apart)
-
--- the pairs beyond one of each list
-few-hung : (k n : ℕ) (lists : List (Option (List Pair))) (node parent : ℕ) (upper joined : List Pair) → node < length lists → parent < node →
-    0 < length (pairs_at lists node) → 0 < length (pairs_at lists parent) → length upper ≤ length (pairs_at lists node) + k →
-    length joined + 1 ≤ length (pairs_at lists parent) + length upper → sum_by more_pairs lists ≤ k * n →
-    sum_by more_pairs (hung_lists lists node parent joined) ≤ k * (n + 1)
-few-hung k n lists node parent upper joined inside earlier some_below some_own short joined_short few =
-    let long = length-set lists node None in
-    let first = sum_by-set more_pairs lists node None None inside in
-    let second = sum_by-set more_pairs (slice_set lists node None) parent (Some joined) None (omega arith) in
-    let same = ap more_pairs (get_or-set_other lists node parent None None (λ e. omega arith)) in
-    let out : k * (n + 1) ≡ k * n + k = omega arith in
-    omega arith
+-- the parent has what was joined
+pairs-joined : (s : Sites) (node parent : ℕ) (trail upper_trail now : List Chosen) (below own upper joined : List Pair) → 0 < node → node < s.tree.nodes →
+    s.tree.parent node ≡ parent → HasPairs s (s.tree.nodes - (node + 1)) trail node below → HasPairs s (s.tree.nodes - (node + 1)) trail parent own →
+    IsHung s node trail upper_trail now below own upper joined → HasPairs s (s.tree.nodes - node) now parent joined
+pairs-joined s node parent trail upper_trail now below own upper joined later inside hangs has_below has_own hung =
+    let n : ℕ = s.tree.nodes - (node + 1) in
+    let more : s.tree.nodes - node ≡ suc n = omega arith in
+    let before = candidates-kept trail upper_trail own hung.upper_kept has_own.marked ∙ has_own.listed in
+    let above = hung.upper_is ∙ ap (all_hanging s node) has_below.listed in
+    record {
+      listed = hung.joined_is
+          ∙ ap (λ (os : List Candidate). all_joined os (candidates upper_trail upper)) before
+          ∙ ap (λ (os : List Candidate). all_joined (candidates_of_last n s parent) os) above
+          ∙ sym (candidates-hung n node parent s (omega arith) (sym hangs))
+          ∙ ap (λ (m : ℕ). candidates_of_last m s parent) (sym more);
+      marked = hung.marked;
+    }
 
 pub gathered-next : (s : Sites) (node parent : ℕ) (trail upper_trail now : List Chosen) (lists : List (Option (List Pair))) (upper joined : List Pair) →
     IsRcTree s.tree → 0 < node → s.tree.parent node ≡ parent → AreGathered s (node + 1) trail lists →
     IsHung s node trail upper_trail now (pairs_at lists node) (pairs_at lists parent) upper joined →
-    AreGathered s node now (hung_lists lists node parent joined)
+    AreGathered s node now (hung_on lists node parent joined)
 gathered-next s node parent trail upper_trail now lists upper joined tree later hangs are hung =
     let long = are.long in
     let within = are.within in
     let earlier = tree.earlier node later (omega arith) in
     let before : parent < node = omega arith in
+    let inside : node < length lists = omega arith in
     let n : ℕ = s.tree.nodes - (node + 1) in
-    let at : node + suc n ≡ s.tree.nodes = omega arith in
-    let more : s.tree.nodes - node ≡ suc n = omega arith in
     let through = keeps-through trail upper_trail now hung.upper_kept hung.kept in
-    let all = hung_lists lists node parent joined in
-    let own : candidates upper_trail (pairs_at lists parent) ≡ candidates_of_last n s parent =
-    candidates-kept trail upper_trail (pairs_at lists parent) hung.upper_kept (are.marked parent (omega arith)) ∙ are.listed parent (omega arith) in
-    let above : candidates upper_trail upper ≡ all_hanging s node (candidates_of_last n s node) =
-    hung.upper_is ∙ ap (all_hanging s node) (are.listed node (omega arith)) in
+    let has : (v : ℕ) → v < node + 1 → HasPairs s n trail v (pairs_at lists v) = λ v low. record { listed = are.listed v low; marked = are.marked v low } in
+    let each = hung-each pairs_in (HasPairs s n trail) (HasPairs s (s.tree.nodes - node) now) lists node parent joined inside before has
+    (pairs-joined s node parent trail upper_trail now (pairs_at lists node) (pairs_at lists parent) upper joined later (omega arith) hangs
+    (has node (omega arith)) (has parent (omega arith)) hung)
+    (λ v pairs other. pairs-stay s node v trail now pairs later (omega arith) (λ e. other (e ∙ hangs)) through) in
     record {
-      long = length-set (slice_set lists node None) parent (Some joined) ∙ length-set lists node None ∙ long;
+      long = hung-long lists node parent joined ∙ long;
       some = later;
       within = omega arith;
-      listed = λ v below. elim (cases_eq v parent) [
-        | inl same ↦
-            ap (λ (u : ℕ). candidates now (pairs_at all u)) same
-            ∙ ap (λ (pairs : List Pair). candidates now pairs) (hung-at_parent lists node parent joined (omega arith))
-            ∙ hung.joined_is
-            ∙ ap (λ (os : List Candidate). all_joined os (candidates upper_trail upper)) own
-            ∙ ap (λ (os : List Candidate). all_joined (candidates_of_last n s parent) os) above
-            ∙ sym (candidates-hung n node parent s at (sym hangs))
-            ∙ ap (λ (u : ℕ). candidates_of_last (suc n) s u) (sym same)
-            ∙ ap (λ (m : ℕ). candidates_of_last m s v) (sym more)
-        | inr other ↦
-            ap (λ (pairs : List Pair). candidates now pairs) (hung-elsewhere lists node parent v joined other (λ e. omega arith))
-            ∙ candidates-kept trail now (pairs_at lists v) through (are.marked v (omega arith))
-            ∙ are.listed v (omega arith)
-            ∙ sym (candidates-other n node v s at (λ e. other (e ∙ hangs)))
-            ∙ ap (λ (m : ℕ). candidates_of_last m s v) (sym more)
-      ];
-      marked = λ v below. elim (cases_eq v parent) [
-        | inl same ↦
-            subst (λ (pairs : List Pair). AreMarked now pairs)
-            (sym (ap (λ (u : ℕ). pairs_at all u) same ∙ hung-at_parent lists node parent joined (omega arith))) hung.marked
-        | inr other ↦
-            subst (λ (pairs : List Pair). AreMarked now pairs) (sym (hung-elsewhere lists node parent v joined other (λ e. omega arith)))
-            (marks-kept trail now (pairs_at lists v) through (are.marked v (omega arith)))
-      ];
+      listed = λ v low. (each v low).listed;
+      marked = λ v low. (each v low).marked;
       few =
-          let fewer = few-hung (length s.library.kinds) n lists node parent upper joined (omega arith) before
-          (gathered-long s (node + 1) node trail lists are (omega arith)) (gathered-long s (node + 1) parent trail lists are (omega arith))
-          hung.upper_short hung.short are.few in
+          let some_below = gathered-long s (node + 1) node trail lists are (omega arith) in
+          let some_own = gathered-long s (node + 1) parent trail lists are (omega arith) in
+          let up = hung.upper_short in
+          let short = hung.short in
+          let fewer = hung-few more_pairs (length s.library.kinds) n lists node parent joined inside before refl (omega arith) are.few in
           let same : n + 1 ≡ s.tree.nodes - node = omega arith in
-          subst (λ (m : ℕ). sum_by more_pairs all ≤ length s.library.kinds * m) same fewer;
+          subst (λ (m : ℕ). sum_by more_pairs (hung_on lists node parent joined) ≤ length s.library.kinds * m) same fewer;
     }
 
 -- the same with the lists as they were taken out, and the list of the parent as it was put in
@@ -224,21 +200,10 @@ pub gathered-put : (s : Sites) (node parent : ℕ) (trail upper_trail now : List
     without ≡ slice_set lists node None → neither ≡ slice_set without parent None → below ≡ pairs_at lists node → own ≡ pairs_at lists parent →
     IsHung s node trail upper_trail now below own upper joined → AreGathered s node now (slice_set neither parent (Some joined))
 gathered-put s node parent trail upper_trail now lists without neither below own upper joined tree later hangs are taken taken_too below_is own_is hung =
-    let put : hung_lists lists node parent joined ≡ slice_set neither parent (Some joined) =
-    sym (ap (λ (xs : List (Option (List Pair))). slice_set xs parent (Some joined))
-    (taken_too ∙ ap (λ (xs : List (Option (List Pair))). slice_set xs parent None) taken)
-    ∙ set-set (slice_set lists node None) parent None (Some joined)) in
     let one = subst (λ (ps : List Pair). IsHung s node trail upper_trail now ps own upper joined) below_is hung in
     let both = subst (λ (ps : List Pair). IsHung s node trail upper_trail now (pairs_at lists node) ps upper joined) own_is one in
-    subst (λ (xs : List (Option (List Pair))). AreGathered s node now xs) put
+    subst (λ (xs : List (Option (List Pair))). AreGathered s node now xs) (hung-put lists without neither node parent joined taken taken_too)
     (gathered-next s node parent trail upper_trail now lists upper joined tree later hangs are both)
-
--- the list of a parent is there still when that of its child was taken
-pub own-is : (lists without : List (Option (List Pair))) (node parent : ℕ) (own : List Pair) → without ≡ slice_set lists node None →
-    own ≡ pairs_at without parent → parent < node → own ≡ pairs_at lists parent
-own-is lists without node parent own taken is earlier =
-    is ∙ ap (λ (xs : List (Option (List Pair))). pairs_at xs parent) taken
-    ∙ ap pairs_in (get_or-set_other lists node parent None None (λ e. omega arith))
 
 -- the steps of a node
 pub steps-hung : (s : Sites) (node parent k nodes upper : ℕ) (trail : List Chosen) (lists : List (Option (List Pair))) (below own : List Pair) →
@@ -262,20 +227,5 @@ pub hung-in-steps : {parent k nodes raised now : ℕ} {without : List (Option (L
     raised ≤ old + 3 * (k * (length below + k)) + length below + k → now ≤ raised + 2 * (length own + length upper) → now ≤ old + most_steps k nodes
 hung-in-steps {parent} {k} {nodes} {raised} {now} {without} {below} {own} old upper s node trail lists are later earlier below_is taken own_is kinds long short up joined =
     let steps = steps-hung s node parent k nodes (length upper) trail lists below own are later earlier below_is
-    (own-is lists without node parent own taken own_is earlier) kinds long short in
+    (own-stays pairs_in lists without node parent own taken own_is earlier) kinds long short in
     omega (arith, steps, up, joined)
-
--- the steps of all nodes so far, where a node takes at most m
-pub steps-turn : (m nodes node old before now : ℕ) → 1 < node → node ≤ nodes → before ≤ old + m * (nodes - node) → now ≤ before + m →
-    now ≤ old + m * (nodes - (node - 1))
-steps-turn m nodes node old before now later inside so_far one =
-    let d : ℕ = nodes - node in
-    let more : nodes - (node - 1) ≡ d + 1 = omega arith in
-    let out : m * (d + 1) ≡ m * d + m = omega arith in
-    let whole : m * (nodes - (node - 1)) ≡ m * d + m = ap (λ (k : ℕ). m * k) more ∙ out in
-    omega arith
-
-pub steps-ended : (m nodes node old now : ℕ) → 0 < node → now ≤ old + m * (nodes - node) → now ≤ old + m * (nodes - 1)
-steps-ended m nodes node old now some so_far =
-    let fewer : m * (nodes - node) ≤ m * (nodes - 1) = mul-le-mul (le_refl m) (omega arith) in
-    omega arith

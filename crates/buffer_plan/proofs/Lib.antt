@@ -13,6 +13,8 @@ pub mod NodeLists
 pub mod FewCandidates
 pub mod AboveLists
 pub mod Small
+pub mod Standing
+pub mod Sizes
 pub mod Gathering
 pub mod TakenLemmas
 pub mod PlanLemmas

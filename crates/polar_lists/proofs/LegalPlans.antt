@@ -21,29 +21,30 @@ use Rattle.polar_lists.proofs.SignalLemmas.{both-rising}
 use Rattle.polar_lists.proofs.BothSmall.{both-small}
 use Rattle.polar_lists.proofs.LegalLemmas.{legal_real}
 
--- lists that are taken out
-module _ (l : LoadingView) (from node : ℕ) (trail : List Chosen) (lists : List (Option Sides)) (sides : Sides)
-    (loading : IsLoading l) (are : AreBothGathered (sites_of l) from trail lists) (before : node < from) (is : sides ≡ sides_at lists node) where
-  pub taken-is : (inverted : Bool) → candidates_by trail sides inverted ≡ both_of_last (length l.tree.nodes - from) (sites_of l) node inverted
-  taken-is inverted = ap (λ (s : Sides). candidates_by trail s inverted) is ∙ are.listed node before inverted
+-- lists that were taken out: their candidates are small and rise, they are in range, and their marks are the trail's
+pub record AreBothTaken (trail : List Chosen) (sides : Sides) : Type 0 where
+  pub small : AreBothSmall (candidates_by trail sides)
+  pub rising : (inverted : Bool) → AreRising (candidates_by trail sides inverted)
+  pub range : AreBothInRange sides
+  pub marks : AreBothMarked trail sides
 
-  pub taken-small : AreBothSmall (candidates_by trail sides)
-  taken-small inverted =
-      let some = are.some in
-      let within = are.within in
-      subst (λ (all : List Candidate). All (λ (o : Candidate). IsSeen (2 ^ 100) o.seen) all) (sym (taken-is inverted))
-      (both-small l (length l.tree.nodes - from) from node loading some (omega arith) before inverted)
-
-  pub taken-range : AreBothInRange sides
-  taken-range inverted = small-pairs trail (side sides inverted) (candidates_by trail sides inverted) refl (taken-small inverted)
-
-  pub taken-marked : AreBothMarked trail sides
-  taken-marked = subst (λ (s : Sides). AreBothMarked trail s) (sym is) (are.marked node before)
-
-  pub taken-rising : (inverted : Bool) → AreRising (candidates_by trail sides inverted)
-  taken-rising inverted =
-      let within = are.within in
-      subst AreRising (sym (taken-is inverted)) (both-rising (length l.tree.nodes - from) from node (sites_of l) inverted (omega arith))
+pub taken : {l : LoadingView} {from : ℕ} {trail : List Chosen} {lists : List (Option Sides)} {sides : Sides} (node : ℕ) → IsLoading l →
+    AreBothGathered (sites_of l) from trail lists → node < from → sides ≡ sides_at lists node → AreBothTaken trail sides
+taken {l} {from} {trail} {lists} {sides} node loading are before is =
+    let some = are.some in
+    let within = are.within in
+    let n : ℕ = length l.tree.nodes - from in
+    let same : (inverted : Bool) → candidates_by trail sides inverted ≡ both_of_last n (sites_of l) node inverted = λ inverted.
+    ap (λ (u : Sides). candidates_by trail u inverted) is ∙ are.listed node before inverted in
+    let small : AreBothSmall (candidates_by trail sides) = λ inverted.
+    subst (λ (all : List Candidate). All (λ (o : Candidate). IsSeen (2 ^ 100) o.seen) all) (sym (same inverted))
+    (both-small l n from node loading some (omega arith) before inverted) in
+    record {
+      small = small;
+      rising = λ inverted. subst AreRising (sym (same inverted)) (both-rising n from node (sites_of l) inverted (omega arith));
+      range = λ inverted. small-pairs trail (side sides inverted) (candidates_by trail sides inverted) refl (small inverted);
+      marks = subst (λ (u : Sides). AreBothMarked trail u) (sym is) (are.marked node before);
+    }
 
 -- the pair that the driver drives best is that of the legal candidate
 pub legal-pair : (l : LoadingView) (trail : List Chosen) (lists : List (Option Sides)) (sides : Sides) (r : ℕ) (pair : Option Pair) →

@@ -1,17 +1,25 @@
 -- The lists of nodes for both signals while they are gathered.
 use Rattle.std.specs.Prelude.{◌≡◌, ℕ, ◌+◌, ◌-◌, ◌*◌, ◌<◌, ◌≤◌, Bool, true, false, not, List, [], ◌∷◌, length, All, sum_by, Option, Some, None, IfSome, option_map, slice_index_or, if◌then◌else◌}
 use Rattle.std.specs.List.{filter_map, range_with_len}
+use Rattle.gr_base.specs.Trees.{TreeView}
+use Rattle.rc_library.specs.Libraries.{LibraryView}
 use Rattle.elmore_delay.specs.RcTrees.{RcTree}
 use Rattle.elmore_delay.specs.FromLeaves.{sinks_seen}
+use Rattle.elmore_delay.specs.Loadings.{LoadingView, IsLoading}
 use Rattle.elmore_delay.specs.declared.wants.Wants.{Wants}
 use Rattle.elmore_delay.specs.declared.wants.Wants.TheVariants.{Any, Plain, Inverse, Both}
 use Rattle.ginneken_lists.specs.Candidates.{Chosen, Candidate, with_one}
 use Rattle.ginneken_lists.specs.Pairs.{buffer_of, candidates as candidates_of, AreMarked, IsInRange}
 use Rattle.ginneken_lists.specs.declared.pair.Pair.{Pair}
 use Rattle.buffer_plan.specs.Picked.{Sites}
-use Rattle.buffer_plan.specs.Gathered.{no_pairs, AreSmall}
+use Rattle.buffer_plan.specs.Gathered.{no_pairs, IsLoadingOf, AreSmall}
 use Rattle.polar_lists.specs.Signals.{BySignal, suits_all, both_of_last}
 use Rattle.polar_lists.specs.declared.sides.Sides.{Sides}
+
+-- the loading is one of this tree, by this library, and holds what each does
+pub record IsOurLoading (loading : LoadingView) (tree : TreeView) (library : LibraryView) : Type 0 where
+  pub of : IsLoadingOf loading tree library
+  pub is : IsLoading loading
 
 -- the pairs of a list that a signal may lack
 abbrev pub all_in : Option (List Pair) → List Pair

@@ -5,9 +5,9 @@ ghost use Rattle.ginneken_lists.specs.Candidates.{all_joined};
 ghost use Rattle.ginneken_lists.specs.Thinning.{AreRising};
 ghost use Rattle.ginneken_lists.specs.Trails.{Keeps};
 ghost use Rattle.buffer_plan.specs.Picked.{sites_of};
-ghost use Rattle.buffer_plan.specs.Gathered.{IsLoadingOf, most_steps};
-ghost use Rattle.polar_lists.specs.Signals.{both_above, both_hanging};
-ghost use Rattle.polar_lists.specs.BothLists.{side, sides_in, candidates_by, AreBothMarked, AreBothInRange, AreBothSmall, AreShort, AreBothGathered, most_offer_steps};
+ghost use Rattle.buffer_plan.specs.Gathered.{most_steps};
+ghost use Rattle.polar_lists.specs.Signals.{both_hanging};
+ghost use Rattle.polar_lists.specs.BothLists.{IsOurLoading, side, sides_in, candidates_by, AreBothMarked, AreBothInRange, AreBothSmall, AreShort, AreBothGathered, most_offer_steps};
 
 use crate::lists::{self, Lists};
 use crate::offers::{self, Offers};
@@ -32,8 +32,7 @@ pub(crate) fn hang_all<L: Ledger>(
     pool: &mut ListPool,
     steps: &mut Steps<L>,
 ) -> Result<(), AllocError>
-    requires ours { IsLoadingOf loading.now tree.now library.now }
-    requires loading { IsLoading loading.now }
+    requires ours { IsOurLoading loading.now tree.now library.now }
     requires lists { AreBothGathered (sites_of loading.now) (length tree.now.nodes) trail.old lists.old.items }
     ensures lists { OnOk result (AreBothGathered (sites_of loading.now) 1 trail.new lists.new.items) }
     ensures steps { steps.new ≤ steps.old
@@ -60,8 +59,7 @@ fn hang<L: Ledger>(
     pool: &mut ListPool,
     steps: &mut Steps<L>,
 ) -> Result<(), AllocError>
-    requires ours { IsLoadingOf loading.now tree.now library.now }
-    requires loading { IsLoading loading.now }
+    requires ours { IsOurLoading loading.now tree.now library.now }
     requires later { 0 < node }
     requires lists { AreBothGathered (sites_of loading.now) (node + 1) trail.old lists.old.items }
     ensures lists { OnOk result (AreBothGathered (sites_of loading.now) node trail.new lists.new.items) }
@@ -106,7 +104,7 @@ fn raised<L: Ledger>(
     ensures steps { (most : ℕ) → AreShort most below → steps.new ≤ steps.old
         + most_offer_steps (length library.now.kinds) most + 2 * (most + length library.now.kinds) }
 {
-    let upper = offered(
+    let upper = offers::offer(
         alloc, library, loading, node, below, offers, trail, pool, steps,
     )?;
     let wire = loading.wire(node);
@@ -114,38 +112,6 @@ fn raised<L: Ledger>(
         plain: side::along(upper.plain, wire, steps),
         inverse: side::along(upper.inverse, wire, steps),
     })
-}
-
-/// The lists above a node: with an offer of each kind where a buffer may stand.
-fn offered<L: Ledger>(
-    alloc: Global,
-    library: &Library,
-    loading: &Loading,
-    node: u32,
-    below: Sides,
-    offers: &mut Offers,
-    trail: &mut Trail,
-    pool: &mut ListPool,
-    steps: &mut Steps<L>,
-) -> Result<Sides, AllocError>
-    requires library { loading.now.library ≡ library.now }
-    requires node { node < length loading.now.tree.nodes }
-    requires range { AreBothInRange below }
-    requires marks { AreBothMarked trail.old below }
-    requires rising { (inverted : Bool) → AreRising (candidates_by trail.old below inverted) }
-    ensures above { IfOk result (λ above. (inverted : Bool) → candidates_by trail.new above inverted
-        ≡ both_above (sites_of loading.now) node (candidates_by trail.old below) inverted) }
-    ensures marks { IfOk result (AreBothMarked trail.new) }
-    ensures kept { Keeps trail.old trail.new }
-    ensures short { IfOk result (λ above. (inverted : Bool) →
-        length (side above inverted) ≤ length (side below inverted) + length library.now.kinds) }
-    ensures steps { (most : ℕ) → AreShort most below
-        → steps.new ≤ steps.old + most_offer_steps (length library.now.kinds) most }
-{
-    if !loading.free(node) {
-        return Ok(below);
-    }
-    offers::offer(alloc, library, node, below, offers, trail, pool, steps)
 }
 
 /// Joins what hangs on a node with the node's own lists, if it has some.

@@ -6,12 +6,14 @@ ghost use Rattle.ginneken_lists.specs.Pairs.{candidates as candidates_of, IsInRa
 ghost use Rattle.ginneken_lists.specs.Offering.{with_all};
 ghost use Rattle.ginneken_lists.specs.Thinning.{AreRising};
 ghost use Rattle.ginneken_lists.specs.Trails.{Keeps};
+ghost use Rattle.buffer_plan.specs.Picked.{sites_of};
 ghost use Rattle.polar_lists.specs.Polarity.{is_inverter};
-ghost use Rattle.polar_lists.specs.Signals.{with_both_offers};
+ghost use Rattle.polar_lists.specs.Signals.{both_above};
 ghost use Rattle.polar_lists.specs.BothLists.{all_in, side, candidates_by, AreBothMarked, AreBothInRange, AreShort, offer_at, all_offers, AreOffersMarked, most_offer_steps};
 
 use crate::side;
 use crate::sides::Sides;
+use elmore_delay::Loading;
 use ginneken_lists::{ListPool, Offer, OptionList, Steps, Trail};
 use rc_library::Library;
 use std::alloc::{AllocError, Global};
@@ -34,12 +36,13 @@ impl Offers {
     }
 }
 
-/// Offers a buffer of each kind at a node to the lists of both signals. What the kinds make comes
-/// from the lists as they are before: an inverter takes it from the other signal's. The only error is
-/// want of memory.
+/// The lists above a node: where a buffer may stand there, also with an offer of each kind. What the
+/// kinds make comes from the lists as they are before: an inverter takes it from the other signal's.
+/// The only error is want of memory.
 pub(crate) fn offer<L: Ledger>(
     alloc: Global,
     library: &Library,
+    loading: &Loading,
     node: u32,
     sides: Sides,
     offers: &mut Offers,
@@ -47,11 +50,13 @@ pub(crate) fn offer<L: Ledger>(
     pool: &mut ListPool,
     steps: &mut Steps<L>,
 ) -> Result<Sides, AllocError>
+    requires library { loading.now.library ≡ library.now }
+    requires node { node < length loading.now.tree.nodes }
     requires range { AreBothInRange sides }
     requires rising { (inverted : Bool) → AreRising (candidates_by trail.old sides inverted) }
     requires marks { AreBothMarked trail.old sides }
-    ensures offered { IfOk result (λ new. (inverted : Bool) → candidates_by trail.new new inverted
-        ≡ with_both_offers library.now node (candidates_by trail.old sides) inverted) }
+    ensures above { IfOk result (λ new. (inverted : Bool) → candidates_by trail.new new inverted
+        ≡ both_above (sites_of loading.now) node (candidates_by trail.old sides) inverted) }
     ensures marks { IfOk result (AreBothMarked trail.new) }
     ensures kept { Keeps trail.old trail.new }
     ensures short { IfOk result (λ new. (inverted : Bool) →
@@ -59,6 +64,9 @@ pub(crate) fn offer<L: Ledger>(
     ensures steps { (most : ℕ) → AreShort most sides
         → steps.new ≤ steps.old + most_offer_steps (length library.now.kinds) most }
 {
+    if !loading.free(node) {
+        return Ok(sides);
+    }
     make(
         &mut offers.plain,
         &sides.plain,

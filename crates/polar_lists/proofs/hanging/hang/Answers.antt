@@ -1,37 +1,32 @@
-use Rattle.std.proofs.Common.{◌+◌, length, sym, ap, subst, ◌∙◌, arith}
-use Rattle.gr_base.specs.Trees.{TreeView}
-use Rattle.rc_library.specs.Libraries.{LibraryView}
+use Rattle.std.proofs.Common.{length, sym, subst, ◌∙◌, arith}
 use Rattle.elmore_delay.proofs.RcLemmas.{rc-tree, parent-read}
 use Rattle.ginneken_lists.specs.Thinning.{AreRising}
 use Rattle.buffer_plan.specs.Picked.{sites_of}
+use Rattle.buffer_plan.proofs.Standing.{own-stays}
+use Rattle.buffer_plan.proofs.Sizes.{sizes-of}
 use Rattle.polar_lists.specs.BothLists.{side, sides_in, candidates_by}
 use Rattle.polar_lists.proofs.SignalLemmas.{hanging-rising}
-use Rattle.polar_lists.proofs.BothGathering.{both-marks_kept, both-put, own-is}
+use Rattle.polar_lists.proofs.BothGathering.{both-marks_kept, both-put}
 use Rattle.polar_lists.proofs.BothSmall.{hanging-pairs}
 use Rattle.polar_lists.proofs.BothSteps.{raised-in_steps, hung-in_steps}
-use Rattle.polar_lists.proofs.LegalPlans.{taken-small, taken-range, taken-marked, taken-rising}
+use Rattle.polar_lists.proofs.LegalPlans.{taken}
 use Rattle.polar_lists.proofs.hanging.hang.Goals as goal
 
 pub raised-requires-clause-marks : goal.raised-requires-clause-marks
-raised-requires-clause-marks g c =
-    taken-marked c.args.loading.now (c.args.node + 1) c.args.node c.args.trail.now c.args.lists.now.items c.in_ok-below.below c.requires.loading c.requires.lists
-    (omega arith) (c.in_ok-below.ensures ∙ c.take.ensures.list)
+raised-requires-clause-marks g c = (taken c.args.node c.requires.ours.is c.requires.lists (omega arith) (c.in_ok-below.ensures ∙ c.take.ensures.list)).marks
 
 pub raised-requires-clause-small : goal.raised-requires-clause-small
-raised-requires-clause-small g c =
-    taken-small c.args.loading.now (c.args.node + 1) c.args.node c.args.trail.now c.args.lists.now.items c.in_ok-below.below c.requires.loading c.requires.lists
-    (omega arith) (c.in_ok-below.ensures ∙ c.take.ensures.list)
+raised-requires-clause-small g c = (taken c.args.node c.requires.ours.is c.requires.lists (omega arith) (c.in_ok-below.ensures ∙ c.take.ensures.list)).small
 
 pub raised-requires-clause-rising : goal.raised-requires-clause-rising
-raised-requires-clause-rising g c =
-    taken-rising c.args.loading.now (c.args.node + 1) c.args.node c.args.trail.now c.args.lists.now.items c.in_ok-below.below c.requires.loading c.requires.lists
-    (omega arith) (c.in_ok-below.ensures ∙ c.take.ensures.list)
+raised-requires-clause-rising g c = (taken c.args.node c.requires.ours.is c.requires.lists (omega arith) (c.in_ok-below.ensures ∙ c.take.ensures.list)).rising
 
 pub returns-in_err-upper-clause-steps : goal.returns-in_err-upper-clause-steps
 returns-in_err-upper-clause-steps g c =
+    let sizes = sizes-of c.requires.ours.of c.requires.ours.is in
     raised-in_steps (sites_of c.args.loading.now) c.args.node (length c.args.library.now.kinds) (length c.args.tree.now.nodes) c.args.trail.now c.args.lists.now.items
     c.in_ok-below.below c.requires.lists c.requires.later (c.in_ok-below.ensures ∙ c.take.ensures.list)
-    (ap (λ (lib : LibraryView). length lib.kinds) c.requires.ours.library_is) (ap (λ (t : TreeView). length t.nodes) c.requires.ours.tree_is)
+    sizes.kinds_are sizes.nodes_are
     c.args.steps.now c.raised.new.steps c.in_err-upper.ensures.steps
 
 pub join-requires-clause-rising : goal.join-requires-clause-rising
@@ -42,37 +37,34 @@ join-requires-clause-rising g c = λ inverted.
 pub join-requires-clause-own_range : goal.join-requires-clause-own_range
 join-requires-clause-own_range g c =
     let earlier = c.parent-parent.ensures.earlier c.requires.later in
-    let lists = c.args.lists.now.items in
-    taken-range c.args.loading.now (c.args.node + 1) c.parent-parent.result c.args.trail.now lists (sides_in c.take-own.result) c.requires.loading c.requires.lists
-    (omega (arith, earlier))
-    (own-is lists c.take.new.lists.items c.args.node c.parent-parent.result (sides_in c.take-own.result) c.take.ensures.taken c.take-own.ensures.list earlier)
+    let own = own-stays sides_in c.args.lists.now.items c.take.new.lists.items c.args.node c.parent-parent.result (sides_in c.take-own.result) c.take.ensures.taken
+    c.take-own.ensures.list earlier in
+    (taken c.parent-parent.result c.requires.ours.is c.requires.lists (omega (arith, earlier)) own).range
 
 pub join-requires-clause-range : goal.join-requires-clause-range
 join-requires-clause-range g c = λ inverted.
-    let l = c.args.loading.now in
-    let small = taken-small l (c.args.node + 1) c.args.node c.args.trail.now c.args.lists.now.items c.in_ok-below.below c.requires.loading c.requires.lists
-    (omega arith) (c.in_ok-below.ensures ∙ c.take.ensures.list) in
-    hanging-pairs l c.args.node inverted c.raised.new.trail (side c.in_ok-upper.upper inverted) (candidates_by c.args.trail.now c.in_ok-below.below) c.requires.loading
-    small (c.in_ok-upper.ensures.upper inverted)
+    let below = taken c.args.node c.requires.ours.is c.requires.lists (omega arith) (c.in_ok-below.ensures ∙ c.take.ensures.list) in
+    hanging-pairs c.args.loading.now c.args.node inverted c.raised.new.trail (side c.in_ok-upper.upper inverted) (candidates_by c.args.trail.now c.in_ok-below.below)
+    c.requires.ours.is below.small (c.in_ok-upper.ensures.upper inverted)
 
 pub join-requires-clause-own_marks : goal.join-requires-clause-own_marks
 join-requires-clause-own_marks g c =
     let earlier = c.parent-parent.ensures.earlier c.requires.later in
-    let lists = c.args.lists.now.items in
-    let marked = taken-marked c.args.loading.now (c.args.node + 1) c.parent-parent.result c.args.trail.now lists (sides_in c.take-own.result) c.requires.loading c.requires.lists
-    (omega (arith, earlier))
-    (own-is lists c.take.new.lists.items c.args.node c.parent-parent.result (sides_in c.take-own.result) c.take.ensures.taken c.take-own.ensures.list earlier) in
-    both-marks_kept c.args.trail.now c.raised.new.trail (sides_in c.take-own.result) c.in_ok-upper.ensures.kept marked
+    let own = own-stays sides_in c.args.lists.now.items c.take.new.lists.items c.args.node c.parent-parent.result (sides_in c.take-own.result) c.take.ensures.taken
+    c.take-own.ensures.list earlier in
+    both-marks_kept c.args.trail.now c.raised.new.trail (sides_in c.take-own.result) c.in_ok-upper.ensures.kept
+    (taken c.parent-parent.result c.requires.ours.is c.requires.lists (omega (arith, earlier)) own).marks
 
 pub returns-in_err-joined-clause-steps : goal.returns-in_err-joined-clause-steps
 returns-in_err-joined-clause-steps g c =
     let earlier = c.parent-parent.ensures.earlier c.requires.later in
     let lists = c.args.lists.now.items in
+    let sizes = sizes-of c.requires.ours.of c.requires.ours.is in
     hung-in_steps (sites_of c.args.loading.now) c.args.node (length c.args.library.now.kinds) (length c.args.tree.now.nodes) c.args.trail.now lists
     c.in_ok-below.below c.requires.lists c.requires.later (c.in_ok-below.ensures ∙ c.take.ensures.list)
-    (ap (λ (lib : LibraryView). length lib.kinds) c.requires.ours.library_is) (ap (λ (t : TreeView). length t.nodes) c.requires.ours.tree_is)
+    sizes.kinds_are sizes.nodes_are
     c.parent-parent.result c.args.steps.now c.raised.new.steps c.join.new.steps (sides_in c.take-own.result) c.in_ok-upper.upper earlier
-    (own-is lists c.take.new.lists.items c.args.node c.parent-parent.result (sides_in c.take-own.result) c.take.ensures.taken c.take-own.ensures.list earlier)
+    (own-stays sides_in lists c.take.new.lists.items c.args.node c.parent-parent.result (sides_in c.take-own.result) c.take.ensures.taken c.take-own.ensures.list earlier)
     c.in_ok-upper.ensures.short c.in_ok-upper.ensures.steps c.in_err-joined.ensures.steps
 
 pub returns-clause-lists : goal.returns-clause-lists
@@ -80,12 +72,12 @@ returns-clause-lists g c =
     let l = c.args.loading.now in
     let lists = c.args.lists.now.items in
     let earlier = c.parent-parent.ensures.earlier c.requires.later in
-    let kinds = ap (λ (lib : LibraryView). length lib.kinds) c.requires.ours.library_is in
+    let kinds = (sizes-of c.requires.ours.of c.requires.ours.is).kinds_are in
     both-put (sites_of l) c.args.node c.parent-parent.result c.args.trail.now c.raised.new.trail c.join.new.trail lists c.take.new.lists.items c.take-own.new.lists.items
-    c.in_ok-below.below (sides_in c.take-own.result) c.in_ok-upper.upper c.in_ok-joined.joined (rc-tree l c.requires.loading) c.requires.later
-    (parent-read l c.args.tree.now c.args.node c.parent-parent.result c.requires.ours.tree_is c.parent-parent.ensures.parent) c.requires.lists
+    c.in_ok-below.below (sides_in c.take-own.result) c.in_ok-upper.upper c.in_ok-joined.joined (rc-tree l c.requires.ours.is) c.requires.later
+    (parent-read l c.args.tree.now c.args.node c.parent-parent.result c.requires.ours.of.tree_is c.parent-parent.ensures.parent) c.requires.lists
     c.take.ensures.taken c.take-own.ensures.taken (c.in_ok-below.ensures ∙ c.take.ensures.list)
-    (own-is lists c.take.new.lists.items c.args.node c.parent-parent.result (sides_in c.take-own.result) c.take.ensures.taken c.take-own.ensures.list earlier)
+    (own-stays sides_in lists c.take.new.lists.items c.args.node c.parent-parent.result (sides_in c.take-own.result) c.take.ensures.taken c.take-own.ensures.list earlier)
     (record {
       upper_kept = c.in_ok-upper.ensures.kept;
       kept = c.in_ok-joined.ensures.kept;
@@ -100,9 +92,10 @@ pub returns-clause-steps : goal.returns-clause-steps
 returns-clause-steps g c =
     let earlier = c.parent-parent.ensures.earlier c.requires.later in
     let lists = c.args.lists.now.items in
+    let sizes = sizes-of c.requires.ours.of c.requires.ours.is in
     hung-in_steps (sites_of c.args.loading.now) c.args.node (length c.args.library.now.kinds) (length c.args.tree.now.nodes) c.args.trail.now lists
     c.in_ok-below.below c.requires.lists c.requires.later (c.in_ok-below.ensures ∙ c.take.ensures.list)
-    (ap (λ (lib : LibraryView). length lib.kinds) c.requires.ours.library_is) (ap (λ (t : TreeView). length t.nodes) c.requires.ours.tree_is)
+    sizes.kinds_are sizes.nodes_are
     c.parent-parent.result c.args.steps.now c.raised.new.steps c.join.new.steps (sides_in c.take-own.result) c.in_ok-upper.upper earlier
-    (own-is lists c.take.new.lists.items c.args.node c.parent-parent.result (sides_in c.take-own.result) c.take.ensures.taken c.take-own.ensures.list earlier)
+    (own-stays sides_in lists c.take.new.lists.items c.args.node c.parent-parent.result (sides_in c.take-own.result) c.take.ensures.taken c.take-own.ensures.list earlier)
     c.in_ok-upper.ensures.short c.in_ok-upper.ensures.steps c.in_ok-joined.ensures.steps

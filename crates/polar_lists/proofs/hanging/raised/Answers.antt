@@ -5,24 +5,24 @@ use Rattle.polar_lists.proofs.BothSmall.{above-pairs}
 use Rattle.polar_lists.proofs.BothRaised.{raised-marked}
 use Rattle.polar_lists.proofs.hanging.raised.Goals as goal
 
-pub offered-requires-clause-range : goal.offered-requires-clause-range
-offered-requires-clause-range g c = λ inverted.
+pub offer-requires-clause-range : goal.offer-requires-clause-range
+offer-requires-clause-range g c = λ inverted.
     small-pairs c.args.trail.now (side c.args.below inverted) (candidates_by c.args.trail.now c.args.below inverted) refl (c.requires.small inverted)
 
 pub along-requires-clause-range : goal.along-requires-clause-range
 along-requires-clause-range g c =
-    above-pairs c.args.loading.now c.args.node false c.offered.new.trail (all_in c.in_ok-upper.upper.plain) (candidates_by c.args.trail.now c.args.below)
+    above-pairs c.args.loading.now c.args.node false c.offer.new.trail (all_in c.in_ok-upper.upper.plain) (candidates_by c.args.trail.now c.args.below)
     c.requires.loading c.requires.small (c.in_ok-upper.ensures.above false)
 
 pub along-requires-2-clause-range : goal.along-requires-2-clause-range
 along-requires-2-clause-range g c =
-    above-pairs c.args.loading.now c.args.node true c.offered.new.trail (all_in c.in_ok-upper.upper.inverse) (candidates_by c.args.trail.now c.args.below)
+    above-pairs c.args.loading.now c.args.node true c.offer.new.trail (all_in c.in_ok-upper.upper.inverse) (candidates_by c.args.trail.now c.args.below)
     c.requires.loading c.requires.small (c.in_ok-upper.ensures.above true)
 
 pub returns-clause-marks : goal.returns-clause-marks
 returns-clause-marks g c =
-    raised-marked c.offered.new.trail c.in_ok-upper.upper (record { plain = c.along.result; inverse = c.along-2.result }) c.in_ok-upper.ensures.marks
-    (c.along.ensures.marks c.offered.new.trail) (c.along-2.ensures.marks c.offered.new.trail)
+    raised-marked c.offer.new.trail c.in_ok-upper.upper (record { plain = c.along.result; inverse = c.along-2.result }) c.in_ok-upper.ensures.marks
+    (c.along.ensures.marks c.offer.new.trail) (c.along-2.ensures.marks c.offer.new.trail)
 
 pub returns-clause-steps : goal.returns-clause-steps
 returns-clause-steps g c = λ most short.

@@ -1,6 +1,9 @@
 use Rattle.std.proofs.Common.{ℕ, true, false, List, length, Option, sym, ap, subst, ◌∙◌, arith}
 use Rattle.ginneken_lists.specs.declared.pair.Pair.{Pair}
-use Rattle.polar_lists.specs.BothLists.{offer_at, AreOffersMarked}
+use Rattle.buffer_plan.specs.Picked.{sites_of}
+use Rattle.polar_lists.specs.BothLists.{candidates_by, offer_at, AreOffersMarked}
+use Rattle.polar_lists.proofs.SignalLemmas.{both-blocked}
+use Rattle.polar_lists.proofs.BothRaised.{above-result}
 use Rattle.polar_lists.proofs.BothOffers.{offered-result}
 use Rattle.polar_lists.proofs.BothSteps.{made-steps}
 use Rattle.polar_lists.proofs.offers.offer.Goals as goal
@@ -37,16 +40,22 @@ add-requires-clause-inverse_marks g c =
     subst (λ (xs : List (Option Pair)). AreOffersMarked (length c.args.trail.now) xs) (sym c.deref-2.ensures.value)
     (c.in_ok-make-2.ensures.marks (length c.args.trail.now) (c.requires.marks true) (c.requires.marks false))
 
-pub returns-clause-offered : goal.returns-clause-offered
-returns-clause-offered g c =
+pub returns-then-not-free-clause-above : goal.returns-then-not-free-clause-above
+returns-then-not-free-clause-above g c = λ inverted.
+    both-blocked (sites_of c.args.loading.now) c.args.node (candidates_by c.args.trail.now c.args.sides) inverted (sym c.free.ensures.free ∙ c.if-not-free.true)
+
+pub returns-clause-above : goal.returns-clause-above
+returns-clause-above g c =
     let trail = c.args.trail.now in
     let node = c.args.node in
-    offered-result c.args.library.now node trail c.add.new.trail c.args.sides c.deref.result.now c.deref-2.result.now c.add.result c.requires.rising
+    above-result (sites_of c.args.loading.now) c.args.library.now node c.add.new.trail (candidates_by trail c.args.sides) c.add.result
+    c.requires.library (sym c.free.ensures.free ∙ c.if-not-free.false)
+    (offered-result c.args.library.now node trail c.add.new.trail c.args.sides c.deref.result.now c.deref-2.result.now c.add.result c.requires.rising
     (ap (λ (xs : List (Option Pair)). length xs) c.deref.ensures.value ∙ c.in_ok-make.ensures.kinds)
     (ap (λ (xs : List (Option Pair)). length xs) c.deref-2.ensures.value ∙ c.in_ok-make-2.ensures.kinds)
     (λ number below. ap (λ (xs : List (Option Pair)). offer_at trail node xs number) c.deref.ensures.value ∙ c.in_ok-make.ensures.made trail node number below)
     (λ number below. ap (λ (xs : List (Option Pair)). offer_at trail node xs number) c.deref-2.ensures.value ∙ c.in_ok-make-2.ensures.made trail node number below)
-    c.add.ensures.added
+    c.add.ensures.added)
 
 pub returns-clause-steps : goal.returns-clause-steps
 returns-clause-steps g c = λ most short.

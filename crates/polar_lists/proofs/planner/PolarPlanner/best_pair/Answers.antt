@@ -1,14 +1,16 @@
-use Rattle.std.proofs.Common.{◌≡◌, ℕ, ◌-◌, ◌*◌, false, List, length, ap, sym, subst, ◌∙◌, arith}
-use Rattle.gr_base.specs.Trees.{TreeView}
-use Rattle.rc_library.specs.Libraries.{LibraryView}
+use Rattle.std.proofs.Common.{false, List, length, ap, sym, subst, ◌∙◌, arith}
 use Rattle.ginneken_lists.specs.Candidates.{Chosen}
 use Rattle.buffer_plan.specs.Picked.{sites_of}
+use Rattle.buffer_plan.proofs.Sizes.{sizes-of, pairs-of_all}
 use Rattle.polar_lists.specs.BothLists.{all_in, side, AreBothGathered}
 use Rattle.polar_lists.specs.declared.sides.Sides.{Sides}
 use Rattle.polar_lists.proofs.BothGathering.{both-few}
 use Rattle.polar_lists.proofs.BothSteps.{both-plan_steps, both-plan_steps_part}
-use Rattle.polar_lists.proofs.LegalPlans.{taken-range, taken-marked, legal-pair, some-marked}
+use Rattle.polar_lists.proofs.LegalPlans.{taken, legal-pair, some-marked}
 use Rattle.polar_lists.proofs.planner.PolarPlanner.best_pair.Goals as goal
+
+pub hang_all-requires-clause-ours : goal.hang_all-requires-clause-ours
+hang_all-requires-clause-ours g c = record { of = c.requires.ours; is = c.driver-driver.ensures.loading }
 
 pub hang_all-requires-clause-lists : goal.hang_all-requires-clause-lists
 hang_all-requires-clause-lists g c =
@@ -16,20 +18,16 @@ hang_all-requires-clause-lists g c =
 
 pub returns-in_err-hang_all-clause-steps : goal.returns-in_err-hang_all-clause-steps
 returns-in_err-hang_all-clause-steps g c =
-    let long = ap (λ (t : TreeView). length t.nodes) c.requires.ours.tree_is in
-    let some = c.driver-driver.ensures.loading.tree.rooted in
-    both-plan_steps_part (length c.args.library.now.kinds) (length c.args.tree.now.nodes) c.args.steps.now c.hang_all.new.steps (omega arith) c.in_err-hang_all.ensures.steps
+    both-plan_steps_part (length c.args.library.now.kinds) (length c.args.tree.now.nodes) c.args.steps.now c.hang_all.new.steps
+    (sizes-of c.requires.ours c.driver-driver.ensures.loading).rooted c.in_err-hang_all.ensures.steps
 
 pub returns-in_err-plain-clause-steps : goal.returns-in_err-plain-clause-steps
 returns-in_err-plain-clause-steps g c =
-    let long = ap (λ (t : TreeView). length t.nodes) c.requires.ours.tree_is in
-    let some = c.driver-driver.ensures.loading.tree.rooted in
-    both-plan_steps_part (length c.args.library.now.kinds) (length c.args.tree.now.nodes) c.args.steps.now c.hang_all.new.steps (omega arith) c.in_ok-hang_all.ensures.steps
+    both-plan_steps_part (length c.args.library.now.kinds) (length c.args.tree.now.nodes) c.args.steps.now c.hang_all.new.steps
+    (sizes-of c.requires.ours c.driver-driver.ensures.loading).rooted c.in_ok-hang_all.ensures.steps
 
 pub best_driven-requires : goal.best_driven-requires
-best_driven-requires g c =
-    taken-range c.args.loading.now 1 0 c.hang_all.new.trail c.hang_all.new.lists.items c.in_ok-plain.field-0 c.driver-driver.ensures.loading
-    c.in_ok-hang_all.ensures.lists (omega arith) (c.in_ok-plain.ensures ∙ c.take-whole.ensures.list) false
+best_driven-requires g c = (taken 0 c.driver-driver.ensures.loading c.in_ok-hang_all.ensures.lists (omega arith) (c.in_ok-plain.ensures ∙ c.take-whole.ensures.list)).range false
 
 pub returns-clause-picked : goal.returns-clause-picked
 returns-clause-picked g c =
@@ -40,20 +38,12 @@ returns-clause-picked g c =
 pub returns-clause-mark : goal.returns-clause-mark
 returns-clause-mark g c =
     some-marked c.hang_all.new.trail (all_in c.in_ok-plain.field-0.plain) c.best_driven.result
-    (taken-marked c.args.loading.now 1 0 c.hang_all.new.trail c.hang_all.new.lists.items c.in_ok-plain.field-0 c.driver-driver.ensures.loading
-    c.in_ok-hang_all.ensures.lists (omega arith) (c.in_ok-plain.ensures ∙ c.take-whole.ensures.list) false) c.best_driven.ensures.one
+    ((taken 0 c.driver-driver.ensures.loading c.in_ok-hang_all.ensures.lists (omega arith) (c.in_ok-plain.ensures ∙ c.take-whole.ensures.list)).marks false) c.best_driven.ensures.one
 
 pub returns-clause-steps : goal.returns-clause-steps
 returns-clause-steps g c =
-    let l = c.args.loading.now in
-    let nodes : ℕ = length c.args.tree.now.nodes in
-    let kinds : ℕ = length c.args.library.now.kinds in
-    let long = ap (λ (t : TreeView). length t.nodes) c.requires.ours.tree_is in
-    let same = ap (λ (lib : LibraryView). length lib.kinds) c.requires.ours.library_is in
-    let some = c.driver-driver.ensures.loading.tree.rooted in
-    let few = both-few (sites_of l) 1 0 c.hang_all.new.trail c.hang_all.new.lists.items c.in_ok-hang_all.ensures.lists (omega arith) false in
+    let sizes = sizes-of c.requires.ours c.driver-driver.ensures.loading in
+    let few = both-few (sites_of c.args.loading.now) 1 0 c.hang_all.new.trail c.hang_all.new.lists.items c.in_ok-hang_all.ensures.lists (omega arith) false in
     let is = ap (λ (sides : Sides). length (side sides false)) (c.in_ok-plain.ensures ∙ c.take-whole.ensures.list) in
-    let most : length l.library.kinds * (length l.tree.nodes - 1) ≡ kinds * (nodes - 1) =
-    ap (λ (n : ℕ). n * (length l.tree.nodes - 1)) same ∙ ap (λ (n : ℕ). kinds * (n - 1)) long in
-    both-plan_steps kinds nodes c.args.steps.now c.hang_all.new.steps c.best_driven.new.steps (length (all_in c.in_ok-plain.field-0.plain)) (omega arith)
-    c.in_ok-hang_all.ensures.steps (omega arith) c.best_driven.ensures.steps
+    both-plan_steps (length c.args.library.now.kinds) (length c.args.tree.now.nodes) c.args.steps.now c.hang_all.new.steps c.best_driven.new.steps
+    (length (all_in c.in_ok-plain.field-0.plain)) sizes.rooted c.in_ok-hang_all.ensures.steps (omega (arith, few, is, pairs-of_all sizes)) c.best_driven.ensures.steps
