@@ -1,11 +1,14 @@
 -- What passes know of a shared book, and what calls make of it.
-use Rattle.std.specs.Prelude.{◌≡◌, ℕ, ◌<◌, List, [], ◌∷◌, ◌++◌, length, All, Some, slice_get}
+use Rattle.std.specs.Prelude.{◌≡◌, ℕ, ◌<◌, List, [], ◌∷◌, ◌++◌, length, All, Some, slice_get, Result, IfOk, IfErr, OnErr}
 use mathlib.Core.List.{IsPrefix}
 use Rattle.atomic_table.specs.Seated.{TableId}
 use Rattle.book_state.specs.Books.{IsLegal}
 use Rattle.book_state.specs.Entries.{calls_of}
 use Rattle.book_state.specs.Views.{entry_of}
+use Rattle.book_state.specs.declared.book.ClaimRefused.{ClaimRefused}
 use Rattle.book_state.specs.declared.entry.Call.{Call}
+use Rattle.book_state.specs.declared.entry.Call.TheVariants.{Claim as Claims}
+use Rattle.book_state.specs.declared.entry.Claim.{Claim}
 use Rattle.book_state.specs.declared.entry.Entry.{Entry}
 use Rattle.book_state.specs.declared.entry.Reply.{Reply}
 use Rattle.grid_demand.specs.Tables.{CapacityView}
@@ -76,3 +79,10 @@ pub record BlankView : Type 0 where
   pub word : TableId
   pub capacity : CapacityView
   pub passes : ℕ
+
+-- a claim has its answer, or comes back for want of memory and leaves the pass as it was
+pub record IsClaimMade (c : CapacityView) (old new : PassView) (claim : Claim) (result : Result Reply ClaimRefused)
+    : Type 0 where
+  pub reply : IfOk result (λ reply. IsAnswered c old new (Claims claim) reply)
+  pub err : OnErr result (new ≡ old)
+  pub back : IfErr result (λ refused. refused.claim ≡ claim)

@@ -1,7 +1,7 @@
 //! Several calls of a shared book under one hold of its lock.
-ghost use Rattle.std.specs.Prelude.{◌≡◌, ◌<◌, ◌≤◌, length, IfOk, IfErr, OnOk, OnErr};
+ghost use Rattle.std.specs.Prelude.{◌≡◌, ◌<◌, ◌≤◌, length, IfOk, OnOk, OnErr};
 ghost use Rattle.book_state.specs.Books.{nets_of, IsClaim};
-ghost use Rattle.track_book.specs.Passes.{IsAnswered, HasLearnt};
+ghost use Rattle.track_book.specs.Passes.{IsAnswered, IsClaimMade, HasLearnt};
 
 use crate::book::TrackBook;
 use crate::locked::Locked;
@@ -54,9 +54,7 @@ impl<'a, N: BookName> Visit<'a, N> {
         claim: Claim,
     ) -> Result<Reply, ClaimRefused>
         requires { IsClaim N.capacity (length pass.old.seen) claim }
-        ensures reply { IfOk result (λ reply. IsAnswered N.capacity pass.old pass.new (Call.Claim claim) reply) }
-        ensures err { OnErr result (pass.new ≡ pass.old) }
-        ensures back { IfErr result (λ refused. refused.claim ≡ claim) }
+        ensures { IsClaimMade N.capacity pass.old pass.new claim result }
     {
         let Some(locked) = &mut self.locked else {
             return self.book.claim(rt, pass, claim);
