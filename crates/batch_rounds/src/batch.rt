@@ -1,17 +1,19 @@
 //! A batch: its nets are planned side by side over one history, and then claimed in order.
-ghost use Rattle.std.specs.Prelude.{◌≡◌, ◌<◌, ◌≤◌, List, All, length, IfOk, OnOk};
+ghost use Rattle.std.specs.Prelude.{◌≡◌, ◌<◌, ◌≤◌, All, length, OnOk, Ok};
 ghost use Rattle.book_state.specs.Books.{nets_of};
 ghost use Rattle.gr_base.specs.Designs.{AreRouted};
-ghost use Rattle.gr_base.specs.Limits.{most_nets};
+ghost use Rattle.gr_base.specs.Limits.{most_workers};
 ghost use Rattle.grid_demand.specs.Tables.{capacity_of};
 ghost use Rattle.batch_rounds.specs.BatchedHistories.{after_releases, AreTurns, IsBatch};
 ghost use Rattle.batch_rounds.specs.Rounds.{batching_of};
 ghost use Rattle.batch_rounds.specs.Seats.{IsShare, HasPlanned, HavePlans};
 
-use crate::asked::Asked;
+use crate::asked::Due;
 use crate::basis::Basis;
 use crate::claims::{CLAIMANT, claim_net};
+use crate::means::Means;
 use crate::seat::{Seat, all_done, take_plan};
+use crate::seats::Seats;
 use beside_calls::for_each_beside;
 use book_state::BookState;
 use net_plan::Planner;
@@ -26,49 +28,60 @@ const LEAST_PATTERNS: usize = 64;
 
 const LEAST_MAZES: usize = 4;
 
-/// A batch of these nets: in a later round they are released; then they are planned over the history
-/// there is, and claimed in order. The only error is want of memory.
+/// A batch: in a later round its nets are released; then they are planned over the history there is, and
+/// claimed in order. The only error is want of memory.
 pub(crate) fn run_batch<R: Threads + Wait + Sync, G: Gate + Sync>(
-    rt: &R,
-    alloc: Global,
-    asked: &Asked,
-    gate: &G,
-    round: u32,
-    nets: &[u32],
+    means: &Means<R, G>,
+    batch: &Due,
+    book: &mut BookState,
+    seats: &mut Seats,
+) -> Result<(), AllocError>
+    requires { book.old.capacity ≡ capacity_of batch.now.asked.now.design.now }
+    ensures capacity { OnOk result (book.new.capacity ≡ capacity_of batch.now.asked.now.design.now) }
+    ensures batch { OnOk result (IsBatch (batching_of batch.now.asked.now) batch.now.round batch.now.nets.now
+        book.old.history book.new.history) }
+{
+    if batch.round > 0 {
+        release_all(book, batch.nets)?;
+    }
+    plan_and_claim(means, batch, book, &mut seats.each, &mut seats.alone)
+}
+
+/// Plans a batch's nets over the history there is, and claims them in order. The only error is want of
+/// memory.
+fn plan_and_claim<R: Threads + Wait + Sync, G: Gate + Sync>(
+    means: &Means<R, G>,
+    batch: &Due,
     book: &mut BookState,
     seats: &mut [Seat],
     alone: &mut Planner,
 ) -> Result<(), AllocError>
-    requires capacity { book.old.capacity ≡ capacity_of asked.now.design.now }
-    requires round { round ≤ asked.now.rounds }
-    requires nets { AreRouted asked.now.design.now nets.now }
-    requires few { length nets.now ≤ most_nets }
-    requires seats { length seats.old ≡ asked.now.threads }
-    ensures capacity { OnOk result (book.new.capacity ≡ capacity_of asked.now.design.now) }
-    ensures batch { OnOk result (IsBatch (batching_of asked.now) round nets.now book.old.history book.new.history) }
+    requires capacity { book.old.capacity ≡ capacity_of batch.now.asked.now.design.now }
+    requires some { 0 < length seats.old }
+    requires few { length seats.old ≤ most_workers }
+    ensures capacity { OnOk result (book.new.capacity ≡ capacity_of batch.now.asked.now.design.now) }
+    ensures turns { OnOk result (AreTurns (batching_of batch.now.asked.now) batch.now.round book.old.history
+        batch.now.nets.now book.old.history book.new.history) }
 {
-    if round > 0 {
-        release_all(book, nets)?;
-    }
-    let count = seats_for(asked.threads, round, nets.len());
+    let count = seats_for(seats.len(), batch.round, batch.nets.len());
     let seats = &mut seats[..count];
-    plan_beside(rt, alloc, asked, gate, round, nets, book, seats);
+    plan_beside(means, batch, book, seats);
     all_done(seats)?;
-    claim_all(alloc, asked, round, nets, book, seats, alone)
+    claim_all(means.alloc, batch, book, seats, alone)
 }
 
-/// At how many seats a batch of so many nets is planned, where there is one for each thread.
-fn seats_for(threads: u32, round: u32, nets: usize) -> usize
-    requires { 1 ≤ threads }
+/// At how many of the seats a batch of so many nets is planned.
+fn seats_for(seats: usize, round: u32, nets: usize) -> usize
+    requires { 0 < seats }
     ensures some { 0 < result }
-    ensures most { result ≤ threads }
+    ensures most { result ≤ seats }
 {
     let least = if round == 0 {
         LEAST_PATTERNS
     } else {
         LEAST_MAZES
     };
-    (nets / least).clamp(1, threads as usize)
+    (nets / least).clamp(1, seats)
 }
 
 /// Releases the nets, in order.
@@ -84,28 +97,24 @@ fn release_all(book: &mut BookState, nets: &[u32]) -> Result<(), AllocError>
     Ok(())
 }
 
-/// Plans the nets over the history there is, at the seats side by side. Memory may be wanting at a seat.
+/// Plans a batch's nets over the history there is, at the seats side by side. Memory may be wanting at a
+/// seat.
 fn plan_beside<R: Threads + Wait + Sync, G: Gate + Sync>(
-    rt: &R,
-    alloc: Global,
-    asked: &Asked,
-    gate: &G,
-    round: u32,
-    nets: &[u32],
+    means: &Means<R, G>,
+    batch: &Due,
     book: &BookState,
     seats: &mut [Seat],
 )
-    requires capacity { book.now.capacity ≡ capacity_of asked.now.design.now }
-    requires round { round ≤ asked.now.rounds }
-    requires nets { AreRouted asked.now.design.now nets.now }
-    requires few { length nets.now ≤ most_nets }
+    requires capacity { book.now.capacity ≡ capacity_of batch.now.asked.now.design.now }
     requires some { 0 < length seats.old }
-    requires most { length seats.old ≤ asked.now.threads }
+    requires few { length seats.old ≤ most_workers }
     ensures count { length seats.new ≡ length seats.old }
     ensures plans { All (λ seat. seat.done ≡ Ok tt) seats.new →
-        HavePlans asked.now.design.now asked.now.rule.now.formula round book.now.history nets.now 0 seats.new }
+        HavePlans batch.now.asked.now.design.now batch.now.asked.now.rule.now.formula batch.now.round
+        book.now.history batch.now.nets.now 0 seats.new }
 {
-    let basis = Basis::over(alloc, asked, round, book);
+    let basis = Basis::over(means.alloc, batch.asked, batch.round, book);
+    let (rt, gate, nets) = (means.rt, means.gate, batch.nets);
     let count = seats.len();
     for_each_beside(
         rt,
@@ -119,31 +128,36 @@ fn plan_beside<R: Threads + Wait + Sync, G: Gate + Sync>(
     );
 }
 
-/// Claims the nets in order, each for the plan that a seat holds for it.
+/// Claims a batch's nets in order, each for the plan that a seat holds for it.
 fn claim_all(
     alloc: Global,
-    asked: &Asked,
-    round: u32,
-    nets: &[u32],
+    batch: &Due,
     book: &mut BookState,
     seats: &mut [Seat],
     alone: &mut Planner,
 ) -> Result<(), AllocError>
-    requires capacity { book.old.capacity ≡ capacity_of asked.now.design.now }
-    requires round { round ≤ asked.now.rounds }
-    requires nets { AreRouted asked.now.design.now nets.now }
+    requires capacity { book.old.capacity ≡ capacity_of batch.now.asked.now.design.now }
     requires some { 0 < length seats.old }
-    requires plans { HavePlans asked.now.design.now asked.now.rule.now.formula round book.old.history nets.now 0
-        seats.old }
-    ensures capacity { OnOk result (book.new.capacity ≡ capacity_of asked.now.design.now) }
-    ensures turns { OnOk result (AreTurns (batching_of asked.now) round book.old.history nets.now book.old.history
-        book.new.history) }
+    requires plans { HavePlans batch.now.asked.now.design.now batch.now.asked.now.rule.now.formula batch.now.round
+        book.old.history batch.now.nets.now 0 seats.old }
+    ensures capacity { OnOk result (book.new.capacity ≡ capacity_of batch.now.asked.now.design.now) }
+    ensures turns { OnOk result (AreTurns (batching_of batch.now.asked.now) batch.now.round book.old.history
+        batch.now.nets.now book.old.history book.new.history) }
 {
     let front = book.history().len();
-    for place in 0..nets.len() {
+    for place in 0..batch.nets.len() {
         let plan = take_plan(seats, place);
-        let net = nets[place];
-        claim_net(alloc, asked, round, net, plan, front, book, alone)?;
+        let net = batch.nets[place];
+        claim_net(
+            alloc,
+            batch.asked,
+            batch.round,
+            net,
+            plan,
+            front,
+            book,
+            alone,
+        )?;
     }
     Ok(())
 }

@@ -10,9 +10,11 @@ mod batch;
 mod claims;
 mod given;
 mod laws;
+mod means;
 mod rounds;
 mod run;
 mod seat;
+mod seats;
 
 pub use laws::there_is_one_batched_history;
 pub use rounds::{Batched, batch_rounds};

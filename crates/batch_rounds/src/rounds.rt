@@ -7,12 +7,12 @@ ghost use Rattle.batch_rounds.specs.Made.{IsMade};
 
 use crate::asked::Asked;
 use crate::given::claim_given;
+use crate::means::Means;
 use crate::run::run_rounds;
-use crate::seat::seats_of;
+use crate::seats::Seats;
 use book_state::BookState;
 use cost_rules::CostRule;
 use gr_base::{Design, Routes};
-use net_plan::Planner;
 use run_histories::Gate;
 use std::alloc::{AllocError, Global};
 use std::sync::Wait;
@@ -61,15 +61,19 @@ pub fn batch_rounds<R: Threads + Wait + Sync, G: Gate + Sync>(
         design,
         given,
         rule,
-        threads: workers,
         rounds,
         batch,
     };
-    let mut seats = seats_of(alloc, workers)?;
-    let mut alone = Planner::new(alloc)?;
+    let means = Means {
+        rt,
+        threads: workers,
+        alloc,
+        gate,
+    };
+    let mut seats = Seats::new(alloc, workers)?;
     let mut state = BookState::new(alloc, design)?;
     claim_given(alloc, &asked, &mut state)?;
-    run_rounds(rt, alloc, &asked, gate, &mut state, &mut seats, &mut alone)?;
+    run_rounds(&means, &asked, &mut state, &mut seats)?;
     let chosen = state.least_mark().unwrap();
     Ok(Batched { state, chosen })
 }

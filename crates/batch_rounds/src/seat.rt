@@ -1,5 +1,5 @@
 //! Seats, at which the nets of a batch are planned side by side.
-ghost use Rattle.std.specs.Prelude.{◌≡◌, ◌<◌, ◌≤◌, ℕ, List, All, Some, IfOk, OnOk, IsSome, length, Ok};
+ghost use Rattle.std.specs.Prelude.{◌≡◌, ◌<◌, ◌≤◌, ℕ, List, All, Some, OnOk, IsSome, length, Ok};
 ghost use Rattle.batch_rounds.specs.Seats.{IsShare, plan_for, HasPlanned};
 ghost use Rattle.gr_base.specs.Designs.{AreRouted};
 
@@ -82,22 +82,6 @@ impl Seat {
         }
         Ok(())
     }
-}
-
-/// So many seats. The only error is want of memory.
-pub(crate) fn seats_of(alloc: Global, count: u32) -> Result<Vec<Seat>, AllocError>
-    ensures { IfOk result (λ seats. length seats.items ≡ count) }
-{
-    let mut seats = Vec::new(alloc);
-    for _ in 0..count {
-        let planner = Planner::new(alloc)?;
-        seats.push(Seat {
-            planner,
-            plans: Vec::new(alloc),
-            done: Ok(()),
-        })?;
-    }
-    Ok(seats)
 }
 
 /// Want of memory, if it was wanting at a seat.

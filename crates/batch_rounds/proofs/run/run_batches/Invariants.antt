@@ -8,14 +8,13 @@ use Rattle.batch_rounds.proofs.RoundSteps.{BatchesGoOn}
 use Rattle.batch_rounds.proofs.run.run_batches.Given as goal
 
 -- the batches of the nets that are left go on from those so far
-abbrev pub invariant-loop-batch : goal.invariant-loop-batch
-invariant-loop-batch g l = record {
-  next : (goal.iterator-loop-batch g).can_next l.batch-iterator;
-  finite : (goal.iterator-loop-batch g).is_finite l.batch-iterator;
-  size : chunks_size l.batch-iterator ≡ l.asked.batch;
-  capacity : l.book.capacity ≡ capacity_of l.asked.design.now;
-  seats : length l.seats ≡ l.asked.threads;
-  nets : AreRouted l.asked.design.now (chunks_rest l.batch-iterator);
-  few : length (chunks_rest l.batch-iterator) ≤ most_nets;
-  batches : BatchesGoOn (batching_of l.asked) l.round l.fn.book.history l.nets (chunks_rest l.batch-iterator) l.book.history;
+abbrev pub invariant-loop-nets : goal.invariant-loop-nets
+invariant-loop-nets g l = record {
+  next : (goal.iterator-loop-nets g).can_next l.nets-iterator;
+  finite : (goal.iterator-loop-nets g).is_finite l.nets-iterator;
+  size : chunks_size l.nets-iterator ≡ l.due.asked.now.batch;
+  capacity : l.book.capacity ≡ capacity_of l.due.asked.now.design.now;
+  nets : AreRouted l.due.asked.now.design.now (chunks_rest l.nets-iterator);
+  few : length (chunks_rest l.nets-iterator) ≤ most_nets;
+  batches : BatchesGoOn (batching_of l.due.asked.now) l.due.round l.fn.book.history l.due.nets.now (chunks_rest l.nets-iterator) l.book.history;
 }

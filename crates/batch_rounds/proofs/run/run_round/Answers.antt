@@ -9,7 +9,7 @@ use Rattle.batch_rounds.proofs.run.run_round.Goals as goal
 
 pub returns-clause-round : goal.returns-clause-round
 returns-clause-round g c =
-    round-marked (batching_of c.args.asked.now) c.args.round c.args.book.now.history c.run_batches.new.book.history c.victims_by.new.self.history c.run_batches.new.book.capacity c.args.nets.now
+    round-marked (batching_of c.args.due.now.asked.now) c.args.due.now.round c.args.book.now.history c.run_batches.new.book.history c.victims_by.new.self.history c.run_batches.new.book.capacity c.args.due.now.nets.now
     c.in_ok-run_batches.ensures.capacity c.requires.due c.in_ok-run_batches.ensures.batches
     (ap (λ (b : BookView). b.history) c.victims_by.ensures.same ∙ c.in_ok-overflow.ensures.history
     ∙ ap (λ (b : BookView). after_call b.capacity b.history marker Mark) c.find_overfull.ensures)

@@ -1,21 +1,22 @@
-use Rattle.std.proofs.Common.{ℕ, List, ◌+◌, length, All, IsTrue, refl, sym, subst, ◌∙◌}
+use Rattle.std.proofs.Common.{◌≡◌, ℕ, List, ◌+◌, length, All, IsTrue, refl, sym, subst, ◌∙◌, arith}
 use Rattle.gr_base.specs.Designs.{is_routed}
 use Rattle.book_state.specs.declared.entry.Entry.{Entry}
-use Rattle.batch_rounds.specs.BatchedHistories.{claims_given, IsRound}
+use Rattle.batch_rounds.specs.BatchedHistories.{claims_given, nets_due, IsRound}
 use Rattle.batch_rounds.specs.Rounds.{batching_of}
 use Rattle.batch_rounds.proofs.HeldNets.{IsReady, ready-first, ready-next, round-stands}
 use Rattle.batch_rounds.proofs.RoundSteps.{few-victims, few-open, goes-on, stops-last, run-first, run-more}
 use Rattle.batch_rounds.proofs.run.run_rounds.Goals as goal
 use Rattle.run_histories.proofs.KeptRules.{one-more}
 
-pub run_round-requires-clause-nets : goal.run_round-requires-clause-nets
-run_round-requires-clause-nets g c lives in_lives =
+pub invariant_of-first : goal.invariant_of-first
+invariant_of-first g c =
     let t = batching_of c.args.asked.now in
-    subst (All (λ (net : ℕ). IsTrue (is_routed t.design net))) (sym (c.deref.ensures.value ∙ c.in_ok-nets.ensures.nets)) (ready-first t c.args.asked.now.fits).routed
-
-pub run_round-requires-clause-few : goal.run_round-requires-clause-few
-run_round-requires-clause-few g c lives in_lives =
-    few-open c.args.asked.now.design.now c.args.asked.now.given.now c.deref.result.now (c.deref.ensures.value ∙ c.in_ok-nets.ensures.nets) c.in_ok-nets.ensures.few
+    let nets = c.deref.ensures.value ∙ c.in_ok-nets.ensures.nets in
+    record {
+      reached = omega arith;
+      routed = subst (All (λ (net : ℕ). IsTrue (is_routed t.design net))) (sym nets) (ready-first t c.args.asked.now.fits).routed;
+      count = few-open c.args.asked.now.design.now c.args.asked.now.given.now c.deref.result.now nets c.in_ok-nets.ensures.few;
+    }
 
 pub loop-done-init : goal.loop-done-init
 loop-done-init g c =
@@ -26,21 +27,28 @@ loop-done-init g c =
     record {
       capacity = made.capacity;
       legal = made.legal;
-      seats = c.run_round.auto.seats ∙ c.requires.seats;
       victims = made.victims;
       stands = (round-stands t 0 (claims_given t) new (ready-first t c.args.asked.now.fits) first).stands;
       run = run-first t new first;
     }
 
-pub run_round-requires-in-loop-done-clause-nets : goal.run_round-requires-in-loop-done-clause-nets
-run_round-requires-in-loop-done-clause-nets g c lives in_lives =
+pub invariant_of-next : goal.invariant_of-next
+invariant_of-next g c =
     let t = batching_of c.args.asked.now in
     let inv = c.loop-done.invariant in
-    subst (All (λ (net : ℕ). IsTrue (is_routed t.design net))) (sym (c.as_slice-in-loop-done.ensures ∙ inv.victims)) (ready-next t c.loop-done.done c.loop-done.book.history inv.stands).routed
+    let below = c.loop-done-test.true in
+    let nets = c.as_slice-in-loop-done.ensures ∙ inv.victims in
+    record {
+      reached = omega (arith, below);
+      routed = subst (All (λ (net : ℕ). IsTrue (is_routed t.design net))) (sym nets) (ready-next t c.loop-done.done c.loop-done.book.history inv.stands).routed;
+      count = few-victims c.args.asked.now.design.now c.loop-done.book.history c.as_slice-in-loop-done.result.now nets c.in_ok-nets.ensures.few;
+    }
 
-pub run_round-requires-in-loop-done-clause-few : goal.run_round-requires-in-loop-done-clause-few
-run_round-requires-in-loop-done-clause-few g c lives in_lives =
-    few-victims c.args.asked.now.design.now c.loop-done.book.history c.as_slice-in-loop-done.result.now (c.as_slice-in-loop-done.ensures ∙ c.loop-done.invariant.victims) c.in_ok-nets.ensures.few
+pub run_round-requires-in-loop-done-clause-due : goal.run_round-requires-in-loop-done-clause-due
+run_round-requires-in-loop-done-clause-due g c lives in_lives =
+    let t = batching_of c.args.asked.now in
+    let h = c.loop-done.book.history in
+    subst (λ (n : ℕ). c.as_slice-in-loop-done.result.now ≡ nets_due t n h) (sym (one-more c.loop-done.done)) (c.as_slice-in-loop-done.ensures ∙ c.loop-done.invariant.victims)
 
 pub loop-done-preserved : goal.loop-done-preserved
 loop-done-preserved g c =
@@ -55,7 +63,6 @@ loop-done-preserved g c =
     record {
       capacity = made.capacity;
       legal = made.legal;
-      seats = c.run_round-in-loop-done.auto.seats ∙ inv.seats;
       victims = made.victims;
       stands = (round-stands t (done + 1) now new ready made.round).stands;
       run = run-more t done now new inv.run on made.round;
