@@ -260,6 +260,9 @@ pub followed-led : (t : Setting) (r : ℕ) (stage : Stage) (p q : PassView) → 
 followed-led t r stage p q follows =
     led-still t r stage p q follows.learnt.number follows.learnt.begins follows.learnt.legal follows.learnt.mine follows.planned
 
+pub led-followed : (t : Setting) (r : ℕ) (p q s : PassView) → HasLed t r Rests Rests [] p q → HasFollowed t q s → HasLed t r Rests Rests [] p s
+led-followed t r p q s led follows = led-then t r Rests Rests Rests [] [] p q s led (followed-led t r Rests q s follows)
+
 -- a claim for a plan over all that the pass had seen
 pub tried-so : (t : Setting) (d : DesignView) (formula : Formula) (c : CapacityView) (net : ℕ) (kind : PlanKind) (slack : Option ℕ) (tree : TreeView) (reply : Reply) (p q : PassView) →
     IsOver d formula t → c ≡ capacity_of d → IsPass c p → IsPass c q → IsPlanFor d formula p.seen net kind tree →

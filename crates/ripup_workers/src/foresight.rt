@@ -3,8 +3,7 @@
 //! While a net is out of the book, others plan as if it took nothing. With several workers nets of one
 //! crowded place would then be out at the same time, and each would find room there that isn't. So a
 //! worker searches while the book has the net, and releases it only then.
-ghost use Rattle.std.specs.Prelude.{◌≡◌, ◌<◌, ℕ, [], length, IfOk, IfSome, OnOk, IsTrue};
-ghost use Rattle.book_state.specs.Books.{nets_of};
+ghost use Rattle.std.specs.Prelude.{◌≡◌, ℕ, [], length, IfOk, IfSome, OnOk, IsTrue};
 ghost use Rattle.book_state.specs.Replicas.{StandsFor};
 ghost use Rattle.run_histories.specs.Attempts.{Rests};
 ghost use Rattle.run_histories.specs.Rounds.{IsPlanFor};
@@ -45,9 +44,10 @@ pub(crate) struct Foreseen {
 }
 
 impl<N: BookName, R: Threads + Wait + Sync, G: Gate> Ground<'_, N, R, G> {
-    /// The plan that the net will have once it is released. It is made anew, but not without end, where
-    /// what others added while it was made may change it. None where that went on, the net isn't booked,
-    /// or the plan is a pattern's, which has no window.
+    /// The plan that the net will have once it is released. Where there is one, the visit is inside, and
+    /// the worker knows all that there is. It is made anew, but not without end, where what others added
+    /// while it was made may change it. None where that went on, the net isn't booked, or the plan is a
+    /// pattern's, which has no window.
     pub(crate) fn foresee(
         &self,
         wish: &Wish<'_>,
@@ -55,8 +55,7 @@ impl<N: BookName, R: Threads + Wait + Sync, G: Gate> Ground<'_, N, R, G> {
         worker: &mut Worker<N>,
         planner: &mut Planner,
     ) -> Result<Option<Foreseen>, AllocError>
-        requires design { HasCapacity wish.now.design.now N.capacity }
-        requires net { wish.now.net < nets_of N.capacity }
+        requires { HasCapacity wish.now.design.now N.capacity }
         ensures led { (t : Setting) (round : ℕ) → IsOver wish.now.design.now wish.now.rule.now.formula t →
             OnOk result (HasLed t round Rests Rests [] worker.old.pass worker.new.pass) }
         ensures foreseen { IfOk result (λ plan. IfSome plan (IsForeseen wish.now.design.now wish.now.rule.now.formula
@@ -67,7 +66,13 @@ impl<N: BookName, R: Threads + Wait + Sync, G: Gate> Ground<'_, N, R, G> {
             let Some(plan) = self.plan_ahead(wish, visit, worker, planner)? else {
                 return Ok(None);
             };
-            if let Some(plan) = self.settled(wish, plan, visit, worker)? {
+            // What came while the plan was made is read before the visit enters, so that others wait for
+            // little.
+            let Some(plan) = self.kept(wish, plan, visit, worker)? else {
+                continue;
+            };
+            visit.enter(self.rt);
+            if let Some(plan) = self.kept(wish, plan, visit, worker)? {
                 return Ok(Some(plan));
             }
         }
@@ -83,7 +88,6 @@ impl<N: BookName, R: Threads + Wait + Sync, G: Gate> Ground<'_, N, R, G> {
         planner: &mut Planner,
     ) -> Result<Option<Foreseen>, AllocError>
         requires design { HasCapacity wish.now.design.now N.capacity }
-        requires net { wish.now.net < nets_of N.capacity }
         requires held { worker.old.pass.held ≡ length worker.old.pass.seen }
         requires stands { StandsFor N.capacity worker.old.pass.seen worker.old.replica }
         ensures pass { worker.new.pass ≡ worker.old.pass }
@@ -108,34 +112,6 @@ impl<N: BookName, R: Threads + Wait + Sync, G: Gate> Ground<'_, N, R, G> {
         }))
     }
 
-    /// The same plan, where nothing that was added since may change it. The visit is then inside, and
-    /// there is nothing that the worker doesn't know. What came while the plan was made is read before
-    /// the visit enters, so that others wait for little.
-    fn settled(
-        &self,
-        wish: &Wish<'_>,
-        plan: Foreseen,
-        visit: &mut Visit<'_, N>,
-        worker: &mut Worker<N>,
-    ) -> Result<Option<Foreseen>, AllocError>
-        requires design { HasCapacity wish.now.design.now N.capacity }
-        requires net { wish.now.net < nets_of N.capacity }
-        requires foreseen { IsForeseen wish.now.design.now wish.now.rule.now.formula
-            wish.now.net wish.now.kind worker.old.pass.seen plan }
-        ensures led { (t : Setting) (round : ℕ) → IsOver wish.now.design.now wish.now.rule.now.formula t →
-            OnOk result (HasLed t round Rests Rests [] worker.old.pass worker.new.pass) }
-        ensures held { OnOk result (worker.new.pass.held ≡ length worker.new.pass.seen) }
-        ensures stands { OnOk result (StandsFor N.capacity worker.new.pass.seen worker.new.replica) }
-        ensures foreseen { IfOk result (λ plan. IfSome plan (IsForeseen wish.now.design.now wish.now.rule.now.formula
-            wish.now.net wish.now.kind worker.new.pass.seen)) }
-    {
-        let Some(plan) = self.kept(wish, plan, visit, worker)? else {
-            return Ok(None);
-        };
-        visit.enter(self.rt);
-        self.kept(wish, plan, visit, worker)
-    }
-
     /// The same plan, where nothing that was added since may change it: in the plan's window the net costs
     /// the same, or more on edges that the plan leaves aside. None elsewhere.
     fn kept(
@@ -146,7 +122,6 @@ impl<N: BookName, R: Threads + Wait + Sync, G: Gate> Ground<'_, N, R, G> {
         worker: &mut Worker<N>,
     ) -> Result<Option<Foreseen>, AllocError>
         requires design { HasCapacity wish.now.design.now N.capacity }
-        requires net { wish.now.net < nets_of N.capacity }
         requires foreseen { IsForeseen wish.now.design.now wish.now.rule.now.formula
             wish.now.net wish.now.kind worker.old.pass.seen plan }
         ensures learnt { (t : Setting) → IsOver wish.now.design.now wish.now.rule.now.formula t →
@@ -182,7 +157,6 @@ impl<N: BookName, R: Threads + Wait + Sync, G: Gate> Ground<'_, N, R, G> {
         planner: &mut Planner,
     ) -> Result<RouteTree, AllocError>
         requires design { HasCapacity wish.now.design.now N.capacity }
-        requires net { wish.now.net < nets_of N.capacity }
         requires foreseen { IfSome foreseen (IsForeseen wish.now.design.now wish.now.rule.now.formula wish.now.net
             wish.now.kind worker.old.pass.seen) }
         ensures learnt { (t : Setting) → IsOver wish.now.design.now wish.now.rule.now.formula t →

@@ -1,6 +1,5 @@
 //! A worker's attempt at a net.
 ghost use Rattle.std.specs.Prelude.{◌≡◌, ◌<◌, ◌≤◌, ◌∷◌, [], ℕ, List, Option, IfOk, IfSome, OnOk, IsTrue};
-ghost use Rattle.book_state.specs.Books.{nets_of};
 ghost use Rattle.book_state.specs.Replicas.{StandsFor};
 ghost use Rattle.book_state.specs.declared.entry.PlanKind.TheVariants.{Pattern};
 ghost use Rattle.gr_base.specs.Designs.{is_routed};
@@ -101,7 +100,6 @@ impl<N: BookName, R: Threads + Wait + Sync, G: Gate> Ground<'_, N, R, G> {
         planner: &mut Planner,
     ) -> Result<(), AllocError>
         requires design { HasCapacity wish.now.design.now N.capacity }
-        requires net { wish.now.net < nets_of N.capacity }
         requires foreseen { IfSome foreseen (IsForeseen wish.now.design.now wish.now.rule.now.formula wish.now.net
             wish.now.kind worker.old.pass.seen) }
         ensures { (t : Setting) (round : ℕ) → IsOver wish.now.design.now wish.now.rule.now.formula t →

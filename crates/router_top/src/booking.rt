@@ -1,14 +1,13 @@
 //! The routes that a design's rounds book, and the verdict on them.
 ghost use Rattle.std.specs.Prelude.{◌≡◌, Some, IfOk, OnOk};
-ghost use Rattle.gr_base.specs.Designs.{IsDesign};
 ghost use Rattle.route_evaluator.specs.NetTrees.{AreTrees};
 ghost use Rattle.ripup_workers.specs.Made.{IsMade};
-ghost use Rattle.run_histories.specs.GivenRoutes.{AreGivenRoutes};
 ghost use Rattle.run_histories.specs.RunHistories.{asked_for};
 ghost use Rattle.router_top.specs.Booking.{setting_of, AreBookedRoutes, AreRoundsOf, HaveBookedRoutes, IsVerdictOn};
 ghost use Rattle.word_reader.specs.Orders.{AreInRange};
 
 use crate::means::Means;
+use crate::request::Request;
 use batch_rounds::batch_rounds;
 use cost_rules::Watcher;
 use gr_base::{Design, Routes};
@@ -28,20 +27,15 @@ pub(crate) struct BookedRoutes {
     pub routes: Routes,
 }
 
-/// Routes a design from given trees, and copies the trees that are booked at the first mark of least overflow. The
-/// only error is want of memory.
+/// Routes a design as it is asked for, and copies the trees that are booked at the first mark of least overflow.
+/// The only error is want of memory.
 pub(crate) fn booked_routes<R: Threads + Wait + Sync, G: Gate + Sync>(
     means: &Means<R, G>,
-    design: &Design,
-    given: &Routes,
-    options: Options,
+    request: &Request,
 ) -> Result<BookedRoutes, AllocError>
-    requires design { IsDesign design.now }
-    requires given { AreGivenRoutes design.now given.now }
-    requires options { AreInRange options }
-    ensures { IfOk result (AreBookedRoutes design.now given.now options) }
+    ensures { IfOk result (AreBookedRoutes request.now.design.now request.now.given.now request.now.options) }
 {
-    let rounds = rounds_of(means, design, given, options)?;
+    let rounds = rounds_of(means, request)?;
     let book = rounds.book.state();
     let routes = book.routes_at(rounds.chosen)?;
     Ok(BookedRoutes { rounds, routes })
@@ -51,40 +45,32 @@ pub(crate) fn booked_routes<R: Threads + Wait + Sync, G: Gate + Sync>(
 /// memory.
 fn rounds_of<R: Threads + Wait + Sync, G: Gate + Sync>(
     means: &Means<R, G>,
-    design: &Design,
-    given: &Routes,
-    options: Options,
+    request: &Request,
 ) -> Result<Rounds, AllocError>
-    requires design { IsDesign design.now }
-    requires given { AreGivenRoutes design.now given.now }
-    requires options { AreInRange options }
-    ensures { IfOk result (AreRoundsOf design.now given.now options) }
+    ensures { IfOk result (AreRoundsOf request.now.design.now request.now.given.now request.now.options) }
 {
-    match options.batch {
-        Some(batch) => rounds_in_batches(means, design, given, options, batch),
-        None => rounds_by_workers(means, design, given, options),
+    match request.options.batch {
+        Some(batch) => rounds_in_batches(means, request, batch),
+        None => rounds_by_workers(means, request),
     }
 }
 
 /// The rounds in batches of so many nets. The only error is want of memory.
 fn rounds_in_batches<R: Threads + Wait + Sync, G: Gate + Sync>(
     means: &Means<R, G>,
-    design: &Design,
-    given: &Routes,
-    options: Options,
+    request: &Request,
     batch: u32,
 ) -> Result<Rounds, AllocError>
-    requires given { AreGivenRoutes design.now given.now }
-    requires options { AreInRange options }
-    requires batch { options.batch ≡ Some batch }
-    ensures { IfOk result (AreRoundsOf design.now given.now options) }
+    requires { request.now.options.batch ≡ Some batch }
+    ensures { IfOk result (AreRoundsOf request.now.design.now request.now.given.now request.now.options) }
 {
+    let options = request.options;
     let rule = means.rules.of(options.rule);
     let batched = batch_rounds(
         means.rt,
         means.alloc,
-        design,
-        given,
+        request.design,
+        request.given,
         rule,
         options.workers,
         options.rounds,
@@ -103,22 +89,18 @@ fn rounds_in_batches<R: Threads + Wait + Sync, G: Gate + Sync>(
 /// memory.
 fn rounds_by_workers<R: Threads + Wait + Sync, G: Gate + Sync>(
     means: &Means<R, G>,
-    design: &Design,
-    given: &Routes,
-    options: Options,
+    request: &Request,
 ) -> Result<Rounds, AllocError>
-    requires design { IsDesign design.now }
-    requires given { AreGivenRoutes design.now given.now }
-    requires options { AreInRange options }
-    ensures { IfOk result (IsMade (setting_of design.now given.now options)) }
+    ensures { IfOk result
+        (IsMade (setting_of request.now.design.now request.now.given.now request.now.options)) }
 {
     let rules = means.rules;
-    match options.stop {
-        Stopping::Never => rounds_by(means, design, given, options, rules.never(), 0),
-        Stopping::Still => rounds_by(means, design, given, options, rules.still(), 0),
+    match request.options.stop {
+        Stopping::Never => rounds_by(means, request, rules.never(), 0),
+        Stopping::Still => rounds_by(means, request, rules.still(), 0),
         Stopping::Goal { overflow } => {
             let goal = u128::from(overflow);
-            rounds_by(means, design, given, options, rules.goal(), goal)
+            rounds_by(means, request, rules.goal(), goal)
         }
     }
 }
@@ -126,23 +108,19 @@ fn rounds_by_workers<R: Threads + Wait + Sync, G: Gate + Sync>(
 /// The same, by this watcher and its goal.
 fn rounds_by<R: Threads + Wait + Sync, G: Gate + Sync>(
     means: &Means<R, G>,
-    design: &Design,
-    given: &Routes,
-    options: Options,
+    request: &Request,
     watcher: &Watcher,
     goal: u128,
 ) -> Result<Rounds, AllocError>
-    requires design { IsDesign design.now }
-    requires given { AreGivenRoutes design.now given.now }
-    requires options { AreInRange options }
-    ensures { let o = options in
-        IfOk result (IsMade (asked_for design.now given.now o.rule o.workers o.rounds watcher.now.watch goal)) }
+    ensures { let r = request.now in let o = r.options in IfOk result
+        (IsMade (asked_for r.design.now r.given.now o.rule o.workers o.rounds watcher.now.watch goal)) }
 {
+    let options = request.options;
     route_rounds(
         means.rt,
         means.alloc,
-        design,
-        given,
+        request.design,
+        request.given,
         means.rules.of(options.rule),
         options.workers,
         options.rounds,

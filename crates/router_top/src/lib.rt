@@ -6,6 +6,7 @@ mod booking;
 mod kept;
 mod laws;
 mod means;
+mod request;
 mod routing;
 mod rules;
 mod top;

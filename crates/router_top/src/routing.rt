@@ -22,6 +22,7 @@ use crate::beginning::{Beginning, open_beginning, put_kept};
 use crate::booking::{BookedRoutes, booked_routes, verdict_on};
 use crate::kept::Kept;
 use crate::means::Means;
+use crate::request::Request;
 use crate::tracing::put_rounds;
 use book_state::History;
 use command_form::{Left, Outcome, Spent, Stop, open_design, open_library};
@@ -160,13 +161,17 @@ fn route_design<R: Threads + Wait + Sync, G: Gate + Sync>(
     beginning: &Beginning,
     options: Options,
 ) -> Result<RoutedDesign, AllocError>
-    requires design { IsDesign design.now }
     requires library { IsLibraryOf design.now library.now }
     requires given { AreGivenRoutes design.now beginning.now.given }
     requires options { AreInRange options }
     ensures { IfOk result (IsRoutedDesign design.now library.now beginning.now options) }
 {
-    let booked = booked_routes(means, design, &beginning.given, options)?;
+    let request = Request {
+        design,
+        given: &beginning.given,
+        options,
+    };
+    let booked = booked_routes(means, &request)?;
     let told = verdict_and_buffers(means.rt, means.alloc, design, library, &booked, options)?;
     let history = booked.rounds.book.state().history();
     let between = text_between(means.alloc, design, beginning, options, history)?;

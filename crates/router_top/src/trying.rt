@@ -15,6 +15,7 @@ use crate::beginning::Beginning;
 use crate::booking::{booked_routes, verdict_on};
 use crate::kept::Kept;
 use crate::means::Means;
+use crate::request::Request;
 use crate::tracing::put_rounds;
 use book_state::History;
 use command_form::{Left, Outcome, Stop};
@@ -50,7 +51,12 @@ pub(crate) fn trial<R: Threads + Wait + Sync, O: Sink, G: Gate + Sync>(
     let Ok(beginning) = Beginning::from_nothing(means.alloc) else {
         return Left::with_nothing(Err(Stop::NoMemory));
     };
-    let Ok(booked) = booked_routes(means, &design, &beginning.given, options) else {
+    let request = Request {
+        design: &design,
+        given: &beginning.given,
+        options,
+    };
+    let Ok(booked) = booked_routes(means, &request) else {
         return Left::with_nothing(Err(Stop::NoMemory));
     };
     let Ok(verdict) = verdict_on(means.alloc, &design, &booked, options) else {

@@ -6,7 +6,7 @@ use Rattle.router_top.proofs.booking.booked_routes.Goals as goal
 
 pub returns : goal.returns
 returns g c =
-    let d = c.args.design.now in
+    let d = c.args.request.now.design.now in
     let made = c.in_ok-rounds.ensures in
     let rounds = c.in_ok-rounds.rounds in
     let h = take rounds.chosen rounds.book.state.history in

@@ -14,8 +14,11 @@ use Rattle.router_top.proofs.RoutingLemmas.{booked-same}
 use Rattle.router_top.proofs.trying.trial.Goals as goal
 use Rattle.text_commands.specs.Judging.{report_of}
 
-pub booked_routes-requires-clause-given : goal.booked_routes-requires-clause-given
-booked_routes-requires-clause-given g c = λ κs within. none-given c.in-Ok.design c.in-Ok-from_nothing.beginning.given c.in-Ok-from_nothing.ensures.given
+pub invariant_of-request : goal.invariant_of-request
+invariant_of-request g c = record {
+  fits = none-given c.in-Ok.design c.in-Ok-from_nothing.beginning.given c.in-Ok-from_nothing.ensures.given;
+  range = c.requires.options;
+}
 
 pub returns : goal.returns
 returns g c =

@@ -1,11 +1,15 @@
 use Rattle.std.proofs.Common.{Option, IfSome, sym, subst}
 use Rattle.gr_base.specs.Trees.{TreeView}
 use Rattle.track_book.specs.Passes.{PassView}
+use Rattle.run_histories.proofs.TurnLemmas.{routed-within}
 use Rattle.ripup_workers.specs.Foresight.{IsForeseen}
 use Rattle.ripup_workers.specs.declared.foresight.Foreseen.{Foreseen}
 use Rattle.ripup_workers.specs.Turning.{IsPlanWithout}
 use Rattle.ripup_workers.proofs.ForeseenPlans.{foreseen-now}
 use Rattle.ripup_workers.proofs.ground.Ground.plan_ahead.Goals as goal
+
+pub plan_without-requires-clause-net : goal.plan_without-requires-clause-net
+plan_without-requires-clause-net g c = routed-within c.args.wish.now.design.now _ c.args.wish.now.net c.requires.design.capacity_is c.args.wish.now.routed
 
 pub returns-clause-foreseen : goal.returns-clause-foreseen
 returns-clause-foreseen g c =

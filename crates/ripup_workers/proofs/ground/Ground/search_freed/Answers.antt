@@ -3,11 +3,15 @@ use Rattle.cost_rules.specs.declared.site.Formula.{Formula}
 use Rattle.grid_demand.specs.Tables.{CapacityView}
 use Rattle.book_state.specs.Books.{AreLoadsOf}
 use Rattle.book_state.specs.Still.{StaysBest}
+use Rattle.run_histories.proofs.TurnLemmas.{routed-within}
 use Rattle.ripup_workers.specs.Foresight.{IsForeseen}
 use Rattle.ripup_workers.specs.declared.foresight.Foreseen.{Foreseen}
 use Rattle.ripup_workers.proofs.ForeseenPlans.{foreseen-plan}
 use Rattle.ripup_workers.proofs.TurningStages.{followed, ok-all}
 use Rattle.ripup_workers.proofs.ground.Ground.search_freed.Goals as goal
+
+pub sync_freed-requires : goal.sync_freed-requires
+sync_freed-requires g c = routed-within c.args.wish.now.design.now _ c.args.wish.now.net c.requires.design.capacity_is c.args.wish.now.routed
 
 pub returns-then-still-clause-learnt : goal.returns-then-still-clause-learnt
 returns-then-still-clause-learnt g c = λ t over.
